@@ -1,5 +1,8 @@
 pub mod Splitting
 pub mod WantedAnswers
+pub mod SetupLaws
+pub mod FirstLines
+pub mod Posting
 pub mod Looking
 pub mod Readings
 pub mod SameTexts

@@ -5,38 +5,42 @@ use Rattle.std.specs.declared.alloc.Global.{Global}
 use Rattle.std.specs.declared.vec.Vec.{Vec}
 use Rattle.std.proofs.lemmas.List.{append-nil}
 use Rattle.std.proofs.Math.Bool.{or-false}
-use Rattle.uring_entry.specs.declared.why.Why.{Why}
+use Rattle.uring_entry.specs.Setup.{Setup}
 use Rattle.uring_core.specs.Histories.{History, world}
-use Rattle.uring_core.specs.World.{World}
 use Rattle.uring_core.specs.declared.step.Step.{Step}
 use Rattle.uring_core.specs.declared.wanted.Wanted.{Wanted}
 use Rattle.uring_trace.specs.Explanations.{line_number}
 use Rattle.uring_text.specs.Lines.{ended}
 use Rattle.uring_text.specs.Remarks.{is_remark}
-use Rattle.uring_check.specs.Checking.{FitsBy, Judges, Looks, Looked, LooksAt, rules_of}
+use Rattle.uring_check.specs.Checking.{FitsBy, IsStanding, Judges, Knows, LooksBy, Looked, LooksAt, noted_poster, reasons_by, rules_of}
 use Rattle.uring_check.specs.Findings.{IsFinding, IsFindingBehind, first_fault, has_stopped, history_behind, judged, stops, with_finding}
 use Rattle.uring_check.specs.Findings as finding
 use Rattle.uring_check.specs.Records.{IsRecord, IsNoRecord}
-use Rattle.uring_check.specs.Reports.{counted_with, line_text, told_of, told_of_all, wanted_text, why_asked, why_told, why_bad}
+use Rattle.uring_check.specs.Posters.{posters}
+use Rattle.uring_check.specs.Reports.{completion_wanted, counted_with, line_text, reasons_told, told_of, told_of_all, wanted_text, why_bad}
 use Rattle.uring_text.specs.Visible.{visible_line}
 use Rattle.uring_check.specs.Rules.{Rules, IsCalled}
 use Rattle.uring_check.specs.declared.answer_text.AnswerText.{AnswerText}
 use Rattle.uring_check.specs.declared.checker.Checker.{Checker}
 use Rattle.uring_check.specs.declared.follower.Follower.{Follower}
+use Rattle.uring_check.specs.declared.judging.Told.{Told}
+use Rattle.uring_check.specs.declared.standing.Standing.{Standing}
 use Rattle.uring_check.specs.declared.verdict.Verdict.{Verdict}
 use Rattle.uring_check.specs.declared.verdict.Verdict.TheVariants as verdict
+use Rattle.uring_check.proofs.Posting.{fits_lawful, knows_resumed, knows_step}
 use Rattle.uring_check.proofs.WantedAnswers.{fits_called}
 
 -- ---- one line
 
 pub looked_passed : (c : Checker) (line : List ℕ) (h : History) → IsNoRecord line
-    → is_remark line ≡ true → c.is_over ≡ false → FitsBy c.machine h → Looked c c line h
+    → is_remark line ≡ true → c.is_over ≡ false → Knows c h → Looked c c line h
 looked_passed c line h none remark over fits = record {
   finding = finding.Passed;
   is_so = (none, remark);
   same = refl;
   fits = fits;
   is_all = refl;
+  awaits = refl;
   numbered = refl;
   counted = refl;
   decided = refl;
@@ -47,18 +51,24 @@ looked_passed c line h none remark over fits = record {
 three_parts : (i a b c : List ℕ) → i ++ a ++ b ++ c ≡ i ++ (a ++ b ++ c)
 three_parts i a b c = simp append_assoc refl
 
-bad_told : (w : World) (n : ℕ) (line items : List ℕ)
+bad_told : (g : Setup) (h : History) (n : ℕ) (line items : List ℕ)
     → items ++ line_text n ++ ended (codes "bad line") ++ why_bad line
-    ≡ items ++ told_of w n line finding.Bad
-bad_told w n line items = three_parts items (line_text n) (ended (codes "bad line")) (why_bad line)
+    ≡ items ++ told_of g h n line finding.Bad
+bad_told g h n line items = three_parts items (line_text n) (ended (codes "bad line")) (why_bad line)
 
 regroup : (i a b c d e : List ℕ) → i ++ a ++ b ++ c ++ d ++ e ≡ i ++ (a ++ b ++ c ++ d ++ e)
 regroup i a b c d e = simp append_assoc refl
 
-wrong_told : (w : World) (n : ℕ) (line items : List ℕ) (s : Step) (wanted : Wanted)
-    → items ++ line_text n ++ ended (visible_line line) ++ codes "wanted: " ++ ended (wanted_text wanted) ++ why_told (why_asked w.requests s)
-    ≡ items ++ told_of w n line (finding.Wrong s wanted)
-wrong_told w n line items s wanted = regroup items (line_text n) (ended (visible_line line)) (codes "wanted: ") (ended (wanted_text wanted)) (why_told (why_asked w.requests s))
+wrong_told : (g : Setup) (h : History) (n : ℕ) (line items : List ℕ) (s : Step) (wanted : Wanted)
+    → items ++ line_text n ++ ended (visible_line line) ++ codes "wanted: " ++ ended (wanted_text wanted) ++ reasons_told g h s wanted
+    ≡ items ++ told_of g h n line (finding.Wrong s wanted)
+wrong_told g h n line items s wanted = regroup items (line_text n) (ended (visible_line line)) (codes "wanted: ") (ended (wanted_text wanted)) (reasons_told g h s wanted)
+
+-- they are those of what was asked
+reasons_are : (g : Setup) (h : History) (s : Step) (x : Standing) (wanted : Wanted) (completion : Option ℕ)
+    → IsStanding g h s x → completion ≡ completion_wanted wanted
+    → reasons_by x completion ≡ reasons_told g h s wanted
+reasons_are g h s x wanted completion is same = rw (is.why, is.chosen, is.found, is.poster, same) refl
 
 -- a checker that found a bad line, and told it
 abbrev pub found_bad : Checker → Vec ℕ Global → Checker
@@ -66,7 +76,7 @@ found_bad c report = record c { is_over = true; report = report }
 
 pub looked_bad : (old mid : Checker) (report : Vec ℕ Global) (line : List ℕ) (h : History)
     → mid ≡ record old { verdict = first_fault old.verdict verdict.Bad } → IsNoRecord line
-    → is_remark line ≡ false → FitsBy old.machine h
+    → is_remark line ≡ false → Knows old h
     → report.items ≡ mid.report.items ++ line_text mid.number ++ ended (codes "bad line") ++ why_bad line
     → Looked old (found_bad mid report) line h
 looked_bad old mid report line h is none remark fits =
@@ -77,29 +87,40 @@ looked_bad old mid report line h is none remark fits =
       same = refl;
       fits = fits;
       is_all = refl;
+      awaits = refl;
       numbered = refl;
       counted = refl;
       decided = refl;
       stopped = refl;
-      told = told ∙ bad_told (world (rules_of old.machine).setup h) old.number line old.report.items;
+      told = told ∙ bad_told (rules_of old.machine).setup h old.number line old.report.items;
     })
 
 -- a checker whose machine made a step, to which this text was told
-abbrev pub with_machine : Checker → Follower → AnswerText → Checker
-with_machine c m t = record c { machine = m; told = t }
+abbrev pub with_machine : Checker → Follower → AnswerText → Vec ℕ Global → Checker
+with_machine c m t p = record c { machine = m; told = t; posters = p }
 
-pub looked_right : (old : Checker) (m : Follower) (t : AnswerText) (steps : ℕ) (s : Step) (text line : List ℕ)
-    → steps ≡ min (old.steps + 1) (2 ^ 64 - 1) → rules_of m ≡ rules_of old.machine
+-- what is known of the completions that were posted, before a step and behind it
+pub record Notes (old : Checker) (m : Follower) (p : Vec ℕ Global) (s : Step) (before after : ℕ) : Type 0 where
+  pub before_is : (h : History) → Knows old h
+      → before ≡ length (world (rules_of old.machine).setup h).completions.posted
+  pub after_is : (h : History) → FitsBy m h
+      → after ≡ length (world (rules_of m).setup h).completions.posted
+  pub more : p.items ≡ old.posters.items ++ noted_poster s before after
+
+pub looked_right : (old : Checker) (m : Follower) (t : AnswerText) (p : Vec ℕ Global) (steps before after : ℕ) (s : Step) (text line : List ℕ)
+    → Notes old m p s before after → steps ≡ min (old.steps + 1) (2 ^ 64 - 1) → rules_of m ≡ rules_of old.machine
     → old.is_over ≡ false → Judges old.machine m s text None → IsRecord line s text
-    → LooksAt old (record old { machine = m; steps = steps; told = t }) line
-looked_right old m t steps s text line counted same over judges is = λ h f.
-    let j = judges h f in
+    → LooksAt old (record old { machine = m; steps = steps; told = t; posters = p }) line
+looked_right old m t p steps before after s text line notes counted same over judges is = λ h f.
+    let j = judges h f.0 in
+    let eq : (rules_of old.machine).setup ≡ (rules_of m).setup = ap (λ (r : Rules). r.setup) (sym same) in
     record {
       finding = finding.Right s j.0;
       is_so = (subst (λ (x : List ℕ). IsRecord line s x) (sym j.1) is, j.2, subst (λ (g : Rules). IsCalled g h s j.0) same (fits_called m s j.0 h j.3));
       same = same;
-      fits = j.3;
+      fits = (j.3, knows_step (rules_of m).setup s j.0 h old.posters.items p.items before after (fits_lawful m ((s, j.0) ∷ h) j.3) (f.1 ∙ ap (λ (g : Setup). posters g h) eq) (notes.before_is h f ∙ ap (λ (g : Setup). length (world g h).completions.posted) eq) (notes.after_is ((s, j.0) ∷ h) j.3) notes.more);
       is_all = refl;
+      awaits = refl;
       numbered = refl;
       counted = counted;
       decided = refl;
@@ -111,32 +132,36 @@ looked_right old m t steps s text line counted same over judges is = λ h f.
 abbrev pub found_wrong : Checker → Vec ℕ Global → Checker
 found_wrong c report = record c { verdict = first_fault c.verdict verdict.Wrong; is_over = not c.is_all; report = report }
 
-pub looked_wrong : (old new : Checker) (m : Follower) (t : AnswerText) (s : Step) (text line shown : List ℕ) (why : Option (ℕ × Why))
-    → rules_of m ≡ rules_of old.machine
-    → ((h : History) → FitsBy old.machine h → why ≡ why_asked (world (rules_of old.machine).setup h).requests s)
-    → (wanted : Wanted) × (shown ≡ wanted_text wanted) × Judges old.machine m s text (Some wanted)
-    → new ≡ found_wrong (with_machine old m t) new.report
+pub looked_wrong : (old new : Checker) (m : Follower) (t : AnswerText) (p : Vec ℕ Global) (before after : ℕ) (s : Step) (text line : List ℕ) (shown : Told) (x : Standing)
+    → Notes old m p s before after → rules_of m ≡ rules_of old.machine
+    → ((h : History) → Knows old h → IsStanding (rules_of old.machine).setup h s x)
+    → (wanted : Wanted) × (shown.text.items ≡ wanted_text wanted) × (shown.completion ≡ completion_wanted wanted) × Judges old.machine m s text (Some wanted)
+    → new ≡ found_wrong (with_machine old m t p) new.report
     → new.report.items
-    ≡ old.report.items ++ line_text old.number ++ ended (visible_line line) ++ codes "wanted: " ++ ended shown ++ why_told why
+    ≡ old.report.items ++ line_text old.number ++ ended (visible_line line) ++ codes "wanted: " ++ ended shown.text.items ++ reasons_by x shown.completion
     → IsRecord line s text → LooksAt old new line
-looked_wrong old new m t s text line shown why same asked judges is told rec = λ h f.
-    let j = judges.2 h f in
+looked_wrong old new m t p before after s text line shown x notes same asked judges is told rec = λ h f.
+    let j = judges.3 h f.0 in
     let wanted : Wanted = judges.0 in
+    let eq : (rules_of old.machine).setup ≡ (rules_of m).setup = ap (λ (r : Rules). r.setup) (sym same) in
+    let later : History = with_finding (finding.Wrong s wanted) h in
+    let known : p.items ≡ posters (rules_of m).setup later = knows_resumed (rules_of m).setup s wanted h old.posters.items p.items before after (fits_lawful m later j.1) (f.1 ∙ ap (λ (g : Setup). posters g h) eq) (notes.before_is h f ∙ ap (λ (g : Setup). length (world g h).completions.posted) eq) (notes.after_is later j.1) notes.more in
     record {
       finding = finding.Wrong s wanted;
       is_so = (text, rec, j.0);
       same = ap (λ (c : Checker). rules_of c.machine) is ∙ same;
-      fits = subst (λ (c : Follower). FitsBy c (with_finding (finding.Wrong s wanted) h)) (sym (ap (λ (c : Checker). c.machine) is)) j.1;
+      fits = subst (λ (c : Checker). Knows c later) (sym is) (j.1, known);
       is_all = ap (λ (c : Checker). c.is_all) is;
+      awaits = ap (λ (c : Checker). c.awaits) is;
       numbered = ap (λ (c : Checker). c.number) is;
       counted = ap (λ (c : Checker). c.steps) is;
       decided = ap (λ (c : Checker). c.verdict) is;
       stopped = ap (λ (c : Checker). c.is_over) is;
       told =
           told
-          ∙ ap (λ (t : List ℕ). old.report.items ++ line_text old.number ++ ended (visible_line line) ++ codes "wanted: " ++ ended t ++ why_told why) judges.1
-          ∙ ap (λ (w : Option (ℕ × Why)). old.report.items ++ line_text old.number ++ ended (visible_line line) ++ codes "wanted: " ++ ended (wanted_text wanted) ++ why_told w) (asked h f)
-          ∙ wrong_told (world (rules_of old.machine).setup h) old.number line old.report.items s wanted;
+          ∙ ap (λ (t : List ℕ). old.report.items ++ line_text old.number ++ ended (visible_line line) ++ codes "wanted: " ++ ended t ++ reasons_by x shown.completion) judges.1
+          ∙ ap (λ (w : List ℕ). old.report.items ++ line_text old.number ++ ended (visible_line line) ++ codes "wanted: " ++ ended (wanted_text wanted) ++ w) (reasons_are (rules_of old.machine).setup h s x wanted shown.completion (asked h f) judges.2)
+          ∙ wrong_told (rules_of old.machine).setup h old.number line old.report.items s wanted;
     }
 
 -- ---- all lines
@@ -144,7 +169,7 @@ looked_wrong old new m t s text line shown why same asked judges is told rec = �
 -- a line that was looked at
 pub took_looked : (g : Rules) (all : Bool) (lines : List (List ℕ)) (old mid : Checker) (n : ℕ) (line : List ℕ)
     → n ≡ min (mid.number + 1) (2 ^ 64 - 1) → old.is_over ≡ false → LooksAt old mid line
-    → Looks g all lines old → Looks g all (line ∷ lines) (record mid { number = n })
+    → LooksBy g all lines old → LooksBy g all (line ∷ lines) (record mid { number = n })
 took_looked g all lines old mid n line next over looks k =
     let l = looks (history_behind k.found) k.fits in
     let past : History = history_behind k.found in
@@ -165,15 +190,19 @@ took_looked g all lines old mid n line next over looks k =
           ∙ sym (or-false (stops all l.finding))
           ∙ ap (λ (b : Bool). stops all l.finding || b) (sym none);
       told =
-          l.told ∙ ap (λ (t : List ℕ). t ++ told_of (world (rules_of old.machine).setup past) old.number line l.finding) k.told
-          ∙ ap (λ (x : Rules). told_of_all g k.found ++ told_of (world x.setup past) old.number line l.finding) k.same
-          ∙ ap (λ (x : ℕ). told_of_all g k.found ++ told_of (world g.setup past) x line l.finding) k.numbered;
+          l.told ∙ ap (λ (t : List ℕ). t ++ told_of (rules_of old.machine).setup past old.number line l.finding) k.told
+          ∙ ap (λ (x : Rules). told_of_all g k.found ++ told_of x.setup past old.number line l.finding) k.same
+          ∙ ap (λ (x : ℕ). told_of_all g k.found ++ told_of g.setup past x line l.finding) k.numbered;
     }
+
+pub took_awaits : (g : Rules) (all : Bool) (lines : List (List ℕ)) (old mid : Checker) (line : List ℕ)
+    → LooksAt old mid line → LooksBy g all lines old → mid.awaits ≡ old.awaits
+took_awaits g all lines old mid line looks k = (looks (history_behind k.found) k.fits).awaits
 
 -- a line behind one at which the check stopped
 pub took_skipped : (g : Rules) (all : Bool) (lines : List (List ℕ)) (old : Checker) (n : ℕ) (line : List ℕ)
-    → n ≡ min (old.number + 1) (2 ^ 64 - 1) → old.is_over ≡ true → Looks g all lines old
-    → Looks g all (line ∷ lines) (record old { number = n })
+    → n ≡ min (old.number + 1) (2 ^ 64 - 1) → old.is_over ≡ true → LooksBy g all lines old
+    → LooksBy g all (line ∷ lines) (record old { number = n })
 took_skipped g all lines old n line next over k =
     let past : History = history_behind k.found in
     let stopped : has_stopped all k.found ≡ true = sym k.stopped ∙ over in

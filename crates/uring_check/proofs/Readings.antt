@@ -1,5 +1,5 @@
 -- What a reading takes in, byte by byte, and what is returned and written of it.
-use Rattle.std.proofs.Common.{◌≡◌, ◌≢◌, ℕ, Bool, List, [], ◌∷◌, ◌++◌, Option, Result, Ok, Err, refl, sym, ap, subst, ◌∙◌}
+use Rattle.std.proofs.Common.{◌≡◌, ◌≢◌, ℕ, Bool, List, [], ◌∷◌, ◌++◌, Option, Some, None, Result, Ok, Err, refl, sym, ap, subst, ◌∙◌}
 use Rattle.std.specs.Io.KnownBytes.{Consumes, Appends, IsAtEnd, Keeps}
 use Rattle.std.proofs.KnownBytes.{Consumes-nil, Consumes-trans, Consumes-kept, Appends-nil}
 use Rattle.std.proofs.lemmas.List.{append-nil}
@@ -10,8 +10,8 @@ use Rattle.uring_text.specs.Writing.{WritesText}
 use Rattle.uring_text.specs.declared.trace_fault.TraceFault.{TraceFault}
 use Rattle.uring_text.specs.declared.trace_fault.TraceFault.TheVariants as fault
 use Rattle.uring_text.proofs.Splits.{split_end, last_some}
-use Rattle.uring_check.specs.Checking.{Looks, Holds, Has, IsTold, TakesIn, ReadsIn}
-use Rattle.uring_check.specs.Checks.{AreLinesOf, IsVerdict, Writes, ReadsAll, IsChecked}
+use Rattle.uring_check.specs.Checking.{Looks, Holds, Has, IsTold, IsToldIf, TakesIn, ReadsIn}
+use Rattle.uring_check.specs.Checks.{AreLinesOf, IsReportedBy, IsVerdict, Says, Writes, ReadsAll, IsChecked}
 use Rattle.uring_check.specs.declared.checker.Checker.{Checker}
 use Rattle.uring_check.specs.declared.reading.Reading.{Reading}
 use Rattle.uring_check.specs.declared.verdict.Verdict.{Verdict}
@@ -36,15 +36,26 @@ took_line g all kept old new before takes h = record {
 
 -- ---- the end of the input
 
+reported_by : (rules : Option Rules) (all : Bool) (lines : List (List ℕ)) (text : List ℕ) (v : Verdict)
+    → IsToldIf rules all lines v text → IsReportedBy rules all lines text v
+reported_by None all lines text v t = t
+reported_by (Some g) all lines text v t = record {
+  found = t.found;
+  are = t.are;
+  lines_are = t.lines_are;
+  decided = t.decided;
+  reported = t.reported;
+  says = subst (λ (ls : List (List ℕ)). Says g ls v) t.lines_are (said g all t.found v t.are t.decided);
+}
+
 told_verdict : (g : Rules) (all : Bool) (lines : List (List ℕ)) (bytes text : List ℕ) (v : Verdict)
     → AreLinesOf bytes lines → IsTold g all lines v text → IsVerdict g all bytes text v
 told_verdict g all lines bytes text v are t = record {
-  found = t.found;
-  are = t.are;
-  lines = subst (λ (ls : List (List ℕ)). AreLinesOf bytes ls) (sym t.lines_are) are;
-  decided = t.decided;
-  reported = t.reported;
-  says = said g all t.found v t.are t.decided;
+  lines = lines;
+  are_lines = are;
+  rules = t.rules;
+  ruled = t.ruled;
+  reported = reported_by t.rules all lines text v t.told;
 }
 
 -- what a checker's end returns

@@ -1,10 +1,9 @@
 -- Glue. What a checker keeps of the lines that it took in.
-use Rattle.std.specs.Prelude.{◌≡◌, ◌≢◌, ℕ, Bool, true, false, List, ◌∷◌, ◌++◌, length, ◌⊎◌, Option, Some, None, Result, Ok, Err}
+use Rattle.std.specs.Prelude.{◌≡◌, ◌≢◌, ℕ, Bool, true, false, option_map, string_bytes, List, [], ◌∷◌, ◌++◌, length, nat_le, if◌then◌else◌, ◌⊎◌, Option, Some, None, Result, Ok, Err}
 use Rattle.std.specs.Io.KnownBytes.{Consumes, IsAtEnd}
 use Rattle.std.specs.List.{AllByRecursion}
-use Rattle.std.specs.declared.alloc.Global.{Global}
-use Rattle.std.specs.declared.vec.Vec.{Vec}
 use Rattle.uring_core.specs.Core.{FitsApart}
+use Rattle.uring_entry.specs.Setup.{Setup}
 use Rattle.uring_core.specs.Histories.{History, world}
 use Rattle.uring_machine.specs.Machine.{Fits}
 use Rattle.uring_core.specs.Recorded.{IsWrong, Meets, resumed}
@@ -22,13 +21,20 @@ use Rattle.uring_trace.specs.Text.{text_of}
 use Rattle.uring_text.specs.declared.trace_fault.TraceFault.{TraceFault}
 use Rattle.uring_text.specs.declared.trace_fault.TraceFault.TheVariants as fault
 use Rattle.uring_check.specs.Findings.{Found, Finding, IsWrongText, IsFinding, AreFound, lines_of, history_behind, has_stopped, stops, judged, with_finding, verdict_of}
-use Rattle.uring_check.specs.Reports.{report, told_of, told_of_all, counted_with, steps_of, wanted_text}
-use Rattle.uring_check.specs.Rules.{Rules, IsCalled, IsPlain}
+use Rattle.uring_trace.specs.Chosen.{chosen_told}
+use Rattle.uring_trace.specs.Reasons.{found_text}
+use Rattle.uring_check.specs.Cancels.{found_asked}
+use Rattle.uring_check.specs.Posters.{next_poster, posters}
+use Rattle.uring_check.specs.Reports.{missed_text, report, told_of, told_of_all, counted_with, steps_of, wanted_text, completion_wanted, whom_told, whose_told, why_asked, why_told}
+use Rattle.uring_check.specs.Rules.{AreJudgedBy, Rules, IsCalled, IsPlain}
 use Rattle.uring_check.specs.declared.checker.Checker.{Checker}
 use Rattle.uring_check.specs.declared.follower.Follower.{Follower}
 use Rattle.uring_check.specs.declared.follower.Follower.TheVariants.{Whole, Apart}
+use Rattle.uring_check.specs.declared.judging.Told.{Told}
 use Rattle.uring_check.specs.declared.reading.Reading.{Reading}
+use Rattle.uring_check.specs.declared.standing.Standing.{Standing}
 use Rattle.uring_check.specs.declared.verdict.Verdict.{Verdict}
+use Rattle.uring_check.specs.declared.verdict.Verdict.TheVariants as verdict
 
 -- what stands before and behind ` = `, which has the line's first `=`
 pub record IsSplit (line before text : List ℕ) : Type 0 where
@@ -72,11 +78,11 @@ abbrev pub Judges : Follower → Follower → Step → List ℕ → Option Wante
 Judges old new s text found =
     (h : History) → FitsBy old h → IsJudged (rules_of old) h new s text found
 
--- the same, with the text of the answers that are called for
-abbrev pub JudgesTold : Follower → Follower → Step → List ℕ → Option (Vec ℕ Global) → Type 0
+-- the same, with the text of the answers that are called for, and the user data of a completion that is
+abbrev pub JudgesTold : Follower → Follower → Step → List ℕ → Option Told → Type 0
 JudgesTold old new s text None = Judges old new s text None
 JudgesTold old new s text (Some told) =
-    (wanted : Wanted) × (told.items ≡ wanted_text wanted) × Judges old new s text (Some wanted)
+    (wanted : Wanted) × (told.text.items ≡ wanted_text wanted) × (told.completion ≡ completion_wanted wanted) × Judges old new s text (Some wanted)
 
 -- a refusal told that these answers are wanted, and the machine goes on from there
 abbrev pub IsWanted : History → Follower → Step → Wanted → Type 0
@@ -90,45 +96,101 @@ pub record IsEither (wanted : Wanted) (one other : Answer) : Type 0 where
   pub other_meets : Meets wanted other
   pub nothing : (s : Step) (h : History) → resumed s (refusal.Wrong wanted) h ≡ h
 
--- The checker has looked at these lines, the newest first.
-pub record Looks (g : Rules) (all : Bool) (lines : List (List ℕ)) (c : Checker) : Type 0 where
+-- What is asked before a step: how its request stands, whom a cancel chooses, whose completion is reaped next, and how much is posted.
+pub record IsStanding (g : Setup) (h : History) (s : Step) (x : Standing) : Type 0 where
+  pub why : x.why ≡ why_asked (world g h).requests s
+  pub chosen : option_map (λ text. string_bytes text) x.chosen ≡ chosen_told (world g h).requests s
+  pub found : x.found ≡ found_asked (world g h).requests s
+  pub poster : x.poster ≡ next_poster g h
+  pub posted : x.posted ≡ length (world g h).completions.posted
+
+-- what is told of a wrong answer by what was asked, where a completion of this user data is wanted, or none
+abbrev pub reasons_by : Standing → Option ℕ → List ℕ
+reasons_by x completion =
+    why_told x.why ++ whom_told (option_map (λ text. string_bytes text) x.chosen) ++ whom_told (option_map found_text x.found) ++ whose_told completion x.poster
+
+-- the request of a step
+abbrev pub number_in : Step → List ℕ
+number_in (step.Issue n) = n ∷ []
+number_in (step.Finish n) = n ∷ []
+number_in _ = []
+
+-- the request of a step that posted a completion, if so many were posted before it and behind it
+abbrev pub noted_poster : Step → ℕ → ℕ → List ℕ
+noted_poster s before after = if nat_le after before then [] else number_in s
+
+-- the checker's machine fits a history, and it knows whose completions were posted
+abbrev pub Knows : Checker → History → Type 0
+Knows c h = FitsBy c.machine h × (c.posters.items ≡ posters (rules_of c.machine).setup h)
+
+-- The checker has looked at these lines by these rules, the newest first.
+pub record LooksBy (g : Rules) (all : Bool) (lines : List (List ℕ)) (c : Checker) : Type 0 where
   pub found : List Found
   pub are : AreFound g all found
   pub lines_are : lines_of found ≡ lines
   pub is_all : c.is_all ≡ all
   pub same : rules_of c.machine ≡ g
-  pub fits : FitsBy c.machine (history_behind found)
+  pub fits : Knows c (history_behind found)
   pub numbered : c.number ≡ line_number (length found)
   pub counted : c.steps ≡ steps_of found
   pub decided : c.verdict ≡ verdict_of found
   pub stopped : c.is_over ≡ has_stopped all found
   pub told : c.report.items ≡ told_of_all g found
 
--- the verdict on lines, the newest first, and the report
-pub record IsTold (g : Rules) (all : Bool) (lines : List (List ℕ)) (v : Verdict) (text : List ℕ) : Type 0 where
+-- whether the next line is the first one, which may say a set-up
+abbrev pub awaits_first : List (List ℕ) → Bool
+awaits_first [] = true
+awaits_first (line ∷ before) = false
+
+-- the checker has looked at the lines by the rules that there are; or the first one missed its set-up, and no other is looked at
+abbrev pub LooksIf : Option Rules → Bool → List (List ℕ) → Checker → Type 0
+LooksIf (Some g) all lines c = LooksBy g all lines c
+LooksIf None all lines c =
+    (c.is_over ≡ true) × (c.verdict ≡ verdict.Bad) × (c.report.items ≡ missed_text)
+
+-- The checker has looked at these lines, the newest first, of which the first may have said a set-up.
+pub record Looks (given : Rules) (all : Bool) (lines : List (List ℕ)) (c : Checker) : Type 0 where
+  pub rules : Option Rules
+  pub ruled : AreJudgedBy given lines rules
+  pub looked : LooksIf rules all lines c
+  pub awaits : c.awaits ≡ awaits_first lines
+
+-- the verdict on lines by rules, the newest first, and the report
+pub record IsToldBy (g : Rules) (all : Bool) (lines : List (List ℕ)) (v : Verdict) (text : List ℕ) : Type 0 where
   pub found : List Found
   pub are : AreFound g all found
   pub lines_are : lines_of found ≡ lines
   pub decided : v ≡ verdict_of found
   pub reported : text ≡ report g found
 
+abbrev pub IsToldIf : Option Rules → Bool → List (List ℕ) → Verdict → List ℕ → Type 0
+IsToldIf (Some g) all lines v text = IsToldBy g all lines v text
+IsToldIf None all lines v text = (v ≡ verdict.Bad) × (text ≡ missed_text)
+
+-- the same by the rules that there are
+pub record IsTold (given : Rules) (all : Bool) (lines : List (List ℕ)) (v : Verdict) (text : List ℕ) : Type 0 where
+  pub rules : Option Rules
+  pub ruled : AreJudgedBy given lines rules
+  pub told : IsToldIf rules all lines v text
+
 -- What a checker makes of a line that it looks at: the line has a finding, of which it keeps what it needs.
 pub record Looked (old new : Checker) (line : List ℕ) (h : History) : Type 0 where
   pub finding : Finding
   pub is_so : IsFinding (rules_of old.machine) h line finding
   pub same : rules_of new.machine ≡ rules_of old.machine
-  pub fits : FitsBy new.machine (with_finding finding h)
+  pub fits : Knows new (with_finding finding h)
   pub is_all : new.is_all ≡ old.is_all
+  pub awaits : new.awaits ≡ old.awaits
   pub numbered : new.number ≡ old.number
   pub counted : new.steps ≡ counted_with finding old.steps
   pub decided : new.verdict ≡ judged old.verdict finding
   pub stopped : new.is_over ≡ stops old.is_all finding
   pub told : new.report.items
-      ≡ old.report.items ++ told_of (world (rules_of old.machine).setup h) old.number line finding
+      ≡ old.report.items ++ told_of (rules_of old.machine).setup h old.number line finding
 
 -- a line was looked at, whatever the history
 abbrev pub LooksAt : Checker → Checker → List ℕ → Type 0
-LooksAt old new line = (h : History) → FitsBy old.machine h → Looked old new line h
+LooksAt old new line = (h : History) → Knows old h → Looked old new line h
 
 -- The checker has looked at the lines of the bytes that have their ends, and this is what is kept of the unfinished one.
 pub record Holds (g : Rules) (all : Bool) (kept : KeptLine) (c : Checker) (bytes : List ℕ) : Type 0 where

@@ -1,13 +1,13 @@
 -- What a check reads, returns and writes.
-use Rattle.std.specs.Prelude.{◌≡◌, ℕ, ◌<◌, Bool, List, [], ◌++◌, length, Option, Result, Ok, Err}
+use Rattle.std.specs.Prelude.{◌≡◌, ℕ, ◌<◌, Bool, List, [], ◌++◌, length, Option, Some, None, Result, Ok, Err}
 use Rattle.std.specs.Io.KnownBytes.{Consumes, Appends, IsAtEnd}
 use Rattle.uring_text.specs.Lines.{Splits, with_last}
 use Rattle.uring_text.specs.declared.trace_fault.TraceFault.{TraceFault}
 use Rattle.uring_text.specs.declared.trace_fault.TraceFault.TheVariants as fault
 use Rattle.uring_check.specs.Findings.{Found, AreFound, lines_of, verdict_of}
 use Rattle.uring_check.specs.Records.{IsLawfulText}
-use Rattle.uring_check.specs.Reports.{report}
-use Rattle.uring_check.specs.Rules.{Rules}
+use Rattle.uring_check.specs.Reports.{missed_text, report}
+use Rattle.uring_check.specs.Rules.{AreJudgedBy, Rules}
 use Rattle.uring_check.specs.declared.verdict.Verdict.{Verdict}
 use Rattle.uring_check.specs.declared.verdict.Verdict.TheVariants as verdict
 
@@ -21,14 +21,27 @@ abbrev pub Says : Rules → List (List ℕ) → Verdict → Type 0
 Says g lines verdict.Lawful = IsLawfulText g lines
 Says g lines _ = IsLawfulText g lines → ⊥
 
--- The verdict on bytes and the report: every line of the bytes has its finding, of which the first wrong or bad one decides.
-pub record IsVerdict (g : Rules) (all : Bool) (bytes text : List ℕ) (v : Verdict) : Type 0 where
+-- The verdict on lines by rules, and the report: every line has its finding, of which the first wrong or bad one decides.
+pub record IsReported (g : Rules) (all : Bool) (lines : List (List ℕ)) (text : List ℕ) (v : Verdict) : Type 0 where
   pub found : List Found
   pub are : AreFound g all found
-  pub lines : AreLinesOf bytes (lines_of found)
+  pub lines_are : lines_of found ≡ lines
   pub decided : v ≡ verdict_of found
   pub reported : text ≡ report g found
-  pub says : Says g (lines_of found) v
+  pub says : Says g lines v
+
+-- the same by the rules that there are; if the first line misses its set-up it is bad, and nothing else is looked at
+abbrev pub IsReportedBy : Option Rules → Bool → List (List ℕ) → List ℕ → Verdict → Type 0
+IsReportedBy (Some g) all lines text v = IsReported g all lines text v
+IsReportedBy None all lines text v = (v ≡ verdict.Bad) × (text ≡ missed_text)
+
+-- The verdict on bytes and the report: their lines are judged by the rules that are given, or with the set-up that the first one says.
+pub record IsVerdict (given : Rules) (all : Bool) (bytes text : List ℕ) (v : Verdict) : Type 0 where
+  pub lines : List (List ℕ)
+  pub are_lines : AreLinesOf bytes lines
+  pub rules : Option Rules
+  pub ruled : AreJudgedBy given lines rules
+  pub reported : IsReportedBy rules all lines text v
 
 -- what is written, by what a check returns: nothing if it failed before
 abbrev pub Writes : Rules → Bool → Result Verdict TraceFault → List ℕ → List ℕ → Type 0

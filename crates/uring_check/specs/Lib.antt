@@ -1,6 +1,9 @@
 pub mod Rules
+pub mod SetupLines
 pub mod Records
 pub mod Findings
+pub mod Cancels
+pub mod Posters
 pub mod Reports
 pub mod Checks
 pub mod Checking

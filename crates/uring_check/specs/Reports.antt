@@ -1,11 +1,12 @@
 -- The text of a check's report. Its words are our own rule.
-use Rattle.std.specs.Prelude.{ℕ, ◌+◌, ◌-◌, ◌^◌, min, List, [], ◌∷◌, ◌++◌, length, codes, Option, Some, None}
+use Rattle.std.specs.Prelude.{ℕ, ◌+◌, ◌-◌, ◌^◌, min, List, [], ◌∷◌, ◌++◌, length, codes, option_map, Option, Some, None}
 use Rattle.std.specs.Fmt.{decimal, signed_decimal}
 use Rattle.uring_entry.specs.Requests.{Requests}
+use Rattle.uring_entry.specs.Setup.{Setup}
 use Rattle.uring_entry.specs.Why.{why_of}
 use Rattle.uring_entry.specs.declared.why.Why.{Why}
-use Rattle.uring_core.specs.Histories.{world}
-use Rattle.uring_core.specs.World.{World}
+use Rattle.uring_core.specs.Histories.{History, world}
+use Rattle.uring_core.specs.declared.answer.Answer.TheVariants as answer
 use Rattle.uring_core.specs.declared.step.Step.{Step}
 use Rattle.uring_core.specs.declared.step.Step.TheVariants as step
 use Rattle.uring_core.specs.declared.wanted.Wanted.{Wanted}
@@ -15,10 +16,13 @@ use Rattle.uring_text.specs.Lines.{ended}
 use Rattle.uring_text.specs.Visible.{visible_line}
 use Rattle.uring_trace.specs.Flaws.{line_flaw}
 use Rattle.uring_trace.specs.declared.flaws.Language.TheVariants as language
-use Rattle.uring_trace.specs.Reasons.{why_text}
+use Rattle.uring_trace.specs.Chosen.{chosen_told}
+use Rattle.uring_trace.specs.Reasons.{found_text, why_text}
 use Rattle.uring_trace.specs.Text.{text_of}
 use Rattle.uring_check.specs.Findings.{Found, Finding, history_behind, verdict_of}
 use Rattle.uring_check.specs.Findings as finding
+use Rattle.uring_check.specs.Cancels.{found_asked}
+use Rattle.uring_check.specs.Posters.{next_poster}
 use Rattle.uring_check.specs.Rules.{Rules}
 use Rattle.uring_check.specs.declared.verdict.Verdict.{Verdict}
 use Rattle.uring_check.specs.declared.verdict.Verdict.TheVariants as verdict
@@ -41,6 +45,28 @@ abbrev pub why_told : Option (ℕ × Why) → List ℕ
 why_told None = []
 why_told (Some why) = codes "why: " ++ decimal why.0 ++ codes " " ++ ended (why_text why.1)
 
+-- what is told of whom a cancel chooses
+abbrev pub whom_told : Option (List ℕ) → List ℕ
+whom_told None = []
+whom_told (Some chosen) = codes "whom: " ++ ended chosen
+
+-- the user data of the one completion that is wanted
+abbrev pub completion_wanted : Wanted → Option ℕ
+completion_wanted (Only (answer.Reaped completion)) = Some completion.user_data
+completion_wanted _ = None
+
+-- what is told of the request whose completion is wanted
+abbrev pub whose_told : Option ℕ → Option ℕ → List ℕ
+whose_told (Some user_data) (Some n) =
+    codes "whose: " ++ decimal n ++ codes ", user data " ++ ended (decimal user_data)
+whose_told _ _ = []
+
+-- all that is told of why these answers are wanted: how the request stands, whom a cancel chooses, and whose a completion is
+abbrev pub reasons_told : Setup → History → Step → Wanted → List ℕ
+reasons_told g h s wanted =
+    why_told (why_asked (world g h).requests s) ++ whom_told (chosen_told (world g h).requests s) ++ whom_told (option_map found_text (found_asked (world g h).requests s))
+    ++ whose_told (completion_wanted wanted) (next_poster g h)
+
 -- the number of a line
 abbrev pub line_text : ℕ → List ℕ
 line_text number = codes "line " ++ decimal number ++ codes ": "
@@ -49,12 +75,12 @@ line_text number = codes "line " ++ decimal number ++ codes ": "
 abbrev pub why_bad : List ℕ → List ℕ
 why_bad line = codes "why: " ++ ended (line_flaw language.Records line)
 
--- What is told of the line with this number, by the world before it: of a wrong one the line, in which no byte is invisible, the answers that are called for, and why; and that a line is bad, and why.
-abbrev pub told_of : World → ℕ → List ℕ → Finding → List ℕ
-told_of w number line (finding.Wrong s wanted) =
-    line_text number ++ ended (visible_line line) ++ codes "wanted: " ++ ended (wanted_text wanted) ++ why_told (why_asked w.requests s)
-told_of w number line finding.Bad = line_text number ++ ended (codes "bad line") ++ why_bad line
-told_of w number line _ = []
+-- What is told of the line with this number, by the history before it: of a wrong one the line, in which no byte is invisible, the answers that are called for, and why; and that a line is bad, and why.
+abbrev pub told_of : Setup → History → ℕ → List ℕ → Finding → List ℕ
+told_of g h number line (finding.Wrong s wanted) =
+    line_text number ++ ended (visible_line line) ++ codes "wanted: " ++ ended (wanted_text wanted) ++ reasons_told g h s wanted
+told_of g h number line finding.Bad = line_text number ++ ended (codes "bad line") ++ why_bad line
+told_of g h number line _ = []
 
 -- one step more for a right line
 abbrev pub counted_with : Finding → ℕ → ℕ
@@ -70,12 +96,17 @@ steps_of (x ∷ before) = counted_with x.finding (steps_of before)
 abbrev pub told_of_all : Rules → List Found → List ℕ
 told_of_all g [] = []
 told_of_all g (x ∷ before) =
-    told_of_all g before ++ told_of (world g.setup (history_behind before)) (line_number (length before)) x.line x.finding
+    told_of_all g before ++ told_of g.setup (history_behind before) (line_number (length before)) x.line x.finding
 
 -- the last line, if all is lawful: how many steps there were
 abbrev pub closing : Verdict → ℕ → List ℕ
 closing verdict.Lawful steps = codes "lawful: " ++ decimal steps ++ ended (codes " steps")
 closing v steps = []
+
+-- what is told of a first line that is to say a set-up and says none
+abbrev pub missed_text : List ℕ
+missed_text =
+    codes "line 1: bad line\nwhy: no set-up, wanted: # setup --sq N --cq N --files N --start N, each within its limits, and --stop or nothing\n"
 
 -- The report.
 abbrev pub report : Rules → List Found → List ℕ

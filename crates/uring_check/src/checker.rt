@@ -1,34 +1,45 @@
 //! What a check makes of lines, one by one.
 
-ghost use Rattle.std.specs.Prelude.{◌≡◌, ◌∷◌, ◌++◌, [], false, not, ℕ, List, Bool, IfOk, OnOk, codes};
-ghost use Rattle.uring_core.specs.Histories.{History, world};
+ghost use Rattle.std.specs.Prelude.{◌≡◌, ◌∷◌, ◌++◌, [], true, false, not, ℕ, List, Bool, IfOk, OnOk, codes};
+ghost use Rattle.uring_core.specs.Histories.{History};
 ghost use Rattle.uring_text.specs.KeptLine.{kept_of};
 ghost use Rattle.uring_text.specs.Lines.{ended};
 ghost use Rattle.uring_text.specs.Visible.{visible_line};
-ghost use Rattle.uring_check.specs.Checking.{FitsBy, rules_of, Looks, LooksAt, IsTold};
+ghost use Rattle.uring_check.specs.Checking.{FitsBy, IsStanding, reasons_by, rules_of, Looks, LooksAt, LooksBy, IsTold};
 ghost use Rattle.uring_check.specs.Findings.{first_fault};
+ghost use Rattle.uring_check.specs.Posters.{posters};
 ghost use Rattle.uring_check.specs.Rules.{Rules};
-ghost use Rattle.uring_check.specs.Reports.{line_text, why_asked, why_told};
+ghost use Rattle.uring_check.specs.Reports.{line_text, missed_text};
 ghost use Rattle.uring_check.specs.Records.{IsRecord, IsNoRecord};
 
 use crate::answer_text::AnswerText;
 use crate::follower::Follower;
-use crate::judging::judge_told;
+use crate::judging::{Told, judge_told};
 use crate::record_line::split_record;
+use crate::setup_line::{Said, said_by};
+use crate::standing::{Standing, note_poster};
 use crate::telling::{tell_bad, tell_end, tell_wrong};
 use crate::verdict::Verdict;
 use std::alloc::{AllocError, Global};
-use uring_machine::{Setup, Step, Why};
+use uring_machine::{Setup, Step};
 use uring_text::KeptLine;
 use uring_trace::read_step;
+
+/// What is told of a first line that is to say a set-up and says none.
+const MISSED: &str =
+    "line 1: bad line\nwhy: no set-up, wanted: # setup --sq N --cq N --files N --start N, each within its limits, and --stop or nothing\n";
 
 /// A follower that goes along with the lines, and what they came to so far.
 #[derive(Drop)]
 pub(crate) struct Checker {
     alloc: Global,
+    // Whether the next line is the first one, which may say a set-up.
+    awaits: bool,
     // Whether the lines behind a wrong one are looked at too.
     is_all: bool,
     machine: Follower,
+    // The requests whose completions were posted, in order.
+    posters: Vec<u64>,
     // The number of the next line, from 1 on; 2^64 - 1 stands for every greater one.
     number: u64,
     // How many lines were steps with an answer that was called for; 2^64 - 1 stands for every greater number.
@@ -53,8 +64,10 @@ impl Checker {
     {
         Ok(Checker {
             alloc,
+            awaits: true,
             is_all,
             machine: Follower::new(alloc, setup, is_apart)?,
+            posters: Vec::new(alloc),
             number: 1,
             steps: 0,
             verdict: Verdict::Lawful,
@@ -70,6 +83,55 @@ impl Checker {
             ((g : Rules) (all : Bool) (lines : List (List ℕ)) (text : List ℕ)
             → line.now ≡ kept_of text → Looks g all lines self.old
             → Looks g all (text ∷ lines) self.new) }
+    {
+        if self.awaits {
+            self.take_first(line)
+        } else {
+            self.take_next(line)
+        }
+    }
+
+    /// Takes in the first line, which may say a set-up.
+    fn take_first(&mut self, line: &KeptLine) -> Result<(), AllocError>
+        requires { self.old.awaits ≡ true }
+        ensures { OnOk result
+            ((g : Rules) (all : Bool) (lines : List (List ℕ)) (text : List ℕ)
+            → line.now ≡ kept_of text → Looks g all lines self.old
+            → Looks g all (text ∷ lines) self.new) }
+    {
+        let said = said_by(self.alloc, line)?;
+        self.awaits = false;
+        match said {
+            Said::Nothing => self.take_next(line),
+            Said::Says(setup) => {
+                self.machine = Follower::new(self.alloc, &setup, self.machine.is_apart())?;
+                self.take_next(line)
+            }
+            Said::Misses => self.miss(),
+        }
+    }
+
+    /// Finds that the first line says no set-up, though it begins so: it is bad, and no line behind it is looked at.
+    fn miss(&mut self) -> Result<(), AllocError>
+        ensures told { OnOk result (self.new.report.items ≡ self.old.report.items ++ missed_text) }
+        ensures kept { OnOk result
+            (self.new
+            ≡ record self.old { verdict = Verdict.Bad; is_over = true; report = self.new.report }) }
+    {
+        self.verdict = Verdict::Bad;
+        self.is_over = true;
+        self.report.extend_from_slice(MISSED.as_bytes())
+    }
+
+    /// Takes in a line behind which no set-up is said.
+    fn take_next(&mut self, line: &KeptLine) -> Result<(), AllocError>
+        ensures looks { OnOk result
+            ((g : Rules) (all : Bool) (lines : List (List ℕ)) (text : List ℕ)
+            → line.now ≡ kept_of text → LooksBy g all lines self.old
+            → LooksBy g all (text ∷ lines) self.new × (self.new.awaits ≡ self.old.awaits)) }
+        ensures over { OnOk result
+            (self.old.is_over ≡ true
+            → (self.new.is_over ≡ true) × (self.new.verdict ≡ self.old.verdict) × (self.new.report ≡ self.old.report) × (self.new.awaits ≡ self.old.awaits)) }
     {
         if !self.is_over {
             self.look(line)?;
@@ -135,13 +197,20 @@ impl Checker {
         ensures { OnOk result
             (IsRecord line.now step.now text.now → LooksAt self.old self.new line.now) }
     {
-        let why = ask(&self.machine, step);
-        match judge_told(self.alloc, &mut self.told, &mut self.machine, step, text)? {
+        let standing = stand(self.alloc, &self.machine, self.posters.as_slice(), step)?;
+        let judged = judge_told(self.alloc, &mut self.told, &mut self.machine, step, text)?;
+        note_poster(
+            &mut self.posters,
+            step,
+            standing.posted(),
+            self.machine.posted(),
+        )?;
+        match judged {
             None => {
                 self.steps = self.steps.saturating_add(1);
                 Ok(())
             }
-            Some(wanted) => self.find_wrong(line, wanted.as_slice(), why),
+            Some(told) => self.find_wrong(line, &told, &standing),
         }
     }
 
@@ -149,19 +218,26 @@ impl Checker {
     fn find_wrong(
         &mut self,
         line: &[u8],
-        wanted: &[u8],
-        why: Option<(u64, Why)>,
+        told: &Told,
+        standing: &Standing,
     ) -> Result<(), AllocError>
         ensures kept { OnOk result
             (self.new
             ≡ record self.old { verdict = first_fault self.old.verdict Verdict.Wrong; is_over = not self.old.is_all; report = self.new.report }) }
         ensures told { OnOk result
             (self.new.report.items
-            ≡ self.old.report.items ++ line_text self.old.number ++ ended (visible_line line.now) ++ codes "wanted: " ++ ended wanted.now ++ why_told why) }
+            ≡ self.old.report.items ++ line_text self.old.number ++ ended (visible_line line.now) ++ codes "wanted: " ++ ended told.now.text.items ++ reasons_by standing.now told.now.completion) }
     {
         self.fault(Verdict::Wrong);
         self.is_over = !self.is_all;
-        tell_wrong(self.alloc, &mut self.report, self.number, line, wanted, why)
+        tell_wrong(
+            self.alloc,
+            &mut self.report,
+            self.number,
+            line,
+            told,
+            standing,
+        )
     }
 
     /// Notes a fault, unless there was one before.
@@ -174,14 +250,17 @@ impl Checker {
     }
 }
 
-/// Why the request that a step issues or finishes stands as it does, with its number, asked before the step.
-fn ask(machine: &Follower, step: &Step) -> Option<(u64, Why)>
-    ensures { (h : History) → FitsBy machine.now h
-        → result ≡ why_asked (world (rules_of machine.now).setup h).requests step.now }
+/// What is asked of a follower before a step. These are the numbers of the requests whose completions were posted.
+fn stand(
+    alloc: Global,
+    machine: &Follower,
+    numbers: &[u64],
+    step: &Step,
+) -> Result<Standing, AllocError>
+    ensures { IfOk result
+        (λ standing. (h : History) → FitsBy machine.now h
+        → numbers.now ≡ posters (rules_of machine.now).setup h
+        → IsStanding (rules_of machine.now).setup h step.now standing) }
 {
-    match step {
-        Step::Issue { number } => Some((*number, machine.why(*number))),
-        Step::Finish { number } => Some((*number, machine.why(*number))),
-        _ => None,
-    }
+    Standing::before(alloc, machine.core(), numbers, step)
 }

@@ -1,14 +1,14 @@
 //! What goes along with a recorded trace: a machine, or a core without files.
 
-ghost use Rattle.std.specs.Prelude.{◌≡◌, ◌∷◌, [], IfErr, IfOk, OnOk};
-ghost use Rattle.uring_entry.specs.Why.{why_of};
+ghost use Rattle.std.specs.Prelude.{◌≡◌, ◌∷◌, [], length, IfErr, IfOk, OnOk};
+ghost use Rattle.uring_core.specs.Core.{FitsApart};
 ghost use Rattle.uring_core.specs.Histories.{History, world};
 ghost use Rattle.uring_core.specs.Recorded.{IsRefused, resumed};
 ghost use Rattle.uring_check.specs.Checking.{FitsBy, HasOneAnswer, rules_of};
 ghost use Rattle.uring_check.specs.Rules.{IsCalled};
 
 use std::alloc::{AllocError, Global};
-use uring_machine::{Answer, Core, Machine, Refusal, Setup, Step, Why};
+use uring_machine::{Answer, Core, Machine, Refusal, Setup, Step};
 
 /// Follows recorded answers.
 #[derive(Drop)]
@@ -76,14 +76,25 @@ impl Follower {
         }
     }
 
-    /// Why a request stands as it does.
-    pub(crate) fn why(&self, number: u64) -> Why
+    /// How many completions were posted.
+    pub(crate) fn posted(&self) -> u64
         ensures { (h : History) → FitsBy self.now h
-            → result ≡ why_of (world (rules_of self.now).setup h).requests number }
+            → result ≡ length (world (rules_of self.now).setup h).completions.posted }
     {
         match self {
-            Follower::Whole(machine) => machine.why(number),
-            Follower::Apart(core) => core.why(number),
+            Follower::Whole(machine) => machine.counts().posted,
+            Follower::Apart(core) => core.counts().posted,
+        }
+    }
+
+    /// The core alone, which can be asked what stands.
+    pub(crate) fn core(&self) -> &Core
+        ensures setup { result.now.setup ≡ (rules_of self.now).setup }
+        ensures fits { (h : History) → FitsBy self.now h → FitsApart result.now h }
+    {
+        match self {
+            Follower::Whole(machine) => machine.core(),
+            Follower::Apart(core) => core,
         }
     }
 }

@@ -7,7 +7,7 @@ ghost use Rattle.uring_core.specs.declared.answer.Answer.TheVariants as answer;
 ghost use Rattle.uring_text.specs.Spelling.{IsFile};
 ghost use Rattle.uring_trace.specs.Text.{text_of};
 ghost use Rattle.uring_check.specs.Rules.{IsPlain};
-ghost use Rattle.uring_check.specs.Reports.{wanted_text};
+ghost use Rattle.uring_check.specs.Reports.{completion_wanted, wanted_text};
 ghost use Rattle.uring_check.specs.Checking.{FitsBy, rules_of, Judges, JudgesTold, IsJudged, IsOneJudged, HasOneAnswer, IsWanted, IsEither};
 
 use crate::answer_text::AnswerText;
@@ -17,6 +17,15 @@ use std::alloc::{AllocError, Global};
 use uring_entry::errno;
 use uring_machine::{Answer, Refusal, Step, Wanted};
 use uring_text::spelled_signed;
+
+/// What is told of the answers that are called for.
+#[derive(Drop)]
+pub(crate) struct Told {
+    /// Their text.
+    pub(crate) text: Vec<u8>,
+    /// The user data of a completion, if one alone is called for.
+    pub(crate) completion: Option<u64>,
+}
 
 /// Makes a step with an answer of this text, if one is called for: `None`. Else it tells which answers are; if that is one alone, the machine goes on as though it had been given, and else as though the step hadn't been made. `AllocError`: memory was refused, to the step or to a text.
 fn judge(
@@ -34,21 +43,42 @@ fn judge(
     }
 }
 
-/// Judges a step, and gives the text of the answers that are called for if the text isn't that of one.
+/// Judges a step, and gives what is told of the answers that are called for if the text isn't that of one.
 pub(crate) fn judge_told(
     alloc: Global,
     told: &mut AnswerText,
     machine: &mut Follower,
     step: &Step,
     text: &[u8],
-) -> Result<Option<Vec<u8>>, AllocError>
+) -> Result<Option<Told>, AllocError>
     ensures rules { rules_of machine.new ≡ rules_of machine.old }
     ensures judges { IfOk result (JudgesTold machine.old machine.new step.now text.now) }
 {
     match judge(told, machine, step, text) {
         Ok(None) => Ok(None),
-        Ok(Some(wanted)) => Ok(Some(wanted_bytes(alloc, &wanted)?)),
+        Ok(Some(wanted)) => Ok(Some(told_of(alloc, &wanted)?)),
         Err(error) => Err(error),
+    }
+}
+
+/// What is told of the answers that are called for.
+fn told_of(alloc: Global, wanted: &Wanted) -> Result<Told, AllocError>
+    ensures text { IfOk result (λ told. told.text.items ≡ wanted_text wanted.now) }
+    ensures completion { IfOk result (λ told. told.completion ≡ completion_wanted wanted.now) }
+{
+    Ok(Told {
+        text: wanted_bytes(alloc, wanted)?,
+        completion: completion_in(wanted),
+    })
+}
+
+/// The user data of a completion, if one alone is called for.
+fn completion_in(wanted: &Wanted) -> Option<u64>
+    ensures { result ≡ completion_wanted wanted.now }
+{
+    match wanted {
+        Wanted::Only(Answer::Reaped(completion)) => Some(completion.user_data()),
+        _ => None,
     }
 }
 

@@ -9,6 +9,8 @@ mod judging;
 pub mod laws;
 mod reading;
 mod record_line;
+mod setup_line;
+mod standing;
 mod telling;
 mod verdict;
 

@@ -2,17 +2,20 @@
 
 ghost use Rattle.std.specs.Prelude.{◌≡◌, ℕ, List, [], ◌++◌, OnOk, string_bytes, codes};
 ghost use Rattle.uring_text.specs.Lines.{ended};
-ghost use Rattle.uring_check.specs.Reports.{closing, line_text, wanted_text, why_bad, why_told};
+ghost use Rattle.uring_check.specs.Reports.{closing, line_text, wanted_text, why_bad};
+ghost use Rattle.uring_check.specs.Checking.{reasons_by};
 ghost use Rattle.uring_text.specs.KeptLine.{kept_of};
 ghost use Rattle.uring_text.specs.Visible.{visible_line};
 ghost use Rattle.uring_trace.specs.Flaws.{line_flaw};
 
+use crate::judging::Told;
+use crate::standing::Standing;
 use crate::verdict::Verdict;
 use std::alloc::{AllocError, Global};
 use std::fmt::Write;
-use uring_machine::{Wanted, Why};
+use uring_machine::Wanted;
 use uring_text::{KeptLine, push_visible_line};
-use uring_trace::{Language, push_answer, push_line_flaw, push_why};
+use uring_trace::{Language, push_answer, push_line_flaw};
 
 /// Appends a wrong line with its number, in which no byte is invisible, the answers that are called for, and why.
 pub(crate) fn tell_wrong(
@@ -20,16 +23,16 @@ pub(crate) fn tell_wrong(
     report: &mut Vec<u8>,
     number: u64,
     line: &[u8],
-    wanted: &[u8],
-    why: Option<(u64, Why)>,
+    told: &Told,
+    standing: &Standing,
 ) -> Result<(), AllocError>
     ensures { OnOk result
         (report.new.items
-        ≡ report.old.items ++ line_text number ++ ended (visible_line line.now) ++ codes "wanted: " ++ ended wanted.now ++ why_told why) }
+        ≡ report.old.items ++ line_text number ++ ended (visible_line line.now) ++ codes "wanted: " ++ ended told.now.text.items ++ reasons_by standing.now told.now.completion) }
 {
     tell_line(alloc, report, number)?;
     tell_visible(alloc, report, line)?;
-    tell_reasons(alloc, report, wanted, why)
+    tell_reasons(alloc, report, told, standing)
 }
 
 /// Appends that the line with this number is bad, and what is wrong with it.
@@ -118,18 +121,18 @@ fn tell_visible(alloc: Global, report: &mut Vec<u8>, line: &[u8]) -> Result<(), 
 fn tell_reasons(
     alloc: Global,
     report: &mut Vec<u8>,
-    wanted: &[u8],
-    why: Option<(u64, Why)>,
+    told: &Told,
+    standing: &Standing,
 ) -> Result<(), AllocError>
     ensures { OnOk result
         (report.new.items
-        ≡ report.old.items ++ ended [] ++ codes "wanted: " ++ ended wanted.now ++ why_told why) }
+        ≡ report.old.items ++ ended [] ++ codes "wanted: " ++ ended told.now.text.items ++ reasons_by standing.now told.now.completion) }
 {
     report.extend_from_slice(b"\nwanted: ")?;
-    report.extend_from_slice(wanted)?;
+    report.extend_from_slice(told.text.as_slice())?;
     let mut text = String::new(alloc);
     text.push_str("\n")?;
-    push_reason(&mut text, why)?;
+    standing.push_reasons(&mut text, told.completion)?;
     report.extend_from_slice(text.as_bytes())
 }
 
@@ -148,16 +151,4 @@ pub(crate) fn push_wanted(
         Wanted::AnyEnd => text.push_str("an end"),
         Wanted::EndOrNoMemory(res) => write!(text, "ended {res} or ended -12"),
     }
-}
-
-/// Appends why a request stands as it does, if it was asked.
-fn push_reason(text: &mut String, why: Option<(u64, Why)>) -> Result<(), AllocError>
-    ensures { OnOk result (string_bytes text.new ≡ string_bytes text.old ++ why_told why) }
-{
-    let Some((number, why)) = why else {
-        return Ok(());
-    };
-    write!(text, "why: {number} ")?;
-    push_why(text, why)?;
-    text.push_str("\n")
 }

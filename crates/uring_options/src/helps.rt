@@ -85,9 +85,16 @@ passed over. All input is read before anything is written:
                      one answer, call N or again, or ended RES or ended -12
   why: NUM REASON    of an issue or a finish, how its request stands, in the
                      words of explain
+  whom: REASON       of a cancel that may be carried out, whom it chooses
+  whose: NUM, user data UD
+                     of a completion that is wanted, which request's it is
   line K: bad line   before any such line, this one is no step with an answer
   why: WORDS         what is wrong with it
 The status is 0, 3 and 4 in this order.
+
+The first line may say the set-up, which then counts in place of the options:
+  # setup --sq N --cq N --files N --start N
+and --stop behind it. One that begins with # setup and is no such line is bad.
 
 With --all the lines behind a wrong one are looked at too, and each wrong one is
 told: the one answer that was called for counts as given, and if there are more

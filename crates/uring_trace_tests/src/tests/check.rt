@@ -181,7 +181,7 @@ fn without_files_an_end_may_be_any(rt: HostRuntime) -> Result<(), Fail> {
     let told =
         "line 8: finish 0 = ended 2147483648\nwanted: an end\nwhy: 0 runs\nline 9: finish 0 = ended 1 -\nwanted: an end\nwhy: 0 runs\nline 10: finish 0 = not running\nwanted: an end\nwhy: 0 runs\nline 12: finish 0 = ended 1\nwanted: not running\nwhy: 0 has ended\n";
     assert!(rt; is_told_apart(rt.alloc(), true, NO_ENDS, Verdict::Wrong, told)?);
-    let behind = "line 10: reap = cqe 7 0 -\nwanted: cqe 7 1 -\n";
+    let behind = "line 10: reap = cqe 7 0 -\nwanted: cqe 7 1 -\nwhose: 0, user data 7\n";
     assert!(rt; is_told_apart(rt.alloc(), false, CHANGED, Verdict::Wrong, behind)?);
     Ok(())
 }

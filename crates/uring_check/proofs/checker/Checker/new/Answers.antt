@@ -1,17 +1,23 @@
-use Rattle.std.proofs.Common.{[], refl}
+use Rattle.std.proofs.Common.{[], Some, refl}
+use Rattle.uring_check.specs.Rules.{Rules}
 use Rattle.uring_check.proofs.checker.Checker.new.Goals as goal
 
 pub returns : goal.returns
 returns c = record {
-  found = [];
-  are = tt;
-  lines_are = refl;
-  is_all = refl;
-  same = c.in_ok-new.ensures.rules;
-  fits = c.in_ok-new.ensures.fits;
-  numbered = refl;
-  counted = refl;
-  decided = refl;
-  stopped = refl;
-  told = c.new-2.ensures.items;
+  rules = let g : Rules = record { setup = c.args.setup.now; is_apart = c.args.is_apart } in Some g;
+  ruled = refl;
+  looked = record {
+    found = [];
+    are = tt;
+    lines_are = refl;
+    is_all = refl;
+    same = c.in_ok-new.ensures.rules;
+    fits = (c.in_ok-new.ensures.fits, c.new-2.ensures.items);
+    numbered = refl;
+    counted = refl;
+    decided = refl;
+    stopped = refl;
+    told = c.new-3.ensures.items;
+  };
+  awaits = refl;
 }

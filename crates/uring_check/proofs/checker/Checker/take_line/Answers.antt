@@ -1,10 +1,10 @@
 use Rattle.std.proofs.Common.{rules}
-use Rattle.uring_check.proofs.Looking.{took_looked, took_skipped}
+use Rattle.uring_trace.proofs.ExplainLines.{if_ok_both}
+use Rattle.uring_check.proofs.FirstLines.{took_next}
 use Rattle.uring_check.proofs.checker.Checker.take_line.Goals as goal
-use Rattle.uring_check.proofs.checker.Checker.take_line.Goals.{then-not-self+in_ok-look, else-not-self}
 
-pub returns : goal.returns
-returns c = λ g all lines text e k. elim c.if-not-self.branch [
-  | then-not-self+in_ok-look w ↦ rw w.self-is (took_looked g all lines c.args.self.now w.look.new.self _ text (search rules) (search rules) (w.in_ok-look.ensures text e) k)
-  | else-not-self w ↦ rw w.self-is (took_skipped g all lines c.args.self.now _ text (search rules) (search rules) k)
-]
+pub returns-else-self : goal.returns-else-self
+returns-else-self c =
+    if_ok_both c.take_next.result _ _ _
+    (λ done looks over d all lines text e k. took_next d all lines text c.args.self.now c.take_next.new.self (search rules) (λ g a ls. looks g a ls text e) over k)
+    c.take_next.ensures.looks c.take_next.ensures.over

@@ -1,0 +1,185 @@
+-- What a checker makes of the first line, and of those behind it.
+use Rattle.std.proofs.Common.{◌≡◌, ℕ, Bool, true, false, List, [], ◌∷◌, ◌++◌, length, Option, Some, None, refl, sym, ap, subst, ◌∙◌}
+use Rattle.std.specs.declared.alloc.Global.{Global}
+use Rattle.std.specs.declared.vec.Vec.{Vec}
+use Rattle.std.proofs.lemmas.List.{append-nil}
+use Rattle.uring_check.specs.Checking.{FitsBy, Looks, LooksBy, LooksIf, IsTold, IsToldIf, awaits_first, rules_of}
+use Rattle.uring_trace.specs.Explanations.{line_number}
+use Rattle.uring_check.specs.Findings.{Found, has_stopped, history_behind, lines_of, verdict_of}
+use Rattle.uring_check.specs.Posters.{posters}
+use Rattle.uring_check.specs.Reports.{closing, missed_text, steps_of, told_of_all}
+use Rattle.uring_check.specs.Rules.{AreJudgedBy, Rules}
+use Rattle.uring_check.specs.SetupLines.{IsSaid}
+use Rattle.uring_entry.specs.Setup.{Setup}
+use Rattle.uring_check.specs.declared.checker.Checker.{Checker}
+use Rattle.uring_check.specs.declared.follower.Follower.{Follower}
+use Rattle.uring_check.specs.declared.setup_line.Said.TheVariants.{Nothing, Says, Misses}
+use Rattle.uring_check.specs.declared.verdict.Verdict.{Verdict}
+use Rattle.uring_check.specs.declared.verdict.Verdict.TheVariants as verdict
+
+-- a line behind the first one changes nothing of the rules
+ruled_more : (given : Rules) (lines : List (List ℕ)) (line : List ℕ) (rules : Option Rules)
+    → awaits_first lines ≡ false → AreJudgedBy given lines rules
+    → AreJudgedBy given (line ∷ lines) rules
+ruled_more given [] line rules late are = absurd cc
+ruled_more given (next ∷ before) line rules late are = are
+
+-- what a step over one line makes of a checker that looks by rules, and of one that is over
+abbrev pub Goes : List ℕ → Checker → Checker → Type 0
+Goes text old new = (g : Rules) (all : Bool) (lines : List (List ℕ)) → LooksBy g all lines old
+    → LooksBy g all (text ∷ lines) new × (new.awaits ≡ old.awaits)
+
+abbrev pub Rests : Checker → Checker → Type 0
+Rests old new = old.is_over ≡ true
+    → (new.is_over ≡ true) × (new.verdict ≡ old.verdict) × (new.report ≡ old.report) × (new.awaits ≡ old.awaits)
+
+looks_on : (rules : Option Rules) (all : Bool) (lines : List (List ℕ)) (text : List ℕ) (old new : Checker)
+    → Goes text old new → Rests old new → LooksIf rules all lines old
+    → LooksIf rules all (text ∷ lines) new × (new.awaits ≡ old.awaits)
+looks_on (Some g) all lines text old new goes rests l = goes g all lines l
+looks_on None all lines text old new goes rests l =
+    let r = rests l.0 in
+    ((r.0, r.1 ∙ l.1, ap (λ (v : Vec ℕ Global). v.items) r.2 ∙ l.2), r.3)
+
+-- a line before which no set-up is awaited
+pub took_next : (d : Rules) (all : Bool) (lines : List (List ℕ)) (text : List ℕ) (old new : Checker)
+    → old.awaits ≡ false → Goes text old new → Rests old new → Looks d all lines old
+    → Looks d all (text ∷ lines) new
+took_next d all lines text old new late goes rests k =
+    let on = looks_on k.rules all lines text old new goes rests k.looked in
+    record {
+      rules = k.rules;
+      ruled = ruled_more d lines text k.rules (sym k.awaits ∙ late) k.ruled;
+      looked = on.0;
+      awaits = on.1 ∙ late;
+    }
+
+-- ---- the first line
+
+-- no line was taken in yet
+first_by : (lines : List (List ℕ)) → awaits_first lines ≡ true → lines ≡ []
+first_by [] is = refl
+first_by (line ∷ before) is = absurd cc
+
+-- the checker before the first line
+first_looks : (d : Rules) (all : Bool) (lines : List (List ℕ)) (c : Checker) → lines ≡ []
+    → Looks d all lines c → LooksBy d all [] c
+first_looks d all lines c none k =
+    let at : AreJudgedBy d [] k.rules = subst (λ (ls : List (List ℕ)). AreJudgedBy d ls k.rules) none k.ruled in
+    subst (λ (ls : List (List ℕ)). LooksBy d all ls c) none
+    (subst (λ (r : Option Rules). LooksIf r all lines c) at k.looked)
+
+none_told : (g : Rules) (found : List Found) → lines_of found ≡ [] → told_of_all g found ≡ []
+none_told g [] is = refl
+none_told g (x ∷ before) is = absurd cc
+
+-- the checker's machine and its text were put in the place of others, before the first line
+abbrev pub with_follower : Checker → Follower → Checker
+with_follower c m = record c { machine = m; awaits = false }
+
+fresh : (given g : Rules) (all : Bool) (old : Checker) (m : Follower) → LooksBy given all [] old
+    → rules_of m ≡ g → FitsBy m [] → LooksBy g all [] (with_follower old m)
+fresh given g all old m l same fits =
+    from l.found l.lines_are l.numbered l.counted l.decided l.stopped l.told l.fits.1 l.is_all
+  where
+    from : (found : List Found) → lines_of found ≡ [] → old.number ≡ line_number (length found) → old.steps ≡ steps_of found → old.verdict ≡ verdict_of found → old.is_over ≡ has_stopped all found → old.report.items ≡ told_of_all given found → old.posters.items ≡ posters (rules_of old.machine).setup (history_behind found) → old.is_all ≡ all → LooksBy g all [] (with_follower old m)
+    from [] none n c v s t p a = record { found = []; are = tt; lines_are = refl; is_all = a; same = same; fits = (fits, p); numbered = n; counted = c; decided = v; stopped = s; told = t }
+    from (x ∷ before) none n c v s t p a = absurd cc
+
+-- a first line that says no set-up
+pub took_first : (d : Rules) (all : Bool) (lines : List (List ℕ)) (text : List ℕ) (old new : Checker)
+    → old.awaits ≡ true → IsSaid text Nothing → Goes text (record old { awaits = false }) new
+    → Looks d all lines old → Looks d all (text ∷ lines) new
+took_first d all lines text old new waits said goes k =
+    let none : lines ≡ [] = first_by lines (sym k.awaits ∙ waits) in
+    let l : LooksBy d all [] old = first_looks d all lines old none k in
+    subst (λ (ls : List (List ℕ)). Looks d all (text ∷ ls) new) (sym none)
+    (record {
+      rules = Some d;
+      ruled = (Nothing, said, refl);
+      looked = (goes d all [] (again old l)).0;
+      awaits = (goes d all [] (again old l)).1;
+    })
+  where
+    again : (c : Checker) → LooksBy d all [] c → LooksBy d all [] (record c { awaits = false })
+    again c l = record {
+      found = l.found;
+      are = l.are;
+      lines_are = l.lines_are;
+      is_all = l.is_all;
+      same = l.same;
+      fits = l.fits;
+      numbered = l.numbered;
+      counted = l.counted;
+      decided = l.decided;
+      stopped = l.stopped;
+      told = l.told;
+    }
+
+-- rules of this set-up
+abbrev pub with_setup : Setup → Bool → Rules
+with_setup s apart = record { setup = s; is_apart = apart }
+
+-- a first line that says one
+pub took_setup : (d : Rules) (all : Bool) (lines : List (List ℕ)) (text : List ℕ) (s : Setup) (old new : Checker) (m : Follower)
+    → old.awaits ≡ true → IsSaid text (Says s)
+    → rules_of m ≡ with_setup s (rules_of old.machine).is_apart → FitsBy m []
+    → Goes text (with_follower old m) new → Looks d all lines old
+    → Looks d all (text ∷ lines) new
+took_setup d all lines text s old new m waits said rules fits goes k =
+    let none : lines ≡ [] = first_by lines (sym k.awaits ∙ waits) in
+    let l : LooksBy d all [] old = first_looks d all lines old none k in
+    let g : Rules = with_setup s d.is_apart in
+    let same : rules_of m ≡ g = rules ∙ ap (λ (r : Rules). with_setup s r.is_apart) l.same in
+    subst (λ (ls : List (List ℕ)). Looks d all (text ∷ ls) new) (sym none)
+    (record {
+      rules = Some g;
+      ruled = (Says s, said, refl);
+      looked = (goes g all [] (fresh d g all old m l same fits)).0;
+      awaits = (goes g all [] (fresh d g all old m l same fits)).1;
+    })
+
+-- a first line that is to say one and says none
+pub took_missed : (d : Rules) (all : Bool) (lines : List (List ℕ)) (text : List ℕ) (old mid new : Checker)
+    → old.awaits ≡ true → IsSaid text Misses → mid ≡ record old { awaits = false }
+    → new ≡ record mid { verdict = verdict.Bad; is_over = true; report = new.report }
+    → new.report.items ≡ mid.report.items ++ missed_text → Looks d all lines old
+    → Looks d all (text ∷ lines) new
+took_missed d all lines text old mid new waits said begun is told k =
+    let none : lines ≡ [] = first_by lines (sym k.awaits ∙ waits) in
+    let l : LooksBy d all [] old = first_looks d all lines old none k in
+    let empty : mid.report.items ≡ [] = ap (λ (c : Checker). c.report.items) begun ∙ l.told ∙ none_told d l.found l.lines_are in
+    subst (λ (ls : List (List ℕ)). Looks d all (text ∷ ls) new) (sym none)
+    (record {
+      rules = None;
+      ruled = (Misses, said, refl);
+      looked = (ap (λ (c : Checker). c.is_over) is, ap (λ (c : Checker). c.verdict) is, told ∙ ap (λ (t : List ℕ). t ++ missed_text) empty);
+      awaits = ap (λ (c : Checker). c.awaits) is ∙ ap (λ (c : Checker). c.awaits) begun;
+    })
+
+-- ---- the end
+
+told_if : (rules : Option Rules) (all : Bool) (lines : List (List ℕ)) (c : Checker) (text : List ℕ)
+    → text ≡ c.report.items ++ closing c.verdict c.steps → LooksIf rules all lines c
+    → IsToldIf rules all lines c.verdict text
+told_if (Some g) all lines c text is l = record {
+  found = l.found;
+  are = l.are;
+  lines_are = l.lines_are;
+  decided = l.decided;
+  reported =
+      is ∙ ap (λ (t : List ℕ). t ++ closing c.verdict c.steps) l.told
+      ∙ ap (λ (v : Verdict). told_of_all g l.found ++ closing v c.steps) l.decided
+      ∙ ap (λ (n : ℕ). told_of_all g l.found ++ closing (verdict_of l.found) n) l.counted;
+}
+told_if None all lines c text is l =
+    (l.1, is ∙ ap (λ (v : Verdict). c.report.items ++ closing v c.steps) l.1 ∙ append-nil c.report.items ∙ l.2)
+
+pub ends_told : (d : Rules) (all : Bool) (lines : List (List ℕ)) (c : Checker) (text : List ℕ)
+    → text ≡ c.report.items ++ closing c.verdict c.steps → Looks d all lines c
+    → IsTold d all lines c.verdict text
+ends_told d all lines c text is k = record {
+  rules = k.rules;
+  ruled = k.ruled;
+  told = told_if k.rules all lines c text is k.looked;
+}

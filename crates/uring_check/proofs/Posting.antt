@@ -1,0 +1,120 @@
+-- Whose completions were posted.
+use Rattle.std.proofs.Common.{◌≡◌, ℕ, Bool, true, false, List, [], ◌∷◌, ◌++◌, length, Option, Some, None, sym, ap, ◌∙◌, append-nil, arith}
+use Rattle.std.specs.Prelude.{if◌then◌else◌}
+use Rattle.std.proofs.lemmas.Bool.{le-leb, lt-leb}
+use Rattle.std.proofs.lemmas.List.{length-append}
+use Rattle.uring_entry.specs.Completions.{Completions, completion_for, with_posted}
+use Rattle.uring_entry.specs.Layout.{Cqe}
+use Rattle.uring_entry.specs.Requests.{Ending, entry_of}
+use Rattle.uring_entry.specs.Setup.{Setup}
+use Rattle.uring_entry.specs.Success.{posts_completion}
+use Rattle.uring_core.specs.Events.{end_told_by}
+use Rattle.uring_core.specs.Histories.{History, world, IsLawfulApart}
+use Rattle.uring_core.specs.Recorded.{resumed}
+use Rattle.uring_core.specs.World.{World}
+use Rattle.uring_core.specs.declared.answer.Answer.{Answer}
+use Rattle.uring_core.specs.declared.answer.Answer.TheVariants as answer
+use Rattle.uring_core.specs.declared.step.Step.{Step}
+use Rattle.uring_core.specs.declared.step.Step.TheVariants as step
+use Rattle.uring_core.specs.declared.wanted.Refusal.TheVariants as refusal
+use Rattle.uring_core.specs.declared.wanted.Wanted.{Wanted}
+use Rattle.uring_core.specs.declared.wanted.Wanted.TheVariants.{Only, CallOrAgain, AnyEnd, EndOrNoMemory}
+use Rattle.uring_core.proofs.CompletionMoves.{CompletionMove, stays, ends, flushes, sees_tail, reaps, stores_head, completion_move}
+use Rattle.uring_check.specs.Checking.{FitsBy, noted_poster, number_in, rules_of}
+use Rattle.uring_check.specs.Posters.{poster_of, posters}
+use Rattle.uring_check.specs.declared.follower.Follower.{Follower}
+use Rattle.uring_check.specs.declared.follower.Follower.TheVariants.{Whole, Apart}
+
+-- ---- what one step posts
+
+abbrev number_of_end : Option Ending → List ℕ
+number_of_end (Some e) = e.number ∷ []
+number_of_end None = []
+
+issue_end : (n : ℕ) (a : Answer) (e : Ending) → end_told_by (step.Issue n, a) ≡ Some e
+    → n ∷ [] ≡ e.number ∷ []
+issue_end n (answer.Ended res bytes) e is = ap number_of_end is
+issue_end n _ e is = absurd cc
+
+finish_end : (n : ℕ) (a : Answer) (e : Ending) → end_told_by (step.Finish n, a) ≡ Some e
+    → n ∷ [] ≡ e.number ∷ []
+finish_end n (answer.Ended res bytes) e is = ap number_of_end is
+finish_end n _ e is = absurd cc
+
+-- the request of an end is that of its step
+number_told : (s : Step) (a : Answer) (e : Ending) → end_told_by (s, a) ≡ Some e
+    → number_in s ≡ e.number ∷ []
+number_told (step.Issue n) a e is = issue_end n a e is
+number_told (step.Finish n) a e is = finish_end n a e is
+number_told _ a e is = absurd cc
+
+-- nothing was posted
+none_noted : (s : Step) (n : ℕ) → noted_poster s n n ≡ []
+none_noted s n = ap (λ (b : Bool). if b then [] else number_in s) (le-leb n n (omega arith))
+
+-- one more was posted
+one_noted : (s : Step) (posted : List Cqe) (c : Cqe)
+    → noted_poster s (length posted) (length (posted ++ c ∷ [])) ≡ number_in s
+one_noted s posted c =
+    let more = length-append posted (c ∷ []) in
+    ap (λ (b : Bool). if b then [] else number_in s) (lt-leb (length (posted ++ c ∷ [])) (length posted) (omega (arith, more)))
+
+end_noted : (s : Step) (size n : ℕ) (l : Completions) (c : Cqe) (posts : Bool)
+    → number_in s ≡ n ∷ []
+    → noted_poster s (length l.posted) (length (if posts then with_posted size l c else l).posted)
+    ≡ (if posts then n ∷ [] else [])
+end_noted s size n l c true is = one_noted s l.posted c ∙ is
+end_noted s size n l c false is = none_noted s (length l.posted)
+
+noted_by : (g : Setup) (w : World) (s : Step) (a : Answer) (v : World) → CompletionMove g w s a v
+    → noted_poster s (length w.completions.posted) (length v.completions.posted)
+    ≡ poster_of w.requests (end_told_by (s, a))
+noted_by g w s a v (stays _ _ l r is_closed off none left) =
+    none_noted s (length w.completions.posted) ∙ sym (ap (poster_of w.requests) none)
+noted_by g w s a v (ends _ _ n res bytes r off is same one) =
+    end_noted s g.cq n w.completions (completion_for (entry_of w.requests n) res bytes) (posts_completion (entry_of w.requests n) res) (number_told s a (record { number = n; res = res; bytes = bytes }) is)
+    ∙ sym (ap (poster_of w.requests) is)
+noted_by g w s a v (flushes moved) = none_noted step.Flush (length w.completions.posted)
+noted_by g w s a v (sees_tail tail) = none_noted step.LoadCqTail (length w.completions.posted)
+noted_by g w s a v (reaps completion next) = none_noted step.Reap (length w.completions.posted)
+noted_by g w s a v (stores_head head) = none_noted step.StoreCqHead (length w.completions.posted)
+
+-- ---- what is known behind a step
+
+-- a step that was made
+pub knows_step : (g : Setup) (s : Step) (a : Answer) (h : History) (known later : List ℕ) (before after : ℕ)
+    → IsLawfulApart g ((s, a) ∷ h) → known ≡ posters g h
+    → before ≡ length (world g h).completions.posted
+    → after ≡ length (world g ((s, a) ∷ h)).completions.posted
+    → later ≡ known ++ noted_poster s before after → later ≡ posters g ((s, a) ∷ h)
+knows_step g s a h known later before after lawful is was now more =
+    more ∙ ap (λ (l : List ℕ). l ++ noted_poster s before after) is
+    ∙ ap (λ (n : ℕ). posters g h ++ noted_poster s n after) was
+    ∙ ap (λ (n : ℕ). posters g h ++ noted_poster s (length (world g h).completions.posted) n) now
+    ∙ ap (λ (l : List ℕ). posters g h ++ l) (noted_by g (world g h) s a (world g ((s, a) ∷ h)) (completion_move g s a h lawful))
+
+-- a step that counts as not made
+knows_same : (g : Setup) (s : Step) (h : History) (known later : List ℕ) (before after : ℕ)
+    → known ≡ posters g h → before ≡ length (world g h).completions.posted
+    → after ≡ length (world g h).completions.posted → later ≡ known ++ noted_poster s before after
+    → later ≡ posters g h
+knows_same g s h known later before after is was now more =
+    more ∙ ap (λ (n : ℕ). known ++ noted_poster s n after) (was ∙ sym now)
+    ∙ ap (λ (l : List ℕ). known ++ l) (none_noted s after) ∙ append-nil known ∙ is
+
+-- behind a wrong answer
+pub knows_resumed : (g : Setup) (s : Step) (wanted : Wanted) (h : History) (known later : List ℕ) (before after : ℕ)
+    → IsLawfulApart g (resumed s (refusal.Wrong wanted) h) → known ≡ posters g h
+    → before ≡ length (world g h).completions.posted
+    → after ≡ length (world g (resumed s (refusal.Wrong wanted) h)).completions.posted
+    → later ≡ known ++ noted_poster s before after
+    → later ≡ posters g (resumed s (refusal.Wrong wanted) h)
+knows_resumed g s (Only x) h known later before after lawful is was now more = knows_step g s x h known later before after lawful is was now more
+knows_resumed g s (CallOrAgain count) h known later before after lawful is was now more = knows_same g s h known later before after is was now more
+knows_resumed g s AnyEnd h known later before after lawful is was now more = knows_same g s h known later before after is was now more
+knows_resumed g s (EndOrNoMemory res) h known later before after lawful is was now more = knows_same g s h known later before after is was now more
+
+-- a history that a follower fits is lawful apart from what operations gave
+pub fits_lawful : (m : Follower) (h : History) → FitsBy m h → IsLawfulApart (rules_of m).setup h
+fits_lawful (Whole m) h f = f.core.lawful
+fits_lawful (Apart c) h f = f.lawful

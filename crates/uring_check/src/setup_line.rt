@@ -1,0 +1,186 @@
+//! The set-up that the first line of a recorded trace says.
+
+ghost use Rattle.std.specs.Prelude.{◌≡◌, ◌≤◌, ℕ, List, IfOk, false, length, map};
+ghost use Rattle.uring_text.specs.KeptLine.{kept_of};
+ghost use Rattle.uring_check.specs.SetupLines.{IsSaid, IsSaidBy, IsSaidOf, named_number, plain_said, sizes_of, sizes_said, stopping_said};
+
+use std::alloc::{AllocError, Global};
+use uring_machine::Setup;
+use uring_text::{KeptLine, is_name, spelled_number, split_tokens};
+
+/// What a line says of a set-up.
+#[derive(Clone, Copy, Debug, PartialEq, Eq)]
+pub(crate) enum Said {
+    /// It isn't to say one.
+    Nothing,
+
+    /// This one.
+    Says(Setup),
+
+    /// None that can be, though it begins so.
+    Misses,
+}
+
+/// The numbers of a set-up, and whether its calls stop.
+#[derive(Clone, Copy, Debug, PartialEq, Eq)]
+pub(crate) struct Sizes {
+    sq: u32,
+    cq: u32,
+    files: u32,
+    start: u32,
+    stops: bool,
+}
+
+/// What a line says of a set-up.
+pub(crate) fn said_by(alloc: Global, line: &KeptLine) -> Result<Said, AllocError>
+    ensures { IfOk result (λ said. (bytes : List ℕ) → line.now ≡ kept_of bytes → IsSaid bytes said) }
+{
+    match line.whole() {
+        Some(bytes) => said_in(alloc, bytes),
+        None => Ok(Said::Nothing),
+    }
+}
+
+/// What a line of at most 300 bytes says of a set-up.
+fn said_in(alloc: Global, line: &[u8]) -> Result<Said, AllocError>
+    requires { length line.now ≤ 300 }
+    ensures { IfOk result (λ said. IsSaid line.now said) }
+{
+    let tokens = split_tokens(alloc, line)?;
+    Ok(said_of(tokens.as_slice()))
+}
+
+/// What tokens say of a set-up.
+fn said_of(tokens: &[&[u8]]) -> Said
+    ensures { IsSaidBy (map (λ token. token.now) tokens.now) result }
+{
+    let Some((sign, tokens)) = tokens.split_first() else {
+        return Said::Nothing;
+    };
+    let Some((name, tokens)) = tokens.split_first() else {
+        return Said::Nothing;
+    };
+    if is_name(sign, "#") && is_name(name, "setup") {
+        setup_of(sizes_said(tokens))
+    } else {
+        Said::Nothing
+    }
+}
+
+/// What these sizes say.
+fn setup_of(sizes: Option<Sizes>) -> Said
+    ensures { IsSaidOf sizes result }
+{
+    let Some(sizes) = sizes else {
+        return Said::Misses;
+    };
+    match Setup::new(sizes.sq, Some(sizes.cq), sizes.files, sizes.start) {
+        Ok(setup) => Said::Says(stopping_if(setup, sizes.stops)),
+        Err(_) => Said::Misses,
+    }
+}
+
+/// The set-up, whose calls stop if that is asked for.
+fn stopping_if(setup: Setup, stops: bool) -> Setup
+    requires { setup.stops ≡ false }
+    ensures { result ≡ record setup { stops = stops } }
+{
+    if stops { setup.stopping() } else { setup }
+}
+
+/// The sizes that the tokens behind `# setup` say.
+fn sizes_said(tokens: &[&[u8]]) -> Option<Sizes>
+    ensures { result ≡ sizes_said (map (λ token. token.now) tokens.now) }
+{
+    match plain_said(tokens) {
+        Some(sizes) => Some(sizes),
+        None => stopping_said(tokens),
+    }
+}
+
+/// The sizes of a ring that goes on.
+fn plain_said(tokens: &[&[u8]]) -> Option<Sizes>
+    ensures { result ≡ plain_said (map (λ token. token.now) tokens.now) }
+{
+    let [
+        sq_name,
+        sq,
+        cq_name,
+        cq,
+        files_name,
+        files,
+        start_name,
+        start,
+    ] = tokens
+    else {
+        return None;
+    };
+    sizes_of(
+        false,
+        named_number("--sq", sq_name, sq),
+        named_number("--cq", cq_name, cq),
+        named_number("--files", files_name, files),
+        named_number("--start", start_name, start),
+    )
+}
+
+/// The sizes of a ring that stops.
+fn stopping_said(tokens: &[&[u8]]) -> Option<Sizes>
+    ensures { result ≡ stopping_said (map (λ token. token.now) tokens.now) }
+{
+    let [
+        sq_name,
+        sq,
+        cq_name,
+        cq,
+        files_name,
+        files,
+        start_name,
+        start,
+        stop,
+    ] = tokens
+    else {
+        return None;
+    };
+    if is_name(stop, "--stop") {
+        sizes_of(
+            true,
+            named_number("--sq", sq_name, sq),
+            named_number("--cq", cq_name, cq),
+            named_number("--files", files_name, files),
+            named_number("--start", start_name, start),
+        )
+    } else {
+        None
+    }
+}
+
+/// The sizes of these numbers, if each is one.
+fn sizes_of(
+    stops: bool,
+    sq: Option<u32>,
+    cq: Option<u32>,
+    files: Option<u32>,
+    start: Option<u32>,
+) -> Option<Sizes>
+    ensures { result ≡ sizes_of stops sq cq files start }
+{
+    Some(Sizes {
+        sq: sq?,
+        cq: cq?,
+        files: files?,
+        start: start?,
+        stops,
+    })
+}
+
+/// A number of 32 bits behind this name.
+fn named_number(wanted: &str, name: &[u8], token: &[u8]) -> Option<u32>
+    ensures { result ≡ named_number wanted.now name.now token.now }
+{
+    if is_name(name, wanted) {
+        spelled_number(token)
+    } else {
+        None
+    }
+}

@@ -1,0 +1,193 @@
+//! What is asked before a step, so that it can be told if the recorded answer is wrong.
+
+ghost use Rattle.std.specs.Prelude.{◌≡◌, ◌++◌, IfOk, OnOk, option_map, string_bytes};
+ghost use Rattle.uring_core.specs.Core.{FitsApart};
+ghost use Rattle.uring_core.specs.Histories.{History, world};
+ghost use Rattle.uring_trace.specs.Reasons.{found_text};
+ghost use Rattle.uring_entry.specs.Why.{why_of};
+ghost use Rattle.uring_dispatch.specs.Cancels.{found_by};
+ghost use Rattle.uring_check.specs.Checking.{IsStanding, noted_poster, reasons_by};
+ghost use Rattle.uring_check.specs.Cancels.{found_asked, found_for};
+ghost use Rattle.uring_check.specs.Posters.{posters};
+ghost use Rattle.uring_check.specs.Reports.{why_asked, why_told, whom_told, whose_told};
+
+use std::alloc::{AllocError, Global};
+use std::fmt::Write;
+use uring_machine::{Core, Found, Step, Why};
+use uring_trace::{chosen_text, push_found, push_why};
+
+/// What is asked before a step.
+#[derive(Drop)]
+pub(crate) struct Standing {
+    // The request that the step issues or finishes, and why that stands as it does.
+    why: Option<(u64, Why)>,
+    // Whom the cancel of all chooses that the step issues.
+    chosen: Option<String>,
+    // What the cancel of one request finds that the step issues.
+    found: Option<Found>,
+    // The request whose completion is reaped next.
+    poster: Option<u64>,
+    // How many completions were posted.
+    posted: u64,
+}
+
+impl Standing {
+    /// Asks a core. These are the numbers of the requests whose completions were posted.
+    pub(crate) fn before(
+        alloc: Global,
+        core: &Core,
+        numbers: &[u64],
+        step: &Step,
+    ) -> Result<Standing, AllocError>
+        ensures { IfOk result
+            (λ standing. (h : History) → FitsApart core.now h → numbers.now ≡ posters core.now.setup h
+            → IsStanding core.now.setup h step.now standing) }
+    {
+        let counts = core.counts();
+        Ok(Standing {
+            why: why(core, step),
+            chosen: chosen_text(&alloc, alloc, core, step)?,
+            found: found(core, step),
+            poster: numbers.get(counts.reaped as usize).copied(),
+            posted: counts.posted,
+        })
+    }
+
+    /// How many completions were posted before the step.
+    pub(crate) fn posted(&self) -> u64
+        ensures { result ≡ self.now.posted }
+    {
+        self.posted
+    }
+
+    /// Appends all that is told of a wrong answer, where a completion of this user data is wanted, or none.
+    pub(crate) fn push_reasons(
+        &self,
+        text: &mut String,
+        completion: Option<u64>,
+    ) -> Result<(), AllocError>
+        ensures { OnOk result
+            (string_bytes text.new
+            ≡ string_bytes text.old ++ reasons_by self.now completion) }
+    {
+        push_reason(text, self.why)?;
+        push_chosen(text, &self.chosen)?;
+        push_finding(text, self.found)?;
+        push_whose(text, completion, self.poster)
+    }
+}
+
+/// Why the request that a step issues or finishes stands as it does, with its number.
+fn why(core: &Core, step: &Step) -> Option<(u64, Why)>
+    ensures { (h : History) → FitsApart core.now h
+        → result ≡ why_asked (world core.now.setup h).requests step.now }
+{
+    match step {
+        Step::Issue { number } => Some((*number, core.why(*number))),
+        Step::Finish { number } => Some((*number, core.why(*number))),
+        _ => None,
+    }
+}
+
+/// What the cancel of one request finds that a step issues, if it may start.
+fn found(core: &Core, step: &Step) -> Option<Found>
+    ensures { (h : History) → FitsApart core.now h
+        → result ≡ found_asked (world core.now.setup h).requests step.now }
+{
+    match step {
+        Step::Issue { number } => found_by(core, *number),
+        _ => None,
+    }
+}
+
+/// What the cancel of one request with this number finds, if it may start.
+fn found_by(core: &Core, number: u64) -> Option<Found>
+    ensures { (h : History) → FitsApart core.now h
+        → result ≡ found_for (why_of (world core.now.setup h).requests number) (found_by (world core.now.setup h).requests number) }
+{
+    match core.why(number) {
+        Why::MayStart => core.would_find(number),
+        _ => None,
+    }
+}
+
+/// Appends why a request stands as it does, if it was asked.
+fn push_reason(text: &mut String, why: Option<(u64, Why)>) -> Result<(), AllocError>
+    ensures { OnOk result (string_bytes text.new ≡ string_bytes text.old ++ why_told why) }
+{
+    let Some((number, why)) = why else {
+        return Ok(());
+    };
+    write!(text, "why: {number} ")?;
+    push_why(text, why)?;
+    text.push_str("\n")
+}
+
+/// Appends whom a cancel of all chooses, if it was asked.
+fn push_chosen(text: &mut String, chosen: &Option<String>) -> Result<(), AllocError>
+    ensures { OnOk result
+        (string_bytes text.new
+        ≡ string_bytes text.old ++ whom_told (option_map (λ t. string_bytes t) chosen.now)) }
+{
+    match chosen {
+        Some(chosen) => {
+            text.push_str("whom: ")?;
+            text.push_str(chosen.as_str())?;
+            text.push_str("\n")
+        }
+        None => Ok(()),
+    }
+}
+
+/// Appends what a cancel of one request finds, if it was asked.
+fn push_finding(text: &mut String, found: Option<Found>) -> Result<(), AllocError>
+    ensures { OnOk result
+        (string_bytes text.new ≡ string_bytes text.old ++ whom_told (option_map found_text found)) }
+{
+    match found {
+        Some(found) => {
+            text.push_str("whom: ")?;
+            push_found(text, found)?;
+            text.push_str("\n")
+        }
+        None => Ok(()),
+    }
+}
+
+/// Appends which request the completion of this user data is of, if one is wanted.
+fn push_whose(
+    text: &mut String,
+    completion: Option<u64>,
+    poster: Option<u64>,
+) -> Result<(), AllocError>
+    ensures { OnOk result
+        (string_bytes text.new ≡ string_bytes text.old ++ whose_told completion poster) }
+{
+    match (completion, poster) {
+        (Some(user_data), Some(number)) => {
+            write!(text, "whose: {number}, user data {user_data}\n")
+        }
+        _ => Ok(()),
+    }
+}
+
+/// Notes the request of a step, if the step posted a completion: there were `before` before it, and `after` behind it.
+pub(crate) fn note_poster(
+    posters: &mut Vec<u64>,
+    step: &Step,
+    before: u64,
+    after: u64,
+) -> Result<(), AllocError>
+    ensures { OnOk result
+        (posters.new.items ≡ posters.old.items ++ noted_poster step.now before after) }
+{
+    if after <= before {
+        return Ok(());
+    }
+    match step {
+        Step::Issue { number } => posters.push(*number)?,
+        Step::Finish { number } => posters.push(*number)?,
+        _ => {}
+    }
+    Ok(())
+}
