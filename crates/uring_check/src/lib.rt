@@ -15,6 +15,7 @@ mod telling;
 mod verdict;
 
 pub use check_loop::check;
+pub use setup_line::{Said, said_by};
 pub use uring_entry::Setup;
 pub use uring_text::TraceFault;
 pub use verdict::Verdict;

@@ -10,7 +10,7 @@ use uring_text::{KeptLine, is_name, spelled_number, split_tokens};
 
 /// What a line says of a set-up.
 #[derive(Clone, Copy, Debug, PartialEq, Eq)]
-pub(crate) enum Said {
+pub enum Said {
     /// It isn't to say one.
     Nothing,
 
@@ -31,8 +31,8 @@ pub(crate) struct Sizes {
     stops: bool,
 }
 
-/// What a line says of a set-up.
-pub(crate) fn said_by(alloc: Global, line: &KeptLine) -> Result<Said, AllocError>
+/// What the first line of a recorded trace says of the set-up by which the trace is judged: the form is `# setup --sq N --cq N --files N --start N`, with ` --stop` behind it or not.
+pub fn said_by(alloc: Global, line: &KeptLine) -> Result<Said, AllocError>
     ensures { IfOk result (λ said. (bytes : List ℕ) → line.now ≡ kept_of bytes → IsSaid bytes said) }
 {
     match line.whole() {

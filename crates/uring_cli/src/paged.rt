@@ -3,11 +3,12 @@
 use crate::fault::Fault;
 use crate::outlet::Outlet;
 use crate::{status_behind, status_of, unless_closed};
-use std::alloc::Global;
+use std::alloc::{AllocError, Global};
 use std::io::{ErrorKind, Read};
-use uring_check::{Verdict, check};
+use uring_check::{Said, Verdict, check, said_by};
 use uring_options::Setup;
 use uring_page::{Form, page, recorded_page};
+use uring_text::KeptLine;
 use uring_trace::TraceFault;
 
 /// A page of the trace that standard input has, or its data.
@@ -30,13 +31,14 @@ pub(crate) fn run_recorded_page(rt: &HostRuntime, setup: &Setup, form: Form) -> 
     let trace = read_trace(alloc, &mut rt.stdin())?;
     let mut report = Vec::new(alloc);
     let verdict = verdict_on(alloc, trace.as_slice(), &mut report, setup)?;
+    let setup = judged_by(alloc, trace.as_slice(), setup)?;
     let mut output = Outlet::new(rt.stdout());
     let written = recorded_page(
         alloc,
         trace.as_slice(),
         report.as_slice(),
         &mut output,
-        setup,
+        &setup,
         form,
     );
     unless_closed(&output, written)?;
@@ -51,6 +53,27 @@ fn read_trace<R: Read>(alloc: Global, reader: &mut R) -> Result<Vec<u8>, TraceFa
         Err(error) if error.kind() == ErrorKind::OutOfMemory => Err(TraceFault::Memory),
         Err(_) => Err(TraceFault::Read),
     }
+}
+
+/// The set-up by which a recorded trace is judged: the one that its first line says, else this one.
+fn judged_by(alloc: Global, trace: &[u8], setup: &Setup) -> Result<Setup, TraceFault> {
+    match first_said(alloc, trace) {
+        Ok(Said::Says(said)) => Ok(said),
+        Ok(_) => Ok(*setup),
+        Err(_) => Err(TraceFault::Memory),
+    }
+}
+
+/// What the first line of a recorded trace says of a set-up.
+fn first_said(alloc: Global, trace: &[u8]) -> Result<Said, AllocError> {
+    let mut line = KeptLine::new(alloc)?;
+    for byte in trace {
+        if *byte == b'\n' {
+            break;
+        }
+        line.push(*byte);
+    }
+    said_by(alloc, &line)
 }
 
 /// The verdict on a recorded trace, and what is reported of it up to the first line that isn't lawful.
