@@ -31,7 +31,7 @@ pub(crate) fn run_recorded_page(rt: &HostRuntime, setup: &Setup, form: Form) -> 
     let trace = read_trace(alloc, &mut rt.stdin())?;
     let mut report = Vec::new(alloc);
     let verdict = verdict_on(alloc, trace.as_slice(), &mut report, setup)?;
-    let setup = judged_by(alloc, trace.as_slice(), setup)?;
+    let setup = judged_by(alloc, trace.as_slice(), *setup)?;
     let mut output = Outlet::new(rt.stdout());
     let written = recorded_page(
         alloc,
@@ -56,11 +56,18 @@ fn read_trace<R: Read>(alloc: Global, reader: &mut R) -> Result<Vec<u8>, TraceFa
 }
 
 /// The set-up by which a recorded trace is judged: the one that its first line says, else this one.
-fn judged_by(alloc: Global, trace: &[u8], setup: &Setup) -> Result<Setup, TraceFault> {
-    match first_said(alloc, trace) {
-        Ok(Said::Says(said)) => Ok(said),
-        Ok(_) => Ok(*setup),
-        Err(_) => Err(TraceFault::Memory),
+fn judged_by(alloc: Global, trace: &[u8], setup: Setup) -> Result<Setup, TraceFault> {
+    let Ok(said) = first_said(alloc, trace) else {
+        return Err(TraceFault::Memory);
+    };
+    Ok(said_or(said, setup))
+}
+
+/// The set-up that is said, else this one.
+fn said_or(said: Said, setup: Setup) -> Setup {
+    match said {
+        Said::Says(said) => said,
+        Said::Nothing | Said::Misses => setup,
     }
 }
 
