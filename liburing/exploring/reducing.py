@@ -76,17 +76,34 @@ def commute_effects(one, other):
     return not shares_memory(one, other) and not shares_bytes(one, other)
 
 
+def commute_starts(one, other):
+    """A start beside another way. Who has started is asked by a cancel, and by what is of another kind; an end that moves bytes, or nothing, doesn't ask."""
+    return all(way.letter == "i" or way.request.kind == "plain" for way in (one, other))
+
+
+def commute_return(one, other):
+    """A start beside the return to the application that went on: it may be made before or behind it. A return that would be made elsewhere doesn't commute: nobody knows what the application calls then."""
+    return other.letter == "r" and one.letter == "i" and one.request.kind == "plain"
+
+
+def are_told(one, other):
+    """Whether the order of two ends can be told by their completions."""
+    return not (one.is_silent or other.is_silent)
+
+
+def are_plain(one, other):
+    return "other" not in (one.request.kind, other.request.kind)
+
+
 def commute(one, other):
-    """Whether one that is asleep stays so behind the other, which went on. A return that would be made elsewhere doesn't: nobody knows what the application calls then."""
+    """Whether one that is asleep stays so behind the other, which went on."""
     if "r" in (one.letter, other.letter):
-        return other.letter == "r" and one.letter == "i" and one.request.kind == "plain"
+        return commute_return(one, other)
     if (one.ring, one.number) == (other.ring, other.number):
         return False
     if "i" in (one.letter, other.letter):
-        return all(way.letter == "i" or way.request.kind == "plain" for way in (one, other))
-    if not (one.is_silent or other.is_silent) or "other" in (one.request.kind, other.request.kind):
-        return False
-    return commute_effects(one.request, other.request)
+        return commute_starts(one, other)
+    return not are_told(one, other) and are_plain(one, other) and commute_effects(one.request, other.request)
 
 
 def key_of(way):

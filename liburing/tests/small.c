@@ -1,6 +1,7 @@
 /* A small program of a seed: one or two submissions of one to four requests in all, of which some are linked, drain, skip
- * success, fail, cancel others or meet in a file and in memory; under an even seed most move bytes and skip success. It prints
- * all that it sees. For runs of every order.
+ * success, fail, cancel others or meet in a file and in memory; under an even seed most move bytes and skip success. Under a
+ * seed that 3 divides it is one submission of two or three that aren't linked, at few places, so that most of them meet, or one
+ * cancels another. It prints all that it sees. For runs of every order.
  *
  *   small SEED
  */
@@ -20,6 +21,7 @@ static char bytes[24] = "abcdefghijklmnopqrstuvw";
 static struct __kernel_timespec times[4];
 static unsigned prepared;
 static int is_moving;   /* most move bytes and skip success */
+static int is_meeting;  /* few places, and no links */
 
 static unsigned roll(unsigned count)
 {
@@ -33,8 +35,8 @@ static void prepare_transfer(struct io_uring_sqe *entry, int is_write)
 {
     static struct iovec vector;
     int to = roll(6) ? file : appending;
-    uint64_t offset = roll(8) ? 4 * roll(4) : (uint64_t)-1;
-    char *at = bytes + 4 * roll(4);
+    uint64_t offset = is_meeting ? 4 * roll(3) : roll(8) ? 4 * roll(4) : (uint64_t)-1;
+    char *at = bytes + 4 * roll(is_meeting ? 2 : 4);
     unsigned length = 4 + 4 * roll(2);
     if (roll(6) == 0) {
         vector = (struct iovec){at, length};
@@ -52,7 +54,7 @@ static void prepare_transfer(struct io_uring_sqe *entry, int is_write)
 static void prepare_operation(struct io_uring_sqe *entry)
 {
     struct __kernel_timespec *time = &times[prepared];
-    switch (is_moving && roll(5) ? roll(6) : roll(12)) {
+    switch (is_meeting ? roll(6) ? roll(6) : 8 : is_moving && roll(5) ? roll(6) : roll(12)) {
     case 0: case 1: case 2:
         prepare_transfer(entry, 1);
         break;
@@ -85,7 +87,7 @@ static void prepare(void)
     static const unsigned flags[10] = {IOSQE_IO_LINK, IOSQE_IO_LINK, IOSQE_IO_HARDLINK, IOSQE_IO_DRAIN, IOSQE_CQE_SKIP_SUCCESS, IOSQE_CQE_SKIP_SUCCESS | IOSQE_IO_LINK};
     struct io_uring_sqe *entry = io_uring_get_sqe(&ring);
     prepare_operation(entry);
-    io_uring_sqe_set_flags(entry, is_moving && roll(3) ? IOSQE_CQE_SKIP_SUCCESS : flags[roll(10)]);
+    io_uring_sqe_set_flags(entry, is_meeting ? roll(4) ? IOSQE_CQE_SKIP_SUCCESS : 0 : is_moving && roll(3) ? IOSQE_CQE_SKIP_SUCCESS : flags[roll(10)]);
     entry->user_data = prepared++;
 }
 
@@ -133,13 +135,14 @@ int main(int argc, char **argv)
     struct io_uring_cqe *completion;
     state = argc > 1 ? strtoull(argv[1], NULL, 10) : 1;
     is_moving = state % 2 == 0;
+    is_meeting = state % 3 == 0;
     file = memfd_create("small", 0);
     char path[64];
     snprintf(path, sizeof path, "/proc/self/fd/%d", file);
     appending = open(path, O_RDWR | O_APPEND);
     if (file < 0 || appending < 0 || write(file, "0123", 4) != 4 || pipe(ends) < 0 || write(ends[1], "87654321", 8) != 8 || io_uring_queue_init(4, &ring, 0) != 0)
         return 3;
-    unsigned first = 1 + roll(3), second = roll(3);
+    unsigned first = is_meeting ? 2 + roll(2) : 1 + roll(3), second = is_meeting ? 0 : roll(3);
     for (unsigned i = 0; i < first; i++)
         prepare();
     printf("submitted %d\n", io_uring_submit_and_wait(&ring, roll(first + 1)));

@@ -27,5 +27,11 @@ pub mod Stopping
 pub mod WholeLaws
 pub mod FilesApart
 pub mod FileLaws
+-- Events that change places:
+pub mod Alike
+pub mod Swapping
+pub mod Apart
+pub mod Unseen
+pub mod DoomedEnds
 -- The definitions, computed on one history:
 mod WorkedHistory
