@@ -1,12 +1,12 @@
 -- Operations that stay apart don't meet: `apart_dont_meet`. What one leaves of a file, the other finds as it was, and both orders leave the same bytes.
-use Rattle.std.proofs.Common.{◌≡◌, ◌≢◌, ℕ, zero, suc, ◌+◌, ◌-◌, ◌*◌, ◌<◌, ◌≤◌, ◌==◌, ◌%◌, ◌^◌, min, max, ℤ, pos, negsuc, neg_ℤ, Bool, true, false, not, ◌&&◌, ◌||◌, cond, if◌then◌else◌, List, [], ◌∷◌, length, take, drop, get_or, Option, Some, None, refl, sym, ap, ap₂, subst, ◌∙◌, arith, ◌⊎◌, inl, inr}
+use Rattle.std.proofs.Common.{◌≡◌, ◌≢◌, ℕ, zero, suc, ◌+◌, ◌-◌, ◌*◌, ◌<◌, ◌≤◌, ◌==◌, ◌%◌, ◌^◌, min, max, ℤ, pos, negsuc, neg_ℤ, Bool, true, false, not, ◌&&◌, ◌||◌, cond, if◌then◌else◌, List, [], ◌∷◌, ◌++◌, length, take, drop, replicate, get_or, Option, Some, None, refl, sym, ap, ap₂, subst, ◌∙◌, arith, rules, ◌⊎◌, inl, inr}
 use Rattle.std.specs.Prelude.{slice_get, slice_set, nat_le, nat_lt}
 use Rattle.std.specs.Option.{option_map, option_map_or}
 use Rattle.std.specs.Ordering.{int_eq}
 use Rattle.std.proofs.lemmas.Bool.{cases_Bool, cases_lt, cases_eq, or_cases, and_from, and_left, and_right, both_ways, not-true, leb-true, le-leb, lt-leb, lt-ltb, le-ltb, eqb-true, ne_eqb}
-use Rattle.std.proofs.lemmas.Bool.Decides.{Decides-int_eq}
+use Rattle.std.proofs.lemmas.Bool.Decides.{Decides-int_eq, nat_tests}
 use Rattle.std.proofs.lemmas.Grind.{same_number_lists}
-use Rattle.std.proofs.lemmas.List.{length-take, length-drop, get_or-drop}
+use Rattle.std.proofs.lemmas.List.{length-take, length-drop, get_or-drop, places}
 use Rattle.uring_entry.specs.Layout.{padded}
 use Rattle.uring_entry.specs.declared.errno.TheConstants.{EFBIG, EBADF}
 use Rattle.uring_entry.specs.declared.operation.Op.{Op}
@@ -15,10 +15,28 @@ use Rattle.uring_entry.specs.declared.operation.Outcome.{Outcome}
 use Rattle.uring_files.specs.Contents.{FileContents, empty_file, overwritten, written, with_writes_synced, read_outcome, is_too_long}
 use Rattle.uring_files.specs.Operations.{file_of, with_changed, on_file, ended_with, result_of, after}
 use Rattle.uring_files.specs.Laws.{IsWrittenOver}
-use Rattle.uring_files.proofs.Overwrites.{is_written_over}
 use Rattle.uring_laws.specs.Swaps.{DontMeet, stay_apart, are_disjoint, ApartDontMeet}
 
 -- Bytes written over others.
+
+-- (as `writes_over` of uring_files says it; its lemma isn't exported)
+some_bytes : (n : ℕ) (xs ys : List ℕ) → 1 ≤ n → (if n == 0 then xs else ys) ≡ ys
+some_bytes n xs ys some = search rules
+
+parts_at : (old new : List ℕ) (off k : ℕ)
+    → get_or (take off old ++ replicate (off - length old) 0 ++ new ++ drop (off + length new) old) k 0
+    ≡ (if nat_le off k && nat_lt k (off + length new) then get_or new (k - off) 0 else get_or old k 0)
+parts_at old new off k = grind (arith, places, nat_tests)
+
+parts_length : (old new : List ℕ) (off : ℕ)
+    → length (take off old ++ replicate (off - length old) 0 ++ new ++ drop (off + length new) old)
+    ≡ max (length old) (off + length new)
+parts_length old new off = grind (arith, places)
+
+is_written_over : (old new : List ℕ) (off : ℕ) → 1 ≤ length new
+    → IsWrittenOver old new off (overwritten old off new)
+is_written_over old new off some =
+    rw (some_bytes (length new) _ _ some) (record { len = parts_length old new off; bytes = parts_at old new off })
 
 inside : (old new : List ℕ) (off : ℕ) (now : List ℕ) (k : ℕ) → IsWrittenOver old new off now → off ≤ k
     → k < off + length new
@@ -273,6 +291,20 @@ same_test fd other = elim (cases_Bool (int_eq fd other)) [
       ]
 ]
 
+beside_nop : (e : Op) → stay_apart e Nop ≡ true
+beside_nop Nop = refl
+beside_nop (Read fd off len) = refl
+beside_nop (Write fd off len bytes) = refl
+beside_nop (Fsync fd) = refl
+beside_nop (Cancel target all) = refl
+
+beside_cancel : (target : ℕ) (all : Bool) (e : Op) → stay_apart e (Cancel target all) ≡ true
+beside_cancel target all Nop = refl
+beside_cancel target all (Read fd off len) = refl
+beside_cancel target all (Write fd off len bytes) = refl
+beside_cancel target all (Fsync fd) = refl
+beside_cancel target all (Cancel other every) = refl
+
 apart_either : (d e : Op) → stay_apart d e ≡ true → stay_apart e d ≡ true
 apart_either (Read fd off len) (Write other at count bytes) a =
     ap (λ b. not b || nat_le (at + count) off) (same_test other fd) ∙ a
@@ -285,7 +317,14 @@ apart_either (Write fd off len bytes) (Write other at count more) a =
       turned false f = swapped_disjoint off len at count f
 apart_either (Write fd off len bytes) (Fsync other) a = ap not (same_test other fd) ∙ a
 apart_either (Fsync fd) (Write other at count bytes) a = ap not (same_test other fd) ∙ a
-apart_either _ _ a = refl
+apart_either (Read fd off len) (Read other at count) a = refl
+apart_either (Read fd off len) (Fsync other) a = refl
+apart_either (Fsync fd) (Read other at count) a = refl
+apart_either (Fsync fd) (Fsync other) a = refl
+apart_either d Nop a = refl
+apart_either d (Cancel target all) a = refl
+apart_either Nop e a = beside_nop e
+apart_either (Cancel target all) e a = beside_cancel target all e
 
 written_either : (file : FileContents) (a b : List ℕ) (o p len count : ℕ) → length a ≤ len
     → length b ≤ count → are_disjoint o len p count ≡ true
