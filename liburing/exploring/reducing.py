@@ -43,6 +43,10 @@ class Outlook:
             return None
         return RETURN if word == "r" else Way(word[0], ring, word[1:], self.requests[ring, word[1:]], False)
 
+    def seen_here(self, way):
+        """A way that was seen in another run, with its request as this one has it: where bytes lie in memory differs between processes."""
+        return way._replace(request=self.requests.get((way.ring, way.number), way.request))
+
     def chosen(self, node):
         """What went on at a node, with what it turned out to be."""
         way = node.ways[node.chosen]
@@ -113,7 +117,7 @@ def key_of(way):
 def unfold(outlook, begun, asleep):
     """Looks through a run that began with so many choices, of which the last stands beside ways that were tried before (`asleep`). Gives the choices' lists that are left, each with the ways that are asleep there, and whether the run came to do what another one does."""
     made = [node.chosen for node in outlook.nodes if node and node.at is not None]
-    left, asleep, is_begun = [], {key_of(way): way for way in asleep}, begun == 0
+    left, asleep, is_begun = [], {key_of(way): outlook.seen_here(way) for way in asleep}, begun == 0
     for node in outlook.nodes:
         if not node:
             asleep = {} if is_begun else asleep

@@ -22,16 +22,18 @@ static struct __kernel_timespec times[4];
 static unsigned prepared;
 static int is_moving;   /* most move bytes and skip success */
 
-/* Two transfers that meet: in the file, in the place in memory, by their order at the file's end, or one lengthens the file. */
+/* Two that meet: in the file, in the place in memory, by their order at the file's end, as one lengthens the file, or as one
+ * cancels the other (its length is 0). */
 struct transfer { int is_write, is_vector, is_appending; unsigned length; uint64_t offset; unsigned place; };
 static const struct transfer meetings[][2] = {
     {{1, 0, 0, 8, 0, 0}, {1, 0, 0, 8, 4, 8}},
     {{1, 0, 0, 8, 0, 0}, {0, 0, 0, 8, 4, 8}},
     {{0, 0, 0, 8, 8, 0}, {1, 0, 0, 4, 16, 8}},
-    {{0, 0, 0, 8, 0, 0}, {0, 0, 0, 8, 4, 4}},
+    {{0, 0, 0, 8, 0, 0}, {0, 0, 0, 8, 0, 4}},
     {{0, 0, 0, 8, 4, 0}, {1, 0, 0, 4, 0, 4}},
-    {{0, 1, 0, 8, 0, 0}, {0, 0, 0, 8, 4, 4}},
+    {{0, 1, 0, 8, 0, 0}, {0, 0, 0, 8, 0, 4}},
     {{1, 0, 1, 4, 0, 0}, {1, 0, 1, 4, 8, 8}},
+    {{0}, {0, 0, 0, 8, 0, 0}},
 };
 static const struct transfer *meeting;
 
@@ -49,7 +51,9 @@ static void prepare_transfer(struct io_uring_sqe *entry, struct transfer it)
     struct iovec *vector = &vectors[prepared];
     int to = it.is_appending ? appending : file;
     *vector = (struct iovec){bytes + it.place, it.length};
-    if (it.is_vector && it.is_write)
+    if (it.length == 0)
+        io_uring_prep_cancel64(entry, 1 - prepared, 0);
+    else if (it.is_vector && it.is_write)
         io_uring_prep_writev(entry, to, vector, 1, it.offset);
     else if (it.is_vector)
         io_uring_prep_readv(entry, to, vector, 1, it.offset);
