@@ -127,14 +127,13 @@ behind_over old new off at past = elim (cases_lt 0 (length new)) [
   | inl some ↦
       let x : 1 ≤ length new = omega arith in
       let w : IsWrittenOver old new off (overwritten old off new) = is_written_over old new off x in
-      let long : length (overwritten old off new) - at ≡ length old - at = omega (arith, w.len) in
-      (
+      let long : length (overwritten old off new) - at ≡ length old - at = omega (arith, w.len) in (
         same_number_lists (drop at (overwritten old off new)) (drop at old)
-        (length-drop at (overwritten old off new) ∙ long ∙ sym (length-drop at old))
-        (λ k within.
-        get_or-drop at (overwritten old off new) k 0
-        ∙ behind old new off (overwritten old off new) (at + k) w (omega (arith, past))
-        ∙ sym (get_or-drop at old k 0)),
+            (length-drop at (overwritten old off new) ∙ long ∙ sym (length-drop at old))
+            (λ k within.
+            get_or-drop at (overwritten old off new) k 0
+            ∙ behind old new off (overwritten old off new) (at + k) w (omega (arith, past))
+            ∙ sym (get_or-drop at old k 0)),
         long,
       )
 ]

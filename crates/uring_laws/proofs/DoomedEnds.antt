@@ -179,6 +179,7 @@ beside_finish g h m n x differ c running outcome posts lawful =
       later = both_ends g h m n (step.Finish m) (step.Issue n) (answer.Ended x.res x.bytes) b x y one two two_first one_then posts files lawful;
       earlier = both_ends g h n m (step.Issue n) (step.Finish m) b (answer.Ended x.res x.bytes) y x two_first one_then one two (other_way posts) (sym files) lawful;
     }
+
 both_doomed : (g : Setup) (h : History) (m n : ℕ) → n ≢ m → IsToEnd (world g h).requests m
     → IsToEnd (world g h).requests n
     → (posts_completion (entry_of (world g h).requests m) (doomed_result (world g h).requests m) ≡ false) ⊎ (posts_completion (entry_of (world g h).requests n) (doomed_result (world g h).requests n) ≡ false)
@@ -218,6 +219,7 @@ finish_then_doomed g h m n x y doomed posts lawful =
     let same : y ≡ doom r n = same_outcome y (doom r n) told.1 in
     subst (λ (z : Outcome). ChangePlaces g h (end_of m x) (step.Issue n, answer.Ended z.res z.bytes)) (sym same)
     (beside_finish g h m n x differ c one.0 one.1 (subst (λ (z : Outcome). (posts_completion (entry_of r m) x.res ≡ false) ⊎ (posts_completion (entry_of r n) z.res ≡ false)) same posts) lawful.1.1).later
+
 doomed_then_finish : (g : Setup) (h : History) (m n : ℕ) (y : Outcome) → IsToEnd (world g h).requests m
     → (posts_completion (entry_of (world g h).requests m) (doomed_result (world g h).requests m) ≡ false) ⊎ (posts_completion (entry_of (world g h).requests n) y.res ≡ false)
     → IsLawful g (end_of n y ∷ doomed_end_of (world g h).requests m ∷ h)
