@@ -33,5 +33,6 @@ pub mod Swapping
 pub mod Apart
 pub mod Unseen
 pub mod DoomedEnds
+pub mod Sides
 -- The definitions, computed on one history:
 mod WorkedHistory

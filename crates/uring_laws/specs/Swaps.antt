@@ -167,3 +167,35 @@ DoomedEndsChange g = (h : History) (m n : ℕ) (d e : Event) → Ends (world g h
     → Ends (world g h).requests n e → IsIssue d ⊎ IsIssue e
     → PostsNothing (world g h).requests d ⊎ PostsNothing (world g h).requests e
     → IsLawful g (e ∷ d ∷ h) → ChangePlaces g h d e
+
+-- The two sides of a core.
+
+-- a step on the submission ring, or of a call, that closes none
+abbrev pub IsOnSubmission : Step → Type 0
+IsOnSubmission (step.Fill slot entry) = Unit {0}
+IsOnSubmission (step.Index word) = Unit {0}
+IsOnSubmission step.StoreTail = Unit {0}
+IsOnSubmission step.LoadHead = Unit {0}
+IsOnSubmission (step.Begin count) = Unit {0}
+IsOnSubmission step.Take = Unit {0}
+IsOnSubmission s = ⊥
+
+-- a step on requests and completions
+abbrev pub IsOnRest : Step → Type 0
+IsOnRest (step.Issue n) = Unit {0}
+IsOnRest (step.Finish n) = Unit {0}
+IsOnRest step.Flush = Unit {0}
+IsOnRest step.LoadCqTail = Unit {0}
+IsOnRest step.Reap = Unit {0}
+IsOnRest step.StoreCqHead = Unit {0}
+IsOnRest step.Next = Unit {0}
+IsOnRest s = ⊥
+
+-- Neither side sees the other, until a call closes: the steps of both change places.
+abbrev pub SubmissionThenRest : Setup → Type 0
+SubmissionThenRest g = (h : History) (s t : Step) (a b : Answer) → IsOnSubmission s → IsOnRest t
+    → IsLawful g ((t, b) ∷ (s, a) ∷ h) → ChangePlaces g h (s, a) (t, b)
+
+abbrev pub RestThenSubmission : Setup → Type 0
+RestThenSubmission g = (h : History) (s t : Step) (a b : Answer) → IsOnSubmission s → IsOnRest t
+    → IsLawful g ((s, a) ∷ (t, b) ∷ h) → ChangePlaces g h (t, b) (s, a)

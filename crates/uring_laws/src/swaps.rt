@@ -1,6 +1,6 @@
 //! Which adjacent events may change places, and what no later answer tells apart: laws of the definitions alone.
 ghost use Rattle.uring_entry.specs.Setup.{Setup};
-ghost use Rattle.uring_laws.specs.Swaps.{AlikeAnswerAlike, AlikeGoOnAlike, ChangeAnywhere, StartsChange, StartThenEnd, EndThenStart, FinishesChange, DoomedEndsChange, ApartDontMeet, StartThenRings, RingsThenStart};
+ghost use Rattle.uring_laws.specs.Swaps.{AlikeAnswerAlike, AlikeGoOnAlike, ChangeAnywhere, StartsChange, StartThenEnd, EndThenStart, FinishesChange, DoomedEndsChange, ApartDontMeet, StartThenRings, RingsThenStart, SubmissionThenRest, RestThenSubmission};
 
 /// Worlds that differ only in the order in which requests started, were doomed by cancels and ended call for the same answers, and stay so by whatever comes. So events that change places do so in the midst of a history.
 pub fn alike_go_on_alike()
@@ -39,4 +39,10 @@ pub fn operations_that_stay_apart()
 pub fn starts_pass_the_rings()
     ensures later { (g : Setup) → StartThenRings g }
     ensures earlier { (g : Setup) → RingsThenStart g }
+{}
+
+/// A step on the submission ring, or of a call that doesn't close, changes places with a step on requests and completions.
+pub fn sides_pass_one_another()
+    ensures later { (g : Setup) → SubmissionThenRest g }
+    ensures earlier { (g : Setup) → RestThenSubmission g }
 {}
