@@ -1,7 +1,7 @@
 -- Worlds that are alike answer alike, and stay alike by each event: `alike_go_on`.
 -- Each definition on requests reads their lists only by what is found in them, so that the order of what started and ended is read by none.
 -- Stable: other crates may import what is pub.
-use Rattle.std.proofs.Common.{◌≡◌, ℕ, zero, suc, ◌<◌, ◌+◌, ◌==◌, ℤ, pos, neg_ℤ, Bool, true, false, not, ◌&&◌, ◌||◌, nat_lt, cond, if◌then◌else◌, List, [], ◌∷◌, ◌++◌, length, Option, Some, None, refl, sym, subst, ap, ap₂, ◌∙◌, arith}
+use Rattle.std.proofs.Common.{◌≡◌, ℕ, zero, suc, ◌==◌, ℤ, pos, neg_ℤ, Bool, not, ◌&&◌, ◌||◌, nat_lt, if◌then◌else◌, List, [], ◌∷◌, ◌++◌, length, Option, Some, None, refl, sym, subst, ap, ap₂, ◌∙◌}
 use Rattle.std.specs.List.{list_any}
 use Rattle.std.specs.Option.{option_to_list}
 use Rattle.std.proofs.lemmas.List.Folds.{list_any-append}
@@ -12,9 +12,9 @@ use Rattle.uring_entry.specs.Below.{all_below}
 use Rattle.uring_entry.specs.Preparation.{is_cancel, is_cancel_all, operation_of}
 use Rattle.uring_entry.specs.Success.{is_success}
 use Rattle.uring_entry.specs.Submission.{Call}
-use Rattle.uring_entry.specs.Requests.{Requests, Ending, entry_of, is_outstanding, is_running, is_doomed, is_behind_failure, is_in_faulty_group, some_member, is_joined, is_ready, is_issuable, is_candidate, is_target, is_soft, holds_back, has_failed, waits_for, target_of, targets_of, result_for, count_result, cancel_result, doomed_result, choices_of, chosen_by, next_of, no_bytes, with_call, with_started, with_ended, with_issued_end}
+use Rattle.uring_entry.specs.Requests.{Requests, Ending, entry_of, is_outstanding, is_running, is_doomed, is_behind_failure, is_in_faulty_group, some_member, is_joined, is_ready, is_issuable, is_candidate, is_target, is_soft, holds_back, has_failed, waits_for, target_of, targets_of, result_for, count_result, cancel_result, doomed_result, chosen_by, next_of, no_bytes}
 use Rattle.uring_entry.proofs.BelowLemmas.{some_below-same, least_below-same}
-use Rattle.uring_files.specs.Contents.{FileContents, empty_files}
+use Rattle.uring_files.specs.Contents.{empty_files}
 use Rattle.uring_files.specs.Operations.{after}
 use Rattle.uring_core.specs.World.{World, happens, taking_of, taking_entry_of, ending_of}
 use Rattle.uring_core.specs.StepAnswers.{issue_answer, next_answer_of}
@@ -24,9 +24,9 @@ use Rattle.uring_core.specs.declared.step.Step.{Step}
 use Rattle.uring_core.specs.declared.step.Step.TheVariants as step
 use Rattle.uring_core.specs.declared.answer.Answer.{Answer}
 use Rattle.uring_core.specs.declared.answer.Answer.TheVariants as answer
-use Rattle.uring_core.proofs.Changes.{Change, refuses, fills, stages, stores, loads, begins, takes, drops, closes, runs, dooms, cancels, finishes, flushes, sees_tail, reaps, stores_head, shuts, change_of}
+use Rattle.uring_core.proofs.Changes.{Change, refuses, takes, drops, closes, runs, dooms, cancels, finishes, change_of}
 use Rattle.uring_core.proofs.FileHistory.{files_kept, files_ended}
-use Rattle.uring_laws.specs.Swaps.{HaveSame, StandAlike, AreAlike, GoesOnAlike, AlikeAnswerAlike, AlikeGoOnAlike, ChangeAnywhere}
+use Rattle.uring_laws.specs.Swaps.{HaveSame, StandAlike, AreAlike, AlikeAnswerAlike, AlikeGoOnAlike, ChangeAnywhere}
 use Rattle.uring_laws.proofs.WholeLaws.{lawful_apart}
 
 -- Requests with other lists of who started, was doomed and ended.

@@ -11,8 +11,7 @@ use Rattle.uring_entry.proofs.RequestLemmas.{has_ended-same, is_running-ended_ot
 use Rattle.uring_files.specs.Contents.{empty_files}
 use Rattle.uring_files.specs.Operations.{after, IsOutcome}
 use Rattle.uring_core.specs.World.{World, happens}
-use Rattle.uring_core.specs.StepAnswers.{issue_answer}
-use Rattle.uring_core.specs.CalledFor.{CalledFor, IsLawful, EndsOn, files_of}
+use Rattle.uring_core.specs.CalledFor.{IsLawful, files_of}
 use Rattle.uring_core.specs.Core.{IsNoFinish}
 use Rattle.uring_core.specs.Histories.{Event, History, world, IsLawfulApart}
 use Rattle.uring_core.specs.declared.step.Step.{Step}
@@ -21,7 +20,7 @@ use Rattle.uring_core.specs.declared.answer.Answer.{Answer}
 use Rattle.uring_core.specs.declared.answer.Answer.TheVariants as answer
 use Rattle.uring_core.proofs.FileHistory.{files_kept, files_ended}
 use Rattle.uring_core.proofs.ListCounts.{any_kept}
-use Rattle.uring_laws.specs.Swaps.{AreAlike, ChangePlaces, Ends, PostsNothing, IsIssue, DoomedEndsChange}
+use Rattle.uring_laws.specs.Swaps.{ChangePlaces, Ends, PostsNothing, IsIssue, DoomedEndsChange}
 use Rattle.uring_laws.proofs.Alike.{HaveSameRings}
 use Rattle.uring_laws.proofs.Swapping.{IsToEnd, IsEnd, ended, tells_end, tells_to_end, finish_is_end, doom_is_end, outstanding_end, not_ended, not_over, two_pushed, posted_alike}
 use Rattle.uring_laws.proofs.WholeLaws.{lawful_apart}

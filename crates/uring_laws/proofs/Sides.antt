@@ -1,9 +1,9 @@
 -- The steps on the submission ring change places with those on requests and completions: `submission_then_rest` and `rest_then_submission`. Neither side reads what the other writes.
-use Rattle.std.proofs.Common.{◌≡◌, ℕ, List, ◌∷◌, ◌++◌, [], Option, Some, None, refl, sym, subst, ap, ◌∙◌}
+use Rattle.std.proofs.Common.{◌≡◌, ℕ, List, ◌∷◌, Option, Some, None, refl, sym, subst, ap, ◌∙◌}
 use Rattle.uring_entry.specs.Setup.{Setup}
 use Rattle.uring_entry.specs.Layout.{Sqe}
 use Rattle.uring_entry.specs.Submission.{Submission, Call}
-use Rattle.uring_entry.specs.Requests.{Requests, Ending}
+use Rattle.uring_entry.specs.Requests.{Ending}
 use Rattle.uring_entry.specs.Completions.{Completions}
 use Rattle.uring_core.specs.World.{World, happens, taking_of, taking_entry_of}
 use Rattle.uring_core.specs.CalledFor.{CalledFor, IsLawful}
@@ -11,7 +11,6 @@ use Rattle.uring_core.specs.Histories.{History, world}
 use Rattle.uring_core.specs.declared.step.Step.{Step}
 use Rattle.uring_core.specs.declared.step.Step.TheVariants as step
 use Rattle.uring_core.specs.declared.answer.Answer.{Answer}
-use Rattle.uring_core.specs.declared.answer.Answer.TheVariants as answer
 use Rattle.uring_core.proofs.Changes.{Change, refuses, fills, stages, stores, loads, begins, takes, drops, closes, runs, dooms, cancels, finishes, flushes, sees_tail, reaps, stores_head, shuts, change_of}
 use Rattle.uring_laws.specs.Swaps.{ChangePlaces, IsOnSubmission, IsOnRest, SubmissionThenRest, RestThenSubmission}
 use Rattle.uring_laws.proofs.Swapping.{alike_same}

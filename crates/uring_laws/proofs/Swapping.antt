@@ -1,13 +1,13 @@
 -- Starts and ends that change places: `starts_change`, `start_then_end`, `end_then_start` and `finishes_change`.
 -- A start changes nothing that a definition reads but who runs; an end changes who has ended and failed, which counts for those alone that wait for it.
-use Rattle.std.proofs.Common.{◌≡◌, ◌≢◌, ℕ, ◌<◌, ◌==◌, ℤ, Bool, true, false, not, ◌&&◌, ◌||◌, nat_lt, if◌then◌else◌, List, [], ◌∷◌, ◌++◌, length, refl, sym, subst, ap, ap₂, ◌∙◌, arith, ◌⊎◌, inl, inr, append-nil}
+use Rattle.std.proofs.Common.{◌≡◌, ◌≢◌, ℕ, ◌<◌, ◌==◌, ℤ, Bool, true, false, not, ◌&&◌, ◌||◌, nat_lt, if◌then◌else◌, List, [], ◌∷◌, ◌++◌, length, refl, sym, subst, ap, ap₂, ◌∙◌, ◌⊎◌, inl, inr, append-nil}
 use Rattle.std.specs.List.{list_any}
 use Rattle.std.proofs.lemmas.Bool.{and_parts, and_left, and_right, and_cases, or_parts, both_ways, cases_eq, not-true, not-false}
 use Rattle.uring_entry.specs.Setup.{Setup}
 use Rattle.uring_entry.specs.Layout.{Sqe}
 use Rattle.uring_entry.specs.Preparation.{is_cancel, operation_of}
 use Rattle.uring_entry.specs.Success.{is_success, posts_completion}
-use Rattle.uring_entry.specs.Requests.{Requests, Ending, entry_of, has_ended, has_failed, is_outstanding, is_running, is_doomed, is_behind_failure, is_in_faulty_group, is_cancelled, some_member, is_joined, is_draining, is_ready, is_soft, waits_for, holds_back, doomed_result, cancel_result, choices_of, no_bytes, with_started, with_ended}
+use Rattle.uring_entry.specs.Requests.{Requests, entry_of, has_ended, has_failed, is_outstanding, is_running, is_doomed, is_behind_failure, is_in_faulty_group, is_cancelled, some_member, is_joined, is_draining, is_ready, is_soft, waits_for, holds_back, doomed_result, cancel_result, choices_of, no_bytes, with_started, with_ended}
 use Rattle.uring_entry.specs.Completions.{Completions, with_end, with_posted, completion_for}
 use Rattle.uring_entry.specs.declared.operation.Outcome.{Outcome}
 use Rattle.uring_entry.proofs.BelowLemmas.{some_below-same}
@@ -18,7 +18,7 @@ use Rattle.uring_files.specs.Operations.{after, IsOutcome}
 use Rattle.uring_core.specs.World.{World, happens}
 use Rattle.uring_core.specs.StepAnswers.{issue_answer}
 use Rattle.uring_core.specs.CalledFor.{CalledFor, IsLawful, EndsOn, files_of}
-use Rattle.uring_core.specs.Histories.{Event, History, world}
+use Rattle.uring_core.specs.Histories.{History, world}
 use Rattle.uring_core.specs.declared.step.Step.{Step}
 use Rattle.uring_core.specs.declared.step.Step.TheVariants as step
 use Rattle.uring_core.specs.declared.answer.Answer.{Answer}
@@ -26,7 +26,7 @@ use Rattle.uring_core.specs.declared.answer.Answer.TheVariants as answer
 use Rattle.uring_core.proofs.FileHistory.{files_kept, files_ended}
 use Rattle.uring_core.proofs.ListCounts.{any_kept}
 use Rattle.uring_core.proofs.RequestEnds.{doomed_fails}
-use Rattle.uring_laws.specs.Swaps.{AreAlike, ChangePlaces, Ends, PostsNothing, DontMeet, StartsChange, StartThenEnd, EndThenStart, FinishesChange, start_of, finish_of}
+use Rattle.uring_laws.specs.Swaps.{AreAlike, ChangePlaces, StartsChange, StartThenEnd, EndThenStart, FinishesChange, start_of}
 use Rattle.uring_laws.proofs.WholeLaws.{lawful_apart}
 
 -- What an answer tells, and what calls for it.

@@ -1,27 +1,25 @@
 -- A start changes places with each step that is on the rings: `start_then_rings` and `rings_then_start`.
 -- Such a step asks nobody who runs; of the requests it changes at most which are accepted, behind all that there are.
-use Rattle.std.proofs.Common.{◌≡◌, ◌≢◌, ℕ, ◌<◌, ◌≤◌, ◌==◌, Bool, true, false, not, ◌&&◌, ◌||◌, nat_lt, List, [], ◌∷◌, ◌++◌, length, Option, Some, None, refl, sym, subst, ap, ap₂, ◌∙◌, arith, ◌⊎◌, inl, inr}
+use Rattle.std.proofs.Common.{◌≡◌, ℕ, ◌<◌, ◌==◌, true, not, ◌&&◌, ◌||◌, List, ◌∷◌, length, Option, Some, None, refl, sym, ap, ap₂, ◌∙◌, arith, ◌⊎◌}
 use Rattle.std.specs.List.{list_any}
 use Rattle.std.proofs.lemmas.Bool.{and_parts, ltb-true, lt-ltb}
 use Rattle.uring_entry.specs.Setup.{Setup}
 use Rattle.uring_entry.specs.Layout.{Sqe}
 use Rattle.uring_entry.specs.Preparation.{is_cancel}
 use Rattle.uring_entry.specs.Submission.{Call}
-use Rattle.uring_entry.specs.Requests.{Requests, entry_of, has_ended, is_outstanding, is_running, is_doomed, is_joined, is_draining, is_drain, is_ready, waits_for, holds_back, with_call, with_started}
+use Rattle.uring_entry.specs.Requests.{Requests, has_ended, is_outstanding, is_joined, is_draining, is_drain, is_ready, waits_for, holds_back, with_call, with_started}
 use Rattle.uring_entry.proofs.BelowLemmas.{some_below-same}
 use Rattle.uring_core.specs.World.{World, happens, taking_of, taking_entry_of, ending_of}
-use Rattle.uring_core.specs.StepAnswers.{issue_answer}
 use Rattle.uring_core.specs.CalledFor.{CalledFor, IsLawful}
-use Rattle.uring_core.specs.Histories.{History, world, IsLawfulApart}
+use Rattle.uring_core.specs.Histories.{world, IsLawfulApart}
 use Rattle.uring_core.specs.declared.step.Step.{Step}
 use Rattle.uring_core.specs.declared.step.Step.TheVariants as step
 use Rattle.uring_core.specs.declared.answer.Answer.{Answer}
-use Rattle.uring_core.specs.declared.answer.Answer.TheVariants as answer
 use Rattle.uring_core.proofs.Changes.{Change, refuses, takes, drops, closes, runs, dooms, cancels, finishes, change_of}
 use Rattle.uring_core.proofs.Groups.{longer, entry_kept, join_kept, member_kept, doom_kept}
 use Rattle.uring_core.proofs.Moves.{Move, stays, accepts, starts, ends_doomed, ends_cancel, ends_run, move_of}
 use Rattle.uring_core.proofs.Sound.{sound_of}
-use Rattle.uring_laws.specs.Swaps.{ChangePlaces, IsOnRings, StartThenRings, RingsThenStart, start_of}
+use Rattle.uring_laws.specs.Swaps.{IsOnRings, StartThenRings, RingsThenStart}
 use Rattle.uring_laws.proofs.Swapping.{CanStart, can_start, start_called, alike_same}
 use Rattle.uring_laws.proofs.WholeLaws.{lawful_apart}
 
