@@ -34,5 +34,6 @@ pub mod Apart
 pub mod Unseen
 pub mod DoomedEnds
 pub mod Sides
+pub mod Reordered
 -- The definitions, computed on one history:
 mod WorkedHistory

@@ -199,3 +199,19 @@ SubmissionThenRest g = (h : History) (s t : Step) (a b : Answer) → IsOnSubmiss
 abbrev pub RestThenSubmission : Setup → Type 0
 RestThenSubmission g = (h : History) (s t : Step) (a b : Answer) → IsOnSubmission s → IsOnRest t
     → IsLawful g ((s, a) ∷ (t, b) ∷ h) → ChangePlaces g h (t, b) (s, a)
+
+-- Runs of one class.
+
+-- a history with events that change places swapped, one pair after the other, wherever they stand
+pub data IsReordered (g : Setup) : History → History → Type 0 where
+  unchanged : (h : History) → IsReordered g h h
+  swapped : (rest h last : History) (x y : Event) → ChangePlaces g h x y → IsReordered g (rest ++ (x ∷ y ∷ h)) last → IsReordered g (rest ++ (y ∷ x ∷ h)) last
+
+-- the second history is lawful, and leaves a world that is alike to the first one's
+pub record LeavesAlike (g : Setup) (h k : History) : Type 0 where
+  pub lawful : IsLawful g k
+  pub alike : AreAlike g (world g h) (world g k)
+
+-- However a lawful history is reordered, it is lawful, and leaves a world that is alike.
+abbrev pub ReorderedAlike : Setup → Type 0
+ReorderedAlike g = (h k : History) → IsReordered g h k → IsLawful g h → LeavesAlike g h k

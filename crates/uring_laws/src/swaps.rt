@@ -1,6 +1,6 @@
 //! Which adjacent events may change places, and what no later answer tells apart: laws of the definitions alone.
 ghost use Rattle.uring_entry.specs.Setup.{Setup};
-ghost use Rattle.uring_laws.specs.Swaps.{AlikeAnswerAlike, AlikeGoOnAlike, ChangeAnywhere, StartsChange, StartThenEnd, EndThenStart, FinishesChange, DoomedEndsChange, ApartDontMeet, StartThenRings, RingsThenStart, SubmissionThenRest, RestThenSubmission};
+ghost use Rattle.uring_laws.specs.Swaps.{AlikeAnswerAlike, AlikeGoOnAlike, ChangeAnywhere, StartsChange, StartThenEnd, EndThenStart, FinishesChange, DoomedEndsChange, ApartDontMeet, StartThenRings, RingsThenStart, SubmissionThenRest, RestThenSubmission, ReorderedAlike};
 
 /// Worlds that differ only in the order in which requests started, were doomed by cancels and ended call for the same answers, and stay so by whatever comes. So events that change places do so in the midst of a history.
 pub fn alike_go_on_alike()
@@ -45,4 +45,9 @@ pub fn starts_pass_the_rings()
 pub fn sides_pass_one_another()
     ensures later { (g : Setup) → SubmissionThenRest g }
     ensures earlier { (g : Setup) → RestThenSubmission g }
+{}
+
+/// However many events of a lawful history change places, one pair after the other, it stays lawful, and leaves a world that is alike: so one run of each class is enough.
+pub fn reordered_leave_alike()
+    ensures { (g : Setup) → ReorderedAlike g }
 {}
