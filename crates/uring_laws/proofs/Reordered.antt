@@ -2,9 +2,8 @@
 use Rattle.std.proofs.Common.{◌∙◌, ◌∷◌, ◌++◌, refl}
 use Rattle.uring_entry.specs.Setup.{Setup}
 use Rattle.uring_core.specs.World.{World}
-use Rattle.uring_core.specs.CalledFor.{IsLawful}
-use Rattle.uring_core.specs.Histories.{History, world}
-use Rattle.uring_laws.specs.Swaps.{AreAlike, IsReordered, unchanged, swapped, LeavesAlike, ReorderedAlike}
+use Rattle.uring_core.specs.Histories.{world}
+use Rattle.uring_laws.specs.Swaps.{AreAlike, unchanged, swapped, ReorderedAlike}
 use Rattle.uring_laws.proofs.Alike.{change_anywhere}
 use Rattle.uring_laws.proofs.Swapping.{alike_same}
 
