@@ -43,6 +43,10 @@ class Outlook:
             return None
         return RETURN if word == "r" else Way(word[0], ring, word[1:], self.requests[ring, word[1:]], False)
 
+    def seen_here(self, way):
+        """A way that was seen in another run, with its request as this one has it: where bytes lie in memory differs between processes."""
+        return way._replace(request=self.requests.get((way.ring, way.number), way.request))
+
     def chosen(self, node):
         """What went on at a node, with what it turned out to be."""
         way = node.ways[node.chosen]
@@ -76,17 +80,34 @@ def commute_effects(one, other):
     return not shares_memory(one, other) and not shares_bytes(one, other)
 
 
+def commute_starts(one, other):
+    """A start beside another way. Who has started is asked by a cancel, and by what is of another kind; an end that moves bytes, or nothing, doesn't ask."""
+    return all(way.letter == "i" or way.request.kind == "plain" for way in (one, other))
+
+
+def commute_return(one, other):
+    """A start beside the return to the application that went on: it may be made before or behind it. A return that would be made elsewhere doesn't commute: nobody knows what the application calls then."""
+    return other.letter == "r" and one.letter == "i" and one.request.kind == "plain"
+
+
+def are_told(one, other):
+    """Whether the order of two ends can be told by their completions."""
+    return not (one.is_silent or other.is_silent)
+
+
+def are_plain(one, other):
+    return "other" not in (one.request.kind, other.request.kind)
+
+
 def commute(one, other):
-    """Whether one that is asleep stays so behind the other, which went on. A return that would be made elsewhere doesn't: nobody knows what the application calls then."""
+    """Whether one that is asleep stays so behind the other, which went on."""
     if "r" in (one.letter, other.letter):
-        return other.letter == "r" and one.letter == "i" and one.request.kind == "plain"
+        return commute_return(one, other)
     if (one.ring, one.number) == (other.ring, other.number):
         return False
     if "i" in (one.letter, other.letter):
-        return all(way.letter == "i" or way.request.kind == "plain" for way in (one, other))
-    if not (one.is_silent or other.is_silent) or "other" in (one.request.kind, other.request.kind):
-        return False
-    return commute_effects(one.request, other.request)
+        return commute_starts(one, other)
+    return not are_told(one, other) and are_plain(one, other) and commute_effects(one.request, other.request)
 
 
 def key_of(way):
@@ -96,7 +117,7 @@ def key_of(way):
 def unfold(outlook, begun, asleep):
     """Looks through a run that began with so many choices, of which the last stands beside ways that were tried before (`asleep`). Gives the choices' lists that are left, each with the ways that are asleep there, and whether the run came to do what another one does."""
     made = [node.chosen for node in outlook.nodes if node and node.at is not None]
-    left, asleep, is_begun = [], {key_of(way): way for way in asleep}, begun == 0
+    left, asleep, is_begun = [], {key_of(way): outlook.seen_here(way) for way in asleep}, begun == 0
     for node in outlook.nodes:
         if not node:
             asleep = {} if is_begun else asleep

@@ -36,13 +36,18 @@ static uint64_t length_of(const struct request *request)
     return request->vectors ? request->length : request->entry.len;
 }
 
+/* Where its bytes lie in memory, or 0 if they lie where vectors say. */
+static uint64_t address_of(const struct io_uring_sqe *entry)
+{
+    return entry->opcode == IORING_OP_READV || entry->opcode == IORING_OP_WRITEV ? 0 : entry->addr;
+}
+
 void record_accepted(const struct ring *ring, const struct request *request)
 {
     const struct io_uring_sqe *entry = &request->entry;
     if (!is_recording_ways())
         return;
-    uint64_t address = request->vectors ? 0 : entry->addr;
-    record_line("request %" PRIu32 " %" PRIu64 " %u %u %" PRIu64 " %" PRIu64 " %" PRIu64 " %s\n", ring->index, request->number, (unsigned)entry->opcode, (unsigned)entry->flags, address, (uint64_t)entry->off, length_of(request), is_plain(request) ? "plain" : "other");
+    record_line("request %" PRIu32 " %" PRIu64 " %u %u %" PRIu64 " %" PRIu64 " %" PRIu64 " %s\n", ring->index, request->number, (unsigned)entry->opcode, (unsigned)entry->flags, address_of(entry), (uint64_t)entry->off, length_of(request), is_plain(request) ? "plain" : "other");
 }
 
 void record_silent_end(const struct ring *ring, const struct request *request)

@@ -1,6 +1,7 @@
 /* A small program of a seed: one or two submissions of one to four requests in all, of which some are linked, drain, skip
- * success, fail, cancel others or meet in a file and in memory; under an even seed most move bytes and skip success. It prints
- * all that it sees. For runs of every order.
+ * success, fail, cancel others or meet in a file and in memory; under an even seed most move bytes and skip success. Under a
+ * seed that 3 divides it is one submission, without links, whose first two requests meet in a way that is rolled. It prints all
+ * that it sees. For runs of every order.
  *
  *   small SEED
  */
@@ -21,6 +22,21 @@ static struct __kernel_timespec times[4];
 static unsigned prepared;
 static int is_moving;   /* most move bytes and skip success */
 
+/* Two that meet: in the file, in the place in memory, by their order at the file's end, as one lengthens the file, or as one
+ * cancels the other (its length is 0). */
+struct transfer { int is_write, is_vector, is_appending; unsigned length; uint64_t offset; unsigned place; };
+static const struct transfer meetings[][2] = {
+    {{1, 0, 0, 8, 0, 0}, {1, 0, 0, 8, 4, 8}},
+    {{1, 0, 0, 8, 0, 0}, {0, 0, 0, 8, 4, 8}},
+    {{0, 0, 0, 8, 8, 0}, {1, 0, 0, 4, 16, 8}},
+    {{0, 0, 0, 8, 0, 0}, {0, 0, 0, 8, 0, 4}},
+    {{0, 0, 0, 8, 4, 0}, {1, 0, 0, 4, 0, 4}},
+    {{0, 1, 0, 8, 0, 0}, {0, 0, 0, 8, 0, 4}},
+    {{1, 0, 1, 4, 0, 0}, {1, 0, 1, 4, 8, 8}},
+    {{0}, {0, 0, 0, 8, 0, 0}},
+};
+static const struct transfer *meeting;
+
 static unsigned roll(unsigned count)
 {
     uint64_t z = state += 0x9e3779b97f4a7c15u;
@@ -29,24 +45,33 @@ static unsigned roll(unsigned count)
     return (unsigned)((z ^ z >> 31) >> 33) % count;
 }
 
-static void prepare_transfer(struct io_uring_sqe *entry, int is_write)
+static void prepare_transfer(struct io_uring_sqe *entry, struct transfer it)
 {
-    static struct iovec vector;
-    int to = roll(6) ? file : appending;
-    uint64_t offset = roll(8) ? 4 * roll(4) : (uint64_t)-1;
-    char *at = bytes + 4 * roll(4);
-    unsigned length = 4 + 4 * roll(2);
-    if (roll(6) == 0) {
-        vector = (struct iovec){at, length};
-        if (is_write)
-            io_uring_prep_writev(entry, to, &vector, 1, offset);
-        else
-            io_uring_prep_readv(entry, to, &vector, 1, offset);
-    } else if (is_write) {
-        io_uring_prep_write(entry, to, at, length, offset);
-    } else {
-        io_uring_prep_read(entry, to, at, length, offset);
-    }
+    static struct iovec vectors[4];
+    struct iovec *vector = &vectors[prepared];
+    int to = it.is_appending ? appending : file;
+    *vector = (struct iovec){bytes + it.place, it.length};
+    if (it.length == 0)
+        io_uring_prep_cancel64(entry, 1 - prepared, 0);
+    else if (it.is_vector && it.is_write)
+        io_uring_prep_writev(entry, to, vector, 1, it.offset);
+    else if (it.is_vector)
+        io_uring_prep_readv(entry, to, vector, 1, it.offset);
+    else if (it.is_write)
+        io_uring_prep_write(entry, to, vector->iov_base, it.length, it.offset);
+    else
+        io_uring_prep_read(entry, to, vector->iov_base, it.length, it.offset);
+}
+
+static struct transfer rolled_transfer(int is_write)
+{
+    struct transfer it = {.is_write = is_write};
+    it.is_appending = !roll(6);
+    it.offset = roll(8) ? 4 * roll(4) : (uint64_t)-1;
+    it.place = 4 * roll(4);
+    it.length = 4 + 4 * roll(2);
+    it.is_vector = roll(6) == 0;
+    return it;
 }
 
 static void prepare_operation(struct io_uring_sqe *entry)
@@ -54,10 +79,10 @@ static void prepare_operation(struct io_uring_sqe *entry)
     struct __kernel_timespec *time = &times[prepared];
     switch (is_moving && roll(5) ? roll(6) : roll(12)) {
     case 0: case 1: case 2:
-        prepare_transfer(entry, 1);
+        prepare_transfer(entry, rolled_transfer(1));
         break;
     case 3: case 4: case 5:
-        prepare_transfer(entry, 0);
+        prepare_transfer(entry, rolled_transfer(0));
         break;
     case 6:
         io_uring_prep_fsync(entry, file, 0);
@@ -80,12 +105,22 @@ static void prepare_operation(struct io_uring_sqe *entry)
     }
 }
 
-static void prepare(void)
+static unsigned rolled_flags(void)
 {
     static const unsigned flags[10] = {IOSQE_IO_LINK, IOSQE_IO_LINK, IOSQE_IO_HARDLINK, IOSQE_IO_DRAIN, IOSQE_CQE_SKIP_SUCCESS, IOSQE_CQE_SKIP_SUCCESS | IOSQE_IO_LINK};
+    if (meeting)
+        return roll(4) ? IOSQE_CQE_SKIP_SUCCESS : 0;
+    return is_moving && roll(3) ? IOSQE_CQE_SKIP_SUCCESS : flags[roll(10)];
+}
+
+static void prepare(void)
+{
     struct io_uring_sqe *entry = io_uring_get_sqe(&ring);
-    prepare_operation(entry);
-    io_uring_sqe_set_flags(entry, is_moving && roll(3) ? IOSQE_CQE_SKIP_SUCCESS : flags[roll(10)]);
+    if (meeting && prepared < 2)
+        prepare_transfer(entry, meeting[(prepared + is_moving) % 2]);
+    else
+        prepare_operation(entry);
+    io_uring_sqe_set_flags(entry, rolled_flags());
     entry->user_data = prepared++;
 }
 
@@ -133,13 +168,15 @@ int main(int argc, char **argv)
     struct io_uring_cqe *completion;
     state = argc > 1 ? strtoull(argv[1], NULL, 10) : 1;
     is_moving = state % 2 == 0;
+    if (state % 3 == 0)
+        meeting = meetings[state / 3 % (sizeof meetings / sizeof *meetings)];
     file = memfd_create("small", 0);
     char path[64];
     snprintf(path, sizeof path, "/proc/self/fd/%d", file);
     appending = open(path, O_RDWR | O_APPEND);
-    if (file < 0 || appending < 0 || write(file, "0123", 4) != 4 || pipe(ends) < 0 || write(ends[1], "87654321", 8) != 8 || io_uring_queue_init(4, &ring, 0) != 0)
+    if (file < 0 || appending < 0 || write(file, "0123456789+-", meeting ? 12 : 4) < 4 || pipe(ends) < 0 || write(ends[1], "87654321", 8) != 8 || io_uring_queue_init(4, &ring, 0) != 0)
         return 3;
-    unsigned first = 1 + roll(3), second = roll(3);
+    unsigned first = meeting ? 2 + roll(2) : 1 + roll(3), second = meeting ? 0 : roll(3);
     for (unsigned i = 0; i < first; i++)
         prepare();
     printf("submitted %d\n", io_uring_submit_and_wait(&ring, roll(first + 1)));

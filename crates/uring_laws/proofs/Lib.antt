@@ -27,5 +27,13 @@ pub mod Stopping
 pub mod WholeLaws
 pub mod FilesApart
 pub mod FileLaws
+-- Events that change places:
+pub mod Alike
+pub mod Swapping
+pub mod Apart
+pub mod Unseen
+pub mod DoomedEnds
+pub mod Sides
+pub mod Reordered
 -- The definitions, computed on one history:
 mod WorkedHistory

@@ -7,3 +7,4 @@ pub mod Published
 pub mod Standing
 pub mod Reasons
 pub mod Recorded
+pub mod Swaps

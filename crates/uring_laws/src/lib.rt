@@ -13,6 +13,7 @@ pub mod calls;
 pub mod files;
 pub mod reasons;
 pub mod recorded;
+pub mod swaps;
 
 /// Each list and count that a history has made is the one that is read straight off its events; of the cancelled, who is among them, by what stood before each cancel.
 pub fn lists_are_the_historys_own()

@@ -1,0 +1,357 @@
+-- Operations that stay apart don't meet: `apart_dont_meet`. What one leaves of a file, the other finds as it was, and both orders leave the same bytes.
+use Rattle.std.proofs.Common.{◌≡◌, ◌≢◌, ℕ, zero, suc, ◌+◌, ◌-◌, ◌<◌, ◌≤◌, ◌==◌, ◌%◌, ◌^◌, min, max, ℤ, pos, negsuc, neg_ℤ, Bool, true, false, not, ◌&&◌, ◌||◌, cond, if◌then◌else◌, List, [], ◌∷◌, ◌++◌, length, take, drop, replicate, get_or, Option, Some, None, refl, sym, ap, ap₂, ◌∙◌, arith, rules, ◌⊎◌, inl, inr}
+use Rattle.std.specs.Prelude.{slice_get, slice_set, nat_le, nat_lt}
+use Rattle.std.specs.Option.{option_map}
+use Rattle.std.specs.Ordering.{int_eq}
+use Rattle.std.proofs.lemmas.Bool.{cases_Bool, cases_lt, or_cases, and_from, and_left, and_right, both_ways, not-true, leb-true, le-leb, lt-leb, lt-ltb, le-ltb}
+use Rattle.std.proofs.lemmas.Bool.Decides.{Decides-int_eq, nat_tests}
+use Rattle.std.proofs.lemmas.Grind.{same_number_lists}
+use Rattle.std.proofs.lemmas.List.{length-take, length-drop, get_or-drop, places}
+use Rattle.uring_entry.specs.Layout.{padded}
+use Rattle.uring_entry.specs.declared.errno.TheConstants.{EFBIG}
+use Rattle.uring_entry.specs.declared.operation.Op.{Op}
+use Rattle.uring_entry.specs.declared.operation.Op.TheVariants.{Nop, Read, Write, Fsync, Cancel}
+use Rattle.uring_entry.specs.declared.operation.Outcome.{Outcome}
+use Rattle.uring_files.specs.Contents.{FileContents, empty_file, overwritten, written, with_writes_synced, read_outcome, is_too_long}
+use Rattle.uring_files.specs.Operations.{file_of, with_changed, on_file, ended_with, result_of, after}
+use Rattle.uring_files.specs.Laws.{IsWrittenOver}
+use Rattle.uring_laws.specs.Swaps.{stay_apart, are_disjoint, ApartDontMeet}
+
+-- Bytes written over others.
+
+-- (as `writes_over` of uring_files says it; its lemma isn't exported)
+some_bytes : (n : ℕ) (xs ys : List ℕ) → 1 ≤ n → (if n == 0 then xs else ys) ≡ ys
+some_bytes n xs ys some = search rules
+
+parts_at : (old new : List ℕ) (off k : ℕ)
+    → get_or (take off old ++ replicate (off - length old) 0 ++ new ++ drop (off + length new) old) k 0
+    ≡ (if nat_le off k && nat_lt k (off + length new) then get_or new (k - off) 0 else get_or old k 0)
+parts_at old new off k = grind (arith, places, nat_tests)
+
+parts_length : (old new : List ℕ) (off : ℕ)
+    → length (take off old ++ replicate (off - length old) 0 ++ new ++ drop (off + length new) old)
+    ≡ max (length old) (off + length new)
+parts_length old new off = grind (arith, places)
+
+is_written_over : (old new : List ℕ) (off : ℕ) → 1 ≤ length new
+    → IsWrittenOver old new off (overwritten old off new)
+is_written_over old new off some =
+    rw (some_bytes (length new) _ _ some) (record { len = parts_length old new off; bytes = parts_at old new off })
+
+inside : (old new : List ℕ) (off : ℕ) (now : List ℕ) (k : ℕ) → IsWrittenOver old new off now → off ≤ k
+    → k < off + length new
+    → get_or now k 0 ≡ get_or new (k - off) 0
+inside old new off now k w low high =
+    w.bytes k
+    ∙ ap (λ b. if b then get_or new (k - off) 0 else get_or old k 0) (and_from (nat_le off k) (nat_lt k (off + length new)) (le-leb off k low) (lt-ltb k (off + length new) high))
+
+below : (old new : List ℕ) (off : ℕ) (now : List ℕ) (k : ℕ) → IsWrittenOver old new off now → k < off
+    → get_or now k 0 ≡ get_or old k 0
+below old new off now k w low =
+    w.bytes k
+    ∙ ap (λ b. if b then get_or new (k - off) 0 else get_or old k 0) (and_left (nat_le off k) (nat_lt k (off + length new)) (lt-leb off k low))
+
+behind : (old new : List ℕ) (off : ℕ) (now : List ℕ) (k : ℕ) → IsWrittenOver old new off now
+    → off + length new ≤ k
+    → get_or now k 0 ≡ get_or old k 0
+behind old new off now k w high =
+    w.bytes k
+    ∙ ap (λ b. if b then get_or new (k - off) 0 else get_or old k 0) (and_right (nat_le off k) (nat_lt k (off + length new)) (le-ltb k (off + length new) high))
+
+-- no bytes change nothing
+if_none : (b : Bool) (xs ys : List ℕ) → b ≡ true → (if b then xs else ys) ≡ xs
+if_none true xs ys e = refl
+if_none false xs ys e = absurd cc
+
+nothing_over : (old new : List ℕ) (off : ℕ) → length new ≡ 0 → overwritten old off new ≡ old
+nothing_over old new off none = if_none (length new == 0) old _ (ap (λ n. n == 0) none)
+
+-- bytes written over others, in both orders
+some_over : (old a b with_a with_b left right : List ℕ) (o p : ℕ) → IsWrittenOver old a o with_a
+    → IsWrittenOver old b p with_b → IsWrittenOver with_a b p left → IsWrittenOver with_b a o right
+    → (o + length a ≤ p) ⊎ (p + length b ≤ o)
+    → left ≡ right
+some_over old a b with_a with_b left right o p wa wb wl wr apart =
+    same_number_lists left right (omega (arith, wa.len, wb.len, wl.len, wr.len)) each where
+      in_a : (k : ℕ) → o ≤ k → k < o + length a → get_or left k 0 ≡ get_or right k 0
+      in_a k low high = elim apart [
+        | inl before ↦ below with_a b p left k wl (omega (arith, high, before)) ∙ inside old a o with_a k wa low high ∙ sym (inside with_b a o right k wr low high)
+        | inr after_b ↦ behind with_a b p left k wl (omega (arith, low, after_b)) ∙ inside old a o with_a k wa low high ∙ sym (inside with_b a o right k wr low high)
+      ]
+
+      off_a : (k : ℕ) → get_or with_a k 0 ≡ get_or old k 0 → get_or right k 0 ≡ get_or with_b k 0 → get_or left k 0 ≡ get_or right k 0
+      off_a k one two = elim (cases_lt k p) [
+        | inl low ↦ below with_a b p left k wl low ∙ one ∙ sym (two ∙ below old b p with_b k wb low)
+        | inr high ↦
+            elim (cases_lt k (p + length b)) [
+              | inl within ↦ inside with_a b p left k wl high within ∙ sym (two ∙ inside old b p with_b k wb high within)
+              | inr past ↦ behind with_a b p left k wl past ∙ one ∙ sym (two ∙ behind old b p with_b k wb past)
+            ]
+      ]
+
+      each : (k : ℕ) → k < length left → get_or left k 0 ≡ get_or right k 0
+      each k within = elim (cases_lt k o) [
+        | inl low ↦ off_a k (below old a o with_a k wa low) (below with_b a o right k wr low)
+        | inr high ↦
+            elim (cases_lt k (o + length a)) [
+              | inl there ↦ in_a k high there
+              | inr past ↦ off_a k (behind old a o with_a k wa past) (behind with_b a o right k wr past)
+            ]
+      ]
+
+over_either : (old a b : List ℕ) (o p : ℕ) → (o + length a ≤ p) ⊎ (p + length b ≤ o)
+    → overwritten (overwritten old o a) p b ≡ overwritten (overwritten old p b) o a
+over_either old a b o p apart = elim (cases_lt 0 (length a)) [
+  | inr none ↦
+      let empty : length a ≡ 0 = omega arith in
+      ap (λ xs. overwritten xs p b) (nothing_over old a o empty) ∙ sym (nothing_over (overwritten old p b) a o empty)
+  | inl some ↦
+      elim (cases_lt 0 (length b)) [
+        | inr none ↦
+            let empty : length b ≡ 0 = omega arith in
+            nothing_over (overwritten old o a) b p empty ∙ ap (λ xs. overwritten xs o a) (sym (nothing_over old b p empty))
+        | inl more ↦
+            let x : 1 ≤ length a = omega arith in
+            let y : 1 ≤ length b = omega arith in
+            some_over old a b (overwritten old o a) (overwritten old p b) (overwritten (overwritten old o a) p b) (overwritten (overwritten old p b) o a) o p (is_written_over old a o x) (is_written_over old b p y) (is_written_over (overwritten old o a) b p y) (is_written_over (overwritten old p b) a o x) apart
+      ]
+]
+
+-- what lies behind the bytes that were written
+behind_over : (old new : List ℕ) (off at : ℕ) → off + length new ≤ at
+    → (drop at (overwritten old off new) ≡ drop at old) × (length (overwritten old off new) - at ≡ length old - at)
+behind_over old new off at past = elim (cases_lt 0 (length new)) [
+  | inr none ↦
+      let same : overwritten old off new ≡ old = nothing_over old new off (omega arith) in
+      (ap (drop at) same, ap (λ xs. length xs - at) same)
+  | inl some ↦
+      let x : 1 ≤ length new = omega arith in
+      let w : IsWrittenOver old new off (overwritten old off new) = is_written_over old new off x in
+      let long : length (overwritten old off new) - at ≡ length old - at = omega (arith, w.len) in (
+        same_number_lists (drop at (overwritten old off new)) (drop at old)
+            (length-drop at (overwritten old off new) ∙ long ∙ sym (length-drop at old))
+            (λ k within.
+            get_or-drop at (overwritten old off new) k 0
+            ∙ behind old new off (overwritten old off new) (at + k) w (omega (arith, past))
+            ∙ sym (get_or-drop at old k 0)),
+        long,
+      )
+]
+
+abbrev read_as : ℕ → ℕ → List ℕ → Outcome
+read_as count n xs = record { res = pos (min count n); bytes = padded (take count xs) }
+
+read_behind : (file : FileContents) (new : List ℕ) (off at count : ℕ) → off + length new ≤ at
+    → read_outcome at count (written off new file) ≡ read_outcome at count file
+read_behind file new off at count past =
+    let p = behind_over file.bytes new off at past in
+    ap₂ (read_as count) p.1 p.0
+
+-- Files of which some are changed.
+
+unlike : (x y : ℤ) → int_eq x y ≡ false → x ≢ y
+unlike x y e same = both_ways _ e ((Decides-int_eq x y).1 same)
+
+set_same : {X : Type 0} (xs : List X) (i : ℕ) (d : X) (change : X → X)
+    → slice_get (slice_set xs i (change (get_or xs i d))) i ≡ option_map change (slice_get xs i)
+set_same [] i d change = refl
+set_same (x ∷ xs) zero d change = refl
+set_same (x ∷ xs) (suc i) d change = set_same xs i d change
+
+set_other : {X : Type 0} (xs : List X) (i j : ℕ) (x : X) → j ≢ i
+    → slice_get (slice_set xs i x) j ≡ slice_get xs j
+set_other [] i j x differ = refl
+set_other (y ∷ ys) zero zero x differ = absurd (differ refl)
+set_other (y ∷ ys) zero (suc j) x differ = refl
+set_other (y ∷ ys) (suc i) zero x differ = refl
+set_other (y ∷ ys) (suc i) (suc j) x differ = set_other ys i j x (λ e. differ (ap suc e))
+
+changed_same : (files : List FileContents) (fd : ℤ) (change : FileContents → FileContents)
+    → file_of (with_changed files fd change) fd ≡ option_map change (file_of files fd)
+changed_same files (pos fd) change = set_same files fd empty_file change
+changed_same files (negsuc low) change = refl
+
+changed_other : (files : List FileContents) (own fd : ℤ) (change : FileContents → FileContents)
+    → fd ≢ own
+    → file_of (with_changed files own change) fd ≡ file_of files fd
+changed_other files (pos k) (pos j) change differ = set_other files k j _ (λ e. differ (ap pos e))
+changed_other files (pos k) (negsuc low) change differ = refl
+changed_other files (negsuc low) fd change differ = refl
+
+-- two changes, of different files or of one file in any order
+set_either : {X : Type 0} (xs : List X) (i j : ℕ) (d : X) (f g : X → X)
+    → (i ≡ j → (x : X) → g (f x) ≡ f (g x))
+    → slice_set (slice_set xs i (f (get_or xs i d))) j (g (get_or (slice_set xs i (f (get_or xs i d))) j d))
+    ≡ slice_set (slice_set xs j (g (get_or xs j d))) i (f (get_or (slice_set xs j (g (get_or xs j d))) i d))
+set_either [] i j d f g same = refl
+set_either (x ∷ xs) zero zero d f g same = ap (λ y. y ∷ xs) (same refl x)
+set_either (x ∷ xs) zero (suc j) d f g same = refl
+set_either (x ∷ xs) (suc i) zero d f g same = refl
+set_either (x ∷ xs) (suc i) (suc j) d f g same =
+    ap (λ ys. x ∷ ys) (set_either xs i j d f g (λ e. same (ap suc e)))
+
+changed_either : (files : List FileContents) (fd other : ℤ) (f g : FileContents → FileContents)
+    → (fd ≡ other → (x : FileContents) → g (f x) ≡ f (g x))
+    → with_changed (with_changed files fd f) other g ≡ with_changed (with_changed files other g) fd f
+changed_either files (pos i) (pos j) f g same =
+    set_either files i j empty_file f g (λ e. same (ap pos e))
+changed_either files (pos i) (negsuc low) f g same = refl
+changed_either files (negsuc low) other f g same = refl
+
+-- the same where each is made if some test is passed
+chosen_either : (a b : Bool) (files : List FileContents) (fd other : ℤ) (f g : FileContents → FileContents)
+    → (fd ≡ other → (x : FileContents) → g (f x) ≡ f (g x))
+    → cond b (with_changed (cond a (with_changed files fd f) files) other g) (cond a (with_changed files fd f) files)
+    ≡ cond a (with_changed (cond b (with_changed files other g) files) fd f) (cond b (with_changed files other g) files)
+chosen_either true true files fd other f g same = changed_either files fd other f g same
+chosen_either true false files fd other f g same = refl
+chosen_either false true files fd other f g same = refl
+chosen_either false false files fd other f g same = refl
+
+-- What an operation gives where another was carried out.
+
+-- an outcome that asks only whether the file is there
+there_only : (o : Option FileContents) (change : FileContents → FileContents) (outcome : Outcome)
+    → on_file (option_map change o) (λ file. outcome) ≡ on_file o (λ file. outcome)
+there_only None change outcome = refl
+there_only (Some file) change outcome = refl
+
+as_before : (o : Option FileContents) (change : FileContents → FileContents) (outcome : FileContents → Outcome)
+    → ((file : FileContents) → outcome (change file) ≡ outcome file)
+    → on_file (option_map change o) outcome ≡ on_file o outcome
+as_before None change outcome same = refl
+as_before (Some file) change outcome same = same file
+
+found_as_before : (files : List FileContents) (own fd : ℤ) (change : FileContents → FileContents) (outcome : FileContents → Outcome)
+    → (fd ≡ own → (file : FileContents) → outcome (change file) ≡ outcome file)
+    → on_file (file_of (with_changed files own change) fd) outcome ≡ on_file (file_of files fd) outcome
+found_as_before files own fd change outcome same = elim (cases_Bool (int_eq fd own)) [
+  | inl here ↦
+      let e : fd ≡ own = (Decides-int_eq fd own).0 here in
+      ap (λ k. on_file (file_of (with_changed files k change) fd) outcome) (sym e)
+      ∙ ap (λ o. on_file o outcome) (changed_same files fd change)
+      ∙ as_before (file_of files fd) change outcome (same e)
+  | inr differ ↦
+      ap (λ o. on_file o outcome) (changed_other files own fd change (unlike fd own differ))
+]
+
+chosen_as_before : (chosen : Bool) (files : List FileContents) (own fd : ℤ) (change : FileContents → FileContents) (outcome : FileContents → Outcome)
+    → (fd ≡ own → (file : FileContents) → outcome (change file) ≡ outcome file)
+    → on_file (file_of (cond chosen (with_changed files own change) files) fd) outcome ≡ on_file (file_of files fd) outcome
+chosen_as_before true files own fd change outcome same =
+    found_as_before files own fd change outcome same
+chosen_as_before false files own fd change outcome same = refl
+
+few : (len : ℕ) (bytes : List ℕ) → length (take len bytes) ≤ len
+few len bytes = omega (arith, length-take len bytes)
+
+-- on one file, if they are apart, the other test holds
+on_one : (fd own : ℤ) (apart : Bool) → (not (int_eq fd own) || apart) ≡ true → fd ≡ own → apart ≡ true
+on_one fd own apart e same = elim (or_cases (not (int_eq fd own)) apart e) [
+  | inl differ ↦ absurd (unlike fd own (not-true (int_eq fd own) differ) same)
+  | inr holds ↦ holds
+]
+
+gives_same : (files : List FileContents) (d e : Op) (res : ℤ) → stay_apart d e ≡ true
+    → result_of (after files d res) e ≡ result_of files e
+gives_same files (Write own off len bytes) (Read fd at count) res apart =
+    chosen_as_before (int_eq res (pos len)) files own fd (written off (take len bytes)) (read_outcome at count)
+    (λ same file. read_behind file (take len bytes) off at count (let low : off + len ≤ at = leb-true (off + len) at (on_one own fd (nat_le (off + len) at) apart (sym same)) in omega (arith, low, few len bytes)))
+gives_same files (Write own off len bytes) (Write fd at count more) res apart =
+    chosen_as_before (int_eq res (pos len)) files own fd (written off (take len bytes)) (λ file. ended_with (if is_too_long at count then neg_ℤ EFBIG else pos count)) (λ same file. refl)
+gives_same files (Write own off len bytes) (Fsync fd) res apart =
+    chosen_as_before (int_eq res (pos len)) files own fd (written off (take len bytes)) (λ file. ended_with (pos 0)) (λ same file. refl)
+gives_same files (Fsync own) (Read fd at count) res apart =
+    chosen_as_before (int_eq res (pos 0)) files own fd with_writes_synced (read_outcome at count) (λ same file. refl)
+gives_same files (Fsync own) (Write fd at count more) res apart =
+    chosen_as_before (int_eq res (pos 0)) files own fd with_writes_synced (λ file. ended_with (if is_too_long at count then neg_ℤ EFBIG else pos count)) (λ same file. refl)
+gives_same files (Fsync own) (Fsync fd) res apart =
+    chosen_as_before (int_eq res (pos 0)) files own fd with_writes_synced (λ file. ended_with (pos 0)) (λ same file. refl)
+gives_same files d e res apart = refl
+
+-- Which files both orders leave.
+
+swapped_disjoint : (off len at count : ℕ) → are_disjoint off len at count ≡ true
+    → are_disjoint at count off len ≡ true
+swapped_disjoint off len at count e = either (nat_le (off + len) at) (nat_le (at + count) off) e where
+  either : (x y : Bool) → (x || y) ≡ true → (y || x) ≡ true
+  either true true f = refl
+  either true false f = refl
+  either false true f = refl
+  either false false f = f
+
+same_test : (fd other : ℤ) → int_eq fd other ≡ int_eq other fd
+same_test fd other = elim (cases_Bool (int_eq fd other)) [
+  | inl same ↦ same ∙ sym ((Decides-int_eq other fd).1 (sym ((Decides-int_eq fd other).0 same)))
+  | inr differ ↦
+      elim (cases_Bool (int_eq other fd)) [
+        | inl same ↦ absurd (unlike fd other differ (sym ((Decides-int_eq other fd).0 same)))
+        | inr unlike_too ↦ differ ∙ sym unlike_too
+      ]
+]
+
+beside_nop : (e : Op) → stay_apart e Nop ≡ true
+beside_nop Nop = refl
+beside_nop (Read fd off len) = refl
+beside_nop (Write fd off len bytes) = refl
+beside_nop (Fsync fd) = refl
+beside_nop (Cancel target all) = refl
+
+beside_cancel : (target : ℕ) (all : Bool) (e : Op) → stay_apart e (Cancel target all) ≡ true
+beside_cancel target all Nop = refl
+beside_cancel target all (Read fd off len) = refl
+beside_cancel target all (Write fd off len bytes) = refl
+beside_cancel target all (Fsync fd) = refl
+beside_cancel target all (Cancel other every) = refl
+
+apart_either : (d e : Op) → stay_apart d e ≡ true → stay_apart e d ≡ true
+apart_either (Read fd off len) (Write other at count bytes) a =
+    ap (λ b. not b || nat_le (at + count) off) (same_test other fd) ∙ a
+apart_either (Write fd off len bytes) (Read other at count) a =
+    ap (λ b. not b || nat_le (off + len) at) (same_test other fd) ∙ a
+apart_either (Write fd off len bytes) (Write other at count more) a =
+    ap (λ b. not b || are_disjoint at count off len) (same_test other fd) ∙ turned (not (int_eq fd other)) a where
+      turned : (b : Bool) → (b || are_disjoint off len at count) ≡ true → (b || are_disjoint at count off len) ≡ true
+      turned true f = refl
+      turned false f = swapped_disjoint off len at count f
+apart_either (Write fd off len bytes) (Fsync other) a = ap not (same_test other fd) ∙ a
+apart_either (Fsync fd) (Write other at count bytes) a = ap not (same_test other fd) ∙ a
+apart_either (Read fd off len) (Read other at count) a = refl
+apart_either (Read fd off len) (Fsync other) a = refl
+apart_either (Fsync fd) (Read other at count) a = refl
+apart_either (Fsync fd) (Fsync other) a = refl
+apart_either d Nop a = refl
+apart_either d (Cancel target all) a = refl
+apart_either Nop e a = beside_nop e
+apart_either (Cancel target all) e a = beside_cancel target all e
+
+written_either : (file : FileContents) (a b : List ℕ) (o p len count : ℕ) → length a ≤ len
+    → length b ≤ count → are_disjoint o len p count ≡ true
+    → written p b (written o a file) ≡ written o a (written p b file)
+written_either file a b o p len count few_a few_b apart =
+    ap (λ xs. record file { bytes = xs; writes = ((file.writes + 1) % 2 ^ 64 + 1) % 2 ^ 64 }) (over_either file.bytes a b o p parted) where
+      parted : (o + length a ≤ p) ⊎ (p + length b ≤ o)
+      parted = elim (or_cases (nat_le (o + len) p) (nat_le (p + count) o) apart) [
+        | inl low ↦ inl (let le : o + len ≤ p = leb-true (o + len) p low in omega (arith, le, few_a))
+        | inr high ↦ inr (let le : p + count ≤ o = leb-true (p + count) o high in omega (arith, le, few_b))
+      ]
+
+leaves_same : (files : List FileContents) (d e : Op) (x y : ℤ) → stay_apart d e ≡ true
+    → after (after files d x) e y ≡ after (after files e y) d x
+leaves_same files (Write fd off len bytes) (Write other at count more) x y apart =
+    chosen_either (int_eq x (pos len)) (int_eq y (pos count)) files fd other (written off (take len bytes)) (written at (take count more))
+    (λ same file. written_either file (take len bytes) (take count more) off at len count (few len bytes) (few count more) (on_one fd other (are_disjoint off len at count) apart same))
+leaves_same files (Write fd off len bytes) (Fsync other) x y apart =
+    chosen_either (int_eq x (pos len)) (int_eq y (pos 0)) files fd other (written off (take len bytes)) with_writes_synced (λ same file. absurd (unlike fd other (not-true (int_eq fd other) apart) same))
+leaves_same files (Fsync fd) (Write other at count more) x y apart =
+    chosen_either (int_eq x (pos 0)) (int_eq y (pos count)) files fd other with_writes_synced (written at (take count more)) (λ same file. absurd (unlike fd other (not-true (int_eq fd other) apart) same))
+leaves_same files (Fsync fd) (Fsync other) x y apart =
+    chosen_either (int_eq x (pos 0)) (int_eq y (pos 0)) files fd other with_writes_synced with_writes_synced (λ same file. refl)
+leaves_same files d e x y apart = refl
+
+pub apart_dont_meet : ApartDontMeet
+apart_dont_meet files d e x y apart one two = record {
+  first = inl (two ∙ gives_same files d e x.res apart);
+  second = inl (one ∙ sym (gives_same files e d y.res (apart_either d e apart)));
+  leave = leaves_same files d e x.res y.res apart;
+}

@@ -1,0 +1,35 @@
+-- Histories of one class: `reordered_alike`, by one pair of events after the other.
+use Rattle.std.proofs.Common.{◌∙◌, ◌∷◌, ◌++◌, refl}
+use Rattle.uring_entry.specs.Setup.{Setup}
+use Rattle.uring_core.specs.World.{World}
+use Rattle.uring_core.specs.Histories.{world}
+use Rattle.uring_laws.specs.Swaps.{AreAlike, unchanged, swapped, ReorderedAlike}
+use Rattle.uring_laws.proofs.Alike.{change_anywhere}
+use Rattle.uring_laws.proofs.Swapping.{alike_same}
+
+-- alike to what is alike
+through : (g : Setup) (u v w : World) → AreAlike g u v → AreAlike g v w → AreAlike g u w
+through g u v w a b = record {
+  submission = a.submission ∙ b.submission;
+  requests = record {
+    accepted = a.requests.accepted ∙ b.requests.accepted;
+    cuts = a.requests.cuts ∙ b.requests.cuts;
+    started = λ p. a.requests.started p ∙ b.requests.started p;
+    cancelled = λ p. a.requests.cancelled p ∙ b.requests.cancelled p;
+    ended = λ p. a.requests.ended p ∙ b.requests.ended p;
+  };
+  completions = a.completions ∙ b.completions;
+  is_closed = a.is_closed ∙ b.is_closed;
+  files = a.files ∙ b.files;
+}
+
+pub reordered_alike : (g : Setup) → ReorderedAlike g
+reordered_alike g h k (unchanged _) lawful =
+    record { lawful = lawful; alike = alike_same g (world g h) (world g h) refl }
+reordered_alike g h k (swapped rest before _ x y change later) lawful =
+    let one = change_anywhere g rest before x y change lawful in
+    let two = reordered_alike g (rest ++ (x ∷ y ∷ before)) k later one.lawful in
+    record {
+      lawful = two.lawful;
+      alike = through g (world g (rest ++ (y ∷ x ∷ before))) (world g (rest ++ (x ∷ y ∷ before))) (world g k) one.alike two.alike;
+    }

@@ -1,0 +1,211 @@
+-- The steps on the submission ring change places with those on requests and completions: `submission_then_rest` and `rest_then_submission`. Neither side reads what the other writes.
+use Rattle.std.proofs.Common.{◌≡◌, ℕ, List, ◌∷◌, Option, Some, None, refl, sym, subst, ap, ◌∙◌}
+use Rattle.uring_entry.specs.Setup.{Setup}
+use Rattle.uring_entry.specs.Layout.{Sqe}
+use Rattle.uring_entry.specs.Submission.{Submission, Call}
+use Rattle.uring_entry.specs.Requests.{Ending}
+use Rattle.uring_entry.specs.Completions.{Completions}
+use Rattle.uring_core.specs.World.{World, happens, taking_of, taking_entry_of}
+use Rattle.uring_core.specs.CalledFor.{CalledFor, IsLawful}
+use Rattle.uring_core.specs.Histories.{History, world}
+use Rattle.uring_core.specs.declared.step.Step.{Step}
+use Rattle.uring_core.specs.declared.step.Step.TheVariants as step
+use Rattle.uring_core.specs.declared.answer.Answer.{Answer}
+use Rattle.uring_core.proofs.Changes.{Change, refuses, fills, stages, stores, loads, begins, takes, drops, closes, runs, dooms, cancels, finishes, flushes, sees_tail, reaps, stores_head, shuts, change_of}
+use Rattle.uring_laws.specs.Swaps.{ChangePlaces, IsOnSubmission, IsOnRest, SubmissionThenRest, RestThenSubmission}
+use Rattle.uring_laws.proofs.Swapping.{alike_same}
+use Rattle.uring_laws.proofs.WholeLaws.{lawful_apart}
+
+-- the world with another submission ring
+abbrev submitted : World → Submission → World
+submitted w x = record w { submission = x }
+
+-- what a step on requests and completions may change
+record Rest : Type 0 where
+  started : List ℕ
+  cancelled : List ℕ
+  ended : List Ending
+  completions : Completions
+
+abbrev with_rest : World → Rest → World
+with_rest w x = record w { requests = record w.requests { started = x.started; cancelled = x.cancelled; ended = x.ended }; completions = x.completions }
+
+abbrev rest_of : World → Rest
+rest_of w = record { started = w.requests.started; cancelled = w.requests.cancelled; ended = w.requests.ended; completions = w.completions }
+
+-- Each side changes its own alone.
+
+taken_sub : (g : Setup) (w : World) (entry : Sqe) (o : Option Call)
+    → taking_entry_of g w entry o ≡ submitted w (taking_entry_of g w entry o).submission
+taken_sub g w entry None = refl
+taken_sub g w entry (Some call) = refl
+
+dropped_sub : (w : World) (o : Option Call) → taking_of w o ≡ submitted w (taking_of w o).submission
+dropped_sub w None = refl
+dropped_sub w (Some call) = refl
+
+sub_alone : (g : Setup) (w : World) (s : Step) (a : Answer) → Change g w s a → IsOnSubmission s
+    → happens g w s a ≡ submitted w (happens g w s a).submission
+sub_alone g w s a (refuses _ _ same silent) on =
+    same w ∙ ap (λ (v : World). submitted w v.submission) (sym (same w))
+sub_alone g w s a (takes entry call place opened left at valid) on =
+    taken_sub g w entry w.submission.call
+sub_alone g w s a (drops call place opened left at invalid) on = dropped_sub w w.submission.call
+sub_alone g w s a (closes accepted missed head call opened all told) on = absurd on
+sub_alone g w s a (runs n outstanding idle spared ready no_cancel) on = absurd on
+sub_alone g w s a (dooms n outstanding idle doomed) on = absurd on
+sub_alone g w s a (cancels n outstanding idle spared ready cancel) on = absurd on
+sub_alone g w s a (finishes n res bytes running) on = absurd on
+sub_alone g w s a (flushes moved) on = absurd on
+sub_alone g w s a (sees_tail tail) on = absurd on
+sub_alone g w s a (reaps completion next) on = absurd on
+sub_alone g w s a (stores_head head) on = absurd on
+sub_alone g w s a (shuts none) on = absurd on
+sub_alone g w s a _ on = refl
+
+taken_with : (g : Setup) (w : World) (x : Rest) (entry : Sqe) (o : Option Call)
+    → taking_entry_of g (with_rest w x) entry o ≡ with_rest (taking_entry_of g w entry o) x
+taken_with g w x entry None = refl
+taken_with g w x entry (Some call) = refl
+
+dropped_with : (w : World) (x : Rest) (o : Option Call)
+    → taking_of (with_rest w x) o ≡ with_rest (taking_of w o) x
+dropped_with w x None = refl
+dropped_with w x (Some call) = refl
+
+-- whatever the rest is
+sub_with : (g : Setup) (w : World) (x : Rest) (s : Step) (a : Answer) → Change g w s a → IsOnSubmission s
+    → happens g (with_rest w x) s a ≡ with_rest (happens g w s a) x
+sub_with g w x s a (refuses _ _ same silent) on =
+    same (with_rest w x) ∙ ap (λ (v : World). with_rest v x) (sym (same w))
+sub_with g w x s a (takes entry call place opened left at valid) on =
+    taken_with g w x entry w.submission.call
+sub_with g w x s a (drops call place opened left at invalid) on =
+    dropped_with w x w.submission.call
+sub_with g w x s a (closes accepted missed head call opened all told) on = absurd on
+sub_with g w x s a (runs n outstanding idle spared ready no_cancel) on = absurd on
+sub_with g w x s a (dooms n outstanding idle doomed) on = absurd on
+sub_with g w x s a (cancels n outstanding idle spared ready cancel) on = absurd on
+sub_with g w x s a (finishes n res bytes running) on = absurd on
+sub_with g w x s a (flushes moved) on = absurd on
+sub_with g w x s a (sees_tail tail) on = absurd on
+sub_with g w x s a (reaps completion next) on = absurd on
+sub_with g w x s a (stores_head head) on = absurd on
+sub_with g w x s a (shuts none) on = absurd on
+sub_with g w x s a _ on = refl
+
+rest_alone : (g : Setup) (w : World) (t : Step) (b : Answer) → Change g w t b → IsOnRest t
+    → happens g w t b ≡ with_rest w (rest_of (happens g w t b))
+rest_alone g w t b (refuses _ _ same silent) on =
+    same w ∙ ap (λ (v : World). with_rest w (rest_of v)) (sym (same w))
+rest_alone g w t b (fills slot entry free) on = absurd on
+rest_alone g w t b (stages word free) on = absurd on
+rest_alone g w t b (stores tail) on = absurd on
+rest_alone g w t b (loads head) on = absurd on
+rest_alone g w t b (begins count open_ring none unspent) on = absurd on
+rest_alone g w t b (takes entry call place opened left at valid) on = absurd on
+rest_alone g w t b (drops call place opened left at invalid) on = absurd on
+rest_alone g w t b (closes accepted missed head call opened all told) on = absurd on
+rest_alone g w t b (shuts none) on = absurd on
+rest_alone g w t b _ on = refl
+
+-- whatever the submission ring is
+rest_with : (g : Setup) (w : World) (x : Submission) (t : Step) (b : Answer) → Change g w t b → IsOnRest t
+    → happens g (submitted w x) t b ≡ submitted (happens g w t b) x
+rest_with g w x t b (refuses _ _ same silent) on =
+    same (submitted w x) ∙ ap (λ (v : World). submitted v x) (sym (same w))
+rest_with g w x t b (fills slot entry free) on = absurd on
+rest_with g w x t b (stages word free) on = absurd on
+rest_with g w x t b (stores tail) on = absurd on
+rest_with g w x t b (loads head) on = absurd on
+rest_with g w x t b (begins count open_ring none unspent) on = absurd on
+rest_with g w x t b (takes entry call place opened left at valid) on = absurd on
+rest_with g w x t b (drops call place opened left at invalid) on = absurd on
+rest_with g w x t b (closes accepted missed head call opened all told) on = absurd on
+rest_with g w x t b (shuts none) on = absurd on
+rest_with g w x t b _ on = refl
+
+-- Answers.
+
+sub_called : (g : Setup) (w : World) (x : Rest) (s : Step) (a : Answer) → IsOnSubmission s
+    → CalledFor g w s a → CalledFor g (with_rest w x) s a
+sub_called g w x (step.Fill slot entry) a on called = called
+sub_called g w x (step.Index word) a on called = called
+sub_called g w x step.StoreTail a on called = called
+sub_called g w x step.LoadHead a on called = called
+sub_called g w x (step.Begin count) a on called = called
+sub_called g w x step.Take a on called = called
+sub_called g w x _ a on called = absurd on
+
+sub_called_before : (g : Setup) (w : World) (x : Rest) (s : Step) (a : Answer) → IsOnSubmission s
+    → CalledFor g (with_rest w x) s a → CalledFor g w s a
+sub_called_before g w x (step.Fill slot entry) a on called = called
+sub_called_before g w x (step.Index word) a on called = called
+sub_called_before g w x step.StoreTail a on called = called
+sub_called_before g w x step.LoadHead a on called = called
+sub_called_before g w x (step.Begin count) a on called = called
+sub_called_before g w x step.Take a on called = called
+sub_called_before g w x _ a on called = absurd on
+
+rest_called : (g : Setup) (w : World) (x : Submission) (t : Step) (b : Answer) → IsOnRest t
+    → CalledFor g w t b → CalledFor g (submitted w x) t b
+rest_called g w x (step.Issue n) b on called = called
+rest_called g w x (step.Finish n) b on called = called
+rest_called g w x step.Flush b on called = called
+rest_called g w x step.LoadCqTail b on called = called
+rest_called g w x step.Reap b on called = called
+rest_called g w x step.StoreCqHead b on called = called
+rest_called g w x step.Next b on called = called
+rest_called g w x _ b on called = absurd on
+
+rest_called_before : (g : Setup) (w : World) (x : Submission) (t : Step) (b : Answer) → IsOnRest t
+    → CalledFor g (submitted w x) t b → CalledFor g w t b
+rest_called_before g w x (step.Issue n) b on called = called
+rest_called_before g w x (step.Finish n) b on called = called
+rest_called_before g w x step.Flush b on called = called
+rest_called_before g w x step.LoadCqTail b on called = called
+rest_called_before g w x step.Reap b on called = called
+rest_called_before g w x step.StoreCqHead b on called = called
+rest_called_before g w x step.Next b on called = called
+rest_called_before g w x _ b on called = absurd on
+
+record Sides (g : Setup) (h : History) (s t : Step) (a b : Answer) : Type 0 where
+  later : ChangePlaces g h (s, a) (t, b)
+  earlier : ChangePlaces g h (t, b) (s, a)
+
+both_sides : (g : Setup) (h : History) (s t : Step) (a b : Answer) → IsOnSubmission s → IsOnRest t
+    → CalledFor g (world g h) s a → CalledFor g (world g h) t b → IsLawful g h → Sides g h s t a b
+both_sides g h s t a b on other one two lawful =
+    let w : World = world g h in
+    let c : Change g w s a = change_of g w s a (lawful_apart g ((s, a) ∷ h) (one, lawful)).0 in
+    let d : Change g w t b = change_of g w t b (lawful_apart g ((t, b) ∷ h) (two, lawful)).0 in
+    let x : Submission = (happens g w s a).submission in
+    let y : Rest = rest_of (happens g w t b) in
+    let sub : happens g w s a ≡ submitted w x = sub_alone g w s a c on in
+    let rest : happens g w t b ≡ with_rest w y = rest_alone g w t b d other in
+    let left : world g ((t, b) ∷ (s, a) ∷ h) ≡ submitted (with_rest w y) x = ap (λ (v : World). happens g v t b) sub ∙ (rest_with g w x t b d other ∙ ap (λ (v : World). submitted v x) rest) in
+    let right : world g ((s, a) ∷ (t, b) ∷ h) ≡ submitted (with_rest w y) x = ap (λ (v : World). happens g v s a) rest ∙ (sub_with g w y s a c on ∙ ap (λ (v : World). with_rest v y) sub) in
+    record {
+      later = record {
+        lawful = (subst (λ v. CalledFor g v s a) (sym rest) (sub_called g w y s a on one), (two, lawful));
+        alike = alike_same g _ _ (left ∙ sym right);
+      };
+      earlier = record {
+        lawful = (subst (λ v. CalledFor g v t b) (sym sub) (rest_called g w x t b other two), (one, lawful));
+        alike = alike_same g _ _ (right ∙ sym left);
+      };
+    }
+
+pub submission_then_rest : (g : Setup) → SubmissionThenRest g
+submission_then_rest g h s t a b on other lawful =
+    let w : World = world g h in
+    let c : Change g w s a = change_of g w s a (lawful_apart g ((s, a) ∷ h) lawful.1).0 in
+    let two : CalledFor g w t b = rest_called_before g w (happens g w s a).submission t b other (subst (λ v. CalledFor g v t b) (sub_alone g w s a c on) lawful.0) in
+    (both_sides g h s t a b on other lawful.1.0 two lawful.1.1).later
+
+pub rest_then_submission : (g : Setup) → RestThenSubmission g
+rest_then_submission g h s t a b on other lawful =
+    let w : World = world g h in
+    let d : Change g w t b = change_of g w t b (lawful_apart g ((t, b) ∷ h) lawful.1).0 in
+    let one : CalledFor g w s a = sub_called_before g w (rest_of (happens g w t b)) s a on (subst (λ v. CalledFor g v s a) (rest_alone g w t b d other) lawful.0) in
+    (both_sides g h s t a b on other one lawful.1.0 lawful.1.1).earlier

@@ -1,0 +1,5 @@
+use Rattle.uring_laws.proofs.DoomedEnds.{doomed_ends_change}
+use Rattle.uring_laws.proofs.swaps.doomed_ends_change_places.Goals as goal
+
+pub returns : goal.returns
+returns c = doomed_ends_change

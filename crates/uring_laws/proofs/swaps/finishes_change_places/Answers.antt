@@ -1,0 +1,5 @@
+use Rattle.uring_laws.proofs.Swapping.{finishes_change}
+use Rattle.uring_laws.proofs.swaps.finishes_change_places.Goals as goal
+
+pub returns : goal.returns
+returns c = finishes_change
