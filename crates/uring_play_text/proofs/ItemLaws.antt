@@ -1,8 +1,10 @@
 -- What the tokens of an item's line spell.
-use Rattle.std.proofs.Common.{◌≡◌, ℕ, ◌<◌, ◌≤◌, ◌^◌, false, List, [], ◌∷◌, length, sym, ap, subst, ◌∙◌, arith}
+use Rattle.std.proofs.Common.{◌≡◌, ℕ, ◌<◌, ◌≤◌, ◌^◌, false, List, [], ◌∷◌, length, refl, sym, ap, subst, ◌∙◌, arith}
 use mathlib.Core.List.{head-eq_of_cons-eq, tail-eq_of_cons-eq}
 use Rattle.std.specs.Prelude.{codes}
-use Rattle.std.proofs.lemmas.Bool.{ne_eqb}
+use Rattle.std.specs.Str.{bytes_eq}
+use Rattle.std.proofs.lemmas.Bool.{ne_eqb, true≢false}
+use Rattle.std.proofs.lemmas.Slice.Eq.{bytes_eq-Decides}
 use Rattle.uring_text.specs.Tokens.{tokens_of}
 use Rattle.uring_text.specs.Spelling.{SpellsNumber}
 use Rattle.uring_text.specs.Forms.{name_text, SpellsEntry}
@@ -17,9 +19,14 @@ use Rattle.uring_play_text.specs.Calls.{is_blank}
 use Rattle.uring_play_text.specs.LineReads.{IsNoBadWord, IsNoItem}
 
 -- no form is named so
+
+other_name : (n : Name) → bytes_eq (codes "bad") (name_text n) ≡ false
+other_name name.Nop = refl
+other_name _ = refl
+
 no_form : (n : Name) (rest tokens : List (List ℕ)) → codes "bad" ∷ rest ≡ name_text n ∷ tokens → ⊥
-no_form name.Nop rest tokens e = cc
-no_form _ rest tokens e = cc
+no_form n rest tokens e =
+    true≢false (sym ((bytes_eq-Decides (codes "bad") (name_text n)).1 (head-eq_of_cons-eq e)) ∙ other_name n)
 
 pub no_entry : (rest : List (List ℕ)) (entry : Sqe) → SpellsEntry (codes "bad" ∷ rest) entry → ⊥
 no_entry rest entry h = no_form h.form.name rest h.spells.0 h.spells.1
@@ -68,9 +75,14 @@ item_line size text line tokens i same short are h = record {
 }
 
 -- an empty line is no item
+
+some_name : (n : Name) → bytes_eq [] (name_text n) ≡ false
+some_name name.Nop = refl
+some_name _ = refl
+
 no_name : (n : Name) (tokens : List (List ℕ)) → [] ∷ [] ≡ name_text n ∷ tokens → ⊥
-no_name name.Nop tokens e = cc
-no_name _ tokens e = cc
+no_name n tokens e =
+    true≢false (sym ((bytes_eq-Decides [] (name_text n)).1 (head-eq_of_cons-eq e)) ∙ some_name n)
 
 empty_spells : (size : ℕ) (i : Item) → SpellsItem size ([] ∷ []) i → ⊥
 empty_spells size (item.Entry entry) h = no_name h.form.name h.spells.0 h.spells.1

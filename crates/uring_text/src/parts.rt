@@ -28,8 +28,15 @@ impl Model for Parts {
     ghost Value = { spec.Parts };
 
     ghost view = { λ p. record {
-        code = p.code; user_data = p.user_data; flags = p.flags; fd = p.fd; off = p.off;
-        len = p.len; target = p.target; bytes = p.bytes } };
+      code = p.code;
+      user_data = p.user_data;
+      flags = p.flags;
+      fd = p.fd;
+      off = p.off;
+      len = p.len;
+      target = p.target;
+      bytes = p.bytes;
+    } };
 }
 
 impl Parts {
