@@ -1,10 +1,10 @@
 -- The form that is read of tokens is the one that they spell.
-use Rattle.std.proofs.Common.{◌≡◌, ℕ, ◌^◌, cond, true, List, [], ◌∷◌, Option, Some, None, refl, sym, ap, subst, ◌∙◌, arith, inl, inr}
-use Rattle.std.specs.Prelude.{codes, find}
+use Rattle.std.proofs.Common.{◌≡◌, ℕ, ◌^◌, cond, List, [], ◌∷◌, Option, Some, refl, sym, ap, subst, ◌∙◌, arith, inl, inr}
+use Rattle.std.specs.Prelude.{find}
 use Rattle.std.specs.Option.{option_map}
 use Rattle.std.specs.Str.{bytes_eq}
 use Rattle.std.proofs.lemmas.Slice.Eq.{bytes_eq-Decides}
-use Rattle.uring_text.specs.Forms.{Form, Parts, no_parts, names, name_text, kinds_of, SaysPart, SayParts, SpellsForm}
+use Rattle.uring_text.specs.Forms.{Form, Parts, names, name_text, kinds_of, SaysPart, SayParts, SpellsForm}
 use Rattle.uring_text.specs.declared.forms.Name.{Name}
 use Rattle.uring_text.specs.declared.forms.Name.TheVariants as name
 use Rattle.uring_text.specs.declared.place.Kind.{Kind}

@@ -6,7 +6,6 @@ use Rattle.uring_text.specs.Forms.{kinds_of}
 use Rattle.uring_text.specs.Reading.{name_of}
 use Rattle.uring_text.specs.Places.{is_of_kind}
 use Rattle.uring_text.specs.declared.place.Kind.{Kind}
-use Rattle.uring_text.specs.declared.place.Kind.TheVariants as kind
 use Rattle.uring_text.specs.declared.place.Place.{Place}
 use Rattle.uring_text.specs.declared.place.Place.TheVariants as place
 use Rattle.uring_text.specs.declared.reach.Reach.{Reach}
