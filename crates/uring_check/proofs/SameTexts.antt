@@ -7,12 +7,12 @@ use Rattle.std.proofs.lemmas.Fmt.{signed_decimal_injective}
 use Rattle.uring_entry.specs.Requests.{Requests, entry_of, is_running, no_bytes}
 use Rattle.uring_entry.specs.Preparation.{operation_of}
 use Rattle.uring_entry.specs.Setup.{Setup}
-use Rattle.uring_entry.specs.declared.errno.TheConstants.{EFBIG, ENOMEM}
+use Rattle.uring_entry.specs.declared.errno.TheConstants.{ENOMEM}
 use Rattle.uring_entry.specs.declared.operation.Op.{Op}
-use Rattle.uring_entry.specs.declared.operation.Op.TheVariants.{Nop, Read, Write, Fsync, Cancel}
 use Rattle.uring_entry.specs.declared.operation.Outcome.{Outcome}
-use Rattle.uring_files.specs.Contents.{FileContents, is_past_end, is_too_long, max_len}
-use Rattle.uring_files.specs.Operations.{IsOutcome, ended_with, file_of, is_lengthening, on_file, result_of}
+use Rattle.uring_files.specs.Contents.{FileContents}
+use Rattle.uring_files.specs.Operations.{IsOutcome, ended_with, is_lengthening, result_of}
+use Rattle.uring_files.proofs.OperationCases.{growth}
 use Rattle.uring_core.specs.CalledFor.{CalledFor, EndsOn, files_of}
 use Rattle.uring_core.specs.StepAnswers.{OrAgain, begin_answer}
 use Rattle.uring_core.specs.World.{World}
@@ -38,38 +38,6 @@ begin_once (answer.Call n) a b (inr e) (inr f) same = e.0 ∙ sym f.0
 begin_once x a b e f same = e ∙ sym f
 
 -- ---- Finish
-
--- an end with a number of bytes, which is no great one
-abbrev IsGrowth : Outcome → Type 0
-IsGrowth outcome = (n : ℕ) × (n < 2 ^ 63) × (outcome ≡ ended_with (pos n))
-
-few_bytes : (off len : ℕ) → is_too_long off len ≡ false → len < 2 ^ 63
-few_bytes off len e = elim (and_cases (not (len == 0)) (nat_lt max_len (off + len)) e) [
-  | inl none ↦ let zero : len ≡ 0 = eqb-true len 0 (not-false (len == 0) none) in omega arith
-  | inr within ↦ let bound : off + len ≤ 65536 = ltb-false 65536 (off + len) within in omega arith
-]
-
--- how a write ends by whether it is too long
-growth_at : (off len : ℕ) (file : FileContents) (long : Bool) → is_too_long off len ≡ long
-    → (not long && is_past_end off len file) ≡ true
-    → IsGrowth (ended_with (if long then neg_ℤ EFBIG else pos len))
-growth_at off len file true is e = absurd (true≢false (sym e))
-growth_at off len file false is e = (len, few_bytes off len is, refl)
-
-growth_of : (off len : ℕ) (file : Option FileContents)
-    → option_map_or (λ f. not (is_too_long off len) && is_past_end off len f) file false ≡ true
-    → IsGrowth (on_file file (λ f. ended_with (if is_too_long off len then neg_ℤ EFBIG else pos len)))
-growth_of off len None e = absurd (true≢false (sym e))
-growth_of off len (Some file) e = growth_at off len file (is_too_long off len) refl e
-
--- a write that makes its file longer ends with its number of bytes
-growth : (files : List FileContents) (op : Op) → is_lengthening files op ≡ true
-    → IsGrowth (result_of files op)
-growth files Nop e = absurd (true≢false (sym e))
-growth files (Read fd off len) e = absurd (true≢false (sym e))
-growth files (Write fd off len bytes) e = growth_of off len (file_of files fd) e
-growth files (Fsync fd) e = absurd (true≢false (sym e))
-growth files (Cancel target all) e = absurd (true≢false (sym e))
 
 -- it ends with another text where memory was refused
 growth_text : (n : ℕ) → n < 2 ^ 63

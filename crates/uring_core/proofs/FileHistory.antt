@@ -1,18 +1,17 @@
 -- What an event makes of the files of a history: a Finish that ends its request does what its operation does (`files_ended`), and no other step changes a file (`files_kept`).
 -- From `Moves`: doomed requests end with a fault and cancels are on no file, so their ends change none.
 -- Stable: other crates may import `files_ended` and `files_kept`.
-use Rattle.std.proofs.Common.{◌≡◌, ℕ, ℤ, negsuc, ◌==◌, List, [], ◌∷◌, ◌++◌, Bool, true, if◌then◌else◌, refl, ◌∙◌, ap}
+use Rattle.std.proofs.Common.{◌≡◌, ℕ, ℤ, negsuc, ◌==◌, List, [], ◌∷◌, ◌++◌, true, refl, ◌∙◌, ap}
 use Rattle.std.specs.List.{list_any}
-use Rattle.std.proofs.lemmas.Bool.{or_left, or_right, eqb-true, eq-eqb, cond_both}
+use Rattle.std.proofs.lemmas.Bool.{or_left, or_right, eq-eqb, cond_both}
 use Rattle.uring_entry.specs.Setup.{Setup}
-use Rattle.uring_entry.specs.Layout.{Sqe, opcode_of, addr_of}
-use Rattle.uring_entry.specs.Preparation.{is_faulty, is_cancel, is_cancel_all, operation_of}
+use Rattle.uring_entry.specs.Layout.{Sqe}
+use Rattle.uring_entry.specs.Preparation.{is_faulty, is_cancel, operation_of}
 use Rattle.uring_entry.specs.Requests.{Requests, Ending, entry_of, doomed_result, cancel_result, no_bytes, with_call, with_started, with_ended, with_issued_end}
-use Rattle.uring_entry.specs.declared.opcode.TheConstants.{NOP, FSYNC, ASYNC_CANCEL}
-use Rattle.uring_entry.specs.declared.operation.Op.{Op}
-use Rattle.uring_entry.specs.declared.operation.Op.TheVariants.{Nop, Cancel}
+use Rattle.uring_entry.proofs.Preparations.{asks_cancel}
 use Rattle.uring_files.specs.Contents.{FileContents}
 use Rattle.uring_files.specs.Operations.{after}
+use Rattle.uring_files.proofs.OperationCases.{failed}
 use Rattle.uring_core.specs.CalledFor.{files_after, files_of}
 use Rattle.uring_core.specs.Core.{IsNoFinish}
 use Rattle.uring_core.specs.Histories.{History, world, IsLawfulApart}
@@ -42,24 +41,14 @@ files_more r files (first ∷ later) e =
 
 -- Ends that change no file.
 
-pub failed : (files : List FileContents) (op : Op) (below : ℕ)
-    → after files op (negsuc below) ≡ files
-failed files Nop below = refl
-failed files _ below = refl
-
 doomed_changes_none : (files : List FileContents) (r : Requests) (n : ℕ)
     → after files (operation_of (entry_of r n)) (doomed_result r n) ≡ files
 doomed_changes_none files r n =
     cond_both (is_faulty (entry_of r n)) (negsuc 21) (negsuc 124) (λ res. after files (operation_of (entry_of r n)) res ≡ files) (λ _. failed files (operation_of (entry_of r n)) 21) (λ _. failed files (operation_of (entry_of r n)) 124)
 
-asks_cancel : (code target : ℕ) (all : Bool) (sync other : Op) → code ≡ ASYNC_CANCEL
-    → (if code == NOP then Nop else (if code == FSYNC then sync else (if code == ASYNC_CANCEL then Cancel target all else other)))
-    ≡ Cancel target all
-asks_cancel code target all sync other e = rw e refl
-
 cancel_changes_none : (files : List FileContents) (e : Sqe) (res : ℤ) → is_cancel e ≡ true
     → after files (operation_of e) res ≡ files
-cancel_changes_none files e res cancel = ap (λ op. after files op res) (asks_cancel (opcode_of e) (addr_of e) (is_cancel_all e) _ _ (eqb-true _ _ cancel))
+cancel_changes_none files e res cancel = ap (λ op. after files op res) (asks_cancel e cancel)
 
 -- what an end makes of the files
 pub files_ended : (r : Requests) (n : ℕ) (res : ℤ) (bytes : List ℕ) (files : List FileContents)

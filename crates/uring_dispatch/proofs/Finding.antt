@@ -2,7 +2,7 @@
 use Rattle.std.proofs.Common.{◌≡◌, ℕ, Bool, true, false, not, ◌&&◌, Option, Some, None, refl, sym, ◌∙◌, ap}
 use Rattle.std.specs.Prelude.{if◌then◌else◌}
 use Rattle.uring_entry.specs.declared.operation.Op.{Op}
-use Rattle.uring_entry.specs.declared.operation.Op.TheVariants.{Nop, Read, Write, Fsync, Cancel}
+use Rattle.uring_entry.specs.declared.operation.Op.TheVariants.{Cancel}
 use Rattle.uring_entry.specs.Preparation.{is_faulty, operation_of}
 use Rattle.uring_entry.specs.Requests.{Requests, entry_of, target_of}
 use Rattle.uring_dispatch.specs.declared.answers.Found.TheVariants.{Nobody}
@@ -40,11 +40,8 @@ finds-by w g r n request op s h e is =
 -- what is no cancel finds nothing
 pub finds-other : (r : Requests) (n : ℕ) (op : Op) → ((t : ℕ) (all : Bool) → op ≡ Cancel t all → ⊥)
     → None ≡ found_for r n (Some op)
-finds-other r n Nop other = refl
-finds-other r n (Read fd off len) other = refl
-finds-other r n (Write fd off len bytes) other = refl
-finds-other r n (Fsync fd) other = refl
 finds-other r n (Cancel t all) other = absurd (other t all refl)
+finds-other r n _ other = refl
 
 -- by the request that it may choose
 pub found-none : (r : Requests) (n : ℕ) → None ≡ target_of r n → Nobody ≡ found_as r (target_of r n)

@@ -2,12 +2,12 @@
 use Rattle.std.proofs.Common.{◌≡◌, ℕ, ◌<◌, ℤ, negsuc, length, Bool, true, false, not, ◌==◌, Some, None, refl, sym, ◌∙◌, ap, inl, inr}
 use Rattle.std.specs.Prelude.{if◌then◌else◌}
 use Rattle.std.proofs.lemmas.Bool.{cases_Bool, eqb-true}
-use Rattle.uring_entry.specs.Layout.{Sqe, opcode_of, fd_of, off_of, addr_of, len_of, payload_of}
+use Rattle.uring_entry.specs.Layout.{Sqe, addr_of}
 use Rattle.uring_entry.specs.declared.operation.Op.{Op}
-use Rattle.uring_entry.specs.declared.operation.Op.TheVariants.{Nop, Read, Write, Fsync, Cancel}
-use Rattle.uring_entry.specs.declared.opcode.TheConstants.{NOP, FSYNC, ASYNC_CANCEL, READ}
+use Rattle.uring_entry.specs.declared.operation.Op.TheVariants.{Cancel}
 use Rattle.uring_entry.specs.Preparation.{is_faulty, is_cancel, is_cancel_all, operation_of}
 use Rattle.uring_entry.specs.Requests.{Requests, entry_of, is_outstanding, is_running, is_doomed, is_ready, doomed_result, cancel_result}
+use Rattle.uring_entry.proofs.Preparations.{asks_cancel}
 use Rattle.uring_entry.proofs.RequestLemmas.{is_doomed-own_fault}
 use Rattle.uring_dispatch.specs.declared.answers.Issued.TheVariants.{Run, Ended, NotReady, Running, Unknown}
 use Rattle.uring_dispatch.specs.declared.answers.Finished.TheVariants as finish
@@ -80,33 +80,6 @@ issued-not_ready r n free waits =
     (λ b. if not b then NotReady else if is_cancel (entry_of r n) then Ended (cancel_result r n) else Run (operation_of (entry_of r n)))
     waits)
 
--- the operation of an opcode
-operation_at : ℕ → Sqe → Op
-operation_at o e =
-    if o == NOP then Nop else
-    if o == FSYNC then Fsync (fd_of e) else
-    if o == ASYNC_CANCEL then Cancel (addr_of e) (is_cancel_all e) else
-    if o == READ then Read (fd_of e) (off_of e) (len_of e) else
-    Write (fd_of e) (off_of e) (len_of e) (payload_of e)
-
-cancels : (e : Sqe) → is_cancel e ≡ true → operation_of e ≡ Cancel (addr_of e) (is_cancel_all e)
-unfolding operation_at
-cancels e is = ap (λ o. operation_at o e) (eqb-true (opcode_of e) 14 is)
-
-picked : (a b c d : Bool) (e : Sqe) (t : ℕ) (all : Bool)
-    → (if a then Nop else if b then Fsync (fd_of e) else if c then Cancel (addr_of e) (is_cancel_all e) else if d then Read (fd_of e) (off_of e) (len_of e) else Write (fd_of e) (off_of e) (len_of e) (payload_of e))
-    ≡ Cancel t all
-    → (c ≡ true) × (all ≡ is_cancel_all e)
-picked true b c d e t all is = cc
-picked false true c d e t all is = cc
-picked false false true d e t all is = (refl, cc)
-picked false false false true e t all is = cc
-picked false false false false e t all is = cc
-
-pub is_cancel-operation : (e : Sqe) (t : ℕ) (all : Bool) → operation_of e ≡ Cancel t all
-    → (is_cancel e ≡ true) × (all ≡ is_cancel_all e)
-is_cancel-operation e t all is = picked (opcode_of e == NOP) (opcode_of e == FSYNC) (opcode_of e == ASYNC_CANCEL) (opcode_of e == READ) e t all is
-
 pub issued-cancel : (r : Requests) (n : ℕ) (res : ℤ) → is_doomed r n ≡ false → is_ready r n ≡ true
     → is_cancel (entry_of r n) ≡ true → res ≡ cancel_result r n → Ended res ≡ issued_waiting r n
 issued-cancel r n res free ready cancel is =
@@ -118,7 +91,7 @@ pub issued-run : (r : Requests) (n : ℕ) (op : Op) → is_doomed r n ≡ false 
     → Run op ≡ issued_waiting r n
 issued-run r n op free ready does other =
     elim (cases_Bool (is_cancel (entry_of r n))) [
-      | inl cancel ↦ absurd (other (addr_of (entry_of r n)) (is_cancel_all (entry_of r n)) (does ∙ cancels (entry_of r n) cancel))
+      | inl cancel ↦ absurd (other (addr_of (entry_of r n)) (is_cancel_all (entry_of r n)) (does ∙ asks_cancel (entry_of r n) cancel))
       | inr other_code ↦
           ap Run does
           ∙ sym

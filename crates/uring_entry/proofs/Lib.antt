@@ -3,6 +3,7 @@ pub mod CompletionWords
 pub mod Powers
 pub mod SetupLemmas
 pub mod BelowLemmas
+pub mod Preparations
 pub mod RequestLemmas
 pub mod EventLemmas
 pub mod GroupLemmas

@@ -8,7 +8,7 @@ use Rattle.std.proofs.lemmas.Bool.{cases_Bool, both_ways}
 use Rattle.std.proofs.lemmas.Bool.Decides.{Decides-int_eq}
 use Rattle.std.proofs.lemmas.Cmp.{int_eq_equiv}
 use Rattle.uring_entry.specs.declared.errno.TheConstants.{EFBIG}
-use Rattle.uring_entry.specs.declared.operation.Op.TheVariants.{Nop, Read, Write, Fsync, Cancel}
+use Rattle.uring_entry.specs.declared.operation.Op.TheVariants.{Read, Write, Fsync}
 use Rattle.uring_files.specs.Contents.{FileContents, empty_file, read_outcome, is_too_long, is_past_end, written, with_writes_synced}
 use Rattle.uring_files.specs.Operations.{file_of, with_changed, on_file, ended_with}
 use Rattle.uring_files.specs.Laws.{AgreeAt, OthersStay, FilesStandAlone, EndsStandAlone}
@@ -69,29 +69,24 @@ chosen_apart true files others own fd change same =
     ]
 
 pub others_stay : OthersStay
-others_stay files Nop res fd other = refl
-others_stay files (Read own off len) res fd other = refl
 others_stay files (Write own off len bytes) res fd other =
     chosen_other (int_eq res (pos len)) files own fd (written off (take len bytes)) other
 others_stay files (Fsync own) res fd other =
     chosen_other (int_eq res (pos 0)) files own fd with_writes_synced other
-others_stay files (Cancel target all) res fd other = refl
+others_stay files _ res fd other = refl
 
 pub files_apart : FilesStandAlone
-files_apart files others Nop res fd same = same
-files_apart files others (Read own off len) res fd same = same
 files_apart files others (Write own off len bytes) res fd same =
     chosen_apart (int_eq res (pos len)) files others own fd (written off (take len bytes)) same
 files_apart files others (Fsync own) res fd same =
     chosen_apart (int_eq res (pos 0)) files others own fd with_writes_synced same
-files_apart files others (Cancel target all) res fd same = same
+files_apart files others _ res fd same = same
 
 pub ends_apart : EndsStandAlone
-ends_apart files others Nop agree = (refl, refl)
 ends_apart files others (Read fd off len) agree =
     (ap (λ file. on_file file (read_outcome off len)) (agree fd (int_eq_equiv.refl fd)), refl)
 ends_apart files others (Write fd off len bytes) agree =
     (ap (λ file. on_file file (λ f. ended_with (cond (is_too_long off len) (neg_ℤ EFBIG) (pos len)))) (agree fd (int_eq_equiv.refl fd)), ap (λ file. option_map_or (λ f. not (is_too_long off len) && is_past_end off len f) file false) (agree fd (int_eq_equiv.refl fd)))
 ends_apart files others (Fsync fd) agree =
     (ap (λ file. on_file file (λ f. ended_with (pos 0))) (agree fd (int_eq_equiv.refl fd)), refl)
-ends_apart files others (Cancel target all) agree = (refl, refl)
+ends_apart files others _ agree = (refl, refl)

@@ -1,10 +1,10 @@
 -- What follows from the definitions of files and their operations.
 use Rattle.std.specs.Prelude.{◌≡◌, ℕ, ℤ, negsuc, Bool, true, false, ◌+◌, ◌-◌, ◌≤◌, ◌&&◌, nat_le, nat_lt, max, List, length, slice_index, if◌then◌else◌}
 use Rattle.uring_files.specs.Contents.{FileContents, overwritten, written, bytes_at}
+use Rattle.std.specs.Option.{option_map_or}
 use Rattle.std.specs.Ordering.{int_eq}
 use Rattle.uring_entry.specs.declared.operation.Op.{Op}
-use Rattle.uring_entry.specs.declared.operation.Op.TheVariants.{Read, Write, Fsync}
-use Rattle.uring_files.specs.Operations.{file_of, result_of, is_lengthening, after}
+use Rattle.uring_files.specs.Operations.{file_asked, file_of, result_of, is_lengthening, after}
 
 -- Bytes that were written over: each offset under the write has the new byte, and each other the old one. Past the end of the old bytes each counts as 0
 pub record IsWrittenOver (old new : List ℕ) (off : ℕ) (now : List ℕ) : Type 0 where
@@ -34,10 +34,7 @@ AgreeAt fd files others = file_of files fd ≡ file_of others fd
 
 -- whether an operation is one on the file of this descriptor
 abbrev pub is_on : ℤ → Op → Bool
-is_on own (Read fd off len) = int_eq own fd
-is_on own (Write fd off len bytes) = int_eq own fd
-is_on own (Fsync fd) = int_eq own fd
-is_on own other = false
+is_on own op = option_map_or (int_eq own) (file_asked op) false
 
 -- an operation leaves the files as they are that it isn't on
 abbrev pub OthersStay : Type 0

@@ -1,5 +1,5 @@
 -- What the operations do on the files, and how they end. A file's descriptor is its place in the list: our own rule.
-use Rattle.std.specs.Prelude.{◌≡◌, ℕ, ℤ, pos, negsuc, neg_ℤ, Bool, true, false, not, ◌&&◌, ◌≤◌, ◌⊎◌, List, length, take, Option, slice_get, slice_set, slice_index_or, if◌then◌else◌, None}
+use Rattle.std.specs.Prelude.{◌≡◌, ℕ, ℤ, pos, negsuc, neg_ℤ, Bool, true, false, not, ◌&&◌, ◌≤◌, ◌⊎◌, List, length, take, Option, slice_get, slice_set, slice_index_or, if◌then◌else◌, Some, None}
 use Rattle.std.specs.Option.{option_map, option_map_or, option_and_then}
 use Rattle.std.specs.Ordering.{int_eq}
 use Rattle.uring_entry.specs.Requests.{no_bytes}
@@ -20,6 +20,13 @@ abbrev pub with_changed : List FileContents → ℤ → (FileContents → FileCo
 with_changed files (pos fd) change =
     slice_set files fd (change (slice_index_or files fd empty_file))
 with_changed files (negsuc below) change = files
+
+-- the descriptor of the file that an operation is on: none of a no-op and a cancel. io_uring_enter(2), at each operation
+abbrev pub file_asked : Op → Option ℤ
+file_asked (Read fd off len) = Some fd
+file_asked (Write fd off len bytes) = Some fd
+file_asked (Fsync fd) = Some fd
+file_asked other = None
 
 -- what can be asked of files: anything but a cancel, and no transfer of more than 64 bytes
 abbrev pub IsForFiles : Op → Type 0

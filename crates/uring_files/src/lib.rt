@@ -5,7 +5,9 @@ mod bytes;
 mod file;
 mod files;
 pub mod laws;
+mod operations;
 
 pub use file::FileState;
 pub use files::Files;
+pub use operations::{file_asked, written_length};
 pub use uring_entry::{BadSetup, Cqe, Fault, Op, Outcome, Setup, Sqe, SqeFlags};

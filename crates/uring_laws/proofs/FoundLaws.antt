@@ -1,18 +1,17 @@
 -- What a cancel of one request finds, from what is told of it.
 use Rattle.std.proofs.Common.{◌≡◌, ℕ, ◌<◌, length, eqb, Bool, true, false, not, ◌&&◌, Option, Some, None, refl, sym, ◌∙◌, ap, subst}
-use Rattle.std.proofs.lemmas.Bool.{eqb-true}
 use Rattle.std.specs.Prelude.{if◌then◌else◌, pos, neg_ℤ}
 use Rattle.uring_entry.specs.declared.errno.TheConstants.{EALREADY}
 use Rattle.uring_entry.specs.declared.operation.Op.{Op}
-use Rattle.uring_entry.specs.declared.operation.Op.TheVariants.{Nop, Read, Write, Fsync, Cancel}
-use Rattle.uring_entry.specs.Layout.{Sqe, opcode_of, fd_of, off_of, addr_of, len_of, payload_of}
+use Rattle.uring_entry.specs.declared.operation.Op.TheVariants.{Cancel}
+use Rattle.uring_entry.specs.Layout.{addr_of}
 use Rattle.uring_entry.specs.Preparation.{is_faulty, is_cancel, is_cancel_all, operation_of}
 use Rattle.uring_entry.specs.Requests.{Requests, entry_of, is_outstanding, is_running, is_candidate, target_of, targets_of, cancel_result, count_result, result_for}
+use Rattle.uring_entry.proofs.Preparations.{asks_cancel, cancel_asked}
 use Rattle.uring_entry.proofs.BelowLemmas.{least_below-none, least_below-some, least_below-out, least_below-tells}
 use Rattle.uring_dispatch.specs.Cancels.{found_as, found_for, found_by}
 use Rattle.uring_dispatch.specs.declared.answers.Found.{Found}
 use Rattle.uring_dispatch.specs.declared.answers.Found.TheVariants.{Nobody, Running, Chosen}
-use Rattle.uring_dispatch.proofs.Issues.{is_cancel-operation}
 use Rattle.uring_laws.specs.Reasons.{IsLeastOf, IsFound, Finds, ends_with}
 
 target-none : (r : Requests) (n : ℕ) → target_of r n ≡ None → (m : ℕ) → m < length r.accepted
@@ -49,7 +48,7 @@ found-said r n f e = by_standing (is_outstanding r n) (is_faulty (entry_of r n))
   where
     by_operation : is_outstanding r n ≡ true → is_faulty (entry_of r n) ≡ false → (op : Op) → operation_of (entry_of r n) ≡ op → found_for r n (Some op) ≡ Some f → Finds r n f
     by_operation given right (Cancel t false) does is =
-        let asks = is_cancel-operation (entry_of r n) t false does in
+        let asks = cancel_asked (entry_of r n) t false does in
         let so = found-one r n f (sym asks.1) (let same : found_as r (target_of r n) ≡ f = cc in same) in
         record { outstanding = given; right = right; cancels = asks.0; one = sym asks.1; found = so.0; result = so.1 }
     by_operation given right _ does is = cc
@@ -71,15 +70,10 @@ found-is r n (Chosen m) x =
     ap (found_as r) (least_below-some (is_candidate r n) (length r.accepted) m x.0.below x.0.holds x.0.least)
     ∙ ap (λ b. if b then Running m else Chosen m) x.1
 
-cancels : (e : Sqe) → is_cancel e ≡ true → operation_of e ≡ Cancel (addr_of e) (is_cancel_all e)
-cancels e is =
-    ap (λ (o : ℕ). if eqb o 0 then Nop else if eqb o 3 then Fsync (fd_of e) else if eqb o 14 then Cancel (addr_of e) (is_cancel_all e) else if eqb o 22 then Read (fd_of e) (off_of e) (len_of e) else Write (fd_of e) (off_of e) (len_of e) (payload_of e))
-    (eqb-true (opcode_of e) 14 is)
-
 pub said-found : (r : Requests) (n : ℕ) (f : Found) → Finds r n f → found_by r n ≡ Some f
 said-found r n f h =
     let e = entry_of r n in
     ap (λ b. found_for r n (if b && not (is_faulty e) then Some (operation_of e) else None)) h.outstanding
     ∙ ap (λ c. found_for r n (if true && not c then Some (operation_of e) else None)) h.right
-    ∙ ap (λ o. found_for r n (Some o)) (cancels e h.cancels ∙ ap (Cancel (addr_of e)) h.one)
+    ∙ ap (λ o. found_for r n (Some o)) (asks_cancel e h.cancels ∙ ap (Cancel (addr_of e)) h.one)
     ∙ ap Some (found-is r n f h.found)

@@ -27,7 +27,7 @@ use Rattle.uring_core.specs.declared.wanted.Refusal.TheVariants.{Wrong}
 use Rattle.uring_machine.proofs.Fitting.{step_fits, finish_fits, not_running}
 use Rattle.uring_core.proofs.Running.{runs_with}
 use Rattle.uring_core.proofs.RecordedAnswers.{wrong_beside}
-use Rattle.uring_core.proofs.FileHistory.{failed}
+use Rattle.uring_files.proofs.OperationCases.{failed}
 
 -- Any step but a Finish: its core follows.
 

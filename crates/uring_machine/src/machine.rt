@@ -26,7 +26,7 @@ use uring_core::{
     same_answer,
 };
 use uring_entry::errno;
-use uring_files::{FileState, Files};
+use uring_files::{FileState, Files, written_length};
 use uring_memory::Memory;
 
 /// A pair of rings, its requests and files in memory, moved one step at a time.
@@ -451,17 +451,5 @@ impl Machine {
         }
         self.core.finish(number, outcome);
         Ok(())
-    }
-}
-
-/// How many bytes a write writes if it succeeds, 0 for any other operation.
-fn written_length(op: &Op) -> i32
-    requires { IsForFiles op.now }
-    ensures { (files : List FileContents) → is_lengthening files op.now ≡ true
-        → result_of files op.now ≡ ended_with result }
-{
-    match op {
-        Op::Write { len, .. } => *len as i32,
-        _ => 0,
     }
 }

@@ -9,14 +9,17 @@ use Rattle.std.proofs.lemmas.Nat.{le_bytes_8}
 use Rattle.std.proofs.lemmas.Bool.{ltb-true, ltb-false, eqb-true, eqb-false, cases_Bool, true≢false}
 use Rattle.std.proofs.lemmas.Slice.Eq.{bytes_eq-Decides}
 use Rattle.std.proofs.lemmas.List.{append-nil, nil_from_length, take-append-drop, length-take, reverse-append}
-use Rattle.uring_entry.specs.Layout.{Sqe, header, without_data, padded, bytes_of, AreWords}
-use Rattle.uring_entry.specs.declared.opcode.TheConstants.{NOP, FSYNC, ASYNC_CANCEL, ASYNC_CANCEL_ALL, READ, WRITE}
+use Rattle.uring_entry.specs.Layout.{Sqe, header, padded, bytes_of, AreWords}
+use Rattle.uring_entry.specs.declared.opcode.TheConstants.{WRITE}
 use Rattle.uring_text.specs.Lines.{Splits, with_last}
 use Rattle.uring_text.specs.Tokens.{tokens_of}
-use Rattle.uring_text.specs.Spelling.{Form, IsForm, IsEntryOf, SpellsEntry, IsNoEntry, SpellsNumber, IsNoNumber}
-use Rattle.uring_text.specs.Spelling as form
+use Rattle.uring_text.specs.Spelling.{SpellsNumber, IsNoNumber}
+use Rattle.uring_text.specs.Forms.{Form, Parts, kinds_of, SayParts, IsEntryNamed, SpellsEntry, IsNoEntry}
+use Rattle.uring_text.specs.declared.forms.Name.{Name}
+use Rattle.uring_text.specs.declared.forms.Name.TheVariants as name
 use Rattle.uring_text.specs.Reading.{form_of, number_of}
 use Rattle.uring_text.proofs.FormLaws.{form_found, form_again}
+use Rattle.uring_text.proofs.PartLaws.{data_said, entry_said}
 use Rattle.uring_text.proofs.Spellings.{read_number_tells}
 use Rattle.uring_text.proofs.Splits.{split_more, split_end}
 use Rattle.uring_ports.specs.declared.item.Item.{Item}
@@ -88,27 +91,21 @@ words_of (suc n) bytes l s =
     let rest = words_of n (drop 8 bytes) (omega (arith, length-drop 8 bytes)) (small_drop 8 bytes s) in
     (first.0 ∷ rest.0, ap (λ m. suc m) rest.1, (first.1, rest.2), ap (λ (l : List ℕ). l ++ bytes_of rest.0) first.2 ∙ ap (λ (l : List ℕ). take 8 bytes ++ l) rest.3 ∙ take-append-drop 8 bytes)
 
-entry_of : (f : Form) (flags : List ℕ) → IsForm f flags → (e : Sqe) × IsEntryOf f e
-entry_of (form.Nop user_data fl) flags h =
-    (without_data (header NOP fl (pos 0) 0 0 0 user_data), refl)
-entry_of (form.Fsync user_data fl fd) flags h =
-    (without_data (header FSYNC fl fd 0 0 0 user_data), refl)
-entry_of (form.Read user_data fl fd off len) flags h =
-    (without_data (header READ fl fd off 0 len user_data), refl)
-entry_of (form.Write user_data fl fd off bytes) flags h =
-    let most : length bytes ≤ 64 = h.4.enough in
-    let words = words_of 8 (padded bytes) (omega (arith, length-append bytes (zeros (64 - length bytes)), zeros_length (64 - length bytes))) (small_append bytes _ h.4.each (small_zeros (64 - length bytes))) in
-    (header WRITE fl fd off 0 (length bytes) user_data ++ words.0, record { size = omega (arith, words.1); first = refl; rest = words.2; payload = words.3 })
-entry_of (form.Cancel user_data fl target) flags h =
-    (without_data (header ASYNC_CANCEL fl (pos 0) 0 target 0 user_data), refl)
-entry_of (form.CancelAll user_data fl target) flags h = (without_data (header ASYNC_CANCEL fl (pos 0) 0 target (2 ^ 32 * ASYNC_CANCEL_ALL) user_data), refl)
-entry_of (form.Op code user_data fl) flags h =
-    (without_data (header code fl (pos 0) 0 0 0 user_data), refl)
-entry_of (form.Raw bytes) flags h =
-    let few : 128 ≤ length bytes = h.few in
-    let most : length bytes ≤ 128 = h.enough in
-    let words = words_of 16 bytes (omega arith) h.each in
+-- each form whose tokens say these parts has an entry
+entry_of : (n : Name) (tokens : List (List ℕ)) (p : Parts) → SayParts (kinds_of n) tokens p
+    → (e : Sqe) × IsEntryNamed n p e
+entry_of name.Write tokens p h =
+    let are = data_said tokens p h in
+    let most : length p.bytes ≤ 64 = are.enough in
+    let words = words_of 8 (padded p.bytes) (omega (arith, length-append p.bytes (zeros (64 - length p.bytes)), zeros_length (64 - length p.bytes))) (small_append p.bytes _ are.each (small_zeros (64 - length p.bytes))) in
+    (header WRITE p.flags p.fd p.off 0 (length p.bytes) p.user_data ++ words.0, record { size = omega (arith, words.1); first = refl; rest = words.2; payload = words.3 })
+entry_of name.Raw tokens p h =
+    let are = entry_said tokens p h in
+    let few : 128 ≤ length p.bytes = are.few in
+    let most : length p.bytes ≤ 128 = are.enough in
+    let words = words_of 16 p.bytes (omega arith) are.each in
     (words.0, record { size = words.1; words = words.2; all = words.3 })
+entry_of _ tokens p h = (_, refl)
 
 -- ---- each line says something
 
@@ -117,7 +114,7 @@ entry_or : (tokens : List (List ℕ)) (f : Option Form) → form_of tokens ≡ f
 entry_or tokens None e = inr (λ entry s. absurd (let no : None ≡ Some s.form = sym e ∙ form_again tokens s.form s.spells in cc))
 entry_or tokens (Some f) e =
     let spells = form_found tokens f e in
-    let entry = entry_of f spells.0 spells.1 in
+    let entry = entry_of f.name spells.0 f.parts spells.2 in
     inl (entry.0, record { form = f; spells = spells; is_entry = entry.1 })
 
 word_or : (size : ℕ) (token : List ℕ) (n : Option ℕ)

@@ -1,11 +1,15 @@
 -- What the tokens of an item's line spell.
-use Rattle.std.proofs.Common.{◌≡◌, ℕ, ◌<◌, ◌≤◌, ◌^◌, false, List, [], ◌∷◌, length, sym, ap, subst, ◌∙◌, arith}
+use Rattle.std.proofs.Common.{◌≡◌, ℕ, ◌<◌, ◌≤◌, ◌^◌, false, List, [], ◌∷◌, length, refl, sym, ap, subst, ◌∙◌, arith}
 use mathlib.Core.List.{head-eq_of_cons-eq, tail-eq_of_cons-eq}
 use Rattle.std.specs.Prelude.{codes}
-use Rattle.std.proofs.lemmas.Bool.{ne_eqb}
+use Rattle.std.specs.Str.{bytes_eq}
+use Rattle.std.proofs.lemmas.Bool.{ne_eqb, true≢false}
+use Rattle.std.proofs.lemmas.Slice.Eq.{bytes_eq-Decides}
 use Rattle.uring_text.specs.Tokens.{tokens_of}
-use Rattle.uring_text.specs.Spelling.{Form, spelled, SpellsEntry, SpellsNumber}
-use Rattle.uring_text.specs.Spelling as form
+use Rattle.uring_text.specs.Spelling.{SpellsNumber}
+use Rattle.uring_text.specs.Forms.{name_text, SpellsEntry}
+use Rattle.uring_text.specs.declared.forms.Name.{Name}
+use Rattle.uring_text.specs.declared.forms.Name.TheVariants as name
 use Rattle.uring_text.proofs.Spellings.{number_once, spelled_once}
 use Rattle.uring_entry.specs.Layout.{Sqe}
 use Rattle.uring_ports.specs.declared.item.Item.{Item}
@@ -14,26 +18,18 @@ use Rattle.uring_play_text.specs.ItemLines.{SpellsItem, IsItemLine}
 use Rattle.uring_play_text.specs.Calls.{is_blank}
 use Rattle.uring_play_text.specs.LineReads.{IsNoBadWord, IsNoItem}
 
-other_name : (b : ℕ) (us vs : List ℕ) (xs ys : List (List ℕ)) → (98 ≡ b → ⊥)
-    → (98 ∷ us) ∷ xs ≡ (b ∷ vs) ∷ ys → ⊥
-other_name b us vs xs ys other e = other cc
-
 -- no form is named so
-no_form : (f : Form) (flags : List ℕ) (rest : List (List ℕ)) → codes "bad" ∷ rest ≡ spelled f flags
-    → ⊥
-no_form (form.Nop user_data fl) flags rest e = other_name _ _ _ _ _ (λ n. omega arith) e
-no_form (form.Fsync user_data fl fd) flags rest e = other_name _ _ _ _ _ (λ n. omega arith) e
-no_form (form.Read user_data fl fd off len) flags rest e = other_name _ _ _ _ _ (λ n. omega arith) e
-no_form (form.Write user_data fl fd off bytes) flags rest e =
-    other_name _ _ _ _ _ (λ n. omega arith) e
-no_form (form.Cancel user_data fl target) flags rest e = other_name _ _ _ _ _ (λ n. omega arith) e
-no_form (form.CancelAll user_data fl target) flags rest e =
-    other_name _ _ _ _ _ (λ n. omega arith) e
-no_form (form.Op code user_data fl) flags rest e = other_name _ _ _ _ _ (λ n. omega arith) e
-no_form (form.Raw bytes) flags rest e = other_name _ _ _ _ _ (λ n. omega arith) e
+
+other_name : (n : Name) → bytes_eq (codes "bad") (name_text n) ≡ false
+other_name name.Nop = refl
+other_name _ = refl
+
+no_form : (n : Name) (rest tokens : List (List ℕ)) → codes "bad" ∷ rest ≡ name_text n ∷ tokens → ⊥
+no_form n rest tokens e =
+    true≢false (sym ((bytes_eq-Decides (codes "bad") (name_text n)).1 (head-eq_of_cons-eq e)) ∙ other_name n)
 
 pub no_entry : (rest : List (List ℕ)) (entry : Sqe) → SpellsEntry (codes "bad" ∷ rest) entry → ⊥
-no_entry rest entry h = no_form h.form h.spells.0 rest h.spells.2
+no_entry rest entry h = no_form h.form.name rest h.spells.0 h.spells.1
 
 -- `bad` and a token that is no such word
 pub bad_is_none : (size : ℕ) (token : List ℕ) (tokens : List (List ℕ))
@@ -79,18 +75,17 @@ item_line size text line tokens i same short are h = record {
 }
 
 -- an empty line is no item
-named : (f : Form) (flags rest : List ℕ) → [] ∷ [] ≡ spelled f flags → ⊥
-named (form.Nop user_data fl) flags rest e = absurd cc
-named (form.Fsync user_data fl fd) flags rest e = absurd cc
-named (form.Read user_data fl fd off len) flags rest e = absurd cc
-named (form.Write user_data fl fd off bytes) flags rest e = absurd cc
-named (form.Cancel user_data fl target) flags rest e = absurd cc
-named (form.CancelAll user_data fl target) flags rest e = absurd cc
-named (form.Op code user_data fl) flags rest e = absurd cc
-named (form.Raw bytes) flags rest e = absurd cc
+
+some_name : (n : Name) → bytes_eq [] (name_text n) ≡ false
+some_name name.Nop = refl
+some_name _ = refl
+
+no_name : (n : Name) (tokens : List (List ℕ)) → [] ∷ [] ≡ name_text n ∷ tokens → ⊥
+no_name n tokens e =
+    true≢false (sym ((bytes_eq-Decides [] (name_text n)).1 (head-eq_of_cons-eq e)) ∙ some_name n)
 
 empty_spells : (size : ℕ) (i : Item) → SpellsItem size ([] ∷ []) i → ⊥
-empty_spells size (item.Entry entry) h = named h.form h.spells.0 [] h.spells.2
+empty_spells size (item.Entry entry) h = no_name h.form.name h.spells.0 h.spells.1
 empty_spells size (item.Bad word) h = absurd (let no : [] ∷ [] ≡ codes "bad" ∷ h.0 ∷ [] = h.1 in cc)
 
 pub item_not_blank : (size : ℕ) (line : List ℕ) (i : Item) → IsItemLine size line i

@@ -1,7 +1,8 @@
 -- The lines of a play that are items. The play language is our own rule.
 use Rattle.std.specs.Prelude.{◌≡◌, ◌≢◌, ℕ, ◌≤◌, ◌^◌, List, [], ◌∷◌, length, codes}
 use Rattle.uring_text.specs.Tokens.{tokens_of}
-use Rattle.uring_text.specs.Spelling.{SpellsEntry, SpellsNumber}
+use Rattle.uring_text.specs.Spelling.{SpellsNumber}
+use Rattle.uring_text.specs.Forms.{SpellsEntry}
 use Rattle.uring_ports.specs.declared.item.Item.{Item}
 use Rattle.uring_ports.specs.declared.item.Item.TheVariants as item
 

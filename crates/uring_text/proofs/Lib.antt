@@ -7,6 +7,7 @@ pub mod FlagLaws
 pub mod HexLaws
 pub mod Hexadecimal
 pub mod FormLaws
+pub mod PartLaws
 pub mod EntryLaws
 pub mod Spellings
 pub mod KeptLines

@@ -3,7 +3,8 @@ use Rattle.std.proofs.Common.{◌≡◌, ℕ, ◌^◌, ◌≤◌, List, Option, 
 use Rattle.std.specs.Prelude.{MatchOption}
 use Rattle.std.proofs.lemmas.Option.{same_Some}
 use Rattle.uring_entry.specs.Layout.{Sqe}
-use Rattle.uring_text.specs.Spelling.{Form, IsEntryOf, SpellsEntry, IsNoEntry, SpellsNumber, IsNoNumber}
+use Rattle.uring_text.specs.Spelling.{SpellsNumber, IsNoNumber}
+use Rattle.uring_text.specs.Forms.{Form, IsEntryOf, SpellsEntry, IsNoEntry}
 use Rattle.uring_text.specs.Reading.{ReadsEntry, number_of, form_of}
 use Rattle.uring_text.proofs.NumberLaws.{number_found, number_again}
 use Rattle.uring_text.proofs.FormLaws.{form_found, form_again}

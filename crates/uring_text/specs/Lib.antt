@@ -1,5 +1,6 @@
 pub mod Tokens
 pub mod Spelling
+pub mod Forms
 pub mod Reading
 pub mod Completions
 pub mod Lines

@@ -1,9 +1,11 @@
 -- How far the tokens of a line fit the language. The language of a trace is our own rule.
 use Rattle.std.specs.Prelude.{ℕ, ◌+◌, List, [], ◌∷◌, Option, Some, None, if◌then◌else◌, codes}
 use Rattle.std.specs.Str.{bytes_eq}
+use Rattle.std.specs.Option.{option_map}
+use Rattle.uring_text.specs.Forms.{kinds_of}
+use Rattle.uring_text.specs.Reading.{name_of}
 use Rattle.uring_text.specs.Places.{is_of_kind}
 use Rattle.uring_text.specs.declared.place.Kind.{Kind}
-use Rattle.uring_text.specs.declared.place.Kind.TheVariants as kind
 use Rattle.uring_text.specs.declared.place.Place.{Place}
 use Rattle.uring_text.specs.declared.place.Place.TheVariants as place
 use Rattle.uring_text.specs.declared.reach.Reach.{Reach}
@@ -28,18 +30,6 @@ kinds_reach (kind ∷ kinds) [] = reach_at (place.Token kind)
 kinds_reach (kind ∷ kinds) (token ∷ tokens) =
     if is_of_kind kind token then further (kinds_reach kinds tokens) else reach_at (place.Token kind)
 
--- the kinds of the tokens behind the name of an entry's form
-abbrev pub form_kinds : List ℕ → Option (List Kind)
-form_kinds name =
-    if bytes_eq name (codes "nop") then Some (kind.UserData ∷ kind.Flags ∷ []) else
-    if bytes_eq name (codes "fsync") then Some (kind.UserData ∷ kind.Flags ∷ kind.File ∷ []) else
-    if bytes_eq name (codes "read") then Some (kind.UserData ∷ kind.Flags ∷ kind.File ∷ kind.Offset ∷ kind.Length ∷ []) else
-    if bytes_eq name (codes "write") then Some (kind.UserData ∷ kind.Flags ∷ kind.File ∷ kind.Offset ∷ kind.Data ∷ []) else
-    if bytes_eq name (codes "cancel") then Some (kind.UserData ∷ kind.Flags ∷ kind.Target ∷ []) else
-    if bytes_eq name (codes "cancelall") then Some (kind.UserData ∷ kind.Flags ∷ kind.Target ∷ []) else
-    if bytes_eq name (codes "op") then Some (kind.Code ∷ kind.UserData ∷ kind.Flags ∷ []) else
-    if bytes_eq name (codes "raw") then Some (kind.Bytes ∷ []) else None
-
 -- how far tokens fit behind a name, if it is the name of something with tokens of these kinds
 abbrev pub named_reach : Place → Option (List Kind) → List (List ℕ) → Reach
 named_reach p None tokens = reach_at p
@@ -48,4 +38,4 @@ named_reach p (Some kinds) tokens = further (kinds_reach kinds tokens)
 -- how far the tokens of an entry fit
 abbrev pub entry_reach : List (List ℕ) → Reach
 entry_reach [] = reach_at place.Form
-entry_reach (name ∷ tokens) = named_reach place.Form (form_kinds name) tokens
+entry_reach (name ∷ tokens) = named_reach place.Form (option_map kinds_of (name_of name)) tokens

@@ -1,5 +1,5 @@
--- Glue. What tokens say, read from the left: what the readers answer, in a form that computes. What they mean is said in Spelling, and a proof joins the two.
-use Rattle.std.specs.Prelude.{◌≡◌, ℕ, zero, suc, Bool, false, ℤ, pos, negsuc, ◌^◌, ◌/◌, ◌==◌, ◌&&◌, nat_lt, nat_le, List, [], ◌∷◌, length, Option, Some, None, if◌then◌else◌, codes}
+-- Glue. What tokens say, read from the left: what the readers answer, in a form that computes. What they mean is said in Spelling and in Forms, and a proof joins the two.
+use Rattle.std.specs.Prelude.{◌≡◌, ◌≤◌, ℕ, zero, suc, Bool, false, ℤ, pos, negsuc, ◌^◌, ◌/◌, ◌==◌, ◌&&◌, nat_lt, nat_le, List, [], ◌∷◌, length, Option, Some, None, if◌then◌else◌, codes, find}
 use Rattle.std.specs.Option.{option_map, IsSomeAnd}
 use Rattle.std.specs.Result.{result_ok}
 use Rattle.std.specs.Str.{bytes_eq}
@@ -10,8 +10,11 @@ use Rattle.std.specs.Int.RustNames.{bit_and, bit_or}
 use Rattle.hex.specs.Hex.{decode_sized}
 use Rattle.uring_text.specs.Tokens.{flag_value}
 use Rattle.uring_entry.specs.Layout.{Sqe}
-use Rattle.uring_text.specs.Spelling.{Form, IsEntryOf}
-use Rattle.uring_text.specs.Spelling as form
+use Rattle.uring_text.specs.Forms.{Form, Parts, no_parts, names, name_text, kinds_of, IsEntryOf}
+use Rattle.uring_text.specs.declared.forms.Name.{Name}
+use Rattle.uring_text.specs.declared.forms.Name.TheVariants as name
+use Rattle.uring_text.specs.declared.place.Kind.{Kind}
+use Rattle.uring_text.specs.declared.place.Kind.TheVariants as kind
 
 infixl 10 ◌>>=◌
 abbrev pub ◌>>=◌ : {A B : Type 0} → Option A → (A → Option B) → Option B
@@ -69,85 +72,47 @@ data_of token =
     if nat_lt 64 (length token / 2) then None else
     hex_of (length token / 2) token
 
--- The forms, by the tokens behind their names.
+-- The forms, by what their tokens say.
 
-unfoldable pub nop_of : List (List ℕ) → Option Form
-nop_of (ud ∷ fl ∷ []) = do
-  user_data ← number_of (2 ^ 64) ud
-  flags ← flags_of fl
-  Some (form.Nop user_data flags)
-nop_of _ = None
+-- parts in which the part of this kind is as the token says
+unfoldable pub part_of : Kind → List ℕ → Parts → Option Parts
+part_of kind.Code token p = option_map (λ n. record p { code = n }) (number_of 256 token)
+part_of kind.UserData token p =
+    option_map (λ n. record p { user_data = n }) (number_of (2 ^ 64) token)
+part_of kind.Flags token p = option_map (λ flags. record p { flags = flags }) (flags_of token)
+part_of kind.File token p = option_map (λ fd. record p { fd = fd }) (file_of token)
+part_of kind.Offset token p = option_map (λ n. record p { off = n }) (number_of (2 ^ 64) token)
+part_of kind.Length token p = option_map (λ n. record p { len = n }) (number_of (2 ^ 32) token)
+part_of kind.Target token p = option_map (λ n. record p { target = n }) (number_of (2 ^ 64) token)
+part_of kind.Data token p = option_map (λ bytes. record p { bytes = bytes }) (data_of token)
+part_of kind.Bytes token p = option_map (λ bytes. record p { bytes = bytes }) (hex_of 128 token)
+part_of other token p = None
 
-unfoldable pub fsync_of : List (List ℕ) → Option Form
-fsync_of (ud ∷ fl ∷ file ∷ []) = do
-  user_data ← number_of (2 ^ 64) ud
-  flags ← flags_of fl
-  fd ← file_of file
-  Some (form.Fsync user_data flags fd)
-fsync_of _ = None
+-- the parts that tokens say, one of each of these kinds
+abbrev pub parts_of : List Kind → List (List ℕ) → Option Parts
+parts_of [] [] = Some no_parts
+parts_of (kind ∷ kinds) (token ∷ tokens) = parts_of kinds tokens >>= part_of kind token
+parts_of _ _ = None
 
-unfoldable pub read_of : List (List ℕ) → Option Form
-read_of (ud ∷ fl ∷ file ∷ at ∷ count ∷ []) = do
-  user_data ← number_of (2 ^ 64) ud
-  flags ← flags_of fl
-  fd ← file_of file
-  off ← number_of (2 ^ 64) at
-  len ← number_of (2 ^ 32) count
-  Some (form.Read user_data flags fd off len)
-read_of _ = None
+-- the name of a form that a token is
+unfoldable pub name_of : List ℕ → Option Name
+name_of token = find (λ name. bytes_eq token (name_text name)) names
 
-unfoldable pub write_of : List (List ℕ) → Option Form
-write_of (ud ∷ fl ∷ file ∷ at ∷ token ∷ []) = do
-  user_data ← number_of (2 ^ 64) ud
-  flags ← flags_of fl
-  fd ← file_of file
-  off ← number_of (2 ^ 64) at
-  option_map (λ bytes. form.Write user_data flags fd off bytes) (data_of token)
-write_of _ = None
+-- parts that a form of this name can have
+abbrev pub Fits : Name → Parts → Type 0
+Fits name.Write p = length p.bytes ≤ 64
+Fits name.Raw p = length p.bytes ≡ 128
+Fits other p = Unit {0}
 
-unfoldable pub cancel_of : List (List ℕ) → Option Form
-cancel_of (ud ∷ fl ∷ other ∷ []) = do
-  user_data ← number_of (2 ^ 64) ud
-  flags ← flags_of fl
-  target ← number_of (2 ^ 64) other
-  Some (form.Cancel user_data flags target)
-cancel_of _ = None
-
-unfoldable pub cancel_all_of : List (List ℕ) → Option Form
-cancel_all_of (ud ∷ fl ∷ other ∷ []) = do
-  user_data ← number_of (2 ^ 64) ud
-  flags ← flags_of fl
-  target ← number_of (2 ^ 64) other
-  Some (form.CancelAll user_data flags target)
-cancel_all_of _ = None
-
-unfoldable pub op_of : List (List ℕ) → Option Form
-op_of (op ∷ ud ∷ fl ∷ []) = do
-  code ← number_of 256 op
-  user_data ← number_of (2 ^ 64) ud
-  flags ← flags_of fl
-  Some (form.Op code user_data flags)
-op_of _ = None
-
-unfoldable pub bytes_form_of : List ℕ → Option Form
-bytes_form_of token = option_map (λ bytes. form.Raw bytes) (hex_of 128 token)
-
-unfoldable pub raw_of : List (List ℕ) → Option Form
-raw_of (token ∷ []) = bytes_form_of token
-raw_of _ = None
+-- the form of this name, by the tokens behind it
+abbrev pub form_named : Name → List (List ℕ) → Option Form
+form_named name tokens =
+    option_map (λ parts. record { name = name; parts = parts }) (parts_of (kinds_of name) tokens)
 
 -- the form that the tokens of an entry spell
 unfoldable pub form_of : List (List ℕ) → Option Form
 form_of [] = None
-form_of (name ∷ tokens) =
-    if bytes_eq name (codes "nop") then nop_of tokens else
-    if bytes_eq name (codes "fsync") then fsync_of tokens else
-    if bytes_eq name (codes "read") then read_of tokens else
-    if bytes_eq name (codes "write") then write_of tokens else
-    if bytes_eq name (codes "cancel") then cancel_of tokens else
-    if bytes_eq name (codes "cancelall") then cancel_all_of tokens else
-    if bytes_eq name (codes "op") then op_of tokens else
-    if bytes_eq name (codes "raw") then raw_of tokens else None
+form_of (token ∷ tokens) = name_of token >>= λ name. form_named name tokens
 
 -- what a reader answers of the entry of a form
 abbrev pub ReadsEntry : Option Sqe → Option Form → Type 0

@@ -1,24 +1,20 @@
 //! Tokens that are bytes, two lower case hexadecimal digits each.
 
-ghost use Rattle.std.specs.Prelude.{◌≡◌, ◌≤◌, length, take, drop, MatchOption, None, Some};
+ghost use Rattle.std.specs.Prelude.{◌≡◌, ◌≤◌, ◌+◌, length, take, drop, MatchOption, None, Some};
 ghost use Rattle.std.specs.List.{list_any};
 ghost use Rattle.std.specs.Int.{w64, to_le_bytes};
 ghost use Rattle.uring_entry.specs.Layout.{bytes_of, AreWords};
-ghost use Rattle.uring_text.specs.Reading.{is_capital, hex_of, bytes_form_of, ReadsEntry};
+ghost use Rattle.uring_text.specs.Forms.{HasBytes};
+ghost use Rattle.uring_text.specs.Reading.{is_capital, hex_of};
 
 use uring_entry::Sqe;
 
-/// The bytes of an entry.
-const ENTRY: usize = 128;
-
 /// The entry of these 128 bytes, byte 0 first.
-#[tactic(auto, unfolding(crate::specs::Reading::bytes_form_of))]
-pub(crate) fn raw_entry(token: &[u8]) -> Option<Sqe>
-    ensures { ReadsEntry result (bytes_form_of token.now) }
+pub(crate) fn entry_of_bytes(bytes: &[u8]) -> Sqe
+    requires { length bytes.now ≡ 128 }
+    ensures { HasBytes result bytes.now }
 {
-    let mut bytes = [0; ENTRY];
-    decode(token, &mut bytes)?;
-    Some(Sqe::from_words(words_of(&bytes)))
+    Sqe::from_words(words_of(bytes))
 }
 
 /// Puts the bytes that a token spells into `bytes`, which they must fill.
@@ -41,7 +37,8 @@ fn has_capitals(token: &[u8]) -> bool
 }
 
 /// The words of 64 bits that hold these bytes, the low byte of each word first.
-fn words_of(bytes: &[u8; ENTRY]) -> [u64; 16]
+fn words_of(bytes: &[u8]) -> [u64; 16]
+    requires { length bytes.now ≡ 128 }
     ensures bytes { bytes_of result ≡ bytes.now }
     ensures words { AreWords result }
 {
@@ -53,8 +50,8 @@ fn words_of(bytes: &[u8; ENTRY]) -> [u64; 16]
 }
 
 /// The word that eight bytes hold, from this place on.
-fn word_at(bytes: &[u8; ENTRY], at: usize) -> u64
-    requires { at ≤ 120 }
+fn word_at(bytes: &[u8], at: usize) -> u64
+    requires { at + 8 ≤ length bytes.now }
     ensures { to_le_bytes w64 result ≡ take 8 (drop at bytes.now) }
 {
     let mut eight = [0; 8];

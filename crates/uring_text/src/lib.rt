@@ -2,14 +2,17 @@
 #![tactic(auto)]
 
 mod completion_text;
+mod data_tokens;
 mod entry_tokens;
 mod flag_tokens;
 mod flaw;
+mod forms;
 mod growth;
 mod hex_tokens;
 mod kept_line;
 pub mod laws;
 mod number_tokens;
+mod parts;
 mod place;
 mod reach;
 mod streams;

@@ -1,19 +1,11 @@
 //! What may stand at a place of a line.
 
 ghost use Rattle.std.specs.Prelude.{◌≡◌};
-ghost use Rattle.std.specs.Option.{is_some};
-ghost use Rattle.uring_text.specs.Reading.{hex_of, data_of};
 ghost use Rattle.uring_text.specs.Places.{is_of_kind, kind_text, place_text};
 
+use crate::data_tokens::{data, entry_bytes};
 use crate::flag_tokens::flag_bits;
-use crate::hex_tokens::decode;
 use crate::number_tokens::{file, number, operation, small_number};
-
-/// Most bytes of data in an entry.
-const DATA: usize = 64;
-
-/// The bytes of an entry.
-const ENTRY: usize = 128;
 
 /// A kind of token that stands for a value.
 #[derive(Clone, Copy, Debug, PartialEq, Eq)]
@@ -94,33 +86,9 @@ pub fn is_of_kind(kind: Kind, token: &[u8]) -> bool
         Kind::Code => operation(token).is_some(),
         Kind::Flags => flag_bits(token).is_some(),
         Kind::File => file(token).is_some(),
-        Kind::Data => is_data(token),
-        Kind::Bytes => is_entry(token),
+        Kind::Data => data(token).is_some(),
+        Kind::Bytes => entry_bytes(token).is_some(),
     }
-}
-
-/// Whether a token is the bytes of a write: `-` for none, else 1 to 64 bytes.
-#[tactic(auto, unfolding(crate::specs::Reading::data_of))]
-fn is_data(token: &[u8]) -> bool
-    ensures { result ≡ is_some (data_of token.now) }
-{
-    if let b"-" = token {
-        return true;
-    }
-    let count = token.len() / 2;
-    if count == 0 || count > DATA {
-        return false;
-    }
-    let mut bytes = [0; DATA];
-    decode(token, &mut bytes[..count]).is_some()
-}
-
-/// Whether a token is the bytes of an entry.
-fn is_entry(token: &[u8]) -> bool
-    ensures { result ≡ is_some (hex_of 128 token.now) }
-{
-    let mut bytes = [0; ENTRY];
-    decode(token, &mut bytes).is_some()
 }
 
 /// The words for a kind of token.

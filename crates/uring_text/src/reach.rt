@@ -1,8 +1,9 @@
 //! How far the tokens of a line fit the language.
 
-ghost use Rattle.std.specs.Prelude.{◌≡◌, ◌+◌, ◌<◌, ◌≤◌, ◌^◌, length, map, option_map};
-ghost use Rattle.uring_text.specs.Reaches.{reach_at, further, ending, kinds_reach, form_kinds, entry_reach};
+ghost use Rattle.std.specs.Prelude.{◌≡◌, ◌+◌, ◌<◌, ◌≤◌, ◌^◌, length, map};
+ghost use Rattle.uring_text.specs.Reaches.{reach_at, further, ending, kinds_reach, entry_reach};
 
+use crate::forms::Name;
 use crate::place::{Kind, Place, is_of_kind};
 use crate::tokens::is_name;
 
@@ -71,37 +72,8 @@ pub fn entry_reach(tokens: &[&[u8]]) -> Reach
     let Some((name, tokens)) = tokens.split_first() else {
         return Reach::at(Place::Form);
     };
-    match form_kinds(name) {
-        Some(kinds) => kinds_reach(kinds, tokens).further(),
+    match Name::of(name) {
+        Some(name) => kinds_reach(name.kinds(), tokens).further(),
         None => Reach::at(Place::Form),
-    }
-}
-
-/// The kinds of the tokens behind the name of an entry's form.
-fn form_kinds(name: &[u8]) -> Option<&'static [Kind]>
-    ensures { option_map (λ kinds. kinds.now) result ≡ form_kinds name.now }
-{
-    match name {
-        _ if is_name(name, "nop") => Some(&[Kind::UserData, Kind::Flags]),
-        _ if is_name(name, "fsync") => Some(&[Kind::UserData, Kind::Flags, Kind::File]),
-        _ if is_name(name, "read") => Some(&[
-            Kind::UserData,
-            Kind::Flags,
-            Kind::File,
-            Kind::Offset,
-            Kind::Length,
-        ]),
-        _ if is_name(name, "write") => Some(&[
-            Kind::UserData,
-            Kind::Flags,
-            Kind::File,
-            Kind::Offset,
-            Kind::Data,
-        ]),
-        _ if is_name(name, "cancel") => Some(&[Kind::UserData, Kind::Flags, Kind::Target]),
-        _ if is_name(name, "cancelall") => Some(&[Kind::UserData, Kind::Flags, Kind::Target]),
-        _ if is_name(name, "op") => Some(&[Kind::Code, Kind::UserData, Kind::Flags]),
-        _ if is_name(name, "raw") => Some(&[Kind::Bytes]),
-        _ => None,
     }
 }

@@ -1,25 +1,27 @@
 -- The laws of `workers_join`: work is dealt out by files, and joined by the laws of uring_laws on places.
-use Rattle.std.proofs.Common.{◌≡◌, ℕ, ◌<◌, ◌%◌, ℤ, pos, negsuc, Bool, true, false, cond, nat_lt, sym, ◌∙◌, ap, arith}
+use Rattle.std.proofs.Common.{◌≡◌, ℕ, ◌<◌, ◌%◌, ℤ, pos, negsuc, Bool, true, false, cond, nat_lt, Option, Some, None, sym, ◌∙◌, ap, arith}
+use Rattle.std.specs.Option.{option_map_or}
+use Rattle.std.specs.Ordering.{int_eq}
+use Rattle.std.proofs.lemmas.Bool.{true≢false}
 use Rattle.std.proofs.lemmas.Bool.Decides.{Decides-int_eq}
 use Rattle.uring_entry.specs.Setup.{Setup}
 use Rattle.uring_entry.specs.declared.operation.Op.{Op}
-use Rattle.uring_entry.specs.declared.operation.Op.TheVariants.{Nop, Read, Write, Fsync, Cancel}
+use Rattle.uring_files.specs.Operations.{file_asked}
 use Rattle.uring_files.specs.Laws.{is_on}
 use Rattle.uring_laws.proofs.FileLaws.{places_join, files_by_place}
 use Rattle.uring_workers.specs.Work.{place_of_file, place_of}
 use Rattle.uring_threads.specs.Dealt.{IsDealtByFile, DealtByFile, WorkersJoin, FilesByWorker}
 
 -- what is on a file is its worker's
+on_asked : (workers files : ℕ) (fd : ℤ) (asked : Option ℤ) → option_map_or (int_eq fd) asked false ≡ true
+    → option_map_or (place_of_file workers files) asked 0 ≡ place_of_file workers files fd
+on_asked workers files fd None on = absurd (true≢false (sym on))
+on_asked workers files fd (Some own) on =
+    ap (place_of_file workers files) (sym ((Decides-int_eq fd own).0 on))
+
 on_place : (workers files : ℕ) (fd : ℤ) (op : Op) → is_on fd op ≡ true
     → place_of workers files op ≡ place_of_file workers files fd
-on_place workers files fd Nop on = absurd (let f : false ≡ true = on in cc)
-on_place workers files fd (Read own off len) on =
-    ap (place_of_file workers files) (sym ((Decides-int_eq fd own).0 on))
-on_place workers files fd (Write own off len bytes) on =
-    ap (place_of_file workers files) (sym ((Decides-int_eq fd own).0 on))
-on_place workers files fd (Fsync own) on =
-    ap (place_of_file workers files) (sym ((Decides-int_eq fd own).0 on))
-on_place workers files fd (Cancel target all) on = absurd (let f : false ≡ true = on in cc)
+on_place workers files fd op on = on_asked workers files fd (file_asked op) on
 
 -- one of the workers
 pub file_within : (workers files : ℕ) (fd : ℤ) → 0 < workers
@@ -30,18 +32,16 @@ file_within workers files (pos fd) some = either (nat_lt fd files) where
   either false = some
 file_within workers files (negsuc below) some = some
 
-within : (workers files : ℕ) (op : Op) → 0 < workers → place_of workers files op < workers
-within workers files Nop some = some
-within workers files (Read fd off len) some = file_within workers files fd some
-within workers files (Write fd off len bytes) some = file_within workers files fd some
-within workers files (Fsync fd) some = file_within workers files fd some
-within workers files (Cancel target all) some = some
+within_asked : (workers files : ℕ) (asked : Option ℤ) → 0 < workers
+    → option_map_or (place_of_file workers files) asked 0 < workers
+within_asked workers files None some = some
+within_asked workers files (Some fd) some = file_within workers files fd some
 
 pub dealt_by_file : DealtByFile
 dealt_by_file workers files some =
     record {
       by_file = λ fd op other on also. on_place workers files fd op on ∙ sym (on_place workers files fd other also);
-      within = λ op. within workers files op some;
+      within = λ op. within_asked workers files (file_asked op) some;
     }
 
 pub workers_join : (g : Setup) → WorkersJoin g

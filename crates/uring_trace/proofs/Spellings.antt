@@ -13,7 +13,7 @@ use Rattle.uring_entry.specs.Layout.{Sqe}
 use Rattle.uring_core.specs.declared.step.Step.{Step}
 use Rattle.uring_core.specs.declared.step.Step.TheVariants as step
 use Rattle.uring_text.specs.Tokens.{tokens_of}
-use Rattle.uring_text.specs.Spelling.{Form, SpellsForm, IsEntryOf}
+use Rattle.uring_text.specs.Forms.{Form, SpellsForm, IsEntryOf}
 use Rattle.uring_trace.specs.Spelling.{Spells, IsStep, IsBad}
 use Rattle.uring_text.specs.Reading.{number_of, form_of}
 use Rattle.uring_trace.specs.Reading.{ReadsStep, ReadsFill, step_of_one, step_of_two}

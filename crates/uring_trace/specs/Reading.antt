@@ -6,7 +6,7 @@ use Rattle.std.specs.Str.{bytes_eq}
 use Rattle.uring_entry.specs.Layout.{Sqe}
 use Rattle.uring_core.specs.declared.step.Step.{Step}
 use Rattle.uring_core.specs.declared.step.Step.TheVariants as step
-use Rattle.uring_text.specs.Spelling.{Form, IsEntryOf}
+use Rattle.uring_text.specs.Forms.{Form, IsEntryOf}
 use Rattle.uring_text.specs.Reading.{number_of, form_of}
 
 -- the step of a slot and of what a reader answers of an entry's tokens

@@ -4,7 +4,7 @@ use Rattle.std.specs.Fmt.{decimal}
 use Rattle.uring_core.specs.declared.step.Step.{Step}
 use Rattle.uring_core.specs.declared.step.Step.TheVariants as step
 use Rattle.uring_text.specs.Tokens.{tokens_of}
-use Rattle.uring_text.specs.Spelling.{SpellsEntry}
+use Rattle.uring_text.specs.Forms.{SpellsEntry}
 
 -- The tokens spell the step.
 abbrev pub Spells : List (List ℕ) → Step → Type 0

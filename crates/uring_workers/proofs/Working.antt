@@ -1,13 +1,10 @@
 -- A worker that carries out one job more goes on to work.
-use Rattle.std.proofs.Common.{◌≡◌, ℕ, ℤ, pos, negsuc, List, [], ◌∷◌, ◌++◌, length, Bool, true, false, cond, refl, sym, subst, ◌∙◌, ap}
-use Rattle.std.specs.Ordering.{int_eq}
-use Rattle.std.specs.Prelude.{take}
-use Rattle.std.proofs.lemmas.List.{map-append, length-set}
-use Rattle.uring_entry.specs.declared.operation.Op.{Op}
-use Rattle.uring_entry.specs.declared.operation.Op.TheVariants.{Nop, Read, Write, Fsync, Cancel}
+use Rattle.std.proofs.Common.{◌≡◌, ℕ, List, [], ◌∷◌, ◌++◌, length, refl, sym, subst, ◌∙◌, ap}
+use Rattle.std.proofs.lemmas.List.{map-append}
 use Rattle.uring_entry.specs.declared.operation.Outcome.{Outcome}
-use Rattle.uring_files.specs.Contents.{FileContents, written, with_writes_synced, empty_files}
-use Rattle.uring_files.specs.Operations.{after, with_changed, IsOutcome}
+use Rattle.uring_files.specs.Contents.{FileContents, empty_files}
+use Rattle.uring_files.specs.Operations.{after, IsOutcome}
+use Rattle.uring_files.proofs.OperationCases.{many_after}
 use Rattle.uring_files.specs.Done.{Done, files_left, AreDone}
 use Rattle.uring_files.proofs.DoneLemmas.{left-snoc, done-snoc}
 use Rattle.uring_ports.specs.Lanes.{numbers_of, numbers_of_pointer}
@@ -17,22 +14,6 @@ use Rattle.uring_workers.specs.Work.{job_of, result_of, jobs_of, results_of}
 use Rattle.rtrb.specs.Shared.{Names}
 use Rattle.rtrb.specs.declared.end.End.{End}
 use Rattle.uring_workers.specs.Worker.{Worker, done_of, IsWorking}
-
--- as many files as before
-many_changed : (chosen : Bool) (files : List FileContents) (fd : ℤ) (change : FileContents → FileContents)
-    → length (cond chosen (with_changed files fd change) files) ≡ length files
-many_changed false files fd change = refl
-many_changed true files (pos fd) change = length-set files fd _
-many_changed true files (negsuc below) change = refl
-
-pub many_after : (files : List FileContents) (op : Op) (res : ℤ)
-    → length (after files op res) ≡ length files
-many_after files Nop res = refl
-many_after files (Read fd off len) res = refl
-many_after files (Write fd off len bytes) res =
-    many_changed (int_eq res (pos len)) files fd (written off (take len bytes))
-many_after files (Fsync fd) res = many_changed (int_eq res (pos 0)) files fd with_writes_synced
-many_after files (Cancel target all) res = refl
 
 -- jobs and results of the same operations are theirs
 pub done_of-own : (done : List Done) → done_of (jobs_of done) (results_of done) ≡ done

@@ -1,8 +1,9 @@
 -- Work: which worker carries an operation out, what it is sent, and what comes back. All of it is our own rule.
 use Rattle.std.specs.Prelude.{ℕ, ◌%◌, nat_lt, ℤ, pos, negsuc, List, map, if◌then◌else◌}
+use Rattle.std.specs.Option.{option_map_or}
 use Rattle.uring_entry.specs.declared.operation.Op.{Op}
-use Rattle.uring_entry.specs.declared.operation.Op.TheVariants.{Read, Write, Fsync}
 use Rattle.uring_files.specs.Done.{Done}
+use Rattle.uring_files.specs.Operations.{file_asked}
 use Rattle.uring_workers.specs.declared.job.Job.{Job}
 use Rattle.uring_workers.specs.declared.job.JobResult.{JobResult}
 
@@ -13,10 +14,7 @@ place_of_file workers files (negsuc below) = 0
 
 -- the worker that carries out an operation: the one that has its file. What is on no file is worker 0's
 abbrev pub place_of : ℕ → ℕ → Op → ℕ
-place_of workers files (Read fd off len) = place_of_file workers files fd
-place_of workers files (Write fd off len bytes) = place_of_file workers files fd
-place_of workers files (Fsync fd) = place_of_file workers files fd
-place_of workers files other = 0
+place_of workers files op = option_map_or (place_of_file workers files) (file_asked op) 0
 
 -- an operation that was carried out, as the job that it was sent as, and as the result that it came back as
 abbrev pub job_of : Done → Job

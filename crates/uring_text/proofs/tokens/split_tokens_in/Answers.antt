@@ -1,7 +1,6 @@
-use Rattle.std.proofs.Common.{◌++◌, ◌∷◌, [], List, ap, ◌∙◌, rules}
-use Rattle.std.specs.Borrow.{Bor}
+use Rattle.std.proofs.Common.{◌++◌, ◌∷◌, [], ap, ◌∙◌, rules}
 use Rattle.uring_text.specs.Tokens.{tokens_of}
-use Rattle.uring_text.proofs.Cutting.{words, left_tokens, cut_more, cut_less, cut_all}
+use Rattle.uring_text.proofs.Cutting.{words, cut_more, cut_less, cut_all}
 use Rattle.uring_text.proofs.tokens.split_tokens_in.Goals as goal
 
 pub loop-left-init : goal.loop-left-init

@@ -9,7 +9,8 @@ use Rattle.uring_dispatch.proofs.HeldLemmas.{shown-within}
 use Rattle.uring_dispatch.proofs.WaitingLemmas.{tell-outstanding, started-listed, forgotten-keeps, restarted-listed}
 use Rattle.uring_entry.proofs.RequestLemmas.{never_success}
 use Rattle.uring_dispatch.proofs.Choosing.{ends-failing}
-use Rattle.uring_dispatch.proofs.Issues.{op-none, op-some, issued-faulty, issued-doomed, issued-not_ready, issued-cancel, issued-run, is_cancel-operation}
+use Rattle.uring_dispatch.proofs.Issues.{op-none, op-some, issued-faulty, issued-doomed, issued-not_ready, issued-cancel, issued-run}
+use Rattle.uring_entry.proofs.Preparations.{cancel_asked}
 use Rattle.uring_dispatch.proofs.outstanding.Outstanding.issue_waiting.Goals as goal
 
 pub returns-in_default-clause-answer : goal.returns-in_default-clause-answer
@@ -51,7 +52,7 @@ pub returns-in-Cancel-clause-answer : goal.returns-in-Cancel-clause-answer
 returns-in-Cancel-clause-answer c = λ r h.
     let shown = h.shown c.args.n c.args.request c.requires.there in
     let does = op-some (entry_of r c.args.n) c.in-Some.op (sym c.in-Some.is ∙ shown.op) in
-    let asks = is_cancel-operation (entry_of r c.args.n) _ c.in-Cancel.all (sym does.1 ∙ c.in-Cancel.is) in
+    let asks = cancel_asked (entry_of r c.args.n) _ c.in-Cancel.all (sym does.1 ∙ c.in-Cancel.is) in
     rw (to_z-of_z w32 c.cancel.result (search rules))
     (issued-cancel r c.args.n _ (sym (c.is_doomed_in.ensures r h) ∙ c.if-is_doomed_in.false) (sym (c.is_ready.ensures r h) ∙ c.if-not-is_ready.false)
     asks.0 (c.cancel.ensures.answer r h (c.addr-user_data.ensures ∙ ap addr_of shown.entry) asks.1))
@@ -60,7 +61,7 @@ pub returns-in-Cancel-clause-shows : goal.returns-in-Cancel-clause-shows
 returns-in-Cancel-clause-shows c = λ r h.
     let shown = h.shown c.args.n c.args.request c.requires.there in
     let does = op-some (entry_of r c.args.n) c.in-Some.op (sym c.in-Some.is ∙ shown.op) in
-    let asks = is_cancel-operation (entry_of r c.args.n) _ c.in-Cancel.all (sym does.1 ∙ c.in-Cancel.is) in
+    let asks = cancel_asked (entry_of r c.args.n) _ c.in-Cancel.all (sym does.1 ∙ c.in-Cancel.is) in
     rw (to_z-of_z w32 c.cancel.result (search rules)) (c.cancel.ensures.shows r h (c.addr-user_data.ensures ∙ ap addr_of shown.entry) asks.0 asks.1)
 
 pub forget-requires : goal.forget-requires

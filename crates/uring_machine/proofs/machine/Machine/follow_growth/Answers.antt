@@ -6,7 +6,7 @@ use Rattle.uring_files.specs.Operations.{after}
 use Rattle.uring_core.specs.declared.step.Step.TheVariants as step
 use Rattle.uring_machine.proofs.RecordedEnds.{followed_end, followed_failure, runs_so, growth_wrong, growth_called, growth_failed, growth_bytes, kept_fits, ended_alike}
 use Rattle.uring_machine.proofs.machine.Machine.follow_growth.Goals as goal
-use Rattle.uring_core.proofs.FileHistory.{failed}
+use Rattle.uring_files.proofs.OperationCases.{failed}
 
 pub invariant_of-self : goal.invariant_of-self
 invariant_of-self g c =

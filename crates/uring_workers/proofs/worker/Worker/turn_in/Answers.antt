@@ -3,7 +3,8 @@ use Rattle.std.proofs.lemmas.List.{append_cancel_left}
 use Rattle.rtrb.specs.Ring.{sent, received}
 use Rattle.uring_files.specs.Done.{Done}
 use Rattle.uring_workers.specs.Worker.{Worker}
-use Rattle.uring_workers.proofs.Working.{goes_on, done_of-snoc, many_after, done_as, same_ring, same_worker}
+use Rattle.uring_files.proofs.OperationCases.{many_after}
+use Rattle.uring_workers.proofs.Working.{goes_on, done_of-snoc, done_as, same_ring, same_worker}
 use Rattle.uring_workers.proofs.worker.Worker.turn_in.Goals as goal
 
 pub invariant_of-self : goal.invariant_of-self

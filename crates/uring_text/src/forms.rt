@@ -1,0 +1,108 @@
+//! The forms in which entries are written, a line each: what one is called, what its tokens say, and which entry it is.
+
+ghost use Rattle.std.specs.Prelude.{◌≡◌};
+ghost use Rattle.uring_text.specs.Forms as spec;
+ghost use Rattle.uring_text.specs.Forms.{IsEntryNamed};
+ghost use Rattle.uring_text.specs.Reading as reading;
+ghost use Rattle.uring_text.specs.Reading.{Fits};
+
+use crate::hex_tokens::entry_of_bytes;
+use crate::parts::Parts;
+use crate::place::Kind;
+use crate::tokens::is_name;
+use uring_entry::Sqe;
+
+/// The name of a form.
+#[derive(Clone, Copy, Debug, PartialEq, Eq)]
+pub enum Name {
+    /// A no-op.
+    Nop,
+
+    /// An fsync.
+    Fsync,
+
+    /// A read.
+    Read,
+
+    /// A write.
+    Write,
+
+    /// A cancel.
+    Cancel,
+
+    /// A cancel of all.
+    CancelAll,
+
+    /// An entry of any operation.
+    Op,
+
+    /// An entry of any bytes.
+    Raw,
+}
+
+impl Name {
+    /// The name that a token is.
+    #[tactic(auto, unfolding(crate::specs::Reading::name_of))]
+    pub(crate) fn of(token: &[u8]) -> Option<Name>
+        ensures { result ≡ reading.name_of token.now }
+    {
+        match token {
+            _ if is_name(token, "nop") => Some(Name::Nop),
+            _ if is_name(token, "fsync") => Some(Name::Fsync),
+            _ if is_name(token, "read") => Some(Name::Read),
+            _ if is_name(token, "write") => Some(Name::Write),
+            _ if is_name(token, "cancel") => Some(Name::Cancel),
+            _ if is_name(token, "cancelall") => Some(Name::CancelAll),
+            _ if is_name(token, "op") => Some(Name::Op),
+            _ if is_name(token, "raw") => Some(Name::Raw),
+            _ => None,
+        }
+    }
+
+    /// What the tokens behind it say, one each.
+    pub(crate) fn kinds(self) -> &'static [Kind]
+        ensures { result.now ≡ spec.kinds_of self }
+    {
+        match self {
+            Name::Nop => &[Kind::UserData, Kind::Flags],
+            Name::Fsync => &[Kind::UserData, Kind::Flags, Kind::File],
+            Name::Read => &[
+                Kind::UserData,
+                Kind::Flags,
+                Kind::File,
+                Kind::Offset,
+                Kind::Length,
+            ],
+            Name::Write => &[
+                Kind::UserData,
+                Kind::Flags,
+                Kind::File,
+                Kind::Offset,
+                Kind::Data,
+            ],
+            Name::Cancel => &[Kind::UserData, Kind::Flags, Kind::Target],
+            Name::CancelAll => &[Kind::UserData, Kind::Flags, Kind::Target],
+            Name::Op => &[Kind::Code, Kind::UserData, Kind::Flags],
+            Name::Raw => &[Kind::Bytes],
+        }
+    }
+
+    /// The entry that it is, if its tokens say these parts.
+    pub(crate) fn entry(self, parts: &Parts) -> Sqe
+        requires { Fits self parts.now }
+        ensures { IsEntryNamed self parts.now result }
+    {
+        let user_data = parts.user_data;
+        let flags = parts.flags;
+        match self {
+            Name::Nop => Sqe::nop(user_data, flags),
+            Name::Fsync => Sqe::fsync(user_data, flags, parts.fd),
+            Name::Read => Sqe::read(user_data, flags, parts.fd, parts.off, parts.len),
+            Name::Write => Sqe::write(user_data, flags, parts.fd, parts.off, parts.bytes.all()),
+            Name::Cancel => Sqe::cancel(user_data, flags, parts.target),
+            Name::CancelAll => Sqe::cancel_all(user_data, flags, parts.target),
+            Name::Op => Sqe::with_opcode(parts.code, user_data, flags),
+            Name::Raw => entry_of_bytes(parts.bytes.all()),
+        }
+    }
+}
