@@ -1,6 +1,6 @@
 //! The run of a trace of which a picture is drawn.
 
-ghost use Rattle.std.specs.Prelude.{[], IfOk, OnOk};
+ghost use Rattle.std.specs.Prelude.{◌≡◌, ◌≢◌, ℕ, [], IfErr, IfOk, OnOk, Err};
 ghost use Rattle.std.specs.Io.KnownBytes.{Appends};
 ghost use Rattle.uring_entry.specs.Setup.{Setup};
 ghost use Rattle.uring_core.specs.Histories.{History, world};
@@ -14,7 +14,7 @@ use crate::graph_text::push_graph;
 use std::alloc::Global;
 use std::io::{Read, Write};
 use uring_machine::{Machine, Setup};
-use uring_text::{Calls, TraceFault, read_once, write_all};
+use uring_text::{Calls, TextMemory, TraceFault, read_once, write_all};
 use uring_trace::Explainer;
 
 /// Most bytes that are read at once.
@@ -37,58 +37,91 @@ pub fn graph<R: Read, W: Write, E: Write>(
     ensures { IfOk result
         (λ bad. Draws last_graph setup.now bad (R.remaining reader.old) (R.remaining reader.new) (W.contents writer.old) (W.contents writer.new) (E.contents errors.old) (E.contents errors.new)) }
 {
-    let mut explainer = Explainer::new(alloc, setup)?;
-    let drawn = draw_all(alloc, &mut explainer, reader, writer, errors);
+    graph_in(&alloc, alloc, reader, writer, errors, setup)
+}
+
+/// As `graph`, by this memory. If it grants whatever is asked for, it never ends with `Memory`.
+pub fn graph_in<M: TextMemory, R: Read, W: Write, E: Write>(
+    memory: &M,
+    alloc: Global,
+    reader: &mut R,
+    writer: &mut W,
+    errors: &mut E,
+    setup: &Setup,
+) -> Result<bool, TraceFault>
+    ensures drawn { IfOk result
+        (λ bad. Draws last_graph setup.now bad (R.remaining reader.old) (R.remaining reader.new) (W.contents writer.old) (W.contents writer.new) (E.contents errors.old) (E.contents errors.new)) }
+    ensures granted { ((n : ℕ) → M.grants memory.now n) → result ≢ Err TraceFault.Memory }
+{
+    let mut explainer = Explainer::new_in(memory, alloc, setup)?;
+    let drawn = draw_all(memory, alloc, &mut explainer, reader, writer, errors);
     drop(explainer);
     drawn
 }
 
 /// Takes in all lines, and draws the graph behind the last.
-fn draw_all<R: Read, W: Write, E: Write>(
+fn draw_all<M: TextMemory, R: Read, W: Write, E: Write>(
+    memory: &M,
     alloc: Global,
     explainer: &mut Explainer,
     reader: &mut R,
     writer: &mut W,
     errors: &mut E,
 ) -> Result<bool, TraceFault>
-    ensures { IfOk result
+    ensures drawn { IfOk result
         (λ bad. (setup : Setup) → HasTold setup explainer.old [] [] []
         → Draws last_graph setup bad (R.remaining reader.old) (R.remaining reader.new) (W.contents writer.old) (W.contents writer.new) (E.contents errors.old) (E.contents errors.new)) }
+    ensures granted { ((n : ℕ) → M.grants memory.now n) → result ≢ Err TraceFault.Memory }
 {
-    let bad = read_all(alloc, explainer, reader, errors)?;
-    write_graph(alloc, explainer.machine(), writer)?;
+    let bad = read_all(memory, alloc, explainer, reader, errors)?;
+    write_graph(memory, alloc, explainer.machine(), writer)?;
     Ok(bad)
 }
 
 /// Writes the graph of the outstanding requests.
-fn write_graph<W: Write>(alloc: Global, machine: &Machine, writer: &mut W) -> Result<(), TraceFault>
-    ensures { OnOk result
+fn write_graph<M: TextMemory, W: Write>(
+    memory: &M,
+    alloc: Global,
+    machine: &Machine,
+    writer: &mut W,
+) -> Result<(), TraceFault>
+    ensures drawn { OnOk result
         ((h : History) → Fits machine.now h
         → Appends (W.contents writer.old) (W.contents writer.new) (graph_of (world machine.now.core.setup h).requests)) }
+    ensures granted { ((n : ℕ) → M.grants memory.now n) → result ≢ Err TraceFault.Memory }
 {
     let mut text = String::new(alloc);
-    push_graph(&mut text, machine)?;
+    push_graph(memory, &mut text, machine)?;
     write_all(writer, text.as_bytes(), &mut Calls::new())
 }
 
 /// Takes in all lines, and writes what is noted of them. Returns whether a line was bad.
-fn read_all<R: Read, E: Write>(
+fn read_all<M: TextMemory, R: Read, E: Write>(
+    memory: &M,
     alloc: Global,
     explainer: &mut Explainer,
     reader: &mut R,
     errors: &mut E,
 ) -> Result<bool, TraceFault>
-    ensures { IfOk result
+    ensures read { IfOk result
         (λ bad. (setup : Setup) → HasTold setup explainer.old [] [] []
         → ReadsAll setup bad explainer.new (R.remaining reader.old) (R.remaining reader.new) (E.contents errors.old) (E.contents errors.new)) }
+    ensures granted { ((n : ℕ) → M.grants memory.now n) → result ≢ Err TraceFault.Memory }
 {
     let mut reads = Calls::new();
     let mut writes = Calls::new();
     let mut chunk = [0; CHUNK];
     while !reads.are_over() {
         match read_once(reader, &mut chunk, &mut reads) {
-            Ok(0) => return end_in(alloc, explainer, errors, &mut writes),
-            Ok(count) => take_in(alloc, explainer, &chunk[..count], errors, &mut writes)?,
+            Ok(0) => return end_in(memory, alloc, explainer, errors, &mut writes),
+            Ok(count) => take_in(
+                memory,
+                alloc,
+                explainer,
+                &chunk[..count],
+                errors,
+                &mut writes,
+            )?,
             Err(_) => {}
         }
     }
@@ -96,48 +129,54 @@ fn read_all<R: Read, E: Write>(
 }
 
 /// Takes in these bytes, and writes what is noted of the lines that they complete.
-fn take_in<E: Write>(
+fn take_in<M: TextMemory, E: Write>(
+    memory: &M,
     alloc: Global,
     explainer: &mut Explainer,
     bytes: &[u8],
     errors: &mut E,
     writes: &mut Calls,
 ) -> Result<(), TraceFault>
-    ensures { OnOk result
+    ensures taken { OnOk result
         (TakesIn explainer.old explainer.new bytes.now (E.contents errors.old) (E.contents errors.new)) }
+    ensures granted { ((n : ℕ) → M.grants memory.now n) → result ≢ Err TraceFault.Memory }
 {
     let mut text = String::new(alloc);
     let mut notes = String::new(alloc);
-    explainer.feed(bytes, &mut text, &mut notes)?;
+    explainer.feed_in(memory, bytes, &mut text, &mut notes)?;
     write_all(errors, notes.as_bytes(), writes)
 }
 
 /// Ends the input, and writes what is noted of a last line without an end. Returns whether a line was bad.
-fn end_in<E: Write>(
+fn end_in<M: TextMemory, E: Write>(
+    memory: &M,
     alloc: Global,
     explainer: &mut Explainer,
     errors: &mut E,
     writes: &mut Calls,
 ) -> Result<bool, TraceFault>
-    ensures { IfOk result
+    ensures ended { IfOk result
         (λ bad. EndsIn bad explainer.old explainer.new (E.contents errors.old) (E.contents errors.new)) }
+    ensures granted { ((n : ℕ) → M.grants memory.now n) → result ≢ Err TraceFault.Memory }
 {
-    note_last(alloc, explainer, errors, writes)?;
+    note_last(memory, alloc, explainer, errors, writes)?;
     Ok(explainer.has_bad())
 }
 
 /// Ends the input, and writes what is noted of a last line without an end.
-fn note_last<E: Write>(
+fn note_last<M: TextMemory, E: Write>(
+    memory: &M,
     alloc: Global,
     explainer: &mut Explainer,
     errors: &mut E,
     writes: &mut Calls,
 ) -> Result<(), TraceFault>
-    ensures { OnOk result
+    ensures noted { OnOk result
         (EndsLine explainer.old explainer.new (E.contents errors.old) (E.contents errors.new)) }
+    ensures granted { ((n : ℕ) → M.grants memory.now n) → result ≢ Err TraceFault.Memory }
 {
     let mut text = String::new(alloc);
     let mut notes = String::new(alloc);
-    explainer.finish(&mut text, &mut notes)?;
+    explainer.finish_in(memory, &mut text, &mut notes)?;
     write_all(errors, notes.as_bytes(), writes)
 }

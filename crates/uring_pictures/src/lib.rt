@@ -6,6 +6,6 @@ mod graph_text;
 mod rows;
 mod watching;
 
-pub use drawing::graph;
+pub use drawing::{graph, graph_in};
 pub use uring_text::TraceFault;
-pub use watching::timeline;
+pub use watching::{timeline, timeline_in};

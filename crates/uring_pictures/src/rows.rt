@@ -1,8 +1,15 @@
 //! The timeline of all requests: at which line each was accepted, started, ended, and its completion posted and reaped.
 
+ghost use Rattle.std.specs.Prelude.{ℕ, IsOk};
+
+use itoa::Buffer;
 use std::alloc::{AllocError, Global};
-use std::fmt::Write;
 use uring_machine::{Counts, Machine, Why};
+use uring_memory::Memory;
+use uring_text::{TextMemory, push_text};
+
+/// How wide a column is, without the blank before it.
+const WIDTH: usize = 9;
 
 /// The lines of one request, each numbered from 1 on.
 #[derive(Clone, Copy, Debug, PartialEq, Eq)]
@@ -42,23 +49,36 @@ impl Timeline {
         }
     }
 
-    /// Ends a line: notes what it has changed, as the machine shows it, and begins the next.
-    pub(crate) fn end_line(&mut self, machine: &Machine) -> Result<(), AllocError> {
-        self.look(machine, self.line)?;
+    /// Ends a line: notes what it has changed, as the machine shows it, and begins the next. Here and below: if the memory grants whatever is asked for, there is no error.
+    pub(crate) fn end_line<M: Memory>(
+        &mut self,
+        memory: &M,
+        machine: &Machine,
+    ) -> Result<(), AllocError>
+        ensures granted { ((n : ℕ) → M.grants memory.now n) → IsOk result }
+    {
+        self.look(memory, machine, self.line)?;
         self.line = self.line.saturating_add(1);
         Ok(())
     }
 
     /// Looks at the machine as this line has left it, and notes what has changed since the line before.
-    fn look(&mut self, machine: &Machine, line: u64) -> Result<(), AllocError> {
+    fn look<M: Memory>(
+        &mut self,
+        memory: &M,
+        machine: &Machine,
+        line: u64,
+    ) -> Result<(), AllocError>
+        ensures granted { ((n : ℕ) → M.grants memory.now n) → IsOk result }
+    {
         let counts = machine.counts();
         if counts == self.counts {
             return Ok(());
         }
-        self.add_rows(counts.accepted, line)?;
+        self.add_rows(memory, counts.accepted, line)?;
         let has_posted = counts.posted > self.counts.posted;
         for number in 0..self.rows.len() as u64 {
-            self.look_at(number, machine.why(number), line, has_posted)?;
+            self.look_at(memory, number, machine.why(number), line, has_posted)?;
         }
         for place in self.counts.reaped..counts.reaped {
             self.note_reaped(place, line);
@@ -68,27 +88,47 @@ impl Timeline {
     }
 
     /// Adds rows of requests that were accepted by this line, up to so many.
-    fn add_rows(&mut self, accepted: u64, line: u64) -> Result<(), AllocError> {
+    fn add_rows<M: Memory>(
+        &mut self,
+        memory: &M,
+        accepted: u64,
+        line: u64,
+    ) -> Result<(), AllocError>
+        ensures granted { ((n : ℕ) → M.grants memory.now n) → IsOk result }
+    {
         for _ in self.rows.len() as u64..accepted {
-            self.rows.push(Row {
-                accepted: line,
-                started: None,
-                ended: None,
-                posted: None,
-                reaped: None,
-            })?;
+            self.add_row(memory, line)?;
         }
         Ok(())
     }
 
+    /// Adds the row of a request that was accepted by this line.
+    fn add_row<M: Memory>(&mut self, memory: &M, line: u64) -> Result<(), AllocError>
+        ensures granted { ((n : ℕ) → M.grants memory.now n) → IsOk result }
+    {
+        memory.reserve(&mut self.rows, 1)?;
+        self.rows.push_reserved(Row {
+            accepted: line,
+            started: None,
+            ended: None,
+            posted: None,
+            reaped: None,
+        });
+        Ok(())
+    }
+
     /// Notes how a request stands behind this line. One that has ended by it posted a completion, if one was posted.
-    fn look_at(
+    fn look_at<M: Memory>(
         &mut self,
+        memory: &M,
         number: u64,
         why: Why,
         line: u64,
         has_posted: bool,
-    ) -> Result<(), AllocError> {
+    ) -> Result<(), AllocError>
+        ensures granted { ((n : ℕ) → M.grants memory.now n) → IsOk result }
+    {
+        memory.reserve(&mut self.posters, 1)?;
         let Some(row) = self.rows.get_mut(number as usize) else {
             return Ok(());
         };
@@ -98,7 +138,7 @@ impl Timeline {
                 row.ended = Some(line);
                 if has_posted {
                     row.posted = Some(line);
-                    self.posters.push(number)?;
+                    self.posters.push_reserved(number);
                 }
             }
             _ => {}
@@ -117,11 +157,21 @@ impl Timeline {
     }
 
     /// Appends the timeline: a line of headings, and a row for each request.
-    pub(crate) fn push_text(&self, text: &mut String) -> Result<(), AllocError> {
-        text.push_str("  request  accepted   started     ended    posted    reaped\n")?;
+    pub(crate) fn push_rows<M: TextMemory>(
+        &self,
+        memory: &M,
+        text: &mut String,
+    ) -> Result<(), AllocError>
+        ensures granted { ((n : ℕ) → M.grants memory.now n) → IsOk result }
+    {
+        push_text(
+            memory,
+            text,
+            "  request  accepted   started     ended    posted    reaped\n",
+        )?;
         let mut number: u64 = 0;
         for row in &self.rows {
-            push_row(text, number, row)?;
+            push_row(memory, text, number, row)?;
             number = number.saturating_add(1);
         }
         Ok(())
@@ -129,20 +179,48 @@ impl Timeline {
 }
 
 /// Appends the row of a request.
-fn push_row(text: &mut String, number: u64, row: &Row) -> Result<(), AllocError> {
-    let accepted = row.accepted;
-    write!(text, "{number:>9} {accepted:>9}")?;
-    push_cell(text, row.started)?;
-    push_cell(text, row.ended)?;
-    push_cell(text, row.posted)?;
-    push_cell(text, row.reaped)?;
-    text.push_str("\n")
+fn push_row<M: TextMemory>(
+    memory: &M,
+    text: &mut String,
+    number: u64,
+    row: &Row,
+) -> Result<(), AllocError>
+    ensures granted { ((n : ℕ) → M.grants memory.now n) → IsOk result }
+{
+    push_wide(memory, text, number)?;
+    push_cell(memory, text, Some(row.accepted))?;
+    push_cell(memory, text, row.started)?;
+    push_cell(memory, text, row.ended)?;
+    push_cell(memory, text, row.posted)?;
+    push_cell(memory, text, row.reaped)?;
+    push_text(memory, text, "\n")
 }
 
 /// Appends a line's number, or `-` for none, at the right end of its column.
-fn push_cell(text: &mut String, line: Option<u64>) -> Result<(), AllocError> {
+fn push_cell<M: TextMemory>(
+    memory: &M,
+    text: &mut String,
+    line: Option<u64>,
+) -> Result<(), AllocError>
+    ensures granted { ((n : ℕ) → M.grants memory.now n) → IsOk result }
+{
     match line {
-        Some(line) => write!(text, " {line:>9}"),
-        None => text.push_str("         -"),
+        Some(line) => {
+            push_text(memory, text, " ")?;
+            push_wide(memory, text, line)
+        }
+        None => push_text(memory, text, "         -"),
     }
+}
+
+/// Appends a number at the right end of its column.
+fn push_wide<M: TextMemory>(memory: &M, text: &mut String, number: u64) -> Result<(), AllocError>
+    ensures granted { ((n : ℕ) → M.grants memory.now n) → IsOk result }
+{
+    let mut buffer = Buffer::new();
+    let digits = buffer.format(number);
+    for _ in digits.len()..WIDTH {
+        push_text(memory, text, " ")?;
+    }
+    push_text(memory, text, digits)
 }
