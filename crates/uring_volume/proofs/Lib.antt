@@ -13,3 +13,7 @@ pub mod Leaving
 pub mod Numbers
 pub mod Results
 pub mod Crashing
+pub mod Puts
+pub mod Walking
+pub mod Lengths
+pub mod Files
