@@ -31,7 +31,7 @@ of_issued (WriteIssued v ∷ earlier) w among = elim (in_either w (issued earlie
 of_issued (e ∷ earlier) w among = of_issued earlier w among
 
 -- an issue of another write doesn't change what is before a write
-issue_apart : (h : History) (v : Write) (m n : ℕ) → (n ≡ v.number → ⊥)
+pub issue_apart : (h : History) (v : Write) (m n : ℕ) → (n ≡ v.number → ⊥)
     → is_before h m n ≡ false → is_before (WriteIssued v ∷ h) m n ≡ false
 issue_apart h v m n differs none =
     or_from (v.number == n && has_ended h m) (is_before h m n) (and_left (v.number == n) (has_ended h m) (ne_eqb v.number n (λ e. differs (sym e)))) none
@@ -52,7 +52,7 @@ with_issue h v (w ∷ later) differ o =
     (λ m among. issue_apart h v m.number w.number (differ w (inl refl)) (o.0 m among), o.1, with_issue h v later (λ x among. differ x (inr among)) o.2)
 
 -- a write that hasn't ended is before none
-not_before : (h : History) (m n : ℕ) → has_ended h m ≡ false → is_before h m n ≡ false
+pub not_before : (h : History) (m n : ℕ) → has_ended h m ≡ false → is_before h m n ≡ false
 not_before [] m n open_yet = refl
 not_before (WriteIssued w ∷ earlier) m n open_yet =
     or_from (w.number == n && has_ended earlier m) (is_before earlier m n) (and_right (w.number == n) (has_ended earlier m) open_yet) (not_before earlier m n open_yet)
@@ -88,7 +88,7 @@ none_before_itself (WriteIssued v ∷ earlier) w l (inr more) =
     issue_apart earlier v w.number w.number (l.0 w more) (none_before_itself earlier w l.2 more)
 none_before_itself (e ∷ earlier) w l among = none_before_itself earlier w l among
 
-one_number : (h : History) (x y : Write) → IsLawful h → IsIn x (writes h) → IsIn y (writes h)
+pub one_number : (h : History) (x y : Write) → IsLawful h → IsIn x (writes h) → IsIn y (writes h)
     → x.number ≡ y.number → x ≡ y
 one_number [] x y l ax ay e = absurd ax
 one_number (WriteIssued v ∷ earlier) x y l (inl sx) (inl sy) e = sx ∙ sym sy

@@ -17,3 +17,5 @@ pub mod Puts
 pub mod Walking
 pub mod Lengths
 pub mod Files
+pub mod Seeking
+pub mod Folding

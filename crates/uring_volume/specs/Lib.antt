@@ -4,5 +4,6 @@ pub mod Images
 pub mod Choices
 pub mod Listing
 pub mod Ways
+pub mod Folds
 pub mod Volume
 pub mod Laws

@@ -5,10 +5,12 @@ mod crash;
 mod event;
 mod growth;
 pub mod laws;
+mod listing;
 mod order;
 mod show;
 mod standing;
 mod volume;
+mod ways;
 
 pub use event::{Event, Piece, SyncRange};
 pub use standing::{is_before, is_covered, is_reached, is_safe};
