@@ -9,6 +9,9 @@ use Rattle.uring_volume.specs.Volume.{Volume, IsSound}
 use Rattle.uring_volume.proofs.ReadBack.{read_back}
 use Rattle.uring_volume.proofs.Chosen.{chosen_is_image}
 use Rattle.uring_volume.proofs.Flat.{left_once, image_has_choice}
+use Rattle.uring_volume.specs.Listing.{AreTheImages}
+use Rattle.uring_volume.specs.Ways.{images_of}
+use Rattle.uring_volume.proofs.Files.{are_the_images}
 
 -- an image of a volume's fields, as one of the volume
 pub left_seen : (inside v : Volume) (first : List ℕ) (events kept : List Event) (choice now : List ℕ)
@@ -45,3 +48,19 @@ each_is_left v bound sound small now image =
     image_has_choice v.unit bound v.first v.history now (omega arith)
     (record { positive = sound.numbered.positive; below = λ w among. omega (arith, sound.numbered.issued w among) })
     sound.lawful image
+
+-- the list of a volume's fields, as one of the volume
+pub listed_seen : (inside v : Volume) (first : List ℕ) (events kept : List Event)
+    (images : List (List ℕ)) → inside ≡ v → first ≡ inside.first → events ≡ kept
+    → inside.history ≡ reverse kept → images ≡ images_of inside.unit first (reverse events)
+    → images ≡ images_of v.unit v.first v.history
+listed_seen inside v first events kept images same bytes past turned is =
+    is
+    ∙ ap (λ bs. images_of inside.unit bs (reverse events)) bytes
+    ∙ ap (λ h. images_of inside.unit inside.first h) (ap reverse past ∙ sym turned)
+    ∙ ap (λ x. images_of x.unit x.first x.history) same
+
+pub listed : (v : Volume) (images : List (List ℕ)) → IsSound v
+    → images ≡ images_of v.unit v.first v.history → AreTheImages v.unit v.first v.history images
+listed v images sound is =
+    subst (λ all. AreTheImages v.unit v.first v.history all) (sym is) (are_the_images v.unit v.first v.history sound.unit sound.lawful)

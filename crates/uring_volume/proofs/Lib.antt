@@ -19,3 +19,5 @@ pub mod Lengths
 pub mod Files
 pub mod Seeking
 pub mod Folding
+pub mod Folded
+pub mod Counting

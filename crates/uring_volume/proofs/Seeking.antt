@@ -9,9 +9,10 @@ use Rattle.std.proofs.lemmas.List.Folds.{list_any-append}
 use Rattle.std.proofs.Math.Nat.{mul-le-mul_left}
 use Rattle.uring_volume.specs.Writes.{Write}
 use Rattle.uring_volume.specs.Images.{byte_over, end_of, length_over}
-use Rattle.uring_volume.specs.Ways.{bytes_over, bytes_from, put_by}
+use Rattle.uring_volume.specs.Events.{History}
+use Rattle.uring_volume.specs.Ways.{bytes_over, bytes_from, put_by, unit_contents, fronts}
 use Rattle.uring_volume.proofs.Painting.{below_or_from}
-use Rattle.uring_volume.proofs.Files.{length_bytes_over, bytes_over_at}
+use Rattle.uring_volume.proofs.Files.{length_bytes_over, bytes_over_at, length_joined}
 
 holds_at : {X Y : Type 0} (f : X → Y) (p : Y → Bool) (xs : List X) (i : ℕ) (d : X)
     → i < length xs → p (f (get_or xs i d)) ≡ true → list_any p (map f xs) ≡ true
@@ -118,3 +119,21 @@ times_most a b most = elim (below_or_from most a) [
   ]
   | inr within ↦ let exact : min a most ≡ a = omega arith in ap (λ n. min (n * b) most) exact
 ]
+
+pub dropped : {X Y : Type 0} (f : X → Y) (xs : List X) (i : ℕ) (x : X) → i < length xs
+    → x ≡ get_or xs i x → map f (drop i xs) ≡ f x ∷ map f (drop (i + 1) xs)
+dropped f xs i x within at = ap (map f) (drop_more xs i x within ∙ ap (λ z. z ∷ drop (i + 1) xs) (sym at))
+
+-- how many there are with one unit more
+pub count_more : (u : ℕ) (first : List ℕ) (h : History) (len i count size next most : ℕ)
+    (ends : List (List ℕ)) → count ≡ min (length (fronts u first h len i)) most
+    → ends ≡ unit_contents u first h len i → size ≡ length ends → next ≡ min (count * size) most
+    → next ≡ min (length (fronts u first h len (i + 1))) most
+count_more u first h len i count size next most ends so_far is many made =
+    let more : suc i ≡ i + 1 = omega arith in
+    made
+    ∙ ap (λ n. min (n * size) most) so_far
+    ∙ times_most (length (fronts u first h len i)) size most
+    ∙ ap (λ n. min (length (fronts u first h len i) * n) most) (many ∙ ap length is)
+    ∙ ap (λ n. min n most) (sym (length_joined (fronts u first h len i) (unit_contents u first h len i)))
+    ∙ ap (λ j. min (length (fronts u first h len j)) most) more

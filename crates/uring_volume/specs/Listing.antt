@@ -13,3 +13,8 @@ pub record AreTheImages (u : ℕ) (first : List ℕ) (h : History) (images : Lis
   pub sound : (now : List ℕ) → IsIn now images → IsImage u first h now
   pub complete : (now : List ℕ) → IsImage u first h now → IsIn now images
   pub once : IsEachOnce images
+
+-- two lists of the images of a file are as long
+abbrev pub ListsAreAsLong : Type 0
+ListsAreAsLong = (u : ℕ) (first : List ℕ) (h : History) (some others : List (List ℕ))
+    → AreTheImages u first h some → AreTheImages u first h others → length some ≡ length others

@@ -72,7 +72,7 @@ pub fn pieces_on<'a, M: Memory>(
 }
 
 /// Writes what a piece has of the bytes from `from` to `to` over them.
-fn write_over(now: &mut [u8], from: usize, to: usize, piece: &Piece)
+pub fn write_over(now: &mut [u8], from: usize, to: usize, piece: &Piece)
     requires { to ≤ length now.old }
     ensures within { (k : ℕ) → from ≤ k → k < to
         → slice_index now.new k ≡ byte_over (slice_index now.old k) (piece.now ∷ []) k }

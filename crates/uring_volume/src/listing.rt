@@ -6,11 +6,12 @@ ghost use Rattle.uring_volume.specs.Events as spec_events;
 ghost use Rattle.uring_volume.specs.Images.{end_of, length_over};
 ghost use Rattle.uring_volume.specs.Choices.{issued};
 ghost use Rattle.uring_volume.specs.Ways as spec;
-ghost use Rattle.uring_volume.specs.Ways.{put_by, fewest, fewest_with, lengths_by, contents_of, units_in, files_of};
+ghost use Rattle.uring_volume.specs.Ways.{put_by, fewest, fewest_with, lengths_by, contents_of, units_in, files_of, images_of};
 
 use crate::crash::{count_units, pieces_on};
 use crate::event::{Event, Piece};
 use crate::growth::push;
+use crate::order::issued_pieces;
 use crate::standing::{is_before, is_safe};
 use crate::ways::{contents, copied};
 use std::alloc::{AllocError, Global};
@@ -96,7 +97,7 @@ fn put_length<M: Memory>(memory: &M, lengths: &mut Vec<u64>, len: u64) -> Result
 }
 
 /// The lengths that may be left, each once: that of the fewest writes, and that of the fewest with each one.
-pub fn lengths<M: Memory>(
+fn lengths<M: Memory>(
     memory: &M,
     alloc: Global,
     events: &[Event],
@@ -265,7 +266,7 @@ fn move_all<M: Memory>(
 }
 
 /// The files of each of these lengths.
-pub fn files_of_lengths<M: Memory>(
+fn files_of_lengths<M: Memory>(
     memory: &M,
     alloc: Global,
     unit: u64,
@@ -313,7 +314,7 @@ fn count_fronts<M: Memory>(
 }
 
 /// How many files of these lengths may be left, or 2^64 - 1 if there are more.
-pub fn count_files<M: Memory>(
+fn count_files<M: Memory>(
     memory: &M,
     alloc: Global,
     unit: u64,
@@ -334,4 +335,40 @@ pub fn count_files<M: Memory>(
         count = count.saturating_add(more);
     }
     Ok(count)
+}
+
+/// How many images there are of a file, or 2^64 - 1 if there are more.
+pub fn count_images<M: Memory>(
+    memory: &M,
+    alloc: Global,
+    unit: u64,
+    first: &[u8],
+    events: &[Event],
+) -> Result<u64, AllocError>
+    requires { 0 < unit }
+    ensures count { IfOk result (λ count. count
+        ≡ min (length (images_of unit first.now (reverse events.now))) (2 ^ 64 - 1)) }
+    ensures granted { ((n : ℕ) → M.grants memory.now n) → IsOk result }
+{
+    let pieces = issued_pieces(memory, alloc, events)?;
+    let lengths = lengths(memory, alloc, events, &pieces, first.len() as u64)?;
+    count_files(memory, alloc, unit, first, events, &pieces, &lengths)
+}
+
+/// The images of a file, each once.
+pub fn list_images<M: Memory>(
+    memory: &M,
+    alloc: Global,
+    unit: u64,
+    first: &[u8],
+    events: &[Event],
+) -> Result<Vec<Vec<u8>>, AllocError>
+    requires { 0 < unit }
+    ensures images { IfOk result (λ files. map (λ b. b.items) files.items
+        ≡ images_of unit first.now (reverse events.now)) }
+    ensures granted { ((n : ℕ) → M.grants memory.now n) → IsOk result }
+{
+    let pieces = issued_pieces(memory, alloc, events)?;
+    let lengths = lengths(memory, alloc, events, &pieces, first.len() as u64)?;
+    files_of_lengths(memory, alloc, unit, first, events, &pieces, &lengths)
 }
