@@ -1,5 +1,5 @@
 -- What a crash of a sound volume leaves.
-use Rattle.std.proofs.Common.{◌≡◌, ◌↔◌, ◌<◌, ℕ, suc, List, length, reverse, sym, subst, ap, ◌∙◌, arith}
+use Rattle.std.proofs.Common.{◌≡◌, ◌↔◌, ◌<◌, ℕ, suc, min, List, length, reverse, refl, sym, subst, ap, ◌∙◌, arith}
 use Rattle.uring_volume.specs.Writes.{Write}
 use Rattle.uring_volume.specs.declared.event.Event.{Event}
 use Rattle.uring_volume.specs.Images.{IsImage}
@@ -64,3 +64,15 @@ pub listed : (v : Volume) (images : List (List ℕ)) → IsSound v
     → images ≡ images_of v.unit v.first v.history → AreTheImages v.unit v.first v.history images
 listed v images sound is =
     subst (λ all. AreTheImages v.unit v.first v.history all) (sym is) (are_the_images v.unit v.first v.history sound.unit sound.lawful)
+
+-- how many images a volume has, counted by its fields
+pub counted : (inside v : Volume) (first : List ℕ) (events kept : List Event) (n most : ℕ)
+    → IsSound v → inside ≡ v → first ≡ inside.first → events ≡ kept
+    → inside.history ≡ reverse kept
+    → n ≡ min (length (images_of inside.unit first (reverse events))) most
+    → (all : List (List ℕ)) × AreTheImages v.unit v.first v.history all × (n ≡ min (length all) most)
+counted inside v first events kept n most sound same bytes past turned is = (
+  images_of v.unit v.first v.history,
+  are_the_images v.unit v.first v.history sound.unit sound.lawful,
+  is ∙ ap (λ all. min (length all) most) (listed_seen inside v first events kept (images_of inside.unit first (reverse events)) same bytes past turned refl),
+)

@@ -1,10 +1,13 @@
 -- What a volume keeps when a write is folded.
-use Rattle.std.proofs.Common.{◌≡◌, ◌==◌, ◌↔◌, ◌+◌, ◌<◌, ◌≤◌, ◌-◌, ℕ, zero, suc, min, max, Bool, true, false, not, ◌&&◌, ◌||◌, cond, List, [], ◌∷◌, ◌++◌, ◌⊎◌, length, get_or, reverse, replicate, refl, sym, subst, ap, ◌∙◌, inl, inr, arith}
-use Rattle.std.specs.Prelude.{slice_index}
+use Rattle.std.proofs.Common.{◌≡◌, ◌==◌, ◌↔◌, ◌+◌, ◌<◌, ◌≤◌, ◌-◌, ℕ, zero, suc, min, max, Bool, true, false, not, ◌&&◌, ◌||◌, cond, List, [], ◌∷◌, ◌++◌, ◌⊎◌, length, get_or, take, reverse, replicate, refl, sym, subst, ap, ◌∙◌, inl, inr, arith}
+use Rattle.std.specs.Prelude.{slice_index, Result, Ok, Err, Option, None, Some, IfSome, IfNone}
+use Rattle.std.specs.declared.alloc.AllocError.{AllocError}
 use Rattle.std.specs.List.{list_any, filter}
-use Rattle.std.proofs.lemmas.Bool.{cases_Bool, both_ways, false_from_ne_true, cond-true, cond-false, cond_both, or_cases, or_left, or_right, and_from, and_parts, eqb-true, eqb-false, eq-eqb, ne_eqb, not-true, not_from_true, not_from_false, lt-ltb, ltb-true, leb-true, le-leb}
-use Rattle.std.proofs.lemmas.List.{reverse-append, append-nil, append_assoc}
+use Rattle.std.proofs.lemmas.Bool.{cases_Bool, both_ways, false_from_ne_true, cond-true, cond-false, cond_both, or_cases, or_from, or_left, or_right, and_from, and_parts, eqb-true, eqb-false, eq-eqb, ne_eqb, not-true, not_from_true, not_from_false, lt-ltb, ltb-true, leb-true, le-leb}
+use Rattle.std.proofs.lemmas.List.{reverse-append, append-nil, append_assoc, length-append, length-replicate}
 use Rattle.std.proofs.lemmas.List.Elements.{filter-append}
+use Rattle.std.proofs.lemmas.List.Folds.{list_any-append}
+use Rattle.uring_volume.proofs.Steps.{newest}
 use Rattle.uring_volume.specs.Writes.{Write}
 use Rattle.uring_volume.specs.declared.event.Event.{Event}
 use Rattle.uring_volume.specs.declared.event.Event.TheVariants.{WriteIssued, WriteEnded, SyncIssued, SyncEnded, SyncFailed}
@@ -12,7 +15,9 @@ use Rattle.uring_volume.specs.Events.{History, writes, has_ended, is_before, is_
 use Rattle.uring_volume.specs.Images.{IsIn, is_under, end_of, byte_over, IsImage}
 use Rattle.uring_volume.specs.Choices.{IsLawful, issued}
 use Rattle.uring_volume.specs.Volume.{Volume, but, is_one_of, running_writes, running_syncs, IsNumbered, IsSound, IsHeld}
-use Rattle.uring_volume.specs.Folds.{IsFoldable, IsOver, is_of_write, without_write, overlap, is_in_way, can_fold, IsFoldedFrom}
+use Rattle.uring_volume.specs.Folds.{IsFoldable, IsOver, is_of_write, without_write, overlap, is_in_way, can_fold, IsOneFolded, IsFoldedFrom}
+use Rattle.uring_volume.proofs.Painting.{below_or_from}
+use Rattle.uring_volume.proofs.Leaving.{padded}
 use Rattle.uring_volume.proofs.Fitting.{in_left, in_right, lacks}
 use Rattle.uring_volume.proofs.Chosen.{in_issued, of_issued, one_number}
 use Rattle.uring_volume.proofs.Numbers.{or_either, is_in_but, one_more}
@@ -199,15 +204,16 @@ runs_still (SyncFailed s ∷ earlier) n l is = runs_still earlier n l is
 
 ended_of : (n m : ℕ) (h : History) → has_ended (without_write n h) m ≡ true → has_ended h m ≡ true
 ended_of n m [] is = is
-ended_of n m (WriteIssued w ∷ earlier) =
-    cond_both (not (w.number == n)) (WriteIssued w ∷ without_write n earlier) (without_write n earlier) (λ g. has_ended g m ≡ true → has_ended earlier m ≡ true) (λ _ is. ended_of n m earlier is) (λ _ is. ended_of n m earlier is)
-ended_of n m (WriteEnded k ∷ earlier) =
+ended_of n m (WriteIssued w ∷ earlier) is =
+    cond_both (not (w.number == n)) (WriteIssued w ∷ without_write n earlier) (without_write n earlier) (λ g. has_ended g m ≡ true → has_ended earlier m ≡ true) (λ _ over. ended_of n m earlier over) (λ _ over. ended_of n m earlier over) is
+ended_of n m (WriteEnded k ∷ earlier) is =
     cond_both (not (k == n)) (WriteEnded k ∷ without_write n earlier) (without_write n earlier) (λ g. has_ended g m ≡ true → (k == m || has_ended earlier m) ≡ true)
-    (λ _ is. elim (or_cases (k == m) (has_ended (without_write n earlier) m) is) [
+    (λ _ over. elim (or_cases (k == m) (has_ended (without_write n earlier) m) over) [
       | inl same ↦ or_left (k == m) (has_ended earlier m) same
       | inr more ↦ or_right (k == m) (has_ended earlier m) (ended_of n m earlier more)
     ])
-    (λ _ is. or_right (k == m) (has_ended earlier m) (ended_of n m earlier is))
+    (λ _ over. or_right (k == m) (has_ended earlier m) (ended_of n m earlier over))
+    is
 ended_of n m (SyncIssued s range ∷ earlier) is = ended_of n m earlier is
 ended_of n m (SyncEnded s ∷ earlier) is = ended_of n m earlier is
 ended_of n m (SyncFailed s ∷ earlier) is = ended_of n m earlier is
@@ -217,12 +223,13 @@ not_ended n m h out = false_from_ne_true (has_ended (without_write n h) m) (λ i
 
 writes_of : (n : ℕ) (h : History) (x : Write) → IsIn x (writes (without_write n h)) → IsIn x (writes h)
 writes_of n [] x among = among
-writes_of n (WriteIssued w ∷ earlier) x =
+writes_of n (WriteIssued w ∷ earlier) x among =
     cond_both (not (w.number == n)) (WriteIssued w ∷ without_write n earlier) (without_write n earlier) (λ g. IsIn x (writes g) → IsIn x (w ∷ writes earlier))
-    (λ _ among. elim among [ inl same ↦ inl same | inr more ↦ inr (writes_of n earlier x more) ])
-    (λ _ among. inr (writes_of n earlier x among))
-writes_of n (WriteEnded k ∷ earlier) x =
-    cond_both (not (k == n)) (WriteEnded k ∷ without_write n earlier) (without_write n earlier) (λ g. IsIn x (writes g) → IsIn x (writes earlier)) (λ _ among. writes_of n earlier x among) (λ _ among. writes_of n earlier x among)
+    (λ _ is_in. elim is_in [ inl same ↦ inl same | inr more ↦ inr (writes_of n earlier x more) ])
+    (λ _ is_in. inr (writes_of n earlier x is_in))
+    among
+writes_of n (WriteEnded k ∷ earlier) x among =
+    cond_both (not (k == n)) (WriteEnded k ∷ without_write n earlier) (without_write n earlier) (λ g. IsIn x (writes g) → IsIn x (writes earlier)) (λ _ is_in. writes_of n earlier x is_in) (λ _ is_in. writes_of n earlier x is_in) among
 writes_of n (SyncIssued s range ∷ earlier) x among = writes_of n earlier x among
 writes_of n (SyncEnded s ∷ earlier) x among = writes_of n earlier x among
 writes_of n (SyncFailed s ∷ earlier) x among = writes_of n earlier x among
@@ -301,13 +308,13 @@ folded_one v w over sound f is = record {
   images = λ later now l. fold_changes_none v.unit v.first over later v.history w now sound.unit l f is;
   safe = λ later x l among. (same_later w.number later v.history).safe x ((but_later later v.history w l f.issued).of x among).1;
   lawful = λ later l. lawful_later later v.history w f.issued l;
-  writes = λ x among. writes_of w.number v.history x among;
+  none_new = λ x among. writes_of w.number v.history x among;
   gone = λ x among. elim (cases_Bool (x.number == w.number)) [
     | inl same ↦ inr (subst (λ y. is_safe v.history y ≡ true) (sym (one_number v.history x w sound.lawful among f.issued (eqb-true x.number w.number same))) f.safe)
     | inr out ↦ inl ((but_later [] v.history w sound.lawful f.issued).into x among (eqb-false x.number w.number out))
   ];
-  running_writes = running_same v w sound f;
-  running_syncs = syncs_without w.number v.history;
+  writes_run = running_same v w sound f;
+  syncs_run = syncs_without w.number v.history;
 }
 
 -- Several writes folded.
@@ -319,10 +326,10 @@ folded_none v = record {
   images = λ later now l. (λ i. i, λ i. i);
   safe = λ later w l among. refl;
   lawful = λ later l. l;
-  writes = λ w among. among;
+  none_new = λ w among. among;
   gone = λ w among. inl among;
-  running_writes = refl;
-  running_syncs = refl;
+  writes_run = refl;
+  syncs_run = refl;
 }
 
 kept_later : (later g h : History) → ((w : Write) → IsIn w (writes h) → IsIn w (writes g))
@@ -344,9 +351,9 @@ folded_more old mid new l a b = record {
       let two = b.images later now (a.lawful later law) in
       (λ i. two.0 (one.0 i), λ i. one.1 (two.1 i));
   safe = λ later w law among.
-      b.safe later w (a.lawful later law) among ∙ a.safe later w law (kept_later later mid.history new.history b.writes w among);
+      b.safe later w (a.lawful later law) among ∙ a.safe later w law (kept_later later mid.history new.history b.none_new w among);
   lawful = λ later law. b.lawful later (a.lawful later law);
-  writes = λ w among. a.writes w (b.writes w among);
+  none_new = λ w among. a.none_new w (b.none_new w among);
   gone = λ w among. elim (a.gone w among) [
     | inl still ↦ elim (b.gone w still) [
       | inl kept ↦ inl kept
@@ -354,8 +361,8 @@ folded_more old mid new l a b = record {
     ]
     | inr safe ↦ inr safe
   ];
-  running_writes = b.running_writes ∙ a.running_writes;
-  running_syncs = b.running_syncs ∙ a.running_syncs;
+  writes_run = b.writes_run ∙ a.writes_run;
+  syncs_run = b.syncs_run ∙ a.syncs_run;
 }
 -- Events in order, the oldest first.
 
@@ -399,3 +406,171 @@ issued_at (d ∷ es) zero e w within at is =
     subst (λ ws. IsIn w ws) (sym (issued_first d es)) (in_left w (issued (d ∷ [])) (issued (reverse es)) (subst (λ x. IsIn w (issued (x ∷ []))) (sym is ∙ at) (inl refl)))
 issued_at (d ∷ es) (suc i) e w within at is =
     subst (λ ws. IsIn w ws) (sym (issued_first d es)) (in_right w (issued (d ∷ [])) (issued (reverse es)) (issued_at es i e w (omega arith) at is))
+
+-- A write over the first bytes.
+
+pub over_empty : (first : List ℕ) (w : Write) → length w.bytes ≡ 0 → IsOver first w first
+over_empty first w none = record {
+  len =
+      let ends : end_of w ≡ 0 = cond-true (length w.bytes == 0) 0 (w.off + length w.bytes) (eq-eqb (length w.bytes) 0 none) in
+      omega arith;
+  bytes = λ k. sym (cond-false (is_under w k) (slice_index w.bytes (k - w.off)) (slice_index first k) (false_from_ne_true (is_under w k) (λ is.
+      let parts = and_parts _ _ is in
+      let from : w.off ≤ k = leb-true w.off k parts.0 in
+      let to : k < w.off + length w.bytes = ltb-true k (w.off + length w.bytes) parts.1 in
+      let empty : length w.bytes ≡ 0 = none in
+      omega arith)));
+}
+
+pub over_long : (first grown now : List ℕ) (w : Write) (len : ℕ) → (length w.bytes ≡ 0 → ⊥)
+    → len ≡ max (length first) (w.off + length w.bytes)
+    → grown ≡ first ++ replicate (len - length first) 0 → length now ≡ length grown
+    → ((k : ℕ) → 0 ≤ k → k < len → get_or now k 0 ≡ byte_over (get_or grown k 0) (w ∷ []) k)
+    → ((k : ℕ) → len ≤ k → get_or now k 0 ≡ get_or grown k 0)
+    → IsOver first w now
+over_long first grown now w len some long padding same within after =
+    let ends : end_of w ≡ w.off + length w.bytes = cond-false (length w.bytes == 0) 0 (w.off + length w.bytes) (ne_eqb (length w.bytes) 0 some) in
+    let size : length grown ≡ length first + (len - length first) = ap length padding ∙ length-append first (replicate (len - length first) 0) ∙ ap (λ n. length first + n) (length-replicate (len - length first) 0) in
+    let total : length now ≡ max (length first) (end_of w) = omega (arith, size, ends, long, same) in
+    record {
+      len = total;
+      bytes = λ k. elim (below_or_from k len) [
+        | inl below ↦
+            let zero_on : 0 ≤ k = omega arith in
+            within k zero_on below ∙ ap (λ b. byte_over b (w ∷ []) k) (ap (λ xs. get_or xs k 0) padding ∙ padded first (len - length first) k)
+        | inr past ↦
+            after k past ∙ ap (λ xs. get_or xs k 0) padding ∙ padded first (len - length first) k
+            ∙ sym (cond-false (is_under w k) (slice_index w.bytes (k - w.off)) (slice_index first k) (false_from_ne_true (is_under w k) (λ is.
+            let parts = and_parts _ _ is in
+            let to : k < w.off + length w.bytes = ltb-true k (w.off + length w.bytes) parts.1 in
+            omega arith)))
+      ];
+    }
+
+-- What a call that folds one write, or none, makes of a volume.
+
+abbrev is_true : Result Bool AllocError → Bool
+is_true (Ok b) = b
+is_true (Err e) = false
+
+filter_events_short : (p : Event → Bool) (es : List Event) → length (filter p es) ≤ length es
+filter_events_short p [] = omega arith
+filter_events_short p (e ∷ es) =
+    cond_both (p e) (e ∷ filter p es) (filter p es) (λ fs. length fs ≤ suc (length es)) (λ _. omega (arith, filter_events_short p es)) (λ _. omega (arith, filter_events_short p es))
+
+later_shorter : (p : Event → Bool) (e : Event) (es : List Event) → length (filter p es) < length es
+    → length (filter p (e ∷ es)) < length (e ∷ es)
+later_shorter p e es less =
+    cond_both (p e) (e ∷ filter p es) (filter p es) (λ fs. length fs < suc (length es)) (λ _. omega (arith, less)) (λ _. omega (arith, less))
+
+shorter_without : (h : History) (w : Write) → IsIn w (writes h)
+    → length (without_write w.number h) < length h
+shorter_without [] w among = absurd among
+shorter_without (WriteIssued v ∷ earlier) w (inl same) =
+    omega (arith, filter_events_short (λ e. not (is_of_write w.number e)) earlier, ap length (cond-false (not (v.number == w.number)) (WriteIssued v ∷ without_write w.number earlier) (without_write w.number earlier) (ap not (eq-eqb v.number w.number (ap (λ x. x.number) (sym same))))))
+shorter_without (WriteIssued v ∷ earlier) w (inr more) = later_shorter (λ e. not (is_of_write w.number e)) (WriteIssued v) earlier (shorter_without earlier w more)
+shorter_without (WriteEnded k ∷ earlier) w among = later_shorter (λ e. not (is_of_write w.number e)) (WriteEnded k) earlier (shorter_without earlier w among)
+shorter_without (SyncIssued s range ∷ earlier) w among = later_shorter (λ e. not (is_of_write w.number e)) (SyncIssued s range) earlier (shorter_without earlier w among)
+shorter_without (SyncEnded s ∷ earlier) w among = later_shorter (λ e. not (is_of_write w.number e)) (SyncEnded s) earlier (shorter_without earlier w among)
+shorter_without (SyncFailed s ∷ earlier) w among = later_shorter (λ e. not (is_of_write w.number e)) (SyncFailed s) earlier (shorter_without earlier w among)
+
+-- the same volume with these first bytes and this history
+abbrev pub made_of : List ℕ → History → Volume → Volume
+made_of first h v = record v { first = first; history = h }
+
+pub record IsResult (v : Volume) (r : Result Bool AllocError) (first : List ℕ) (h : History) : Type 0 where
+  pub folded : r ≡ Ok true → IsOneFolded v.first first v.history h
+  pub none : r ≡ Ok false → list_any (λ w. can_fold v.history w) (issued v.history) ≡ false
+  pub kept : (r ≡ Ok true → ⊥) → (first ≡ v.first) × (h ≡ v.history)
+
+same_made : (v : Volume) (first : List ℕ) (h : History) → first ≡ v.first → h ≡ v.history
+    → v ≡ made_of first h v
+same_made v first h f past = ap (λ xs. made_of xs v.history v) (sym f) ∙ ap (λ g. made_of first g v) (sym past)
+
+held_by : (v : Volume) (r : Result Bool AllocError) (first : List ℕ) (h : History)
+    (write_list sync_list : List ℕ) → IsHeld v write_list sync_list → IsResult v r first h
+    → IsHeld (made_of first h v) write_list sync_list × IsFoldedFrom v (made_of first h v)
+held_by v (Ok true) first h write_list sync_list held is =
+    let one = is.folded refl in
+    let f = foldable_by v.history one.write held.sound.lawful one.issued one.can in (
+      subst (λ g. IsHeld (made_of first g v) write_list sync_list) (sym one.without) (held_folded v one.write first write_list sync_list held f),
+      subst (λ g. IsFoldedFrom v (made_of first g v)) (sym one.without) (folded_one v one.write first held.sound f one.over),
+    )
+held_by v (Ok false) first h write_list sync_list held is =
+    let k = is.kept (λ e. both_ways false refl (ap is_true e)) in (
+      subst (λ x. IsHeld x write_list sync_list) (same_made v first h k.0 k.1) held,
+      subst (λ x. IsFoldedFrom v x) (same_made v first h k.0 k.1) (folded_none v),
+    )
+held_by v (Err e) first h write_list sync_list held is =
+    let k = is.kept (λ q. both_ways false refl (ap is_true q)) in (
+      subst (λ x. IsHeld x write_list sync_list) (same_made v first h k.0 k.1) held,
+      subst (λ x. IsFoldedFrom v x) (same_made v first h k.0 k.1) (folded_none v),
+    )
+
+pub held_result : (v : Volume) (r : Result Bool AllocError) (first : List ℕ) (h : History)
+    (write_list sync_list : List ℕ) → IsHeld v write_list sync_list → IsResult v r first h
+    → IsHeld (made_of first h v) write_list sync_list
+held_result v r first h write_list sync_list held is = (held_by v r first h write_list sync_list held is).0
+
+pub folded_result : (v : Volume) (r : Result Bool AllocError) (first : List ℕ) (h : History)
+    (write_list sync_list : List ℕ) → IsHeld v write_list sync_list → IsResult v r first h
+    → IsFoldedFrom v (made_of first h v)
+folded_result v r first h write_list sync_list held is = (held_by v r first h write_list sync_list held is).1
+
+pub fewer_result : (v : Volume) (r : Result Bool AllocError) (first : List ℕ) (h : History)
+    → IsResult v r first h → r ≡ Ok true → length h < length v.history
+fewer_result v r first h is more =
+    let one = is.folded more in
+    omega (arith, ap length one.without, shorter_without v.history one.write (of_issued v.history one.write one.issued))
+
+pub none_result : (v : Volume) (r : Result Bool AllocError) (first : List ℕ) (h : History)
+    → IsResult v r first h → r ≡ Ok false → (w : Write) → IsFoldable h w → ⊥
+none_result v r first h is none w foldable =
+    let k = is.kept (λ e. both_ways false refl (ap is_true (sym none ∙ e))) in
+    let f : IsFoldable v.history w = subst (λ g. IsFoldable g w) k.1 foldable in
+    both_ways (list_any (λ x. can_fold v.history x) (issued v.history)) (is.none none) (is_any (λ x. can_fold v.history x) w (issued v.history) (in_issued v.history w f.issued) (can_fold_it v.history w f))
+
+-- A search through events.
+
+pub only_one : (p : Write → Bool) (x : Write) → list_any p (x ∷ []) ≡ true → p x ≡ true
+only_one p x is = elim (or_cases (p x) false is) [
+  | inl here ↦ here
+  | inr none ↦ absurd (both_ways false refl none)
+]
+
+pub none_later : (p : Write → Bool) (es : List Event) (i : ℕ) (e : Event) → i < length es
+    → e ≡ get_or es i e → list_any p (issued (e ∷ [])) ≡ false
+    → list_any p (issued (reverse (take i es))) ≡ false
+    → list_any p (issued (reverse (take (i + 1) es))) ≡ false
+none_later p es i e within at out none =
+    ap (λ h. list_any p (issued h)) (newest es i e within ∙ ap (λ d. d ∷ reverse (take i es)) (sym at))
+    ∙ ap (list_any p) (issued_behind (e ∷ []) (reverse (take i es)))
+    ∙ list_any-append p (issued (reverse (take i es))) (issued (e ∷ []))
+    ∙ or_from (list_any p (issued (reverse (take i es)))) (list_any p (issued (e ∷ []))) none out
+
+pub some_event : (p : Write → Bool) (es : List Event) (i : ℕ) (e : Event) → i < length es
+    → e ≡ get_or es i e → list_any p (issued (e ∷ [])) ≡ true
+    → list_any p (issued (reverse es)) ≡ true
+some_event p [] i e within at is = absurd (omega arith)
+some_event p (d ∷ es) zero e within at is =
+    ap (list_any p) (issued_first d es)
+    ∙ list_any-append p (issued (d ∷ [])) (issued (reverse es))
+    ∙ or_left (list_any p (issued (d ∷ []))) (list_any p (issued (reverse es))) (subst (λ x. list_any p (issued (x ∷ [])) ≡ true) at is)
+some_event p (d ∷ es) (suc i) e within at is =
+    ap (list_any p) (issued_first d es)
+    ∙ list_any-append p (issued (d ∷ [])) (issued (reverse es))
+    ∙ or_right (list_any p (issued (d ∷ []))) (list_any p (issued (reverse es))) (some_event p es i e (omega arith) at is)
+
+pub some_so : {T : Type 0} (o : Option T) (P Q : T → Type 0) → ((x : T) → P x → Q x) → IfSome o P
+    → IfSome o Q
+some_so None P Q follows holds = tt
+some_so (Some x) P Q follows holds = follows x holds
+
+pub none_so : {T : Type 0} (o : Option T) (P Q : Type 0) → (P → Q) → IfNone o P → IfNone o Q
+none_so None P Q follows holds = follows holds
+none_so (Some x) P Q follows holds = tt
+
+-- no write of no events can be folded
+pub none_in_nothing : (h : History) (w : Write) → length h ≡ 0 → IsFoldable h w → ⊥
+none_in_nothing [] w none f = f.issued
+none_in_nothing (e ∷ earlier) w none f = let some : suc (length earlier) ≡ 0 = none in omega arith

@@ -55,11 +55,11 @@ abbrev pub can_fold : History → Write → Bool
 can_fold h w = is_safe h w && not (list_any (λ m. is_in_way h w m) (issued h))
 
 -- What becomes of a file's first bytes and of what happened to it when one write is folded.
-pub record IsOneFolded (first over : List ℕ) (h now : History) : Type 0 where
+pub record IsOneFolded (first made : List ℕ) (h now : History) : Type 0 where
   pub write : Write
   pub issued : IsIn write (issued h)
   pub can : can_fold h write ≡ true
-  pub over : IsOver first write over
+  pub over : IsOver first write made
   pub without : now ≡ without_write write.number h
 
 -- A volume after some of its writes were folded: nothing that a caller can learn of it changes, but that those writes are gone.
@@ -76,9 +76,9 @@ pub record IsFoldedFrom (old new : Volume) : Type 0 where
       → is_safe (later ++ new.history) w ≡ is_safe (later ++ old.history) w
   pub lawful : (later : History) → IsLawful (later ++ old.history) → IsLawful (later ++ new.history)
   -- no write has come, and each that is gone was safe
-  pub writes : (w : Write) → IsIn w (writes new.history) → IsIn w (writes old.history)
+  pub none_new : (w : Write) → IsIn w (writes new.history) → IsIn w (writes old.history)
   pub gone : (w : Write) → IsIn w (writes old.history)
       → IsIn w (writes new.history) ⊎ (is_safe old.history w ≡ true)
   -- the same writes and syncs run
-  pub running_writes : running_writes new.history ≡ running_writes old.history
-  pub running_syncs : running_syncs new.history ≡ running_syncs old.history
+  pub writes_run : running_writes new.history ≡ running_writes old.history
+  pub syncs_run : running_syncs new.history ≡ running_syncs old.history
