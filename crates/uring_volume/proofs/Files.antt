@@ -139,7 +139,7 @@ map_once : (b : List ℕ) (es : List (List ℕ)) → IsEachOnce es → IsEachOnc
 map_once b [] once = tt
 map_once b (e ∷ es) once = (
   λ among. let found = of_map (λ x. b ++ x) (b ++ e) es among in
-  once.0 (subst (λ x. IsIn x es) (sym (sym (drop-append_seam b e) ∙ ap (drop (length b)) found.2 ∙ drop-append_seam b found.0)) found.1),
+      once.0 (subst (λ x. IsIn x es) (sym (sym (drop-append_seam b e) ∙ ap (drop (length b)) found.2 ∙ drop-append_seam b found.0)) found.1),
   map_once b es once.1,
 )
 

@@ -364,6 +364,7 @@ folded_more old mid new l a b = record {
   writes_run = b.writes_run ∙ a.writes_run;
   syncs_run = b.syncs_run ∙ a.syncs_run;
 }
+
 -- Events in order, the oldest first.
 
 pub reverse_filter : (p : Event → Bool) (es : List Event) → reverse (filter p es) ≡ filter p (reverse es)

@@ -222,9 +222,7 @@ fn next_ways<'a, M: Memory>(
 {
     let mut next = Vec::new(alloc);
     for way in ways {
-        put_steps(
-            memory, alloc, events, from, &way.rest, &way.now, &mut next,
-        )?;
+        put_steps(memory, alloc, events, from, &way.rest, &way.now, &mut next)?;
     }
     Ok(next)
 }
