@@ -27,7 +27,7 @@
  *   -9  (EBADF)   the place is empty. Returned by every function of a place but `new`, and only then.
  *   -22 (EINVAL)  from `step`: the words give no step. From `new`: a number of the set-up is out of its range, and
  *                 wulgach_setup_fault says which; of a volume, the unit is 0. From `begin_..`: no number is left.
- *   -12 (ENOMEM)  from `new`, and from `begin_..`, `contents` and `crash` of a volume: memory was refused.
+ *   -12 (ENOMEM)  from `new`, and from `begin_..`, `contents`, `crash`, `count_images`, `images` and `fold` of a volume: memory was refused.
  *   -27 (EFBIG)   from `begin_write`: the write would end above 2^63 - 1.
  *   -2  (ENOENT)  from a function that reads: there is no such completion, request, file or byte. From `end_..` and `fail_..`
  *                 of a volume: no write or sync of this number runs.
@@ -333,7 +333,7 @@ int32_t wulgach_machine_byte(struct wulgach_machine *machine, int32_t fd, uint64
  * lies over one that began after it had ended. A unit of 1 promises least; no manual promises more. docs/CRASHES.md has the whole rule.
  *
  * Memory is asked for where a write or a sync begins, and when bytes are read; to end one takes none. A volume keeps all its
- * writes until it is freed. */
+ * writes until `fold` gives some of them back. */
 
 /* Puts a new volume into a place, empty or not: a volume that was there is freed. Its units have so many bytes, and it begins
  * with these bytes, which are safe. -22 exactly if unit is 0, -12 if memory was refused; the place then keeps what it had. */
@@ -368,6 +368,19 @@ int32_t wulgach_volume_contents(struct wulgach_volume *volume, uint8_t *bytes, s
  * later one for a unit, in their order. The numbers of a part name the writes that are left, one over the other; one that may
  * not come next is passed over. After them follow the other writes, up to the last safe one. Every image that a crash may leave is left by some choice. */
 int32_t wulgach_volume_crash(struct wulgach_volume *volume, const uint64_t *choice, size_t count, uint8_t *bytes, size_t room, uint64_t *len);
+
+/* Writes how many images there are: how many different files a crash may leave; UINT64_MAX if there are as many or more. */
+int32_t wulgach_volume_count_images(struct wulgach_volume *volume, uint64_t *count);
+
+/* Writes the images, each once: their bytes one behind another, as many as there is room for, and the length of each. *count is how
+ * many images there are, and *total how many bytes. -27 if there are more images than lens has room for; then nothing is written. */
+int32_t wulgach_volume_images(struct wulgach_volume *volume, uint8_t *bytes, size_t room, uint64_t *lens, size_t most, uint64_t *count, uint64_t *total);
+
+/* Gives memory back: a write becomes part of the first bytes, and is forgotten, if it is safe, no other one had ended when it began,
+ * and it had ended when each other one of its bytes began. What a crash may leave stays as it was, whatever happens later. A write
+ * that is forgotten was safe, but `is_safe` doesn't know its number any more, so ask before. -12 if memory was refused: then some
+ * of this may be left for another call. */
+int32_t wulgach_volume_fold(struct wulgach_volume *volume);
 
 /* Frees the volume, and leaves the place empty. */
 int32_t wulgach_volume_free(struct wulgach_volume *volume);

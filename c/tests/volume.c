@@ -134,6 +134,44 @@ static void failures_and_ranges(void)
     check(wulgach_volume_free(&volume) == 0, "free");
 }
 
+/* How many images there are, and which: each once. */
+static void all_images(void)
+{
+    struct wulgach_volume volume = made(1, "..");
+    uint64_t count = 0, total = 0, lens[6] = {0};
+    uint8_t bytes[16];
+    written(&volume, 0, "ab");
+    written(&volume, 1, "cd");
+    check(wulgach_volume_count_images(&volume, &count) == 0 && count == 18, "how many images");
+    check(wulgach_volume_images(&volume, bytes, sizeof bytes, lens, 6, &count, &total) == -27 && count == 18 && total == 0, "more images than there is room for");
+    check(wulgach_volume_end_write(&volume, 1) == 0 && wulgach_volume_end_write(&volume, 2) == 0, "end");
+    uint64_t s = synced(&volume);
+    check(wulgach_volume_end_sync(&volume, s) == 0, "sync");
+    check(wulgach_volume_images(&volume, bytes, sizeof bytes, lens, 6, &count, &total) == 0 && count == 2 && total == 6 && lens[0] == 3 && lens[1] == 3, "the images");
+    check((memcmp(bytes, "abdacd", 6) == 0) != (memcmp(bytes, "acdabd", 6) == 0), "two writes that ran at once lie in either order");
+    uint8_t two[2] = {0};
+    check(wulgach_volume_images(&volume, two, 2, lens, 6, &count, &total) == 0 && total == 6 && memcmp(two, bytes, 2) == 0, "room for two bytes");
+    check(wulgach_volume_free(&volume) == 0, "free");
+}
+
+/* What is safe and lies under all others is forgotten, and nothing else changes. */
+static void folded(void)
+{
+    struct wulgach_volume volume = made(1, "....");
+    uint64_t a = written(&volume, 0, "aa");
+    check(wulgach_volume_end_write(&volume, a) == 0, "end");
+    uint64_t b = written(&volume, 1, "bb"), s = synced(&volume), count = 0, none = 0;
+    check(wulgach_volume_end_sync(&volume, s) == 0 && is_safe(&volume, a) && !is_safe(&volume, b), "a sync");
+    check(wulgach_volume_fold(&volume) == 0 && !is_safe(&volume, a) && shows(&volume, "aa.."), "fold");
+    check(wulgach_volume_count_images(&volume, &count) == 0 && count == 4, "as many images as before");
+    check(LEAVES(&volume, "aa..", 0) && LEAVES(&volume, "ab..", 0, 0, 2), "what crashes leave");
+    check(wulgach_volume_end_write(&volume, b) == 0 && shows(&volume, "abb."), "a running write ends");
+    s = synced(&volume);
+    check(wulgach_volume_end_sync(&volume, s) == 0 && is_safe(&volume, b) && wulgach_volume_fold(&volume) == 0, "fold the rest");
+    check(wulgach_volume_crash(&volume, &none, 0, &(uint8_t){0}, 0, &count) == 0 && count == 4 && LEAVES(&volume, "abb.", 0), "all of it is left");
+    check(wulgach_volume_free(&volume) == 0, "free");
+}
+
 /* Room for fewer bytes than there are: those are written, and nothing behind them. */
 static void little_room(void)
 {
@@ -174,6 +212,8 @@ static void empty_places(void)
     check(wulgach_volume_is_safe(&volume, 1, &safe) == -9, "is_safe of an empty place");
     check(wulgach_volume_contents(&volume, &byte, 1, &number) == -9, "contents of an empty place");
     check(wulgach_volume_crash(&volume, &choice, 1, &byte, 1, &number) == -9, "crash of an empty place");
+    check(wulgach_volume_count_images(&volume, &number) == -9 && wulgach_volume_fold(&volume) == -9, "images and folds of an empty place");
+    check(wulgach_volume_images(&volume, &byte, 1, &number, 1, &choice, &choice) == -9 && choice == 1, "the images of an empty place");
     check(wulgach_volume_free(&volume) == -9, "free of an empty place");
     check(number == 99 && byte == 99 && safe, "a refusal writes");
 }
@@ -195,10 +235,10 @@ static void limits(void)
 static void refused_memory(void)
 {
     struct wulgach_volume volume = made(1, "ab");
-    for (int call = 0; call < 6; call++) {
+    for (int call = 0; call < 8; call++) {
         long refusals = 0;
         for (;; refusals++) {
-            uint64_t number = 99, choice = 1;
+            uint64_t number = 99, total = 99, choice = 1, lens[64] = {0};
             uint8_t bytes[4] = {'.', '.', '.', '.'};
             int32_t result = 1;
             served = refusals;
@@ -218,6 +258,12 @@ static void refused_memory(void)
             case 4:
                 result = wulgach_volume_crash(&volume, &choice, 1, bytes, 4, &number);
                 break;
+            case 5:
+                result = wulgach_volume_count_images(&volume, &number);
+                break;
+            case 6:
+                result = wulgach_volume_images(&volume, bytes, 4, lens, 64, &number, &total);
+                break;
             default:
                 result = wulgach_volume_begin_range_sync(&volume, 0, 1, &number);
             }
@@ -228,7 +274,7 @@ static void refused_memory(void)
                 break;
             check(number == 99 && memcmp(bytes, "....", 4) == 0 && shows(&volume, "ab"), "a refusal changes nothing");
         }
-        check(call == 2 || call == 5 || refusals > 0, "the call takes memory");
+        check(call == 2 || call == 7 || refusals > 0, "the call takes memory");
     }
     check(wulgach_volume_end_write(&volume, 1) == 0 && wulgach_volume_end_sync(&volume, 2) == 0 && shows(&volume, "cd"), "ends take no memory");
     check(wulgach_volume_free(&volume) == 0 && wulgach_volume_free(&volume) == -9, "a second free");
@@ -239,6 +285,8 @@ int main(void)
     covered();
     units();
     failures_and_ranges();
+    all_images();
+    folded();
     little_room();
     seeds();
     empty_places();

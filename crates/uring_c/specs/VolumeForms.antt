@@ -1,7 +1,8 @@
 -- What a call on a volume writes for C.
-use Rattle.std.specs.Prelude.{◌≡◌, ℕ, ◌<◌, ◌≤◌, List, length, slice_index}
+use Rattle.std.specs.Prelude.{◌≡◌, ℕ, ◌<◌, ◌≤◌, ◌-◌, ◌^◌, min, List, [], ◌∷◌, ◌++◌, map, length, slice_index}
 use Rattle.uring_volume.specs.Images.{IsImage}
 use Rattle.uring_volume.specs.Choices.{IsLeftBy}
+use Rattle.uring_volume.specs.Listing.{AreTheImages}
 use Rattle.uring_volume.specs.Volume.{Volume, IsShown}
 
 -- Room for bytes holds as many of these as it has room for, and what was there behind them; and their number is told.
@@ -22,3 +23,27 @@ pub record TellsCrash (v : Volume) (choice old new : List ℕ) (len : ℕ) : Typ
   pub left : IsLeftBy v.unit v.first v.history choice now
   pub image : IsImage v.unit v.first v.history now
   pub given : IsGiven now old new len
+
+-- how many images a volume has was told, or 2^64 - 1 if there are more
+pub record TellsCount (v : Volume) (count : ℕ) : Type 0 where
+  pub all : List (List ℕ)
+  pub images : AreTheImages v.unit v.first v.history all
+  pub told : count ≡ min (length all) (2 ^ 64 - 1)
+
+-- lists of bytes, one behind another
+abbrev pub laid_out : List (List ℕ) → List ℕ
+laid_out [] = []
+laid_out (bytes ∷ more) = bytes ++ laid_out more
+
+-- the images of a volume were given, one behind another, and the length of each
+pub record TellsImages (v : Volume) (old new lens_old lens_new : List ℕ) (count total : ℕ) : Type 0 where
+  pub all : List (List ℕ)
+  pub images : AreTheImages v.unit v.first v.history all
+  pub lens : IsGiven (map (λ bytes. length bytes) all) lens_old lens_new count
+  pub bytes : IsGiven (laid_out all) old new total
+
+-- there are more images of a volume than so many
+pub record HasMore (v : Volume) (most : ℕ) : Type 0 where
+  pub all : List (List ℕ)
+  pub images : AreTheImages v.unit v.first v.history all
+  pub more : most < length all

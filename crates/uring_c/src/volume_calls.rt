@@ -1,17 +1,22 @@
 //! The calls of a volume, made on the volume in a place. Each takes the volume out, and puts it back; its box doesn't move.
-ghost use Rattle.std.specs.Prelude.{◌≡◌, ◌↔◌, ℕ, ◌+◌, ◌<◌, ◌≤◌, ◌^◌, [], Some, IsSome, IfOk, IsOk, IfErr, OnErr, IsSomeAnd, Err, length, if◌then◌else◌};
+ghost use Rattle.std.specs.Prelude.{◌≡◌, ◌↔◌, ℕ, ◌+◌, ◌<◌, ◌≤◌, ◌^◌, [], Some, IsSome, IfOk, IsOk, IfErr, OnOk, OnErr, IsSomeAnd, map, Err, length, if◌then◌else◌};
 ghost use Rattle.uring_volume.specs.Images.{IsImage};
 ghost use Rattle.uring_volume.specs.Choices.{issued, named, has_safe, IsLeftBy};
 ghost use Rattle.uring_volume.specs.Volume.{with_event, with_write, with_sync, is_one_of, running_writes, running_syncs, IsShown, elements_to_begin};
 ghost use Rattle.uring_volume.specs.declared.event.Event.TheVariants.{WriteEnded, SyncEnded, SyncFailed};
 ghost use Rattle.uring_volume.specs.declared.volume.BeginError.TheVariants.{OutOfNumbers};
+ghost use Rattle.uring_volume.specs.Writes.{Write};
+ghost use Rattle.uring_volume.specs.Listing.{AreTheImages};
+ghost use Rattle.uring_volume.specs.Folds.{IsFoldable, IsFoldedFrom};
+ghost use Rattle.uring_volume.specs.declared.volume.ImagesError.TheVariants.{TooMany};
 ghost use Rattle.uring_c.specs.Places.{volume_in};
+ghost use Rattle.uring_c.specs.VolumeForms.{TellsCount, HasMore};
 
 use crate::box_memory::BoxMemory;
 use crate::volume_place::VolumePlace;
 use std::alloc::{AllocError, Global};
 use uring_memory::Memory;
-use uring_volume::{BeginError, SyncRange, Volume};
+use uring_volume::{BeginError, ImagesError, SyncRange, Volume};
 
 /// A new volume, in a box, by this memory. `AllocError`: out of memory. It doesn't come if the memory grants as many elements as there are bytes, and the box.
 pub(crate) fn new_volume<M: BoxMemory>(
@@ -199,5 +204,62 @@ impl VolumePlace {
         let now = volume.crash_in(memory, alloc, choice);
         self.put(volume);
         now
+    }
+
+    /// How many images there are, by this memory. `AllocError`: out of memory.
+    pub(crate) fn count_images_in<M: Memory>(
+        &mut self,
+        memory: &M,
+        alloc: Global,
+    ) -> Result<u64, AllocError>
+        requires { IsSome (volume_in self.old) }
+        ensures kept { volume_in self.new ≡ volume_in self.old }
+        ensures count { IsSomeAnd (volume_in self.old) (λ v. IfOk result (λ count. TellsCount v count)) }
+        ensures granted { ((n : ℕ) → M.grants memory.now n) → IsOk result }
+    {
+        let Some(volume) = self.take(alloc) else {
+            unreachable!()
+        };
+        let count = volume.count_images_in(memory, alloc);
+        self.put(volume);
+        count
+    }
+
+    /// The images, by this memory, if there are no more than `most`.
+    pub(crate) fn images_in<M: Memory>(
+        &mut self,
+        memory: &M,
+        alloc: Global,
+        most: u32,
+    ) -> Result<Vec<Vec<u8>>, ImagesError>
+        requires { IsSome (volume_in self.old) }
+        ensures kept { volume_in self.new ≡ volume_in self.old }
+        ensures images { IsSomeAnd (volume_in self.old) (λ v. IfOk result
+            (λ images. AreTheImages v.unit v.first v.history (map (λ b. b.items) images.items))) }
+        ensures too_many { IsSomeAnd (volume_in self.old) (λ v. result ≡ Err TooMany → HasMore v most) }
+        ensures granted { ((n : ℕ) → M.grants memory.now n) → IfErr result (λ error. error ≡ TooMany) }
+    {
+        let Some(volume) = self.take(alloc) else {
+            unreachable!()
+        };
+        let images = volume.images_in(memory, alloc, most);
+        self.put(volume);
+        images
+    }
+
+    /// Folds what can be folded, by this memory. `AllocError`: out of memory, and some may be left.
+    pub(crate) fn fold_in<M: Memory>(&mut self, memory: &M, alloc: Global) -> Result<(), AllocError>
+        requires { IsSome (volume_in self.old) }
+        ensures folded { IsSomeAnd (volume_in self.old)
+            (λ v. IsSomeAnd (volume_in self.new) (λ now. IsFoldedFrom v now
+            × OnOk result ((w : Write) → IsFoldable now.history w → ⊥))) }
+        ensures granted { ((n : ℕ) → M.grants memory.now n) → IsOk result }
+    {
+        let Some(mut volume) = self.take(alloc) else {
+            unreachable!()
+        };
+        let folded = volume.fold_in(memory);
+        self.put(volume);
+        folded
     }
 }

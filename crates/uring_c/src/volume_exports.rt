@@ -1,17 +1,20 @@
 //! The calls of a volume that C makes: `wulgach_volume_..` of the header.
 //!
 //! Each returns 0, or the negative of an error number: -9 (EBADF) exactly at an empty place.
-ghost use Rattle.std.specs.Prelude.{◌≡◌, ◌↔◌, ◌+◌, ◌≤◌, ◌^◌, [], Some, None, IsSome, IfSome, IsSomeAnd, pos, neg_ℤ, true, length};
+ghost use Rattle.std.specs.Prelude.{◌≡◌, ◌↔◌, ◌+◌, ◌-◌, min, ◌≤◌, ◌^◌, [], Some, None, IsSome, IfSome, IsSomeAnd, pos, neg_ℤ, true, length};
 ghost use Rattle.uring_entry.specs.declared.errno.TheConstants.{EBADF, EFBIG, EINVAL, ENOENT, ENOMEM};
 ghost use Rattle.uring_volume.specs.Choices.{issued, named, has_safe};
 ghost use Rattle.uring_volume.specs.Volume.{with_event, with_write, with_sync, is_one_of, running_writes, running_syncs};
 ghost use Rattle.uring_volume.specs.declared.event.Event.TheVariants.{WriteEnded, SyncEnded, SyncFailed};
 ghost use Rattle.uring_volume.specs.declared.event.SyncRange.TheVariants.{Whole, Part};
 ghost use Rattle.uring_c.specs.Places.{volume_in};
-ghost use Rattle.uring_c.specs.VolumeForms.{TellsContents, TellsCrash};
+ghost use Rattle.uring_c.specs.VolumeForms.{TellsContents, TellsCrash, TellsCount, TellsImages, HasMore};
+ghost use Rattle.uring_volume.specs.Writes.{Write};
+ghost use Rattle.uring_volume.specs.Folds.{IsFoldable, IsFoldedFrom};
 
 use crate::volume_memory::{
-    volume_begin_sync_in, volume_begin_write_in, volume_contents_in, volume_crash_in, volume_new_in,
+    volume_begin_sync_in, volume_begin_write_in, volume_contents_in, volume_count_images_in,
+    volume_crash_in, volume_fold_in, volume_images_in, volume_new_in,
 };
 use crate::volume_place::VolumePlace;
 use std::alloc::Global;
@@ -242,6 +245,60 @@ pub extern "C" fn wulgach_volume_crash(
         (λ v. TellsCrash v choice.now bytes.old bytes.new len.new) }
 {
     volume_crash_in(&alloc, alloc, place, choice, bytes, len)
+}
+
+/// Writes how many images there are: how many different files a crash may leave; 2^64 - 1 if there are as many or more. The volume stays as it is. -12 (ENOMEM) if memory is refused. A refusal writes nothing.
+#[unsafe(no_mangle)]
+pub extern "C" fn wulgach_volume_count_images(
+    alloc: Global,
+    place: &mut VolumePlace,
+    count: &mut u64,
+) -> i32
+    ensures empty { (result ≡ neg_ℤ EBADF) ↔ (volume_in place.old ≡ None) }
+    ensures results { (result ≡ pos 0 → ⊥) → (result ≡ neg_ℤ EBADF → ⊥) → result ≡ neg_ℤ ENOMEM }
+    ensures kept { volume_in place.new ≡ volume_in place.old }
+    ensures refused { (result ≡ pos 0 → ⊥) → count.new ≡ count.old }
+    ensures told { result ≡ pos 0 → IsSomeAnd (volume_in place.old) (λ v. TellsCount v count.new) }
+{
+    volume_count_images_in(&alloc, alloc, place, count)
+}
+
+/// Writes the images, each once and one behind another, as much as there is room for; the length of each; how many there are, and how many bytes in all. -27 (EFBIG) only if there are more than lengths have room for (or than 2^32 - 1); -12 (ENOMEM) if memory is refused. A refusal writes nothing. The volume stays as it is.
+#[unsafe(no_mangle)]
+pub extern "C" fn wulgach_volume_images(
+    alloc: Global,
+    place: &mut VolumePlace,
+    bytes: &mut [u8],
+    lens: &mut [u64],
+    count: &mut u64,
+    total: &mut u64,
+) -> i32
+    ensures empty { (result ≡ neg_ℤ EBADF) ↔ (volume_in place.old ≡ None) }
+    ensures results { (result ≡ pos 0 → ⊥) → (result ≡ neg_ℤ EBADF → ⊥) → (result ≡ neg_ℤ EFBIG → ⊥)
+        → result ≡ neg_ℤ ENOMEM }
+    ensures kept { volume_in place.new ≡ volume_in place.old }
+    ensures refused { (result ≡ pos 0 → ⊥) → (bytes.new ≡ bytes.old) × (lens.new ≡ lens.old)
+        × (count.new ≡ count.old) × (total.new ≡ total.old) }
+    ensures too_many { result ≡ neg_ℤ EFBIG
+        → IsSomeAnd (volume_in place.old) (λ v. HasMore v (min (length lens.old) (2 ^ 32 - 1))) }
+    ensures told { result ≡ pos 0 → IsSomeAnd (volume_in place.old)
+        (λ v. TellsImages v bytes.old bytes.new lens.old lens.new count.new total.new) }
+{
+    volume_images_in(&alloc, alloc, place, bytes, lens, count, total)
+}
+
+/// Gives memory back: what is safe and lies under all later writes becomes part of the first bytes, and is forgotten. -12 (ENOMEM) if memory is refused; then some of it may be left. What a crash may leave stays as it was.
+#[unsafe(no_mangle)]
+pub extern "C" fn wulgach_volume_fold(alloc: Global, place: &mut VolumePlace) -> i32
+    ensures empty { (result ≡ neg_ℤ EBADF) ↔ (volume_in place.old ≡ None) }
+    ensures results { (result ≡ pos 0 → ⊥) → (result ≡ neg_ℤ EBADF → ⊥) → result ≡ neg_ℤ ENOMEM }
+    ensures refused { volume_in place.old ≡ None → volume_in place.new ≡ None }
+    ensures folded { IfSome (volume_in place.old)
+        (λ v. IsSomeAnd (volume_in place.new) (λ now. IsFoldedFrom v now)) }
+    ensures none_left { result ≡ pos 0
+        → IsSomeAnd (volume_in place.new) (λ now. (w : Write) → IsFoldable now.history w → ⊥) }
+{
+    volume_fold_in(&alloc, alloc, place)
 }
 
 /// Frees the volume of a place, which is empty from then on.

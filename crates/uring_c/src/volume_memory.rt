@@ -1,18 +1,24 @@
 //! The calls of a volume that ask for memory, by any memory. What C calls is each of these at the program's own allocator.
-ghost use Rattle.std.specs.Prelude.{◌≡◌, ◌↔◌, ℕ, ◌+◌, ◌≤◌, ◌^◌, [], Some, None, IsSome, IfSome, IfOk, IsSomeAnd, Err, pos, neg_ℤ, length};
+ghost use Rattle.std.specs.Prelude.{◌≡◌, ◌↔◌, ℕ, ◌+◌, ◌≤◌, ◌^◌, [], Some, None, IsSome, IfSome, IfOk, IsOk, IsSomeAnd, Err, pos, neg_ℤ, ◌-◌, min, map, length};
 ghost use Rattle.uring_entry.specs.declared.errno.TheConstants.{EBADF, EFBIG, EINVAL, ENOMEM};
 ghost use Rattle.uring_volume.specs.Volume.{with_write, with_sync, elements_to_begin};
 ghost use Rattle.uring_volume.specs.declared.volume.BeginError.TheVariants.{OutOfMemory, OutOfNumbers};
 ghost use Rattle.uring_c.specs.Places.{volume_in};
-ghost use Rattle.uring_c.specs.VolumeForms.{IsGiven, TellsContents, TellsCrash};
+ghost use Rattle.uring_c.specs.VolumeForms as spec;
+ghost use Rattle.uring_c.specs.VolumeForms.{IsGiven, TellsContents, TellsCrash, TellsCount, TellsImages, HasMore};
+ghost use Rattle.uring_volume.specs.Writes.{Write};
+ghost use Rattle.uring_volume.specs.Folds.{IsFoldable, IsFoldedFrom};
 
 use crate::box_memory::BoxMemory;
 use crate::volume_calls::{copied, new_volume};
 use crate::volume_place::VolumePlace;
-use std::alloc::Global;
+use std::alloc::{AllocError, Global};
 use uring_entry::errno;
 use uring_memory::Memory;
-use uring_volume::{BeginError, SyncRange};
+use uring_volume::{BeginError, ImagesError, SyncRange};
+
+/// The most images that are listed.
+const MOST_IMAGES: usize = 0xffff_ffff;
 
 /// The first offset at which no write ends.
 const LIMIT: u64 = 1 << 63;
@@ -192,5 +198,129 @@ pub fn volume_crash_in<M: Memory>(
         return -errno::ENOMEM;
     };
     *len = give(&now, bytes);
+    0
+}
+
+/// Gives C as many of these numbers as it has room for, and returns how many there are.
+fn give_numbers(now: &[u64], numbers: &mut [u64]) -> u64
+    ensures { IsGiven now.now numbers.old numbers.new result }
+{
+    let count = now.len().min(numbers.len());
+    for k in 0..count {
+        numbers[k] = now[k];
+    }
+    now.len() as u64
+}
+
+/// These lists of bytes one behind another.
+fn laid_out<M: Memory>(memory: &M, alloc: Global, lists: &[Vec<u8>]) -> Result<Vec<u8>, AllocError>
+    ensures bytes { IfOk result (λ all. all.items ≡ spec.laid_out (map (λ b. b.items) lists.now)) }
+    ensures granted { ((n : ℕ) → M.grants memory.now n) → IsOk result }
+{
+    let mut all = Vec::new(alloc);
+    for list in lists {
+        memory.reserve(&mut all, list.len())?;
+        all.extend_from_slice(list)?;
+    }
+    Ok(all)
+}
+
+/// The lengths of these lists of bytes.
+fn lengths<M: Memory>(memory: &M, alloc: Global, lists: &[Vec<u8>]) -> Result<Vec<u64>, AllocError>
+    ensures lengths { IfOk result (λ lengths. lengths.items
+        ≡ map (λ bytes. length bytes) (map (λ b. b.items) lists.now)) }
+    ensures granted { ((n : ℕ) → M.grants memory.now n) → IsOk result }
+{
+    let mut lengths = Vec::new(alloc);
+    for list in lists {
+        memory.reserve(&mut lengths, 1)?;
+        lengths.push(list.len() as u64)?;
+    }
+    Ok(lengths)
+}
+
+/// What `wulgach_volume_count_images` does, by this memory. If it grants whatever is asked for, -12 isn't returned.
+pub fn volume_count_images_in<M: Memory>(
+    memory: &M,
+    alloc: Global,
+    place: &mut VolumePlace,
+    count: &mut u64,
+) -> i32
+    ensures empty { (result ≡ neg_ℤ EBADF) ↔ (volume_in place.old ≡ None) }
+    ensures results { (result ≡ pos 0 → ⊥) → (result ≡ neg_ℤ EBADF → ⊥) → result ≡ neg_ℤ ENOMEM }
+    ensures kept { volume_in place.new ≡ volume_in place.old }
+    ensures refused { (result ≡ pos 0 → ⊥) → count.new ≡ count.old }
+    ensures told { result ≡ pos 0 → IsSomeAnd (volume_in place.old) (λ v. TellsCount v count.new) }
+    ensures granted { ((n : ℕ) → M.grants memory.now n) → result ≡ neg_ℤ ENOMEM → ⊥ }
+{
+    if !place.is_full {
+        return -errno::EBADF;
+    }
+    let Ok(now) = place.count_images_in(memory, alloc) else {
+        return -errno::ENOMEM;
+    };
+    *count = now;
+    0
+}
+
+/// What `wulgach_volume_fold` does, by this memory. If it grants whatever is asked for, -12 isn't returned.
+pub fn volume_fold_in<M: Memory>(memory: &M, alloc: Global, place: &mut VolumePlace) -> i32
+    ensures empty { (result ≡ neg_ℤ EBADF) ↔ (volume_in place.old ≡ None) }
+    ensures results { (result ≡ pos 0 → ⊥) → (result ≡ neg_ℤ EBADF → ⊥) → result ≡ neg_ℤ ENOMEM }
+    ensures refused { volume_in place.old ≡ None → volume_in place.new ≡ None }
+    ensures folded { IfSome (volume_in place.old)
+        (λ v. IsSomeAnd (volume_in place.new) (λ now. IsFoldedFrom v now)) }
+    ensures none_left { result ≡ pos 0
+        → IsSomeAnd (volume_in place.new) (λ now. (w : Write) → IsFoldable now.history w → ⊥) }
+    ensures granted { ((n : ℕ) → M.grants memory.now n) → result ≡ neg_ℤ ENOMEM → ⊥ }
+{
+    if !place.is_full {
+        return -errno::EBADF;
+    }
+    match place.fold_in(memory, alloc) {
+        Ok(()) => 0,
+        Err(_) => -errno::ENOMEM,
+    }
+}
+
+/// What `wulgach_volume_images` does, by this memory. If it grants whatever is asked for, -12 isn't returned.
+pub fn volume_images_in<M: Memory>(
+    memory: &M,
+    alloc: Global,
+    place: &mut VolumePlace,
+    bytes: &mut [u8],
+    lens: &mut [u64],
+    count: &mut u64,
+    total: &mut u64,
+) -> i32
+    ensures empty { (result ≡ neg_ℤ EBADF) ↔ (volume_in place.old ≡ None) }
+    ensures results { (result ≡ pos 0 → ⊥) → (result ≡ neg_ℤ EBADF → ⊥) → (result ≡ neg_ℤ EFBIG → ⊥)
+        → result ≡ neg_ℤ ENOMEM }
+    ensures kept { volume_in place.new ≡ volume_in place.old }
+    ensures refused { (result ≡ pos 0 → ⊥) → (bytes.new ≡ bytes.old) × (lens.new ≡ lens.old)
+        × (count.new ≡ count.old) × (total.new ≡ total.old) }
+    ensures too_many { result ≡ neg_ℤ EFBIG
+        → IsSomeAnd (volume_in place.old) (λ v. HasMore v (min (length lens.old) (2 ^ 32 - 1))) }
+    ensures told { result ≡ pos 0 → IsSomeAnd (volume_in place.old)
+        (λ v. TellsImages v bytes.old bytes.new lens.old lens.new count.new total.new) }
+    ensures granted { ((n : ℕ) → M.grants memory.now n) → result ≡ neg_ℤ ENOMEM → ⊥ }
+{
+    if !place.is_full {
+        return -errno::EBADF;
+    }
+    let most = lens.len().min(MOST_IMAGES) as u32;
+    let images = match place.images_in(memory, alloc, most) {
+        Ok(images) => images,
+        Err(ImagesError::TooMany) => return -errno::EFBIG,
+        Err(ImagesError::OutOfMemory) => return -errno::ENOMEM,
+    };
+    let Ok(all) = laid_out(memory, alloc, &images) else {
+        return -errno::ENOMEM;
+    };
+    let Ok(long) = lengths(memory, alloc, &images) else {
+        return -errno::ENOMEM;
+    };
+    *count = give_numbers(&long, lens);
+    *total = give(&all, bytes);
     0
 }

@@ -15,14 +15,14 @@ use Rattle.uring_volume.proofs.Fitting.{in_left, in_right, in_either, append_in_
 
 -- The writes of a lawful history.
 
-in_issued : (h : History) (w : Write) → IsIn w (writes h) → IsIn w (issued h)
+pub in_issued : (h : History) (w : Write) → IsIn w (writes h) → IsIn w (issued h)
 in_issued [] w among = among
 in_issued (WriteIssued v ∷ earlier) w (inl same) = in_right w (issued earlier) (v ∷ []) (inl same)
 in_issued (WriteIssued v ∷ earlier) w (inr more) =
     in_left w (issued earlier) (v ∷ []) (in_issued earlier w more)
 in_issued (e ∷ earlier) w among = in_issued earlier w among
 
-of_issued : (h : History) (w : Write) → IsIn w (issued h) → IsIn w (writes h)
+pub of_issued : (h : History) (w : Write) → IsIn w (issued h) → IsIn w (writes h)
 of_issued [] w among = among
 of_issued (WriteIssued v ∷ earlier) w among = elim (in_either w (issued earlier) (v ∷ []) among) [
   | inl left ↦ inr (of_issued earlier w left)
@@ -31,7 +31,7 @@ of_issued (WriteIssued v ∷ earlier) w among = elim (in_either w (issued earlie
 of_issued (e ∷ earlier) w among = of_issued earlier w among
 
 -- an issue of another write doesn't change what is before a write
-issue_apart : (h : History) (v : Write) (m n : ℕ) → (n ≡ v.number → ⊥)
+pub issue_apart : (h : History) (v : Write) (m n : ℕ) → (n ≡ v.number → ⊥)
     → is_before h m n ≡ false → is_before (WriteIssued v ∷ h) m n ≡ false
 issue_apart h v m n differs none =
     or_from (v.number == n && has_ended h m) (is_before h m n) (and_left (v.number == n) (has_ended h m) (ne_eqb v.number n (λ e. differs (sym e)))) none
@@ -52,7 +52,7 @@ with_issue h v (w ∷ later) differ o =
     (λ m among. issue_apart h v m.number w.number (differ w (inl refl)) (o.0 m among), o.1, with_issue h v later (λ x among. differ x (inr among)) o.2)
 
 -- a write that hasn't ended is before none
-not_before : (h : History) (m n : ℕ) → has_ended h m ≡ false → is_before h m n ≡ false
+pub not_before : (h : History) (m n : ℕ) → has_ended h m ≡ false → is_before h m n ≡ false
 not_before [] m n open_yet = refl
 not_before (WriteIssued w ∷ earlier) m n open_yet =
     or_from (w.number == n && has_ended earlier m) (is_before earlier m n) (and_right (w.number == n) (has_ended earlier m) open_yet) (not_before earlier m n open_yet)
@@ -88,7 +88,7 @@ none_before_itself (WriteIssued v ∷ earlier) w l (inr more) =
     issue_apart earlier v w.number w.number (l.0 w more) (none_before_itself earlier w l.2 more)
 none_before_itself (e ∷ earlier) w l among = none_before_itself earlier w l among
 
-one_number : (h : History) (x y : Write) → IsLawful h → IsIn x (writes h) → IsIn y (writes h)
+pub one_number : (h : History) (x y : Write) → IsLawful h → IsIn x (writes h) → IsIn y (writes h)
     → x.number ≡ y.number → x ≡ y
 one_number [] x y l ax ay e = absurd ax
 one_number (WriteIssued v ∷ earlier) x y l (inl sx) (inl sy) e = sx ∙ sym sy
@@ -99,7 +99,7 @@ one_number (WriteIssued v ∷ earlier) x y l (inr mx) (inl sy) e =
 one_number (WriteIssued v ∷ earlier) x y l (inr mx) (inr my) e = one_number earlier x y l.2 mx my e
 one_number (f ∷ earlier) x y l ax ay e = one_number earlier x y l ax ay e
 
-issued_apart : (h : History) → IsLawful h → AreApart h (issued h)
+pub issued_apart : (h : History) → IsLawful h → AreApart h (issued h)
 issued_apart h l = record {
   in_order = issued_in_order h l;
   unique = λ x y ax ay. one_number h x y l (of_issued h x ax) (of_issued h y ay);
@@ -108,7 +108,7 @@ issued_apart h l = record {
 
 -- A place of the file.
 
-left_of_fit : (h : History) (touches : Write → Bool) (rest order : List Write)
+pub left_of_fit : (h : History) (touches : Write → Bool) (rest order : List Write)
     → ((w : Write) → IsIn w rest → IsIn w (writes h) × (touches w ≡ true))
     → ((w : Write) → IsIn w (writes h) → touches w ≡ true → IsIn w rest)
     → FitsIn h rest order → MayBeLeft h touches order
@@ -119,7 +119,7 @@ left_of_fit h touches rest order of into f = record {
   in_order = f.in_order;
 }
 
-fit_of_left : (h : History) (touches : Write → Bool) (rest order : List Write)
+pub fit_of_left : (h : History) (touches : Write → Bool) (rest order : List Write)
     → ((w : Write) → IsIn w rest → IsIn w (writes h) × (touches w ≡ true))
     → ((w : Write) → IsIn w (writes h) → touches w ≡ true → IsIn w rest)
     → MayBeLeft h touches order → FitsIn h rest order
@@ -130,16 +130,16 @@ fit_of_left h touches rest order of into l = record {
   in_order = l.in_order;
 }
 
-on_of : (h : History) (touches : Write → Bool) (w : Write) → IsIn w (filter touches (issued h))
+pub on_of : (h : History) (touches : Write → Bool) (w : Write) → IsIn w (filter touches (issued h))
     → IsIn w (writes h) × (touches w ≡ true)
 on_of h touches w among =
     (of_issued h w (of_filter touches w (issued h) among).0, (of_filter touches w (issued h) among).1)
 
-on_into : (h : History) (touches : Write → Bool) (w : Write) → IsIn w (writes h) → touches w ≡ true
+pub on_into : (h : History) (touches : Write → Bool) (w : Write) → IsIn w (writes h) → touches w ≡ true
     → IsIn w (filter touches (issued h))
 on_into h touches w among on = in_filter touches w (issued h) (in_issued h w among) on
 
-chosen_left : (h : History) (touches : Write → Bool) (choice : List ℕ) → IsLawful h
+pub chosen_left : (h : History) (touches : Write → Bool) (choice : List ℕ) → IsLawful h
     → MayBeLeft h touches (chosen h (filter touches (issued h)) choice)
 chosen_left h touches choice l =
     left_of_fit h touches (filter touches (issued h)) (chosen h (filter touches (issued h)) choice) (on_of h touches) (on_into h touches)

@@ -1,5 +1,5 @@
 -- What a crash of a sound volume leaves.
-use Rattle.std.proofs.Common.{◌≡◌, ◌↔◌, ◌<◌, ℕ, suc, List, length, reverse, sym, subst, ap, ◌∙◌, arith}
+use Rattle.std.proofs.Common.{◌≡◌, ◌↔◌, ◌<◌, ℕ, suc, min, List, length, reverse, refl, sym, subst, ap, ◌∙◌, arith}
 use Rattle.uring_volume.specs.Writes.{Write}
 use Rattle.uring_volume.specs.declared.event.Event.{Event}
 use Rattle.uring_volume.specs.Images.{IsImage}
@@ -9,6 +9,9 @@ use Rattle.uring_volume.specs.Volume.{Volume, IsSound}
 use Rattle.uring_volume.proofs.ReadBack.{read_back}
 use Rattle.uring_volume.proofs.Chosen.{chosen_is_image}
 use Rattle.uring_volume.proofs.Flat.{left_once, image_has_choice}
+use Rattle.uring_volume.specs.Listing.{AreTheImages}
+use Rattle.uring_volume.specs.Ways.{images_of}
+use Rattle.uring_volume.proofs.Files.{are_the_images}
 
 -- an image of a volume's fields, as one of the volume
 pub left_seen : (inside v : Volume) (first : List ℕ) (events kept : List Event) (choice now : List ℕ)
@@ -45,3 +48,31 @@ each_is_left v bound sound small now image =
     image_has_choice v.unit bound v.first v.history now (omega arith)
     (record { positive = sound.numbered.positive; below = λ w among. omega (arith, sound.numbered.issued w among) })
     sound.lawful image
+
+-- the list of a volume's fields, as one of the volume
+pub listed_seen : (inside v : Volume) (first : List ℕ) (events kept : List Event)
+    (images : List (List ℕ)) → inside ≡ v → first ≡ inside.first → events ≡ kept
+    → inside.history ≡ reverse kept → images ≡ images_of inside.unit first (reverse events)
+    → images ≡ images_of v.unit v.first v.history
+listed_seen inside v first events kept images same bytes past turned is =
+    is
+    ∙ ap (λ bs. images_of inside.unit bs (reverse events)) bytes
+    ∙ ap (λ h. images_of inside.unit inside.first h) (ap reverse past ∙ sym turned)
+    ∙ ap (λ x. images_of x.unit x.first x.history) same
+
+pub listed : (v : Volume) (images : List (List ℕ)) → IsSound v
+    → images ≡ images_of v.unit v.first v.history → AreTheImages v.unit v.first v.history images
+listed v images sound is =
+    subst (λ all. AreTheImages v.unit v.first v.history all) (sym is) (are_the_images v.unit v.first v.history sound.unit sound.lawful)
+
+-- how many images a volume has, counted by its fields
+pub counted : (inside v : Volume) (first : List ℕ) (events kept : List Event) (n most : ℕ)
+    → IsSound v → inside ≡ v → first ≡ inside.first → events ≡ kept
+    → inside.history ≡ reverse kept
+    → n ≡ min (length (images_of inside.unit first (reverse events))) most
+    → (all : List (List ℕ)) × AreTheImages v.unit v.first v.history all × (n ≡ min (length all) most)
+counted inside v first events kept n most sound same bytes past turned is = (
+  images_of v.unit v.first v.history,
+  are_the_images v.unit v.first v.history sound.unit sound.lawful,
+  is ∙ ap (λ all. min (length all) most) (listed_seen inside v first events kept (images_of inside.unit first (reverse events)) same bytes past turned refl),
+)

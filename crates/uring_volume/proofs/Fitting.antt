@@ -21,13 +21,13 @@ any_in p x (y ∷ ys) (inl same) is =
     or_left (p y) (list_any p ys) (subst (λ z. p z ≡ true) same is)
 any_in p x (y ∷ ys) (inr more) is = or_right (p y) (list_any p ys) (any_in p x ys more is)
 
-none_in : (p : Write → Bool) (xs : List Write) → ((x : Write) → IsIn x xs → p x ≡ false)
+pub none_in : (p : Write → Bool) (xs : List Write) → ((x : Write) → IsIn x xs → p x ≡ false)
     → list_any p xs ≡ false
 none_in p [] none = refl
 none_in p (y ∷ ys) none =
     or_from (p y) (list_any p ys) (none y (inl refl)) (none_in p ys (λ x among. none x (inr among)))
 
-not_in : (p : Write → Bool) (x : Write) (xs : List Write) → list_any p xs ≡ false → IsIn x xs
+pub not_in : (p : Write → Bool) (x : Write) (xs : List Write) → list_any p xs ≡ false → IsIn x xs
     → p x ≡ false
 not_in p x xs none among =
     false_from_ne_true (p x) (λ is. both_ways (list_any p xs) none (any_in p x xs among is))
@@ -111,13 +111,13 @@ safe_fits h (w ∷ later) o =
     ]
 
 -- whether a write has the number n
-abbrev has : ℕ → Write → Bool
+abbrev pub has : ℕ → Write → Bool
 has n w = w.number == n
 
-abbrev lacks : ℕ → Write → Bool
+abbrev pub lacks : ℕ → Write → Bool
 lacks n w = not (w.number == n)
 
-place_fits : (h : History) (n : ℕ) (rest order : List Write) → IsInOrder h rest
+pub place_fits : (h : History) (n : ℕ) (rest order : List Write) → IsInOrder h rest
     → waits_for_one h rest n ≡ false → FitsIn h (without n rest) order
     → FitsIn h rest (named n rest ++ order)
 place_fits h n rest order o free f =
@@ -175,7 +175,7 @@ filter_none p [] none = refl
 filter_none p (y ∷ ys) none =
     cond-false (p y) (y ∷ filter p ys) (filter p ys) (none y (inl refl)) ∙ filter_none p ys (λ x among. none x (inr among))
 
-named_is : (h : History) (w : Write) (rest : List Write) → AreApart h rest → IsIn w rest
+pub named_is : (h : History) (w : Write) (rest : List Write) → AreApart h rest → IsIn w rest
     → named w.number rest ≡ w ∷ []
 named_is h w [] a among = absurd among
 named_is h w (y ∷ ys) a (inl same) =
@@ -202,7 +202,7 @@ abbrev pub numbers : List Write → List ℕ
 numbers [] = []
 numbers (w ∷ later) = w.number ∷ numbers later
 
-first_is_free : (h : History) (rest : List Write) (w : Write) (more : List Write) → AreApart h rest
+pub first_is_free : (h : History) (rest : List Write) (w : Write) (more : List Write) → AreApart h rest
     → FitsIn h rest (w ∷ more) → waits_for_one h rest w.number ≡ false
 first_is_free h rest w more a f =
     none_in (λ y. is_before h y.number w.number) rest (λ m among. false_from_ne_true (is_before h m.number w.number) (λ before.
@@ -216,7 +216,7 @@ other : (w x : Write) (rest : List Write) → IsIn x (without w.number rest) →
 other w x rest among same =
     both_ways (has w.number x) (not-true (has w.number x) (of_filter (lacks w.number) x rest among).1) (eq-eqb x.number w.number (ap (λ z. z.number) same))
 
-rest_fits : (h : History) (rest : List Write) (w : Write) (more : List Write) → AreApart h rest
+pub rest_fits : (h : History) (rest : List Write) (w : Write) (more : List Write) → AreApart h rest
     → FitsIn h rest (w ∷ more) → FitsIn h (without w.number rest) more
 rest_fits h rest w more a f = record {
   within = λ x among. in_filter (lacks w.number) x rest (f.within x (inr among)) (not_from_false (has w.number x) (ne_eqb x.number w.number (λ e. f.in_order.1 (subst (λ z. IsIn z more) (a.unique x w (f.within x (inr among)) (f.within w (inl refl)) e) among))));

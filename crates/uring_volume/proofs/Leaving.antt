@@ -15,7 +15,7 @@ zeros (suc n) zero = refl
 zeros (suc n) (suc k) = zeros n k
 
 -- zeros behind a file change no byte of it
-padded : (xs : List ℕ) (n k : ℕ) → get_or (xs ++ replicate n 0) k 0 ≡ get_or xs k 0
+pub padded : (xs : List ℕ) (n k : ℕ) → get_or (xs ++ replicate n 0) k 0 ≡ get_or xs k 0
 padded [] n k = zeros n k
 padded (x ∷ xs) n zero = refl
 padded (x ∷ xs) n (suc k) = padded xs n k

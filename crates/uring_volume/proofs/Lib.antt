@@ -13,3 +13,11 @@ pub mod Leaving
 pub mod Numbers
 pub mod Results
 pub mod Crashing
+pub mod Puts
+pub mod Walking
+pub mod Lengths
+pub mod Files
+pub mod Seeking
+pub mod Folding
+pub mod Folded
+pub mod Counting

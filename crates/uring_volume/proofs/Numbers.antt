@@ -12,7 +12,7 @@ use Rattle.uring_volume.specs.Events.{History, writes, has_ended}
 use Rattle.uring_volume.specs.Images.{IsIn}
 use Rattle.uring_volume.specs.Volume.{Volume, but, is_one_of, running_writes, running_syncs, with_event, with_write, with_sync, IsNumbered, IsSound, IsHeld, elements_to_begin}
 
-or_either : (x y : Bool) → (x || y) ≡ true → (x ≡ true) ⊎ (y ≡ true)
+pub or_either : (x y : Bool) → (x || y) ≡ true → (x ≡ true) ⊎ (y ≡ true)
 or_either true y is = inl refl
 or_either false y is = inr is
 
@@ -47,7 +47,7 @@ but_is_shorter n (k ∷ ns) is = elim (cases_Bool (k == n)) [
       omega (arith, but_is_shorter n ns more, ap length (cond-true (not (k == n)) (k ∷ but n ns) (but n ns) (ap not other)))
 ]
 
-one_more : (n m : ℕ) (ns : List ℕ) → is_one_of m (ns ++ n ∷ []) ≡ true
+pub one_more : (n m : ℕ) (ns : List ℕ) → is_one_of m (ns ++ n ∷ []) ≡ true
     → (is_one_of m ns ≡ true) ⊎ (m ≡ n)
 one_more n m ns is =
     elim (or_either (is_one_of m ns) (is_one_of m (n ∷ [])) (sym (list_any-append (λ k. k == m) ns (n ∷ [])) ∙ is)) [

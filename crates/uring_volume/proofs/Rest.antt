@@ -83,7 +83,7 @@ same_byte h touches a b byte k rest la lb (inr found) =
     last_over h found.0 k byte a found.1.among la.in_order found.1.under before
     ∙ sym (last_over h found.0 k byte b (moves h touches a b rest la lb found.0 found.1.among) lb.in_order found.1.under (λ m among. before m (moves h touches b a rest lb la m among)))
 
-length_below : (len bound : ℕ) (order : List Write) → len ≤ bound
+pub length_below : (len bound : ℕ) (order : List Write) → len ≤ bound
     → ((w : Write) → IsIn w order → end_of w ≤ bound) → length_over len order ≤ bound
 length_below len bound [] low ends = low
 length_below len bound (w ∷ later) low ends =

@@ -5,6 +5,7 @@ ghost use Rattle.std.specs.List.{filter};
 ghost use Rattle.uring_volume.specs.Images as spec;
 ghost use Rattle.uring_volume.specs.Images.{byte_over, length_over};
 ghost use Rattle.uring_volume.specs.Choices.{issued, chosen, part, IsLeftBy};
+ghost use Rattle.uring_volume.specs.Ways.{units_in};
 
 use crate::event::{Event, Piece};
 use crate::growth::{grown, push};
@@ -49,7 +50,7 @@ fn is_on(piece: &Piece, unit: u64, i: u64) -> bool
 }
 
 /// Those of these writes that write a byte of unit `i`.
-fn pieces_on<'a, M: Memory>(
+pub fn pieces_on<'a, M: Memory>(
     memory: &M,
     alloc: Global,
     pieces: &[&'a Piece],
@@ -71,7 +72,7 @@ fn pieces_on<'a, M: Memory>(
 }
 
 /// Writes what a piece has of the bytes from `from` to `to` over them.
-fn write_over(now: &mut [u8], from: usize, to: usize, piece: &Piece)
+pub fn write_over(now: &mut [u8], from: usize, to: usize, piece: &Piece)
     requires { to ≤ length now.old }
     ensures within { (k : ℕ) → from ≤ k → k < to
         → slice_index now.new k ≡ byte_over (slice_index now.old k) (piece.now ∷ []) k }
@@ -129,8 +130,9 @@ fn leave_unit<M: Memory>(
 }
 
 /// How many units there are up to a length.
-fn count_units(len: u64, unit: u64) -> u64
+pub fn count_units(len: u64, unit: u64) -> u64
     requires { 0 < unit }
+    ensures value { result ≡ units_in unit len }
     ensures within { (i : ℕ) → i < result → unit * i < len }
     ensures all { (k : ℕ) → k < len → k / unit < result }
 {

@@ -4,6 +4,8 @@ ghost use Rattle.std.specs.Prelude.{ℕ};
 ghost use Rattle.uring_volume.specs.declared.event.SyncRange.{SyncRange};
 ghost use Rattle.uring_volume.specs.declared.event.Event.TheVariants.{WriteEnded, SyncIssued, SyncFailed};
 ghost use Rattle.uring_volume.specs.Laws.{SafeIsReadBack, SyncAddsNone, ChangesNone, FailedIsNeverSafe, SmallerUnitsAllowIt, RestHasOneImage, ChosenIsImage, ImageIsChosen};
+ghost use Rattle.uring_volume.specs.Listing.{ListsAreAsLong};
+ghost use Rattle.uring_volume.specs.Folds.{FoldChangesNone};
 
 /// A safe write is read back after each crash, if each other write that overlaps it had ended when it was issued.
 pub fn safe_is_read_back()
@@ -41,4 +43,14 @@ pub fn rest_has_one_image()
 pub fn choices_leave_the_images()
     ensures sound { ChosenIsImage }
     ensures complete { ImageIsChosen }
+{}
+
+/// Two lists of the images, each once, are as long: so many images there are.
+pub fn lists_are_as_long()
+    ensures { ListsAreAsLong }
+{}
+
+/// A write that is safe, that no other is before, and that is before each other write of a byte of it, can be folded into the first bytes: the same images may be left, whatever happens later.
+pub fn fold_changes_none()
+    ensures { FoldChangesNone }
 {}

@@ -3,13 +3,16 @@
 
 mod crash;
 mod event;
+mod fold;
 mod growth;
 pub mod laws;
+mod listing;
 mod order;
 mod show;
 mod standing;
 mod volume;
+mod ways;
 
 pub use event::{Event, Piece, SyncRange};
 pub use standing::{is_before, is_covered, is_reached, is_safe};
-pub use volume::{BeginError, Volume};
+pub use volume::{BeginError, ImagesError, Volume};

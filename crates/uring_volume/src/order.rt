@@ -28,7 +28,7 @@ pub fn issued_pieces<'a, M: Memory>(
 }
 
 /// Whether one of these writes is before write `n`.
-fn has_one_before(events: &[Event], rest: &[&Piece], n: u64) -> bool
+pub fn has_one_before(events: &[Event], rest: &[&Piece], n: u64) -> bool
     ensures { result ≡ waits_for_one (reverse events.now) (map (λ p. p.now) rest.now) n }
 {
     for piece in rest {

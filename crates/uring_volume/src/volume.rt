@@ -1,12 +1,14 @@
 //! A file whose writes a crash may lose: what happened to it, what reads show, and what a crash leaves.
 
-ghost use Rattle.std.specs.Prelude.{◌≡◌, ℕ, ◌↔◌, ◌+◌, ◌<◌, ◌≤◌, ◌^◌, [], ◌∷◌, ◌++◌, length, if◌then◌else◌, IfOk, OnOk, OnErr, IfErr, IsOk, true, Err, vec_len, vec_capacity, reverse};
+ghost use Rattle.std.specs.Prelude.{◌≡◌, ℕ, ◌↔◌, ◌+◌, ◌-◌, min, map, ◌<◌, ◌≤◌, ◌^◌, [], ◌∷◌, ◌++◌, length, if◌then◌else◌, IfOk, OnOk, OnErr, IfErr, IsOk, true, false, Ok, Err, vec_len, vec_capacity, reverse};
 ghost use Rattle.uring_volume.specs.Volume.{but, is_one_of};
 ghost use Rattle.uring_volume.specs.declared.event.Event.TheVariants.{WriteEnded, SyncEnded, SyncFailed};
 ghost use Rattle.uring_volume.specs.declared.volume.BeginError.TheVariants.{OutOfNumbers};
 
 use crate::crash::crash;
 use crate::event::{Event, Piece, SyncRange};
+use crate::fold::fold_first;
+use crate::listing::{count_images, list_images};
 use crate::show::shown;
 use crate::standing::is_number_safe;
 use std::alloc::{AllocError, Global};
@@ -47,6 +49,15 @@ pub enum BeginError {
     OutOfMemory,
     /// Each number up to 2^64 - 2 was given to a write or a sync.
     OutOfNumbers,
+}
+
+/// Why the images of a volume aren't listed.
+#[derive(Debug, Clone, Copy, PartialEq, Drop)]
+pub enum ImagesError {
+    /// Memory was refused.
+    OutOfMemory,
+    /// There are more than were asked for.
+    TooMany,
 }
 
 /// Puts an item behind the others, where there is room for it.
@@ -101,6 +112,9 @@ impl Volume {
     ghost use Rattle.uring_volume.specs.Images.{IsImage};
     ghost use Rattle.uring_volume.specs.Choices.{issued, named, has_safe, IsLeftBy, AreBelow};
     ghost use Rattle.uring_volume.specs.Laws.{IsKept, IsReadBack};
+    ghost use Rattle.uring_volume.specs.Listing.{AreTheImages};
+    ghost use Rattle.uring_volume.specs.Folds.{IsFoldable, IsFoldedFrom};
+    ghost use Rattle.uring_volume.specs.declared.volume.ImagesError.TheVariants.{TooMany};
 
     /// A file with units of so many bytes and these first bytes, of which each is safe.
     pub fn new(alloc: Global, unit: u64, first: Vec<u8>) -> Volume
@@ -299,5 +313,98 @@ impl Volume {
     {
         let _bound = self.next;
         crash(memory, alloc, self.unit, &self.first, &self.events, choice)
+    }
+
+    /// How many images there are: how many different files a crash may leave. 2^64 - 1 if there are as many or more. For each unit it follows the writes of it that no other is before, so it is quick where few of those run at once.
+    pub fn count_images(&self, alloc: Global) -> Result<u64, AllocError>
+        ensures { IfOk result (λ count. (all : List (List ℕ))
+            × AreTheImages self.now.unit self.now.first self.now.history all
+            × (count ≡ min (length all) (2 ^ 64 - 1))) }
+    {
+        self.count_images_in(&alloc, alloc)
+    }
+
+    /// As `count_images`, by this memory. If it grants whatever is asked for, there is no error.
+    pub fn count_images_in<M: Memory>(&self, memory: &M, alloc: Global) -> Result<u64, AllocError>
+        ensures count { IfOk result (λ count. (all : List (List ℕ))
+            × AreTheImages self.now.unit self.now.first self.now.history all
+            × (count ≡ min (length all) (2 ^ 64 - 1))) }
+        ensures granted { ((n : ℕ) → M.grants memory.now n) → IsOk result }
+    {
+        let _bound = self.next;
+        count_images(memory, alloc, self.unit, &self.first, &self.events)
+    }
+
+    /// The images, each once and nothing else, if there are no more than `most`. They are counted before any is made.
+    pub fn images(&self, alloc: Global, most: u32) -> Result<Vec<Vec<u8>>, ImagesError>
+        ensures images { IfOk result (λ images.
+            AreTheImages self.now.unit self.now.first self.now.history (map (λ b. b.items) images.items)) }
+        ensures within { IfOk result (λ images. length images.items ≤ most) }
+        ensures too_many { result ≡ Err TooMany → (all : List (List ℕ))
+            × AreTheImages self.now.unit self.now.first self.now.history all × (most < length all) }
+    {
+        self.images_in(&alloc, alloc, most)
+    }
+
+    /// As `images`, by this memory. If it grants whatever is asked for, there is no `OutOfMemory`.
+    pub fn images_in<M: Memory>(
+        &self,
+        memory: &M,
+        alloc: Global,
+        most: u32,
+    ) -> Result<Vec<Vec<u8>>, ImagesError>
+        ensures images { IfOk result (λ images.
+            AreTheImages self.now.unit self.now.first self.now.history (map (λ b. b.items) images.items)) }
+        ensures within { IfOk result (λ images. length images.items ≤ most) }
+        ensures too_many { result ≡ Err TooMany → (all : List (List ℕ))
+            × AreTheImages self.now.unit self.now.first self.now.history all × (most < length all) }
+        ensures granted { ((n : ℕ) → M.grants memory.now n) → IfErr result (λ error. error ≡ TooMany) }
+    {
+        let _bound = self.next;
+        let Ok(count) = count_images(memory, alloc, self.unit, &self.first, &self.events) else {
+            return Err(ImagesError::OutOfMemory);
+        };
+        if count > u64::from(most) {
+            return Err(ImagesError::TooMany);
+        }
+        match list_images(memory, alloc, self.unit, &self.first, &self.events) {
+            Ok(images) => Ok(images),
+            Err(_) => Err(ImagesError::OutOfMemory),
+        }
+    }
+
+    /// Folds one write, if one can be folded, and answers whether one could.
+    fn fold_one<M: Memory>(&mut self, memory: &M) -> Result<bool, AllocError>
+        ensures folded { IsFoldedFrom self.old self.new }
+        ensures fewer { result ≡ Ok true → length self.new.history < length self.old.history }
+        ensures none { result ≡ Ok false → (w : Write) → IsFoldable self.new.history w → ⊥ }
+        ensures granted { ((n : ℕ) → M.grants memory.now n) → IsOk result }
+    {
+        let _bound = self.next;
+        fold_first(memory, &mut self.first, &mut self.events)
+    }
+
+    /// Gives memory back: folds into the first bytes each write that is safe, that no other is before, and that is before each other write of a byte of it. What a crash may leave stays as it was, whatever happens later, and so does what reads show; the writes that are folded are safe, and have no number any more. Out of memory, some of them may be left. It looks at each pair of writes for each one that it folds.
+    pub fn fold(&mut self) -> Result<(), AllocError>
+        ensures folded { IsFoldedFrom self.old self.new }
+        ensures none_left { OnOk result ((w : Write) → IsFoldable self.new.history w → ⊥) }
+    {
+        let memory = *self.events.allocator();
+        self.fold_in(&memory)
+    }
+
+    /// As `fold`, by this memory. If it grants whatever is asked for, there is no error.
+    pub fn fold_in<M: Memory>(&mut self, memory: &M) -> Result<(), AllocError>
+        ensures folded { IsFoldedFrom self.old self.new }
+        ensures none_left { OnOk result ((w : Write) → IsFoldable self.new.history w → ⊥) }
+        ensures granted { ((n : ℕ) → M.grants memory.now n) → IsOk result }
+    {
+        let count = self.events.len();
+        for step in 0..count {
+            if !self.fold_one(memory)? {
+                return Ok(());
+            }
+        }
+        Ok(())
     }
 }

@@ -185,5 +185,16 @@ extern "C" {
         room: usize,
         len: *mut u64,
     ) -> i32;
+    pub fn wulgach_volume_count_images(volume: *mut Place, count: *mut u64) -> i32;
+    pub fn wulgach_volume_images(
+        volume: *mut Place,
+        bytes: *mut u8,
+        room: usize,
+        lens: *mut u64,
+        most: usize,
+        count: *mut u64,
+        total: *mut u64,
+    ) -> i32;
+    pub fn wulgach_volume_fold(volume: *mut Place) -> i32;
     pub fn wulgach_volume_free(volume: *mut Place) -> i32;
 }

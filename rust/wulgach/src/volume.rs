@@ -165,6 +165,88 @@ impl Volume {
         })
     }
 
+    /// How many images there are: how many different files a crash may leave. `u64::MAX` if there are as many or more.
+    pub fn count_images(&self) -> Result<u64, Error> {
+        let mut count = 0;
+        // SAFETY: as in `is_safe`.
+        done(unsafe { ffi::wulgach_volume_count_images(self.place.get(), &mut count) })?;
+        Ok(count)
+    }
+
+    /// The images, each once, or nothing if there are more than `most`.
+    ///
+    /// ```
+    /// # use wulgach::Volume;
+    /// # fn main() -> Result<(), wulgach::Error> {
+    /// let mut volume = Volume::new(1, b"..")?;
+    /// volume.begin_write(0, b"ab")?;
+    /// let mut images = volume.images(100)?.expect("few");
+    /// images.sort();
+    /// assert_eq!(images, [b"..", b".b", b"a.", b"ab"]);
+    /// assert_eq!(volume.count_images()?, 4);
+    /// assert_eq!(volume.images(3)?, None);
+    /// # Ok(())
+    /// # }
+    /// ```
+    pub fn images(&self, most: u32) -> Result<Option<Vec<Vec<u8>>>, Error> {
+        let found = self.count_images()?;
+        if found > u64::from(most) {
+            return Ok(None);
+        }
+        let (mut count, mut total) = (0, 0);
+        let mut lens = vec![0; usize::try_from(found).map_err(|_| Error::NoMemory)?];
+        let mut bytes = Vec::new();
+        loop {
+            // SAFETY: as in `is_safe`; the rooms are those of slices.
+            done(unsafe {
+                ffi::wulgach_volume_images(
+                    self.place.get(),
+                    bytes.as_mut_ptr(),
+                    bytes.len(),
+                    lens.as_mut_ptr(),
+                    lens.len(),
+                    &mut count,
+                    &mut total,
+                )
+            })?;
+            let total = usize::try_from(total).map_err(|_| Error::NoMemory)?;
+            if total <= bytes.len() {
+                break;
+            }
+            bytes.resize(total, 0);
+        }
+        let mut rest = bytes.as_slice();
+        Ok(Some(
+            lens.iter()
+                .map(|len| {
+                    let (image, behind) = rest.split_at(*len as usize);
+                    rest = behind;
+                    image.to_vec()
+                })
+                .collect(),
+        ))
+    }
+
+    /// Gives memory back: a write becomes part of the first bytes, and is forgotten, if it is safe, no other one had ended when it began, and it had ended when each other one of its bytes began. What a crash may leave stays as it was, whatever happens later. A write that is forgotten was safe, but `is_safe` doesn't know its number any more, so ask before.
+    ///
+    /// ```
+    /// # use wulgach::Volume;
+    /// # fn main() -> Result<(), wulgach::Error> {
+    /// let mut volume = Volume::new(1, b"....")?;
+    /// let write = volume.begin_write(0, b"ab")?;
+    /// volume.end_write(write);
+    /// let sync = volume.begin_sync()?;
+    /// volume.end_sync(sync);
+    /// volume.fold()?;
+    /// assert_eq!(volume.images(1)?, Some(vec![b"ab..".to_vec()]));
+    /// # Ok(())
+    /// # }
+    /// ```
+    pub fn fold(&mut self) -> Result<(), Error> {
+        // SAFETY: as in `begin_write`.
+        done(unsafe { ffi::wulgach_volume_fold(self.place.get_mut()) })
+    }
+
     /// A choice of `count` numbers up to `last`, the greatest that a write has, by a seed: the same each time for the same seed. One in four ends a part. It is that of `wulgach_volume_choose` of the header.
     pub fn choice(seed: u64, last: u64, count: usize) -> Vec<u64> {
         let mut seed = seed;

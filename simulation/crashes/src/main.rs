@@ -1,4 +1,4 @@
-//! Gives random histories of a file to the proved volume and to a model that was written apart from it, and compares: what calls return, what reads show, which writes are safe, and what crashes leave. Of small histories all images of the model are had from the volume, and whatever numbers leave is one of them.
+//! Gives random histories of a file to the proved volume and to a model that was written apart from it, and compares: what calls return, what reads show, which writes are safe, and what crashes leave. Of small histories all images of the model are had from the volume, whatever numbers leave is one of them, and the volume lists and counts the same ones, also after writes were folded.
 //!
 //!     crashes [FIRST_SEED [SEEDS]]
 //!
@@ -7,6 +7,7 @@
 mod model;
 
 use model::{End, File};
+use std::collections::BTreeMap;
 use std::process::ExitCode;
 use wulgach::Volume;
 
@@ -125,6 +126,37 @@ impl Pair {
         Ok(())
     }
 
+    /// Compares the volume's images, each once, and their number with the model's.
+    fn list(&self, images: &BTreeMap<Vec<u8>, Vec<u64>>) -> Result<(), Difference> {
+        self.same(
+            "how many images there are",
+            images.len() as u64,
+            self.volume.count_images().expect("memory"),
+        )?;
+        let mut listed = self
+            .volume
+            .images(images.len() as u32)
+            .expect("memory")
+            .unwrap_or_default();
+        listed.sort();
+        self.same("the images", images.keys().cloned().collect(), listed)
+    }
+
+    /// Folds what can be folded, and looks at reads and images again: the model forgets nothing.
+    fn fold(&mut self) -> Result<(), Difference> {
+        self.volume.fold().expect("memory");
+        self.done.push("a fold".to_string());
+        self.same(
+            "a read after a fold",
+            self.file.contents(),
+            self.volume.contents().expect("memory"),
+        )?;
+        match self.file.images(IMAGES) {
+            Some(images) => self.list(&images),
+            None => Ok(()),
+        }
+    }
+
     /// Has the volume leave what choices leave by the model, and if there are few images, each of them. Returns how many images were tried.
     fn crash(&self, rng: &mut Rng) -> Result<usize, Difference> {
         let images = self.file.images(IMAGES);
@@ -146,6 +178,7 @@ impl Pair {
             }
         }
         let Some(images) = images else { return Ok(0) };
+        self.list(&images)?;
         for (image, choice) in &images {
             let left = self.volume.crash(choice).expect("memory");
             self.same(&format!("an image, by {choice:?}"), image, &left)?;
@@ -170,6 +203,15 @@ fn play(seed: u64) -> Result<usize, Difference> {
         pair.look()?;
     }
     tried += pair.crash(&mut rng)?;
+    pair.fold()?;
+    for _ in 0..6 {
+        match rng.below(4) {
+            0 if pair.file.writes.len() < 6 => pair.write(&mut rng)?,
+            1 => pair.sync(&mut rng)?,
+            _ => pair.end(&mut rng)?,
+        }
+        pair.fold()?;
+    }
     Ok(tried)
 }
 

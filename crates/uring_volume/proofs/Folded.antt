@@ -1,0 +1,577 @@
+-- What a volume keeps when a write is folded.
+use Rattle.std.proofs.Common.{◌≡◌, ◌==◌, ◌↔◌, ◌+◌, ◌<◌, ◌≤◌, ◌-◌, ℕ, zero, suc, min, max, Bool, true, false, not, ◌&&◌, ◌||◌, cond, List, [], ◌∷◌, ◌++◌, ◌⊎◌, length, get_or, take, reverse, replicate, refl, sym, subst, ap, ◌∙◌, inl, inr, arith}
+use Rattle.std.specs.Prelude.{slice_index, Result, Ok, Err, Option, None, Some, IfSome, IfNone}
+use Rattle.std.specs.declared.alloc.AllocError.{AllocError}
+use Rattle.std.specs.List.{list_any, filter}
+use Rattle.std.proofs.lemmas.Bool.{cases_Bool, both_ways, false_from_ne_true, cond-true, cond-false, cond_both, or_cases, or_from, or_left, or_right, and_from, and_parts, eqb-true, eqb-false, eq-eqb, ne_eqb, not-true, not_from_true, not_from_false, lt-ltb, ltb-true, leb-true, le-leb}
+use Rattle.std.proofs.lemmas.List.{reverse-append, append-nil, append_assoc, length-append, length-replicate}
+use Rattle.std.proofs.lemmas.List.Elements.{filter-append}
+use Rattle.std.proofs.lemmas.List.Folds.{list_any-append}
+use Rattle.uring_volume.proofs.Steps.{newest}
+use Rattle.uring_volume.specs.Writes.{Write}
+use Rattle.uring_volume.specs.declared.event.Event.{Event}
+use Rattle.uring_volume.specs.declared.event.Event.TheVariants.{WriteIssued, WriteEnded, SyncIssued, SyncEnded, SyncFailed}
+use Rattle.uring_volume.specs.Events.{History, writes, has_ended, is_before, is_safe}
+use Rattle.uring_volume.specs.Images.{IsIn, is_under, end_of, byte_over, IsImage}
+use Rattle.uring_volume.specs.Choices.{IsLawful, issued}
+use Rattle.uring_volume.specs.Volume.{Volume, but, is_one_of, running_writes, running_syncs, IsNumbered, IsSound, IsHeld}
+use Rattle.uring_volume.specs.Folds.{IsFoldable, IsOver, is_of_write, without_write, overlap, is_in_way, can_fold, IsOneFolded, IsFoldedFrom}
+use Rattle.uring_volume.proofs.Painting.{below_or_from}
+use Rattle.uring_volume.proofs.Leaving.{padded}
+use Rattle.uring_volume.proofs.Fitting.{in_left, in_right, lacks}
+use Rattle.uring_volume.proofs.Chosen.{in_issued, of_issued, one_number}
+use Rattle.uring_volume.proofs.Numbers.{or_either, is_in_but, one_more}
+use Rattle.uring_volume.proofs.Puts.{any_is, is_any}
+use Rattle.uring_volume.proofs.Folding.{SameBut, same_later, WritesBut, but_later, in_later, safe_ended, fold_changes_none}
+
+-- The test tells what can be folded.
+
+both_under : (m w : Write) (k : ℕ) → is_under m k ≡ true → is_under w k ≡ true
+    → overlap m w ≡ true
+both_under m w k under_m under_w =
+    let a = and_parts _ _ under_m in
+    let b = and_parts _ _ under_w in
+    let m_from : m.off ≤ k = leb-true m.off k a.0 in
+    let m_to : k < m.off + length m.bytes = ltb-true k (m.off + length m.bytes) a.1 in
+    let w_from : w.off ≤ k = leb-true w.off k b.0 in
+    let w_to : k < w.off + length w.bytes = ltb-true k (w.off + length w.bytes) b.1 in
+    lt-ltb (max m.off w.off) (min (m.off + length m.bytes) (w.off + length w.bytes)) (omega arith)
+
+out_of_way : (h : History) (w m : Write) → not (list_any (λ x. is_in_way h w x) (issued h)) ≡ true
+    → IsIn m (writes h) → is_in_way h w m ≡ false
+out_of_way h w m none among =
+    false_from_ne_true (is_in_way h w m) (λ is. both_ways (list_any (λ x. is_in_way h w x) (issued h)) (not-true (list_any (λ x. is_in_way h w x) (issued h)) none) (is_any (λ x. is_in_way h w x) m (issued h) (in_issued h m among) is))
+
+pub foldable_by : (h : History) (w : Write) → IsLawful h → IsIn w (issued h)
+    → can_fold h w ≡ true → IsFoldable h w
+foldable_by h w l among can =
+    let parts = and_parts (is_safe h w) (not (list_any (λ m. is_in_way h w m) (issued h))) can in
+    record {
+      issued = of_issued h w among;
+      safe = parts.0;
+      oldest = λ m is_in. false_from_ne_true (is_before h m.number w.number) (λ before. both_ways (is_in_way h w m) (out_of_way h w m parts.1 is_in) (or_left (is_before h m.number w.number) (not (m.number == w.number) && (overlap m w && not (is_before h w.number m.number))) before));
+      lowest = λ m k is_in other under_m under_w. elim (cases_Bool (is_before h w.number m.number)) [
+        | inl before ↦ before
+        | inr not_before ↦
+            let differs : not (m.number == w.number) ≡ true = not_from_false (m.number == w.number) (ne_eqb m.number w.number (λ named. other (one_number h m w l is_in (of_issued h w among) named))) in
+            absurd (both_ways (is_in_way h w m) (out_of_way h w m parts.1 is_in) (or_right (is_before h m.number w.number) (not (m.number == w.number) && (overlap m w && not (is_before h w.number m.number))) (and_from _ _ differs (and_from _ _ (both_under m w k under_m under_w) (not_from_false (is_before h w.number m.number) not_before)))))
+      ];
+    }
+
+-- a byte of both writes
+common : (m w : Write) → overlap m w ≡ true
+    → (is_under m (max m.off w.off) ≡ true) × (is_under w (max m.off w.off) ≡ true)
+common m w is =
+    let meets = ltb-true (max m.off w.off) (min (m.off + length m.bytes) (w.off + length w.bytes)) is in (
+      and_from _ _ (le-leb m.off (max m.off w.off) (omega arith)) (lt-ltb (max m.off w.off) (m.off + length m.bytes) (omega arith)),
+      and_from _ _ (le-leb w.off (max m.off w.off) (omega arith)) (lt-ltb (max m.off w.off) (w.off + length w.bytes) (omega arith)),
+    )
+
+pub can_fold_it : (h : History) (w : Write) → IsFoldable h w → can_fold h w ≡ true
+can_fold_it h w f =
+    and_from _ _ f.safe (not_from_false (list_any (λ m. is_in_way h w m) (issued h)) (false_from_ne_true (list_any (λ m. is_in_way h w m) (issued h)) (λ is.
+    let found = any_is (λ m. is_in_way h w m) (issued h) is in
+    let among : IsIn found.0 (writes h) = of_issued h found.0 found.1 in
+    elim (or_cases (is_before h found.0.number w.number) (not (found.0.number == w.number) && (overlap found.0 w && not (is_before h w.number found.0.number))) found.2) [
+      | inl before ↦ both_ways (is_before h found.0.number w.number) (f.oldest found.0 among) before
+      | inr rest ↦
+          let one = and_parts (not (found.0.number == w.number)) (overlap found.0 w && not (is_before h w.number found.0.number)) rest in
+          let two = and_parts (overlap found.0 w) (not (is_before h w.number found.0.number)) one.1 in
+          let k = common found.0 w two.0 in
+          both_ways (is_before h w.number found.0.number) (not-true (is_before h w.number found.0.number) two.1)
+          (f.lowest found.0 (max found.0.off w.off) among (λ same. eqb-false found.0.number w.number (not-true (found.0.number == w.number) one.0) (ap (λ x. x.number) same)) k.0 k.1)
+    ])))
+
+-- Lists of numbers.
+
+filter_twice : (p : ℕ → Bool) (ns : List ℕ) → filter p (filter p ns) ≡ filter p ns
+filter_twice p [] = refl
+filter_twice p (n ∷ ns) = elim (cases_Bool (p n)) [
+  | inl is ↦
+      ap (filter p) (cond-true (p n) (n ∷ filter p ns) (filter p ns) is)
+      ∙ cond-true (p n) (n ∷ filter p (filter p ns)) (filter p (filter p ns)) is
+      ∙ ap (λ ms. n ∷ ms) (filter_twice p ns)
+      ∙ sym (cond-true (p n) (n ∷ filter p ns) (filter p ns) is)
+  | inr out ↦
+      ap (filter p) (cond-false (p n) (n ∷ filter p ns) (filter p ns) out)
+      ∙ filter_twice p ns
+      ∙ sym (cond-false (p n) (n ∷ filter p ns) (filter p ns) out)
+]
+
+filter_swap : (p q : ℕ → Bool) (ns : List ℕ) → filter p (filter q ns) ≡ filter q (filter p ns)
+filter_swap p q [] = refl
+filter_swap p q (n ∷ ns) = elim (cases_Bool (p n)) [
+  | inl is ↦ elim (cases_Bool (q n)) [
+    | inl also ↦
+        ap (filter p) (cond-true (q n) (n ∷ filter q ns) (filter q ns) also)
+        ∙ cond-true (p n) (n ∷ filter p (filter q ns)) (filter p (filter q ns)) is
+        ∙ ap (λ ms. n ∷ ms) (filter_swap p q ns)
+        ∙ sym (cond-true (q n) (n ∷ filter q (filter p ns)) (filter q (filter p ns)) also)
+        ∙ sym (ap (filter q) (cond-true (p n) (n ∷ filter p ns) (filter p ns) is))
+    | inr other ↦
+        ap (filter p) (cond-false (q n) (n ∷ filter q ns) (filter q ns) other)
+        ∙ filter_swap p q ns
+        ∙ sym (cond-false (q n) (n ∷ filter q (filter p ns)) (filter q (filter p ns)) other)
+        ∙ sym (ap (filter q) (cond-true (p n) (n ∷ filter p ns) (filter p ns) is))
+  ]
+  | inr out ↦ elim (cases_Bool (q n)) [
+    | inl also ↦
+        ap (filter p) (cond-true (q n) (n ∷ filter q ns) (filter q ns) also)
+        ∙ cond-false (p n) (n ∷ filter p (filter q ns)) (filter p (filter q ns)) out
+        ∙ filter_swap p q ns
+        ∙ sym (ap (filter q) (cond-false (p n) (n ∷ filter p ns) (filter p ns) out))
+    | inr other ↦
+        ap (filter p) (cond-false (q n) (n ∷ filter q ns) (filter q ns) other)
+        ∙ filter_swap p q ns
+        ∙ sym (ap (filter q) (cond-false (p n) (n ∷ filter p ns) (filter p ns) out))
+  ]
+]
+
+but_none : (n : ℕ) (ns : List ℕ) → is_one_of n ns ≡ false → but n ns ≡ ns
+but_none n [] none = refl
+but_none n (m ∷ ns) none = elim (cases_Bool (m == n)) [
+  | inl is ↦ absurd (both_ways (is_one_of n (m ∷ ns)) none (or_left (m == n) (is_one_of n ns) is))
+  | inr out ↦
+      cond-true (not (m == n)) (m ∷ but n ns) (but n ns) (ap not out)
+      ∙ ap (λ ms. m ∷ ms) (but_none n ns (false_from_ne_true (is_one_of n ns) (λ is. both_ways (is_one_of n (m ∷ ns)) none (or_right (m == n) (is_one_of n ns) is))))
+]
+
+-- What runs.
+
+running_without : (n : ℕ) (h : History) → running_writes (without_write n h) ≡ but n (running_writes h)
+running_without n [] = refl
+running_without n (WriteIssued w ∷ earlier) = elim (cases_Bool (w.number == n)) [
+  | inl is ↦
+      ap running_writes (cond-false (not (w.number == n)) (WriteIssued w ∷ without_write n earlier) (without_write n earlier) (ap not is))
+      ∙ running_without n earlier
+      ∙ sym (filter-append (λ m. not (m == n)) (running_writes earlier) (w.number ∷ [])
+      ∙ ap (λ ms. but n (running_writes earlier) ++ ms) (cond-false (not (w.number == n)) (w.number ∷ []) [] (ap not is))
+      ∙ append-nil (but n (running_writes earlier)))
+  | inr out ↦
+      ap running_writes (cond-true (not (w.number == n)) (WriteIssued w ∷ without_write n earlier) (without_write n earlier) (ap not out))
+      ∙ ap (λ ms. ms ++ w.number ∷ []) (running_without n earlier)
+      ∙ sym (filter-append (λ m. not (m == n)) (running_writes earlier) (w.number ∷ [])
+      ∙ ap (λ ms. but n (running_writes earlier) ++ ms) (cond-true (not (w.number == n)) (w.number ∷ []) [] (ap not out)))
+]
+running_without n (WriteEnded k ∷ earlier) = elim (cases_Bool (k == n)) [
+  | inl is ↦
+      ap running_writes (cond-false (not (k == n)) (WriteEnded k ∷ without_write n earlier) (without_write n earlier) (ap not is))
+      ∙ running_without n earlier
+      ∙ sym (ap (λ m. but n (but m (running_writes earlier))) (eqb-true k n is) ∙ filter_twice (λ m. not (m == n)) (running_writes earlier))
+  | inr out ↦
+      ap running_writes (cond-true (not (k == n)) (WriteEnded k ∷ without_write n earlier) (without_write n earlier) (ap not out))
+      ∙ ap (but k) (running_without n earlier)
+      ∙ filter_swap (λ m. not (m == k)) (λ m. not (m == n)) (running_writes earlier)
+]
+running_without n (SyncIssued s range ∷ earlier) = running_without n earlier
+running_without n (SyncEnded s ∷ earlier) = running_without n earlier
+running_without n (SyncFailed s ∷ earlier) = running_without n earlier
+
+syncs_without : (n : ℕ) (h : History) → running_syncs (without_write n h) ≡ running_syncs h
+syncs_without n [] = refl
+syncs_without n (WriteIssued w ∷ earlier) =
+    cond_both (not (w.number == n)) (WriteIssued w ∷ without_write n earlier) (without_write n earlier) (λ g. running_syncs g ≡ running_syncs earlier) (λ _. syncs_without n earlier) (λ _. syncs_without n earlier)
+syncs_without n (WriteEnded k ∷ earlier) =
+    cond_both (not (k == n)) (WriteEnded k ∷ without_write n earlier) (without_write n earlier) (λ g. running_syncs g ≡ running_syncs earlier) (λ _. syncs_without n earlier) (λ _. syncs_without n earlier)
+syncs_without n (SyncIssued s range ∷ earlier) = ap (λ ss. ss ++ s ∷ []) (syncs_without n earlier)
+syncs_without n (SyncEnded s ∷ earlier) = ap (but s) (syncs_without n earlier)
+syncs_without n (SyncFailed s ∷ earlier) = ap (but s) (syncs_without n earlier)
+
+out_of_but : (n : ℕ) (ns : List ℕ) → is_one_of n (but n ns) ≡ false
+out_of_but n [] = refl
+out_of_but n (m ∷ ns) = elim (cases_Bool (m == n)) [
+  | inl is ↦ ap (is_one_of n) (cond-false (not (m == n)) (m ∷ but n ns) (but n ns) (ap not is)) ∙ out_of_but n ns
+  | inr out ↦ ap (is_one_of n) (cond-true (not (m == n)) (m ∷ but n ns) (but n ns) (ap not out)) ∙ ap (λ b. b || is_one_of n (but n ns)) out ∙ out_of_but n ns
+]
+
+-- what runs hasn't ended
+runs_still : (h : History) (n : ℕ) → IsLawful h → is_one_of n (running_writes h) ≡ true
+    → has_ended h n ≡ false
+runs_still [] n l is = refl
+runs_still (WriteIssued w ∷ earlier) n l is = elim (one_more w.number n (running_writes earlier) is) [
+  | inl old ↦ runs_still earlier n l.2 old
+  | inr new ↦ subst (λ m. has_ended earlier m ≡ false) (sym new) l.1
+]
+runs_still (WriteEnded k ∷ earlier) n l is = elim (cases_Bool (k == n)) [
+  | inl same ↦ absurd (both_ways (is_one_of n (but n (running_writes earlier))) (out_of_but n (running_writes earlier)) (subst (λ m. is_one_of n (but m (running_writes earlier)) ≡ true) (eqb-true k n same) is))
+  | inr out ↦ ap (λ b. b || has_ended earlier n) out ∙ runs_still earlier n l (is_in_but k n (running_writes earlier) is)
+]
+runs_still (SyncIssued s range ∷ earlier) n l is = runs_still earlier n l is
+runs_still (SyncEnded s ∷ earlier) n l is = runs_still earlier n l is
+runs_still (SyncFailed s ∷ earlier) n l is = runs_still earlier n l is
+
+-- One write folded.
+
+ended_of : (n m : ℕ) (h : History) → has_ended (without_write n h) m ≡ true → has_ended h m ≡ true
+ended_of n m [] is = is
+ended_of n m (WriteIssued w ∷ earlier) is =
+    cond_both (not (w.number == n)) (WriteIssued w ∷ without_write n earlier) (without_write n earlier) (λ g. has_ended g m ≡ true → has_ended earlier m ≡ true) (λ _ over. ended_of n m earlier over) (λ _ over. ended_of n m earlier over) is
+ended_of n m (WriteEnded k ∷ earlier) is =
+    cond_both (not (k == n)) (WriteEnded k ∷ without_write n earlier) (without_write n earlier) (λ g. has_ended g m ≡ true → (k == m || has_ended earlier m) ≡ true)
+    (λ _ over. elim (or_cases (k == m) (has_ended (without_write n earlier) m) over) [
+      | inl same ↦ or_left (k == m) (has_ended earlier m) same
+      | inr more ↦ or_right (k == m) (has_ended earlier m) (ended_of n m earlier more)
+    ])
+    (λ _ over. or_right (k == m) (has_ended earlier m) (ended_of n m earlier over))
+    is
+ended_of n m (SyncIssued s range ∷ earlier) is = ended_of n m earlier is
+ended_of n m (SyncEnded s ∷ earlier) is = ended_of n m earlier is
+ended_of n m (SyncFailed s ∷ earlier) is = ended_of n m earlier is
+
+not_ended : (n m : ℕ) (h : History) → has_ended h m ≡ false → has_ended (without_write n h) m ≡ false
+not_ended n m h out = false_from_ne_true (has_ended (without_write n h) m) (λ is. both_ways (has_ended h m) out (ended_of n m h is))
+
+writes_of : (n : ℕ) (h : History) (x : Write) → IsIn x (writes (without_write n h)) → IsIn x (writes h)
+writes_of n [] x among = among
+writes_of n (WriteIssued w ∷ earlier) x among =
+    cond_both (not (w.number == n)) (WriteIssued w ∷ without_write n earlier) (without_write n earlier) (λ g. IsIn x (writes g) → IsIn x (w ∷ writes earlier))
+    (λ _ is_in. elim is_in [ inl same ↦ inl same | inr more ↦ inr (writes_of n earlier x more) ])
+    (λ _ is_in. inr (writes_of n earlier x is_in))
+    among
+writes_of n (WriteEnded k ∷ earlier) x among =
+    cond_both (not (k == n)) (WriteEnded k ∷ without_write n earlier) (without_write n earlier) (λ g. IsIn x (writes g) → IsIn x (writes earlier)) (λ _ is_in. writes_of n earlier x is_in) (λ _ is_in. writes_of n earlier x is_in) among
+writes_of n (SyncIssued s range ∷ earlier) x among = writes_of n earlier x among
+writes_of n (SyncEnded s ∷ earlier) x among = writes_of n earlier x among
+writes_of n (SyncFailed s ∷ earlier) x among = writes_of n earlier x among
+
+lawful_without : (n : ℕ) (h : History) → IsLawful h → IsLawful (without_write n h)
+lawful_without n [] l = l
+lawful_without n (WriteIssued w ∷ earlier) l =
+    cond_both (not (w.number == n)) (WriteIssued w ∷ without_write n earlier) (without_write n earlier) (λ g. IsLawful g)
+    (λ _. (λ v among same. l.0 v (writes_of n earlier v among) same, not_ended n w.number earlier l.1, lawful_without n earlier l.2))
+    (λ _. lawful_without n earlier l.2)
+lawful_without n (WriteEnded k ∷ earlier) l =
+    cond_both (not (k == n)) (WriteEnded k ∷ without_write n earlier) (without_write n earlier) (λ g. IsLawful g) (λ _. lawful_without n earlier l) (λ _. lawful_without n earlier l)
+lawful_without n (SyncIssued s range ∷ earlier) l = lawful_without n earlier l
+lawful_without n (SyncEnded s ∷ earlier) l = lawful_without n earlier l
+lawful_without n (SyncFailed s ∷ earlier) l = lawful_without n earlier l
+
+ended_later : (n m : ℕ) (later h : History) → has_ended (later ++ without_write n h) m ≡ true
+    → has_ended (later ++ h) m ≡ true
+ended_later n m [] h is = ended_of n m h is
+ended_later n m (WriteEnded k ∷ later) h is = elim (or_cases (k == m) (has_ended (later ++ without_write n h) m) is) [
+  | inl same ↦ or_left (k == m) (has_ended (later ++ h) m) same
+  | inr more ↦ or_right (k == m) (has_ended (later ++ h) m) (ended_later n m later h more)
+]
+ended_later n m (WriteIssued w ∷ later) h is = ended_later n m later h is
+ended_later n m (SyncIssued s range ∷ later) h is = ended_later n m later h is
+ended_later n m (SyncEnded s ∷ later) h is = ended_later n m later h is
+ended_later n m (SyncFailed s ∷ later) h is = ended_later n m later h is
+
+lawful_later : (later h : History) (w : Write) → IsIn w (writes h) → IsLawful (later ++ h)
+    → IsLawful (later ++ without_write w.number h)
+lawful_later [] h w among l = lawful_without w.number h l
+lawful_later (WriteIssued v ∷ later) h w among l = (
+  λ x is_in same. l.0 x ((but_later later h w l.2 among).of x is_in).0 same,
+  false_from_ne_true (has_ended (later ++ without_write w.number h) v.number) (λ is. both_ways (has_ended (later ++ h) v.number) l.1 (ended_later w.number v.number later h is)),
+  lawful_later later h w among l.2,
+)
+lawful_later (WriteEnded k ∷ later) h w among l = lawful_later later h w among l
+lawful_later (SyncIssued s range ∷ later) h w among l = lawful_later later h w among l
+lawful_later (SyncEnded s ∷ later) h w among l = lawful_later later h w among l
+lawful_later (SyncFailed s ∷ later) h w among l = lawful_later later h w among l
+
+-- a volume with a write folded
+abbrev pub with_folded : Write → List ℕ → Volume → Volume
+with_folded w over v = record v { first = over; history = without_write w.number v.history }
+
+running_same : (v : Volume) (w : Write) → IsSound v → IsFoldable v.history w
+    → running_writes (without_write w.number v.history) ≡ running_writes v.history
+running_same v w sound f =
+    running_without w.number v.history
+    ∙ but_none w.number (running_writes v.history) (false_from_ne_true (is_one_of w.number (running_writes v.history)) (λ is. both_ways (has_ended v.history w.number) (runs_still v.history w.number sound.lawful is) (safe_ended v.history w f.safe)))
+
+pub held_folded : (v : Volume) (w : Write) (over write_list sync_list : List ℕ)
+    → IsHeld v write_list sync_list → IsFoldable v.history w
+    → IsHeld (with_folded w over v) write_list sync_list
+held_folded v w over write_list sync_list held f = record {
+  sound = record {
+    unit = held.sound.unit;
+    lawful = lawful_without w.number v.history held.sound.lawful;
+    numbered = record {
+      some = held.sound.numbered.some;
+      positive = λ x among. held.sound.numbered.positive x (writes_of w.number v.history x among);
+      issued = λ x among. held.sound.numbered.issued x (writes_of w.number v.history x among);
+      ended = λ n is. held.sound.numbered.ended n (ended_of w.number n v.history is);
+      running = λ n is. held.sound.numbered.running n (subst (λ ns. is_one_of n ns ≡ true) (running_same v w held.sound f) is);
+    };
+  };
+  writes = held.writes ∙ sym (running_same v w held.sound f);
+  syncs = held.syncs ∙ sym (syncs_without w.number v.history);
+}
+
+pub folded_one : (v : Volume) (w : Write) (over : List ℕ) → IsSound v → IsFoldable v.history w
+    → IsOver v.first w over → IsFoldedFrom v (with_folded w over v)
+folded_one v w over sound f is = record {
+  unit = refl;
+  next = refl;
+  images = λ later now l. fold_changes_none v.unit v.first over later v.history w now sound.unit l f is;
+  safe = λ later x l among. (same_later w.number later v.history).safe x ((but_later later v.history w l f.issued).of x among).1;
+  lawful = λ later l. lawful_later later v.history w f.issued l;
+  none_new = λ x among. writes_of w.number v.history x among;
+  gone = λ x among. elim (cases_Bool (x.number == w.number)) [
+    | inl same ↦ inr (subst (λ y. is_safe v.history y ≡ true) (sym (one_number v.history x w sound.lawful among f.issued (eqb-true x.number w.number same))) f.safe)
+    | inr out ↦ inl ((but_later [] v.history w sound.lawful f.issued).into x among (eqb-false x.number w.number out))
+  ];
+  writes_run = running_same v w sound f;
+  syncs_run = syncs_without w.number v.history;
+}
+
+-- Several writes folded.
+
+pub folded_none : (v : Volume) → IsFoldedFrom v v
+folded_none v = record {
+  unit = refl;
+  next = refl;
+  images = λ later now l. (λ i. i, λ i. i);
+  safe = λ later w l among. refl;
+  lawful = λ later l. l;
+  none_new = λ w among. among;
+  gone = λ w among. inl among;
+  writes_run = refl;
+  syncs_run = refl;
+}
+
+kept_later : (later g h : History) → ((w : Write) → IsIn w (writes h) → IsIn w (writes g))
+    → (w : Write) → IsIn w (writes (later ++ h)) → IsIn w (writes (later ++ g))
+kept_later [] g h f w among = f w among
+kept_later (WriteIssued v ∷ later) g h f w among = elim among [ inl same ↦ inl same | inr more ↦ inr (kept_later later g h f w more) ]
+kept_later (WriteEnded k ∷ later) g h f w among = kept_later later g h f w among
+kept_later (SyncIssued s range ∷ later) g h f w among = kept_later later g h f w among
+kept_later (SyncEnded s ∷ later) g h f w among = kept_later later g h f w among
+kept_later (SyncFailed s ∷ later) g h f w among = kept_later later g h f w among
+
+pub folded_more : (old mid new : Volume) → IsLawful old.history → IsFoldedFrom old mid
+    → IsFoldedFrom mid new → IsFoldedFrom old new
+folded_more old mid new l a b = record {
+  unit = b.unit ∙ a.unit;
+  next = b.next ∙ a.next;
+  images = λ later now law.
+      let one = a.images later now law in
+      let two = b.images later now (a.lawful later law) in
+      (λ i. two.0 (one.0 i), λ i. one.1 (two.1 i));
+  safe = λ later w law among.
+      b.safe later w (a.lawful later law) among ∙ a.safe later w law (kept_later later mid.history new.history b.none_new w among);
+  lawful = λ later law. b.lawful later (a.lawful later law);
+  none_new = λ w among. a.none_new w (b.none_new w among);
+  gone = λ w among. elim (a.gone w among) [
+    | inl still ↦ elim (b.gone w still) [
+      | inl kept ↦ inl kept
+      | inr safe ↦ inr (sym (a.safe [] w l still) ∙ safe)
+    ]
+    | inr safe ↦ inr safe
+  ];
+  writes_run = b.writes_run ∙ a.writes_run;
+  syncs_run = b.syncs_run ∙ a.syncs_run;
+}
+
+-- Events in order, the oldest first.
+
+pub reverse_filter : (p : Event → Bool) (es : List Event) → reverse (filter p es) ≡ filter p (reverse es)
+reverse_filter p [] = refl
+reverse_filter p (e ∷ es) = elim (cases_Bool (p e)) [
+  | inl is ↦
+      ap reverse (cond-true (p e) (e ∷ filter p es) (filter p es) is)
+      ∙ reverse-append (e ∷ []) (filter p es)
+      ∙ ap (λ gs. gs ++ e ∷ []) (reverse_filter p es)
+      ∙ sym (ap (filter p) (reverse-append (e ∷ []) es)
+      ∙ filter-append p (reverse es) (e ∷ [])
+      ∙ ap (λ gs. filter p (reverse es) ++ gs) (cond-true (p e) (e ∷ []) [] is))
+  | inr out ↦
+      ap reverse (cond-false (p e) (e ∷ filter p es) (filter p es) out)
+      ∙ reverse_filter p es
+      ∙ sym (ap (filter p) (reverse-append (e ∷ []) es)
+      ∙ filter-append p (reverse es) (e ∷ [])
+      ∙ ap (λ gs. filter p (reverse es) ++ gs) (cond-false (p e) (e ∷ []) [] out)
+      ∙ append-nil (filter p (reverse es)))
+]
+
+issued_behind : (xs ys : History) → issued (xs ++ ys) ≡ issued ys ++ issued xs
+issued_behind [] ys = sym (append-nil (issued ys))
+issued_behind (WriteIssued w ∷ xs) ys =
+    ap (λ ws. ws ++ w ∷ []) (issued_behind xs ys) ∙ append_assoc (issued ys) (issued xs) (w ∷ [])
+issued_behind (WriteEnded k ∷ xs) ys = issued_behind xs ys
+issued_behind (SyncIssued s range ∷ xs) ys = issued_behind xs ys
+issued_behind (SyncEnded s ∷ xs) ys = issued_behind xs ys
+issued_behind (SyncFailed s ∷ xs) ys = issued_behind xs ys
+
+issued_first : (e : Event) (es : List Event)
+    → issued (reverse (e ∷ es)) ≡ issued (e ∷ []) ++ issued (reverse es)
+issued_first e es = ap issued (reverse-append (e ∷ []) es) ∙ issued_behind (reverse es) (e ∷ [])
+
+-- the write whose issue stands at index i
+pub issued_at : (es : List Event) (i : ℕ) (e : Event) (w : Write) → i < length es
+    → e ≡ get_or es i e → e ≡ WriteIssued w → IsIn w (issued (reverse es))
+issued_at [] i e w within at is = absurd (omega arith)
+issued_at (d ∷ es) zero e w within at is =
+    subst (λ ws. IsIn w ws) (sym (issued_first d es)) (in_left w (issued (d ∷ [])) (issued (reverse es)) (subst (λ x. IsIn w (issued (x ∷ []))) (sym is ∙ at) (inl refl)))
+issued_at (d ∷ es) (suc i) e w within at is =
+    subst (λ ws. IsIn w ws) (sym (issued_first d es)) (in_right w (issued (d ∷ [])) (issued (reverse es)) (issued_at es i e w (omega arith) at is))
+
+-- A write over the first bytes.
+
+pub over_empty : (first : List ℕ) (w : Write) → length w.bytes ≡ 0 → IsOver first w first
+over_empty first w none = record {
+  len =
+      let ends : end_of w ≡ 0 = cond-true (length w.bytes == 0) 0 (w.off + length w.bytes) (eq-eqb (length w.bytes) 0 none) in
+      omega arith;
+  bytes = λ k. sym (cond-false (is_under w k) (slice_index w.bytes (k - w.off)) (slice_index first k) (false_from_ne_true (is_under w k) (λ is.
+      let parts = and_parts _ _ is in
+      let from : w.off ≤ k = leb-true w.off k parts.0 in
+      let to : k < w.off + length w.bytes = ltb-true k (w.off + length w.bytes) parts.1 in
+      let empty : length w.bytes ≡ 0 = none in
+      omega arith)));
+}
+
+pub over_long : (first grown now : List ℕ) (w : Write) (len : ℕ) → (length w.bytes ≡ 0 → ⊥)
+    → len ≡ max (length first) (w.off + length w.bytes)
+    → grown ≡ first ++ replicate (len - length first) 0 → length now ≡ length grown
+    → ((k : ℕ) → 0 ≤ k → k < len → get_or now k 0 ≡ byte_over (get_or grown k 0) (w ∷ []) k)
+    → ((k : ℕ) → len ≤ k → get_or now k 0 ≡ get_or grown k 0)
+    → IsOver first w now
+over_long first grown now w len some long padding same within after =
+    let ends : end_of w ≡ w.off + length w.bytes = cond-false (length w.bytes == 0) 0 (w.off + length w.bytes) (ne_eqb (length w.bytes) 0 some) in
+    let size : length grown ≡ length first + (len - length first) = ap length padding ∙ length-append first (replicate (len - length first) 0) ∙ ap (λ n. length first + n) (length-replicate (len - length first) 0) in
+    let total : length now ≡ max (length first) (end_of w) = omega (arith, size, ends, long, same) in
+    record {
+      len = total;
+      bytes = λ k. elim (below_or_from k len) [
+        | inl below ↦
+            let zero_on : 0 ≤ k = omega arith in
+            within k zero_on below ∙ ap (λ b. byte_over b (w ∷ []) k) (ap (λ xs. get_or xs k 0) padding ∙ padded first (len - length first) k)
+        | inr past ↦
+            after k past ∙ ap (λ xs. get_or xs k 0) padding ∙ padded first (len - length first) k
+            ∙ sym (cond-false (is_under w k) (slice_index w.bytes (k - w.off)) (slice_index first k) (false_from_ne_true (is_under w k) (λ is.
+            let parts = and_parts _ _ is in
+            let to : k < w.off + length w.bytes = ltb-true k (w.off + length w.bytes) parts.1 in
+            omega arith)))
+      ];
+    }
+
+-- What a call that folds one write, or none, makes of a volume.
+
+abbrev is_true : Result Bool AllocError → Bool
+is_true (Ok b) = b
+is_true (Err e) = false
+
+filter_events_short : (p : Event → Bool) (es : List Event) → length (filter p es) ≤ length es
+filter_events_short p [] = omega arith
+filter_events_short p (e ∷ es) =
+    cond_both (p e) (e ∷ filter p es) (filter p es) (λ fs. length fs ≤ suc (length es)) (λ _. omega (arith, filter_events_short p es)) (λ _. omega (arith, filter_events_short p es))
+
+later_shorter : (p : Event → Bool) (e : Event) (es : List Event) → length (filter p es) < length es
+    → length (filter p (e ∷ es)) < length (e ∷ es)
+later_shorter p e es less =
+    cond_both (p e) (e ∷ filter p es) (filter p es) (λ fs. length fs < suc (length es)) (λ _. omega (arith, less)) (λ _. omega (arith, less))
+
+shorter_without : (h : History) (w : Write) → IsIn w (writes h)
+    → length (without_write w.number h) < length h
+shorter_without [] w among = absurd among
+shorter_without (WriteIssued v ∷ earlier) w (inl same) =
+    omega (arith, filter_events_short (λ e. not (is_of_write w.number e)) earlier, ap length (cond-false (not (v.number == w.number)) (WriteIssued v ∷ without_write w.number earlier) (without_write w.number earlier) (ap not (eq-eqb v.number w.number (ap (λ x. x.number) (sym same))))))
+shorter_without (WriteIssued v ∷ earlier) w (inr more) = later_shorter (λ e. not (is_of_write w.number e)) (WriteIssued v) earlier (shorter_without earlier w more)
+shorter_without (WriteEnded k ∷ earlier) w among = later_shorter (λ e. not (is_of_write w.number e)) (WriteEnded k) earlier (shorter_without earlier w among)
+shorter_without (SyncIssued s range ∷ earlier) w among = later_shorter (λ e. not (is_of_write w.number e)) (SyncIssued s range) earlier (shorter_without earlier w among)
+shorter_without (SyncEnded s ∷ earlier) w among = later_shorter (λ e. not (is_of_write w.number e)) (SyncEnded s) earlier (shorter_without earlier w among)
+shorter_without (SyncFailed s ∷ earlier) w among = later_shorter (λ e. not (is_of_write w.number e)) (SyncFailed s) earlier (shorter_without earlier w among)
+
+-- the same volume with these first bytes and this history
+abbrev pub made_of : List ℕ → History → Volume → Volume
+made_of first h v = record v { first = first; history = h }
+
+pub record IsResult (v : Volume) (r : Result Bool AllocError) (first : List ℕ) (h : History) : Type 0 where
+  pub folded : r ≡ Ok true → IsOneFolded v.first first v.history h
+  pub none : r ≡ Ok false → list_any (λ w. can_fold v.history w) (issued v.history) ≡ false
+  pub kept : (r ≡ Ok true → ⊥) → (first ≡ v.first) × (h ≡ v.history)
+
+same_made : (v : Volume) (first : List ℕ) (h : History) → first ≡ v.first → h ≡ v.history
+    → v ≡ made_of first h v
+same_made v first h f past = ap (λ xs. made_of xs v.history v) (sym f) ∙ ap (λ g. made_of first g v) (sym past)
+
+held_by : (v : Volume) (r : Result Bool AllocError) (first : List ℕ) (h : History)
+    (write_list sync_list : List ℕ) → IsHeld v write_list sync_list → IsResult v r first h
+    → IsHeld (made_of first h v) write_list sync_list × IsFoldedFrom v (made_of first h v)
+held_by v (Ok true) first h write_list sync_list held is =
+    let one = is.folded refl in
+    let f = foldable_by v.history one.write held.sound.lawful one.issued one.can in (
+      subst (λ g. IsHeld (made_of first g v) write_list sync_list) (sym one.without) (held_folded v one.write first write_list sync_list held f),
+      subst (λ g. IsFoldedFrom v (made_of first g v)) (sym one.without) (folded_one v one.write first held.sound f one.over),
+    )
+held_by v (Ok false) first h write_list sync_list held is =
+    let k = is.kept (λ e. both_ways false refl (ap is_true e)) in (
+      subst (λ x. IsHeld x write_list sync_list) (same_made v first h k.0 k.1) held,
+      subst (λ x. IsFoldedFrom v x) (same_made v first h k.0 k.1) (folded_none v),
+    )
+held_by v (Err e) first h write_list sync_list held is =
+    let k = is.kept (λ q. both_ways false refl (ap is_true q)) in (
+      subst (λ x. IsHeld x write_list sync_list) (same_made v first h k.0 k.1) held,
+      subst (λ x. IsFoldedFrom v x) (same_made v first h k.0 k.1) (folded_none v),
+    )
+
+pub held_result : (v : Volume) (r : Result Bool AllocError) (first : List ℕ) (h : History)
+    (write_list sync_list : List ℕ) → IsHeld v write_list sync_list → IsResult v r first h
+    → IsHeld (made_of first h v) write_list sync_list
+held_result v r first h write_list sync_list held is = (held_by v r first h write_list sync_list held is).0
+
+pub folded_result : (v : Volume) (r : Result Bool AllocError) (first : List ℕ) (h : History)
+    (write_list sync_list : List ℕ) → IsHeld v write_list sync_list → IsResult v r first h
+    → IsFoldedFrom v (made_of first h v)
+folded_result v r first h write_list sync_list held is = (held_by v r first h write_list sync_list held is).1
+
+pub fewer_result : (v : Volume) (r : Result Bool AllocError) (first : List ℕ) (h : History)
+    → IsResult v r first h → r ≡ Ok true → length h < length v.history
+fewer_result v r first h is more =
+    let one = is.folded more in
+    omega (arith, ap length one.without, shorter_without v.history one.write (of_issued v.history one.write one.issued))
+
+pub none_result : (v : Volume) (r : Result Bool AllocError) (first : List ℕ) (h : History)
+    → IsResult v r first h → r ≡ Ok false → (w : Write) → IsFoldable h w → ⊥
+none_result v r first h is none w foldable =
+    let k = is.kept (λ e. both_ways false refl (ap is_true (sym none ∙ e))) in
+    let f : IsFoldable v.history w = subst (λ g. IsFoldable g w) k.1 foldable in
+    both_ways (list_any (λ x. can_fold v.history x) (issued v.history)) (is.none none) (is_any (λ x. can_fold v.history x) w (issued v.history) (in_issued v.history w f.issued) (can_fold_it v.history w f))
+
+-- A search through events.
+
+pub only_one : (p : Write → Bool) (x : Write) → list_any p (x ∷ []) ≡ true → p x ≡ true
+only_one p x is = elim (or_cases (p x) false is) [
+  | inl here ↦ here
+  | inr none ↦ absurd (both_ways false refl none)
+]
+
+pub none_later : (p : Write → Bool) (es : List Event) (i : ℕ) (e : Event) → i < length es
+    → e ≡ get_or es i e → list_any p (issued (e ∷ [])) ≡ false
+    → list_any p (issued (reverse (take i es))) ≡ false
+    → list_any p (issued (reverse (take (i + 1) es))) ≡ false
+none_later p es i e within at out none =
+    ap (λ h. list_any p (issued h)) (newest es i e within ∙ ap (λ d. d ∷ reverse (take i es)) (sym at))
+    ∙ ap (list_any p) (issued_behind (e ∷ []) (reverse (take i es)))
+    ∙ list_any-append p (issued (reverse (take i es))) (issued (e ∷ []))
+    ∙ or_from (list_any p (issued (reverse (take i es)))) (list_any p (issued (e ∷ []))) none out
+
+pub some_event : (p : Write → Bool) (es : List Event) (i : ℕ) (e : Event) → i < length es
+    → e ≡ get_or es i e → list_any p (issued (e ∷ [])) ≡ true
+    → list_any p (issued (reverse es)) ≡ true
+some_event p [] i e within at is = absurd (omega arith)
+some_event p (d ∷ es) zero e within at is =
+    ap (list_any p) (issued_first d es)
+    ∙ list_any-append p (issued (d ∷ [])) (issued (reverse es))
+    ∙ or_left (list_any p (issued (d ∷ []))) (list_any p (issued (reverse es))) (subst (λ x. list_any p (issued (x ∷ [])) ≡ true) at is)
+some_event p (d ∷ es) (suc i) e within at is =
+    ap (list_any p) (issued_first d es)
+    ∙ list_any-append p (issued (d ∷ [])) (issued (reverse es))
+    ∙ or_right (list_any p (issued (d ∷ []))) (list_any p (issued (reverse es))) (some_event p es i e (omega arith) at is)
+
+pub some_so : {T : Type 0} (o : Option T) (P Q : T → Type 0) → ((x : T) → P x → Q x) → IfSome o P
+    → IfSome o Q
+some_so None P Q follows holds = tt
+some_so (Some x) P Q follows holds = follows x holds
+
+pub none_so : {T : Type 0} (o : Option T) (P Q : Type 0) → (P → Q) → IfNone o P → IfNone o Q
+none_so None P Q follows holds = follows holds
+none_so (Some x) P Q follows holds = tt
+
+-- no write of no events can be folded
+pub none_in_nothing : (h : History) (w : Write) → length h ≡ 0 → IsFoldable h w → ⊥
+none_in_nothing [] w none f = f.issued
+none_in_nothing (e ∷ earlier) w none f = let some : suc (length earlier) ≡ 0 = none in omega arith

@@ -1,0 +1,481 @@
+-- A write that is folded into the first bytes changes no image: it lies under all others in each list that may be left.
+use Rattle.std.proofs.Common.{◌≡◌, ◌==◌, ◌+◌, ◌-◌, ◌/◌, ◌≤◌, ◌<◌, ℕ, max, Bool, true, false, not, ◌&&◌, ◌||◌, cond, List, [], ◌∷◌, ◌++◌, ◌⊎◌, length, refl, sym, subst, ap, ◌∙◌, inl, inr, arith}
+use Rattle.std.specs.Prelude.{slice_index}
+use Rattle.std.specs.List.{filter}
+use Rattle.std.proofs.lemmas.Bool.{cases_Bool, both_ways, false_from_ne_true, cond-true, cond-false, cond_both, or_cases, or_left, or_right, and_from, and_parts, eqb-true, eqb-false, eq-eqb, ne_eqb, not-true, not_from_false}
+use Rattle.uring_volume.specs.Writes.{Write}
+use Rattle.uring_volume.specs.declared.event.Event.{Event}
+use Rattle.uring_volume.specs.declared.event.Event.TheVariants.{WriteIssued, WriteEnded, SyncIssued, SyncEnded, SyncFailed}
+use Rattle.uring_volume.specs.Events.{History, writes, has_ended, lies_in, meets, is_before, is_covered, is_reached, is_given_up, is_safe}
+use Rattle.uring_volume.specs.Images.{IsIn, IsInOrder, is_under, is_on, end_of, byte_over, length_over, MayBeLeft, UnitIsLeft, LengthIsLeft, IsImage}
+use Rattle.uring_volume.specs.Choices.{IsLawful}
+use Rattle.uring_volume.specs.Folds.{IsFoldable, IsOver, is_of_write, without_write, FoldChangesNone}
+use Rattle.uring_volume.proofs.Units.{in_filter, of_filter, filter_in_order}
+use Rattle.uring_volume.proofs.ReadBack.{over, on_from, len_grows, end_within}
+use Rattle.uring_volume.proofs.Rest.{length_below}
+use Rattle.uring_volume.proofs.Fitting.{lacks}
+use Rattle.uring_volume.proofs.Chosen.{issue_apart, not_before, one_number}
+
+-- h tells the same as g of all writes but n.
+pub record SameBut (n : ℕ) (g h : History) : Type 0 where
+  pub ended : (m : ℕ) → (m ≡ n → ⊥) → has_ended h m ≡ has_ended g m
+  pub before : (a b : ℕ) → (a ≡ n → ⊥) → (b ≡ n → ⊥) → is_before h a b ≡ is_before g a b
+  pub covered : (s : ℕ) (x : Write) → (x.number ≡ n → ⊥) → is_covered h s x ≡ is_covered g s x
+  pub reached : (s : ℕ) (x : Write) → (x.number ≡ n → ⊥) → is_reached h s x ≡ is_reached g s x
+  pub given_up : (x : Write) → (x.number ≡ n → ⊥) → is_given_up h x ≡ is_given_up g x
+  pub safe : (x : Write) → (x.number ≡ n → ⊥) → is_safe h x ≡ is_safe g x
+
+same_cons : (n : ℕ) (e : Event) (g h : History) → SameBut n g h → SameBut n (e ∷ g) (e ∷ h)
+same_cons n (WriteIssued w) g h same = record {
+  ended = same.ended;
+  before = λ a b na nb. ap (λ x. w.number == b && x || is_before h a b) (same.ended a na) ∙ ap (λ x. w.number == b && has_ended g a || x) (same.before a b na nb);
+  covered = same.covered;
+  reached = same.reached;
+  given_up = same.given_up;
+  safe = same.safe;
+}
+same_cons n (WriteEnded k) g h same = record {
+  ended = λ m nm. ap (λ x. k == m || x) (same.ended m nm);
+  before = same.before;
+  covered = same.covered;
+  reached = same.reached;
+  given_up = same.given_up;
+  safe = same.safe;
+}
+same_cons n (SyncIssued t range) g h same = record {
+  ended = same.ended;
+  before = same.before;
+  covered = λ s x nx. ap (λ b. t == s && b && lies_in range x || is_covered h s x) (same.ended x.number nx) ∙ ap (λ b. t == s && has_ended g x.number && lies_in range x || b) (same.covered s x nx);
+  reached = λ s x nx. ap (λ b. t == s && b && meets range x || is_reached h s x) (same.ended x.number nx) ∙ ap (λ b. t == s && has_ended g x.number && meets range x || b) (same.reached s x nx);
+  given_up = same.given_up;
+  safe = same.safe;
+}
+same_cons n (SyncEnded s) g h same = record {
+  ended = same.ended;
+  before = same.before;
+  covered = same.covered;
+  reached = same.reached;
+  given_up = same.given_up;
+  safe = λ x nx.
+      ap (λ b. b && not (is_given_up h x) || is_safe h x) (same.covered s x nx)
+      ∙ ap (λ b. is_covered g s x && not b || is_safe h x) (same.given_up x nx)
+      ∙ ap (λ b. is_covered g s x && not (is_given_up g x) || b) (same.safe x nx);
+}
+same_cons n (SyncFailed s) g h same = record {
+  ended = same.ended;
+  before = same.before;
+  covered = same.covered;
+  reached = same.reached;
+  given_up = λ x nx. ap (λ b. b || is_given_up h x) (same.reached s x nx) ∙ ap (λ b. is_reached g s x || b) (same.given_up x nx);
+  safe = same.safe;
+}
+
+-- the write's own events say nothing of others
+skip_issue : (n : ℕ) (w : Write) (g h : History) → (w.number ≡ n) → SameBut n g h
+    → SameBut n (WriteIssued w ∷ g) h
+skip_issue n w g h is same = record {
+  ended = same.ended;
+  before = λ a b na nb. same.before a b na nb ∙ sym (ap (λ x. x && has_ended g a || is_before g a b) (ne_eqb w.number b (λ e. nb (sym e ∙ is))));
+  covered = same.covered;
+  reached = same.reached;
+  given_up = same.given_up;
+  safe = same.safe;
+}
+
+skip_end : (n k : ℕ) (g h : History) → k ≡ n → SameBut n g h → SameBut n (WriteEnded k ∷ g) h
+skip_end n k g h is same = record {
+  ended = λ m nm. same.ended m nm ∙ sym (ap (λ x. x || has_ended g m) (ne_eqb k m (λ e. nm (sym e ∙ is))));
+  before = same.before;
+  covered = same.covered;
+  reached = same.reached;
+  given_up = same.given_up;
+  safe = same.safe;
+}
+
+same_nil : (n : ℕ) → SameBut n [] []
+same_nil n = record {
+  ended = λ m nm. refl;
+  before = λ a b na nb. refl;
+  covered = λ s x nx. refl;
+  reached = λ s x nx. refl;
+  given_up = λ x nx. refl;
+  safe = λ x nx. refl;
+}
+
+same_without : (n : ℕ) (h : History) → SameBut n h (without_write n h)
+same_without n [] = same_nil n
+same_without n (WriteIssued w ∷ earlier) =
+    elim (cases_Bool (w.number == n)) [
+      | inl is ↦ subst (λ g. SameBut n (WriteIssued w ∷ earlier) g) (sym (cond-false (not (w.number == n)) (WriteIssued w ∷ without_write n earlier) (without_write n earlier) (ap not is))) (skip_issue n w earlier (without_write n earlier) (eqb-true w.number n is) (same_without n earlier))
+      | inr out ↦ subst (λ g. SameBut n (WriteIssued w ∷ earlier) g) (sym (cond-true (not (w.number == n)) (WriteIssued w ∷ without_write n earlier) (without_write n earlier) (ap not out))) (same_cons n (WriteIssued w) earlier (without_write n earlier) (same_without n earlier))
+    ]
+same_without n (WriteEnded k ∷ earlier) =
+    elim (cases_Bool (k == n)) [
+      | inl is ↦ subst (λ g. SameBut n (WriteEnded k ∷ earlier) g) (sym (cond-false (not (k == n)) (WriteEnded k ∷ without_write n earlier) (without_write n earlier) (ap not is))) (skip_end n k earlier (without_write n earlier) (eqb-true k n is) (same_without n earlier))
+      | inr out ↦ subst (λ g. SameBut n (WriteEnded k ∷ earlier) g) (sym (cond-true (not (k == n)) (WriteEnded k ∷ without_write n earlier) (without_write n earlier) (ap not out))) (same_cons n (WriteEnded k) earlier (without_write n earlier) (same_without n earlier))
+    ]
+same_without n (SyncIssued s range ∷ earlier) = same_cons n (SyncIssued s range) earlier (without_write n earlier) (same_without n earlier)
+same_without n (SyncEnded s ∷ earlier) = same_cons n (SyncEnded s) earlier (without_write n earlier) (same_without n earlier)
+same_without n (SyncFailed s ∷ earlier) = same_cons n (SyncFailed s) earlier (without_write n earlier) (same_without n earlier)
+
+pub same_later : (n : ℕ) (later h : History) → SameBut n (later ++ h) (later ++ without_write n h)
+same_later n [] h = same_without n h
+same_later n (e ∷ later) h = same_cons n e (later ++ h) (later ++ without_write n h) (same_later n later h)
+
+-- Its writes are the others.
+
+pub writes_without : (n : ℕ) (h : History) → writes (without_write n h) ≡ filter (lacks n) (writes h)
+writes_without n [] = refl
+writes_without n (WriteIssued w ∷ earlier) =
+    elim (cases_Bool (w.number == n)) [
+      | inl is ↦
+          ap writes (cond-false (not (w.number == n)) (WriteIssued w ∷ without_write n earlier) (without_write n earlier) (ap not is))
+          ∙ writes_without n earlier
+          ∙ sym (cond-false (not (w.number == n)) (w ∷ filter (lacks n) (writes earlier)) (filter (lacks n) (writes earlier)) (ap not is))
+      | inr out ↦
+          ap writes (cond-true (not (w.number == n)) (WriteIssued w ∷ without_write n earlier) (without_write n earlier) (ap not out))
+          ∙ ap (λ ws. w ∷ ws) (writes_without n earlier)
+          ∙ sym (cond-true (not (w.number == n)) (w ∷ filter (lacks n) (writes earlier)) (filter (lacks n) (writes earlier)) (ap not out))
+    ]
+writes_without n (WriteEnded k ∷ earlier) =
+    cond_both (not (k == n)) (WriteEnded k ∷ without_write n earlier) (without_write n earlier) (λ g. writes g ≡ filter (lacks n) (writes earlier)) (λ _. writes_without n earlier) (λ _. writes_without n earlier)
+writes_without n (SyncIssued s range ∷ earlier) = writes_without n earlier
+writes_without n (SyncEnded s ∷ earlier) = writes_without n earlier
+writes_without n (SyncFailed s ∷ earlier) = writes_without n earlier
+
+-- the writes of one history are those of another but n
+pub record WritesBut (n : ℕ) (g h : History) : Type 0 where
+  pub of : (x : Write) → IsIn x (writes h) → IsIn x (writes g) × (x.number ≡ n → ⊥)
+  pub into : (x : Write) → IsIn x (writes g) → (x.number ≡ n → ⊥) → IsIn x (writes h)
+
+-- a write of an earlier history is one of the later
+pub in_later : (later h : History) (w : Write) → IsIn w (writes h) → IsIn w (writes (later ++ h))
+in_later [] h w among = among
+in_later (WriteIssued v ∷ later) h w among = inr (in_later later h w among)
+in_later (WriteEnded k ∷ later) h w among = in_later later h w among
+in_later (SyncIssued k range ∷ later) h w among = in_later later h w among
+in_later (SyncEnded k ∷ later) h w among = in_later later h w among
+in_later (SyncFailed k ∷ later) h w among = in_later later h w among
+
+but_without : (n : ℕ) (h : History) → WritesBut n h (without_write n h)
+but_without n h = record {
+  of = λ x among.
+      let parts = of_filter (lacks n) x (writes h) (subst (λ ws. IsIn x ws) (writes_without n h) among) in
+      (parts.0, eqb-false x.number n (not-true (x.number == n) parts.1));
+  into = λ x among other. subst (λ ws. IsIn x ws) (sym (writes_without n h)) (in_filter (lacks n) x (writes h) among (not_from_false (x.number == n) (ne_eqb x.number n other)));
+}
+
+pub but_later : (later h : History) (w : Write) → IsLawful (later ++ h) → IsIn w (writes h)
+    → WritesBut w.number (later ++ h) (later ++ without_write w.number h)
+but_later [] h w l among = but_without w.number h
+but_later (WriteIssued v ∷ later) h w l among =
+    let more = but_later later h w l.2 among in
+    record {
+      of = λ x is. elim is [
+        | inl same ↦ (inl same, λ e. l.0 w (in_later later h w among) (sym e ∙ ap (λ y. y.number) same))
+        | inr rest ↦ (inr (more.of x rest).0, (more.of x rest).1)
+      ];
+      into = λ x is other. elim is [
+        | inl same ↦ inl same
+        | inr rest ↦ inr (more.into x rest other)
+      ];
+    }
+but_later (WriteEnded k ∷ later) h w l among = let more = but_later later h w l among in record { of = more.of; into = more.into }
+but_later (SyncIssued k range ∷ later) h w l among = let more = but_later later h w l among in record { of = more.of; into = more.into }
+but_later (SyncEnded k ∷ later) h w l among = let more = but_later later h w l among in record { of = more.of; into = more.into }
+but_later (SyncFailed k ∷ later) h w l among = let more = but_later later h w l among in record { of = more.of; into = more.into }
+
+-- It can still be folded later.
+
+covered_ended : (h : History) (s : ℕ) (w : Write) → is_covered h s w ≡ true
+    → has_ended h w.number ≡ true
+covered_ended [] s w is = absurd (both_ways false refl is)
+covered_ended (WriteIssued v ∷ earlier) s w is = covered_ended earlier s w is
+covered_ended (WriteEnded k ∷ earlier) s w is = or_right (k == w.number) (has_ended earlier w.number) (covered_ended earlier s w is)
+covered_ended (SyncIssued t range ∷ earlier) s w is =
+    elim (or_cases (t == s && has_ended earlier w.number && lies_in range w) (is_covered earlier s w) is) [
+      | inl now ↦ (and_parts (t == s) (has_ended earlier w.number) (and_parts (t == s && has_ended earlier w.number) (lies_in range w) now).0).1
+      | inr was ↦ covered_ended earlier s w was
+    ]
+covered_ended (SyncEnded t ∷ earlier) s w is = covered_ended earlier s w is
+covered_ended (SyncFailed t ∷ earlier) s w is = covered_ended earlier s w is
+
+pub safe_ended : (h : History) (w : Write) → is_safe h w ≡ true → has_ended h w.number ≡ true
+safe_ended [] w is = absurd (both_ways false refl is)
+safe_ended (WriteIssued v ∷ earlier) w is = safe_ended earlier w is
+safe_ended (WriteEnded k ∷ earlier) w is = or_right (k == w.number) (has_ended earlier w.number) (safe_ended earlier w is)
+safe_ended (SyncIssued t range ∷ earlier) w is = safe_ended earlier w is
+safe_ended (SyncEnded t ∷ earlier) w is =
+    elim (or_cases (is_covered earlier t w && not (is_given_up earlier w)) (is_safe earlier w) is) [
+      | inl now ↦ covered_ended earlier t w (and_parts (is_covered earlier t w) (not (is_given_up earlier w)) now).0
+      | inr was ↦ safe_ended earlier w was
+    ]
+safe_ended (SyncFailed t ∷ earlier) w is = safe_ended earlier w is
+
+still_issue : (v : Write) (h : History) (w : Write) → IsLawful (WriteIssued v ∷ h) → IsFoldable h w
+    → IsFoldable (WriteIssued v ∷ h) w
+still_issue v h w l f =
+    let differs : w.number ≡ v.number → ⊥ = l.0 w f.issued in
+    record {
+      issued = inr f.issued;
+      safe = f.safe;
+      oldest = λ m among. elim among [
+        | inl same ↦ subst (λ y. is_before (WriteIssued v ∷ h) y.number w.number ≡ false) (sym same) (issue_apart h v v.number w.number differs (not_before h v.number w.number l.1))
+        | inr rest ↦ issue_apart h v m.number w.number differs (f.oldest m rest)
+      ];
+      lowest = λ m k among other under_m under_w. elim among [
+        | inl same ↦ or_left (v.number == m.number && has_ended h w.number) (is_before h w.number m.number) (and_from _ _ (eq-eqb v.number m.number (ap (λ y. y.number) (sym same))) (safe_ended h w f.safe))
+        | inr rest ↦ or_right (v.number == m.number && has_ended h w.number) (is_before h w.number m.number) (f.lowest m k rest other under_m under_w)
+      ];
+    }
+
+pub still_foldable : (later h : History) (w : Write) → IsLawful (later ++ h) → IsFoldable h w
+    → IsFoldable (later ++ h) w
+still_foldable [] h w l f = f
+still_foldable (WriteIssued v ∷ later) h w l f = still_issue v (later ++ h) w l (still_foldable later h w l.2 f)
+still_foldable (WriteEnded k ∷ later) h w l f = let g = still_foldable later h w l f in record { issued = g.issued; safe = g.safe; oldest = g.oldest; lowest = g.lowest }
+still_foldable (SyncIssued k range ∷ later) h w l f = let g = still_foldable later h w l f in record { issued = g.issued; safe = g.safe; oldest = g.oldest; lowest = g.lowest }
+still_foldable (SyncEnded k ∷ later) h w l f = let g = still_foldable later h w l f in record {
+  issued = g.issued;
+  safe = or_right (is_covered (later ++ h) k w && not (is_given_up (later ++ h) w)) (is_safe (later ++ h) w) g.safe;
+  oldest = g.oldest;
+  lowest = g.lowest;
+}
+still_foldable (SyncFailed k ∷ later) h w l f = let g = still_foldable later h w l f in record { issued = g.issued; safe = g.safe; oldest = g.oldest; lowest = g.lowest }
+
+-- A history without a write that can be folded.
+record IsWithout (g h : History) (w : Write) : Type 0 where
+  lawful : IsLawful g
+  fold : IsFoldable g w
+  same : SameBut w.number g h
+  but_it : WritesBut w.number g h
+
+-- a write of the number is the write
+it_is : (g h : History) (w x : Write) → IsWithout g h w → IsIn x (writes g) → x.number ≡ w.number
+    → x ≡ w
+it_is g h w x f among named = one_number g x w f.lawful among f.fold.issued named
+
+-- Lists that may be left.
+
+order_to : (g h : History) (w : Write) (order : List Write) → IsWithout g h w
+    → ((x : Write) → IsIn x order → x.number ≡ w.number → ⊥) → IsInOrder g order
+    → IsInOrder h order
+order_to g h w [] f others o = tt
+order_to g h w (x ∷ more) f others o = (
+  λ m among. f.same.before m.number x.number (others m (inr among)) (others x (inl refl)) ∙ o.0 m among,
+  o.1,
+  order_to g h w more f (λ y among. others y (inr among)) o.2,
+)
+
+order_of : (g h : History) (w : Write) (order : List Write) → IsWithout g h w
+    → ((x : Write) → IsIn x order → x.number ≡ w.number → ⊥) → IsInOrder h order
+    → IsInOrder g order
+order_of g h w [] f others o = tt
+order_of g h w (x ∷ more) f others o = (
+  λ m among. sym (f.same.before m.number x.number (others m (inr among)) (others x (inl refl))) ∙ o.0 m among,
+  o.1,
+  order_of g h w more f (λ y among. others y (inr among)) o.2,
+)
+
+-- a write that is left of the others
+other_of : (w x : Write) (order : List Write) → IsIn x (filter (lacks w.number) order)
+    → IsIn x order × (x.number ≡ w.number → ⊥)
+other_of w x order among =
+    let parts = of_filter (lacks w.number) x order among in
+    (parts.0, eqb-false x.number w.number (not-true (x.number == w.number) parts.1))
+
+other_in : (w x : Write) (order : List Write) → IsIn x order → (x.number ≡ w.number → ⊥)
+    → IsIn x (filter (lacks w.number) order)
+other_in w x order among other =
+    in_filter (lacks w.number) x order among (not_from_false (x.number == w.number) (ne_eqb x.number w.number other))
+
+left_to : (g h : History) (w : Write) (touches : Write → Bool) (order : List Write)
+    → IsWithout g h w → MayBeLeft g touches order
+    → MayBeLeft h touches (filter (lacks w.number) order)
+left_to g h w touches order f left = record {
+  issued = λ x among. let parts = other_of w x order among in (f.but_it.into x (left.issued x parts.0).0 parts.1, (left.issued x parts.0).1);
+  safe = λ x among on safe. let was = f.but_it.of x among in other_in w x order (left.safe x was.0 on (sym (f.same.safe x was.1) ∙ safe)) was.1;
+  with_those_before = λ m x among on kept before.
+      let was = f.but_it.of m among in
+      let parts = other_of w x order kept in
+      other_in w m order (left.with_those_before m x was.0 on parts.0 (sym (f.same.before m.number x.number was.1 parts.1) ∙ before)) was.1;
+  in_order = order_to g h w (filter (lacks w.number) order) f (λ x among. (other_of w x order among).1) (filter_in_order g (lacks w.number) order left.in_order);
+}
+
+-- with the write under them
+left_under : (g h : History) (w : Write) (touches : Write → Bool) (order : List Write)
+    → IsWithout g h w → touches w ≡ true → MayBeLeft h touches order
+    → MayBeLeft g touches (w ∷ order)
+left_under g h w touches order f on_w left =
+    let others = λ (x : Write) (among : IsIn x order). (f.but_it.of x (left.issued x among).0).1 in
+    record {
+      issued = λ x among. elim among [
+        | inl same ↦ (subst (λ y. IsIn y (writes g)) (sym same) f.fold.issued, subst (λ y. touches y ≡ true) (sym same) on_w)
+        | inr rest ↦ ((f.but_it.of x (left.issued x rest).0).0, (left.issued x rest).1)
+      ];
+      safe = λ x among on safe. elim (cases_Bool (x.number == w.number)) [
+        | inl is ↦ inl (it_is g h w x f among (eqb-true x.number w.number is))
+        | inr out ↦ let other = eqb-false x.number w.number out in inr (left.safe x (f.but_it.into x among other) on (f.same.safe x other ∙ safe))
+      ];
+      with_those_before = λ m x among on kept before. elim (cases_Bool (m.number == w.number)) [
+        | inl is ↦ inl (it_is g h w m f among (eqb-true m.number w.number is))
+        | inr out ↦
+            let other = eqb-false m.number w.number out in
+            elim kept [
+              | inl same ↦ absurd (both_ways (is_before g m.number w.number) (f.fold.oldest m among) (subst (λ y. is_before g m.number y.number ≡ true) same before))
+              | inr rest ↦ inr (left.with_those_before m x (f.but_it.into m among other) on rest (f.same.before m.number x.number other (others x rest) ∙ before))
+            ]
+      ];
+      in_order = (
+        λ m among. f.fold.oldest m (f.but_it.of m (left.issued m among).0).0,
+        λ among. others w among refl,
+        order_of g h w order f others left.in_order,
+      );
+    }
+
+-- where the write doesn't touch
+left_apart : (g h : History) (w : Write) (touches : Write → Bool) (order : List Write)
+    → IsWithout g h w → touches w ≡ false → MayBeLeft h touches order
+    → MayBeLeft g touches order
+left_apart g h w touches order f off_w left =
+    let others = λ (x : Write) (among : IsIn x order). (f.but_it.of x (left.issued x among).0).1 in
+    let apart = λ (x : Write) (among : IsIn x (writes g)) (on : touches x ≡ true) (named : x.number ≡ w.number).
+    both_ways (touches w) off_w (subst (λ y. touches y ≡ true) (it_is g h w x f among named) on) in
+    record {
+      issued = λ x among. ((f.but_it.of x (left.issued x among).0).0, (left.issued x among).1);
+      safe = λ x among on safe. left.safe x (f.but_it.into x among (apart x among on)) on (f.same.safe x (apart x among on) ∙ safe);
+      with_those_before = λ m x among on kept before. left.with_those_before m x (f.but_it.into m among (apart m among on)) on kept (f.same.before m.number x.number (apart m among on) (others x kept) ∙ before);
+      in_order = order_of g h w order f others left.in_order;
+    }
+
+-- Bytes.
+
+-- of these writes none with the number writes the byte
+over_others : (n k byte : ℕ) (order : List Write)
+    → ((x : Write) → IsIn x order → x.number ≡ n → is_under x k ≡ false)
+    → byte_over byte order k ≡ byte_over byte (filter (lacks n) order) k
+over_others n k byte [] off = refl
+over_others n k byte (x ∷ more) off = elim (cases_Bool (x.number == n)) [
+  | inl is ↦
+      ap (λ b. byte_over b more k) (cond-false (is_under x k) (slice_index x.bytes (k - x.off)) byte (off x (inl refl) (eqb-true x.number n is)))
+      ∙ over_others n k byte more (λ y among. off y (inr among))
+      ∙ sym (ap (λ ys. byte_over byte ys k) (cond-false (lacks n x) (x ∷ filter (lacks n) more) (filter (lacks n) more) (ap not is)))
+  | inr out ↦
+      over_others n k (over byte x k) more (λ y among. off y (inr among))
+      ∙ sym (ap (λ ys. byte_over byte ys k) (cond-true (lacks n x) (x ∷ filter (lacks n) more) (filter (lacks n) more) (ap not out)))
+]
+
+-- the write lies under the others
+lies_under : (g h : History) (w : Write) (k byte : ℕ) (order : List Write) → IsWithout g h w
+    → ((x : Write) → IsIn x order → IsIn x (writes g)) → IsInOrder g order → IsIn w order
+    → is_under w k ≡ true
+    → byte_over byte order k ≡ byte_over (over byte w k) (filter (lacks w.number) order) k
+lies_under g h w k byte [] f known o among under = absurd among
+lies_under g h w k byte (x ∷ more) f known o (inl same) under =
+    over_others w.number k (over byte x k) more (λ y later named. absurd (o.1 (subst (λ z. IsIn z more) (it_is g h w y f (known y (inr later)) named ∙ same) later)))
+    ∙ ap (λ y. byte_over (over byte y k) (filter (lacks w.number) more) k) (sym same)
+    ∙ sym (ap (λ ys. byte_over (over byte w k) ys k) (cond-false (lacks w.number x) (x ∷ filter (lacks w.number) more) (filter (lacks w.number) more) (ap not (eq-eqb x.number w.number (ap (λ y. y.number) (sym same))))))
+lies_under g h w k byte (x ∷ more) f known o (inr later) under =
+    let differs = λ (e : x ≡ w). o.1 (subst (λ z. IsIn z more) (sym e) later) in
+    let off : is_under x k ≡ false = false_from_ne_true (is_under x k) (λ is. both_ways (is_before g w.number x.number) (o.0 w later) (f.fold.lowest x k (known x (inl refl)) differs is under)) in
+    let kept : lacks w.number x ≡ true = not_from_false (x.number == w.number) (ne_eqb x.number w.number (λ named. differs (it_is g h w x f (known x (inl refl)) named))) in
+    ap (λ b. byte_over b more k) (cond-false (is_under x k) (slice_index x.bytes (k - x.off)) byte off)
+    ∙ lies_under g h w k byte more f (λ y among. known y (inr among)) o.2 later under
+    ∙ ap (λ b. byte_over b (filter (lacks w.number) more) k) (sym (cond-false (is_under x k) (slice_index x.bytes (k - x.off)) (over byte w k) off))
+    ∙ sym (ap (λ ys. byte_over (over byte w k) ys k) (cond-true (lacks w.number x) (x ∷ filter (lacks w.number) more) (filter (lacks w.number) more) kept))
+
+folded_byte : (g h : History) (w : Write) (k byte : ℕ) (order : List Write) → IsWithout g h w
+    → ((x : Write) → IsIn x order → IsIn x (writes g)) → IsInOrder g order
+    → (is_under w k ≡ true → IsIn w order)
+    → byte_over byte order k ≡ byte_over (over byte w k) (filter (lacks w.number) order) k
+folded_byte g h w k byte order f known o there = elim (cases_Bool (is_under w k)) [
+  | inl under ↦ lies_under g h w k byte order f known o (there under) under
+  | inr out ↦
+      over_others w.number k byte order (λ x among named. subst (λ y. is_under y k ≡ false) (sym (it_is g h w x f (known x among) named)) out)
+      ∙ ap (λ b. byte_over b (filter (lacks w.number) order) k) (sym (cond-false (is_under w k) (slice_index w.bytes (k - w.off)) byte out))
+]
+
+-- Lengths.
+
+folded_length : (w : Write) (len : ℕ) (order : List Write) → IsIn w order
+    → ((x : Write) → IsIn x order → x.number ≡ w.number → x ≡ w)
+    → length_over len order ≡ length_over (max len (end_of w)) (filter (lacks w.number) order)
+folded_length w len order there one =
+    let bound = length_over (max len (end_of w)) (filter (lacks w.number) order) in
+    let start : max len (end_of w) ≤ length_over (max len (end_of w)) (filter (lacks w.number) order) = len_grows (max len (end_of w)) (filter (lacks w.number) order) in
+    let up : length_over len order ≤ length_over (max len (end_of w)) (filter (lacks w.number) order) = length_below len (length_over (max len (end_of w)) (filter (lacks w.number) order)) order (omega (arith, start)) (λ x among. elim (cases_Bool (x.number == w.number)) as (λ _. end_of x ≤ length_over (max len (end_of w)) (filter (lacks w.number) order)) [
+      | inl is ↦ subst (λ y. end_of y ≤ length_over (max len (end_of w)) (filter (lacks w.number) order)) (sym (one x among (eqb-true x.number w.number is))) (omega (arith, start))
+      | inr out ↦ end_within (max len (end_of w)) x (filter (lacks w.number) order) (other_in w x order among (eqb-false x.number w.number out))
+    ]) in
+    let down : length_over (max len (end_of w)) (filter (lacks w.number) order) ≤ length_over len order = length_below (max len (end_of w)) (length_over len order) (filter (lacks w.number) order) (omega (arith, len_grows len order, end_within len w order there)) (λ x among. end_within len x order (other_of w x order among).0) in
+    omega (arith, up, down)
+
+-- Images.
+
+unit_to : (u : ℕ) (first under : List ℕ) (g h : History) (w : Write) (now : List ℕ) (i : ℕ) → 0 < u
+    → IsWithout g h w → IsOver first w under → UnitIsLeft u first g now i
+    → UnitIsLeft u under h now i
+unit_to u first under g h w now i positive f is unit = record {
+  order = filter (lacks w.number) unit.order;
+  left = left_to g h w (is_on u i) unit.order f unit.left;
+  bytes = λ k at within.
+      unit.bytes k at within
+      ∙ folded_byte g h w k (slice_index first k) unit.order f (λ x among. (unit.left.issued x among).0) unit.left.in_order
+      (λ under_w. unit.left.safe w f.fold.issued (subst (λ j. is_on u j w ≡ true) at (on_from u w k positive under_w)) f.fold.safe)
+      ∙ ap (λ b. byte_over b (filter (lacks w.number) unit.order) k) (sym (is.bytes k));
+}
+
+unit_of : (u : ℕ) (first under : List ℕ) (g h : History) (w : Write) (now : List ℕ) (i : ℕ) → 0 < u
+    → IsWithout g h w → IsOver first w under → UnitIsLeft u under h now i
+    → UnitIsLeft u first g now i
+unit_of u first under g h w now i positive f is unit = elim (cases_Bool (is_on u i w)) [
+  | inl on ↦ record {
+    order = w ∷ unit.order;
+    left = left_under g h w (is_on u i) unit.order f on unit.left;
+    bytes = λ k at within. unit.bytes k at within ∙ ap (λ b. byte_over b unit.order k) (is.bytes k);
+  }
+  | inr off ↦ record {
+    order = unit.order;
+    left = left_apart g h w (is_on u i) unit.order f off unit.left;
+    bytes = λ k at within.
+        let out : is_under w k ≡ false = false_from_ne_true (is_under w k) (λ under_w. both_ways (is_on u i w) off (subst (λ j. is_on u j w ≡ true) at (on_from u w k positive under_w))) in
+        unit.bytes k at within ∙ ap (λ b. byte_over b unit.order k) (is.bytes k ∙ cond-false (is_under w k) (slice_index w.bytes (k - w.off)) (slice_index first k) out);
+  }
+]
+
+image_to : (u : ℕ) (first under : List ℕ) (g h : History) (w : Write) (now : List ℕ) → 0 < u
+    → IsWithout g h w → IsOver first w under → IsImage u first g now → IsImage u under h now
+image_to u first under g h w now positive f is image = record {
+  units = λ i. unit_to u first under g h w now i positive f is (image.units i);
+  len = record {
+    order = filter (lacks w.number) image.len.order;
+    left = left_to g h w (λ x. true) image.len.order f image.len.left;
+    len =
+        image.len.len
+        ∙ folded_length w (length first) image.len.order (image.len.left.safe w f.fold.issued refl f.fold.safe) (λ x among named. it_is g h w x f (image.len.left.issued x among).0 named)
+        ∙ ap (λ n. length_over n (filter (lacks w.number) image.len.order)) (sym is.len);
+  };
+}
+
+image_of : (u : ℕ) (first under : List ℕ) (g h : History) (w : Write) (now : List ℕ) → 0 < u
+    → IsWithout g h w → IsOver first w under → IsImage u under h now → IsImage u first g now
+image_of u first under g h w now positive f is image = record {
+  units = λ i. unit_of u first under g h w now i positive f is (image.units i);
+  len = record {
+    order = w ∷ image.len.order;
+    left = left_under g h w (λ x. true) image.len.order f refl image.len.left;
+    len = image.len.len ∙ ap (λ n. length_over n image.len.order) is.len;
+  };
+}
+
+pub fold_changes_none : FoldChangesNone
+fold_changes_none u first under later h w now positive l f is =
+    let without : IsWithout (later ++ h) (later ++ without_write w.number h) w = record {
+      lawful = l;
+      fold = still_foldable later h w l f;
+      same = same_later w.number later h;
+      but_it = but_later later h w l f.issued;
+    } in (
+      λ image. image_to u first under (later ++ h) (later ++ without_write w.number h) w now positive without is image,
+      λ image. image_of u first under (later ++ h) (later ++ without_write w.number h) w now positive without is image,
+    )

@@ -1,0 +1,139 @@
+-- A search through a list, and loops over lists of references.
+use Rattle.std.proofs.Common.{◌≡◌, ◌+◌, ◌*◌, ◌<◌, ◌≤◌, ℕ, zero, suc, min, max, Bool, true, false, ◌&&◌, cond, List, [], ◌∷◌, ◌++◌, length, map, get_or, take, drop, refl, sym, ap, ◌∙◌, inl, inr, arith}
+use Rattle.std.specs.Prelude.{Result, Ok, Err, OnOk}
+use Rattle.std.specs.List.{list_any, filter}
+use Rattle.std.specs.Cmp.Lexicographic.{pointwise}
+use Rattle.std.proofs.lemmas.Bool.{cases_Bool, cond-true, cond-false, or_from, or_left, or_right}
+use Rattle.std.proofs.lemmas.List.{ext_get_or, take_more, drop_more, drop_all, map-append}
+use Rattle.std.proofs.lemmas.List.Folds.{list_any-append}
+use Rattle.std.proofs.Math.Nat.{mul-le-mul_left}
+use Rattle.uring_volume.specs.Writes.{Write}
+use Rattle.uring_volume.specs.Images.{byte_over, end_of, length_over}
+use Rattle.uring_volume.specs.Events.{History}
+use Rattle.uring_volume.specs.Ways.{bytes_over, bytes_from, put_by, unit_contents, fronts}
+use Rattle.uring_volume.proofs.Painting.{below_or_from}
+use Rattle.uring_volume.proofs.Files.{length_bytes_over, bytes_over_at, length_joined}
+
+holds_at : {X Y : Type 0} (f : X → Y) (p : Y → Bool) (xs : List X) (i : ℕ) (d : X)
+    → i < length xs → p (f (get_or xs i d)) ≡ true → list_any p (map f xs) ≡ true
+holds_at f p [] i d within is = absurd (omega arith)
+holds_at f p (x ∷ xs) zero d within is = or_left (p (f x)) (list_any p (map f xs)) is
+holds_at f p (x ∷ xs) (suc i) d within is =
+    or_right (p (f x)) (list_any p (map f xs)) (holds_at f p xs i d (omega arith) is)
+
+-- the one that is looked for stands at i
+pub one_is : {X Y : Type 0} (f : X → Y) (p : Y → Bool) (xs : List X) (i : ℕ) (x : X)
+    → i < length xs → x ≡ get_or xs i x → p (f x) ≡ true → list_any p (map f xs) ≡ true
+one_is f p xs i x within at is = holds_at f p xs i x within (ap (λ y. p (f y)) (sym at) ∙ is)
+
+pub none_more : {X Y : Type 0} (f : X → Y) (p : Y → Bool) (xs : List X) (i : ℕ) (x : X)
+    → i < length xs → x ≡ get_or xs i x → p (f x) ≡ false
+    → list_any p (map f (take i xs)) ≡ false → list_any p (map f (take (i + 1) xs)) ≡ false
+none_more f p xs i x within at out none =
+    ap (λ ys. list_any p (map f ys)) (take_more xs i x within)
+    ∙ ap (list_any p) (map-append f (take i xs) (get_or xs i x ∷ []))
+    ∙ list_any-append p (map f (take i xs)) (f (get_or xs i x) ∷ [])
+    ∙ or_from (list_any p (map f (take i xs))) (list_any p (f (get_or xs i x) ∷ [])) none
+    (or_from (p (f (get_or xs i x))) false (ap (λ y. p (f y)) (sym at) ∙ out) refl)
+
+-- all bytes are painted
+pub painted : (k : ℕ) (now old : List ℕ) (w : Write) → length now ≡ length old
+    → ((j : ℕ) → j < length old → get_or now j 0 ≡ byte_over (get_or old j 0) (w ∷ []) (k + j))
+    → now ≡ bytes_over k old w
+painted k now old w same done =
+    ext_get_or 0 now (bytes_over k old w) (same ∙ sym (length_bytes_over k old w))
+    (λ j within. done j (omega arith) ∙ sym (bytes_over_at k old w j (omega arith)))
+
+pub one_byte_more : (first : List ℕ) (k n : ℕ)
+    → bytes_from first k (n + 1) ≡ bytes_from first k n ++ get_or first (k + n) 0 ∷ []
+one_byte_more first k zero =
+    let here : k ≡ k + 0 = omega arith in ap (λ j. get_or first j 0 ∷ []) here
+one_byte_more first k (suc n) =
+    let more : suc n + 1 ≡ suc (n + 1) = omega arith in
+    let there : suc k + n ≡ k + suc n = omega arith in
+    ap (bytes_from first k) more
+    ∙ ap (λ bs. get_or first k 0 ∷ bs) (one_byte_more first (suc k) n ∙ ap (λ j. bytes_from first (suc k) n ++ get_or first j 0 ∷ []) there)
+
+-- two lists of references, from index i on
+pub pairs_from : {X Y : Type 0} (f : X → Y) (same : Y → Y → Bool) (xs ys : List X) (i : ℕ) (x y : X)
+    → i < length xs → length xs ≡ length ys → x ≡ get_or xs i x → y ≡ get_or ys i y
+    → pointwise same (map f (drop i xs)) (map f (drop i ys))
+    ≡ (same (f x) (f y) && pointwise same (map f (drop (i + 1) xs)) (map f (drop (i + 1) ys)))
+pairs_from f same xs ys i x y within long at_x at_y =
+    ap (λ zs. pointwise same (map f zs) (map f (drop i ys))) (drop_more xs i x within ∙ ap (λ z. z ∷ drop (i + 1) xs) (sym at_x))
+    ∙ ap (λ zs. pointwise same (map f (x ∷ drop (i + 1) xs)) (map f zs)) (drop_more ys i y (omega arith) ∙ ap (λ z. z ∷ drop (i + 1) ys) (sym at_y))
+
+pub pairs_end : {X Y : Type 0} (f : X → Y) (same : Y → Y → Bool) (xs ys : List X) (i : ℕ)
+    → length xs ≤ i → length xs ≡ length ys
+    → pointwise same (map f (drop i xs)) (map f (drop i ys)) ≡ true
+pairs_end f same xs ys i past long =
+    ap (λ zs. pointwise same (map f zs) (map f (drop i ys))) (drop_all i xs past)
+    ∙ ap (λ zs. pointwise same [] (map f zs)) (drop_all i ys (omega arith))
+
+pub put_new : {X Y : Type 0} (f : X → Y) (same : Y → Y → Bool) (old new : List X) (x : X) (y : Y)
+    → f x ≡ y → list_any (λ z. same z y) (map f old) ≡ false → new ≡ old ++ x ∷ []
+    → map f new ≡ put_by same (map f old) y
+put_new f same old new x y is none pushed =
+    ap (map f) pushed
+    ∙ map-append f old (x ∷ [])
+    ∙ ap (λ z. map f old ++ z ∷ []) is
+    ∙ sym (cond-false (list_any (λ z. same z y) (map f old)) (map f old) (map f old ++ y ∷ []) none)
+
+pub on_ok : {T E : Type 0} (r : Result T E) (P Q : Type 0) → (P → Q) → OnOk r P → OnOk r Q
+on_ok (Ok x) P Q follows holds = follows holds
+on_ok (Err e) P Q follows holds = tt
+
+-- a length after the writes that are left of those from index i on
+pub kept_more : {X : Type 0} (f : X → Write) (p : Write → Bool) (xs : List X) (i : ℕ) (x : X)
+    (len next : ℕ) (b : Bool) → i < length xs → x ≡ get_or xs i x → b ≡ p (f x)
+    → next ≡ cond b (max len (end_of (f x))) len
+    → length_over next (filter p (map f (drop (i + 1) xs))) ≡ length_over len (filter p (map f (drop i xs)))
+kept_more f p xs i x len next b within at is made =
+    let here : map f (drop i xs) ≡ f x ∷ map f (drop (i + 1) xs) = ap (map f) (drop_more xs i x within ∙ ap (λ z. z ∷ drop (i + 1) xs) (sym at)) in
+    sym (ap (λ ws. length_over len (filter p ws)) here ∙ elim (cases_Bool (p (f x))) as (λ _. length_over len (filter p (f x ∷ map f (drop (i + 1) xs))) ≡ length_over next (filter p (map f (drop (i + 1) xs)))) [
+      | inl is_kept ↦
+          ap (length_over len) (cond-true (p (f x)) (f x ∷ filter p (map f (drop (i + 1) xs))) (filter p (map f (drop (i + 1) xs))) is_kept)
+          ∙ ap (λ n. length_over n (filter p (map f (drop (i + 1) xs)))) (sym (made ∙ cond-true b (max len (end_of (f x))) len (is ∙ is_kept)))
+      | inr is_out ↦
+          ap (length_over len) (cond-false (p (f x)) (f x ∷ filter p (map f (drop (i + 1) xs))) (filter p (map f (drop (i + 1) xs))) is_out)
+          ∙ ap (λ n. length_over n (filter p (map f (drop (i + 1) xs)))) (sym (made ∙ cond-false b (max len (end_of (f x))) len (is ∙ is_out)))
+    ])
+
+-- none is left behind the last one
+pub kept_all : {X : Type 0} (f : X → Write) (p : Write → Bool) (xs : List X) (i len : ℕ)
+    → length xs ≤ i → len ≡ length_over len (filter p (map f (drop i xs)))
+kept_all f p xs i len past = sym (ap (λ ys. length_over len (filter p (map f ys))) (drop_all i xs past))
+
+-- numbers that stop at a most
+pub times_most : (a b most : ℕ) → min (min a most * b) most ≡ min (a * b) most
+times_most a b most = elim (below_or_from most a) [
+  | inl over ↦ elim (below_or_from 0 b) as (λ _. min (min a most * b) most ≡ min (a * b) most) [
+    | inl some ↦
+        let capped : min a most ≡ most = omega arith in
+        let one : most * 1 ≤ most * b = mul-le-mul_left most some in
+        let two : a * 1 ≤ a * b = mul-le-mul_left a some in
+        ap (λ n. min (n * b) most) capped ∙ (let it : min (most * b) most ≡ min (a * b) most = omega (arith, one, two) in it)
+    | inr none ↦
+        let nothing : b ≡ 0 = omega arith in
+        ap (λ n. min (min a most * n) most) nothing ∙ (let it : min (min a most * 0) most ≡ min (a * 0) most = omega arith in it) ∙ ap (λ n. min (a * n) most) (sym nothing)
+  ]
+  | inr within ↦ let exact : min a most ≡ a = omega arith in ap (λ n. min (n * b) most) exact
+]
+
+pub dropped : {X Y : Type 0} (f : X → Y) (xs : List X) (i : ℕ) (x : X) → i < length xs
+    → x ≡ get_or xs i x → map f (drop i xs) ≡ f x ∷ map f (drop (i + 1) xs)
+dropped f xs i x within at = ap (map f) (drop_more xs i x within ∙ ap (λ z. z ∷ drop (i + 1) xs) (sym at))
+
+-- how many there are with one unit more
+pub count_more : (u : ℕ) (first : List ℕ) (h : History) (len i count size next most : ℕ)
+    (ends : List (List ℕ)) → count ≡ min (length (fronts u first h len i)) most
+    → ends ≡ unit_contents u first h len i → size ≡ length ends → next ≡ min (count * size) most
+    → next ≡ min (length (fronts u first h len (i + 1))) most
+count_more u first h len i count size next most ends so_far is many made =
+    let more : suc i ≡ i + 1 = omega arith in
+    made
+    ∙ ap (λ n. min (n * size) most) so_far
+    ∙ times_most (length (fronts u first h len i)) size most
+    ∙ ap (λ n. min (length (fronts u first h len i) * n) most) (many ∙ ap length is)
+    ∙ ap (λ n. min n most) (sym (length_joined (fronts u first h len i) (unit_contents u first h len i)))
+    ∙ ap (λ j. min (length (fronts u first h len j)) most) more

@@ -1,0 +1,291 @@
+-- The ways through some writes lead to what each list that fits leaves, and to nothing else.
+use Rattle.std.proofs.Common.{◌≡◌, ◌==◌, ◌+◌, ◌≤◌, ◌<◌, ℕ, zero, suc, Bool, true, false, not, ◌&&◌, ◌||◌, cond, List, [], ◌∷◌, ◌++◌, ◌⊎◌, length, refl, sym, subst, ap, ◌∙◌, inl, inr, arith}
+use Rattle.std.specs.Prelude.{nat_eq}
+use Rattle.std.specs.List.{list_any, filter}
+use Rattle.std.specs.Cmp.Lexicographic.{pointwise}
+use Rattle.std.proofs.lemmas.Bool.{cases_Bool, both_ways, false_from_ne_true, cond-true, cond-false, cond_both, eq-eqb}
+use Rattle.uring_volume.specs.Writes.{Write}
+use Rattle.uring_volume.specs.Events.{History, is_before, is_safe}
+use Rattle.uring_volume.specs.Images.{IsIn}
+use Rattle.uring_volume.specs.Choices.{waits_for_one, has_safe, named, without}
+use Rattle.uring_volume.specs.Listing.{IsEachOnce}
+use Rattle.uring_volume.specs.Ways.{Way, way, same_way, put_by, bytes_over, stepped, steps_of, next_ways, found_at, found_by, contents_of}
+use Rattle.uring_volume.proofs.Fitting.{lacks, FitsIn, AreApart, apart_filter, named_is, first_is_free, rest_fits, place_fits, none_in, not_in}
+use Rattle.uring_volume.proofs.Puts.{in_put_old, in_put_new, of_put, put_once, ways_tell, bytes_tell}
+
+-- these bytes from offset k on, with these writes over them, one after the other
+abbrev pub all_over : ℕ → List ℕ → List Write → List ℕ
+all_over k bs [] = bs
+all_over k bs (w ∷ more) = all_over k (bytes_over k bs w) more
+
+-- what is left on a way is one of the things that fit
+pub record Gives (h : History) (k : ℕ) (s : Way) (c : List ℕ) : Type 0 where
+  pub order : List Write
+  pub fits : FitsIn h s.rest order
+  pub made : c ≡ all_over k s.now order
+
+-- One step.
+
+pub record IsEnd (h : History) (s : Way) (c : List ℕ) : Type 0 where
+  pub none : has_safe h s.rest ≡ false
+  pub is : c ≡ s.now
+
+pub record IsStep (h : History) (k : ℕ) (s : Way) (w : Write) : Type 0 where
+  pub among : IsIn w s.rest
+  pub free : waits_for_one h s.rest w.number ≡ false
+
+step_by : (h : History) (k : ℕ) (s : Way) (c : List ℕ) (order : List Write) → AreApart h s.rest
+    → FitsIn h s.rest order → c ≡ all_over k s.now order
+    → IsEnd h s c ⊎ ((w : Write) × IsStep h k s w × Gives h k (stepped k s w) c)
+step_by h k s c [] apart fits made = inl (record {
+  none = none_in (λ w. is_safe h w) s.rest (λ w among. false_from_ne_true (is_safe h w) (λ safe. fits.safe w among safe));
+  is = made;
+})
+step_by h k s c (w ∷ more) apart fits made = inr (
+  w,
+  record { among = fits.within w (inl refl); free = first_is_free h s.rest w more apart fits },
+  record { order = more; fits = rest_fits h s.rest w more apart fits; made = made },
+)
+
+step_down : (h : History) (k : ℕ) (s : Way) (c : List ℕ) → AreApart h s.rest → Gives h k s c
+    → IsEnd h s c ⊎ ((w : Write) × IsStep h k s w × Gives h k (stepped k s w) c)
+step_down h k s c apart g = step_by h k s c g.order apart g.fits g.made
+
+end_gives : (h : History) (k : ℕ) (s : Way) (c : List ℕ) → IsEnd h s c → Gives h k s c
+end_gives h k s c e = record {
+  order = [];
+  fits = record {
+    within = λ w among. absurd among;
+    safe = λ w among safe. absurd (both_ways (is_safe h w) (not_in (λ v. is_safe h v) w s.rest e.none among) safe);
+    closed = λ m w among kept before. absurd kept;
+    in_order = tt;
+  };
+  made = e.is;
+}
+
+step_up : (h : History) (k : ℕ) (s : Way) (w : Write) (c : List ℕ) → AreApart h s.rest
+    → IsStep h k s w → Gives h k (stepped k s w) c → Gives h k s c
+step_up h k s w c apart step g =
+    let placed : FitsIn h s.rest (named w.number s.rest ++ g.order) = place_fits h w.number s.rest g.order apart.in_order step.free g.fits in
+    let first : FitsIn h s.rest ((w ∷ []) ++ g.order) = subst (λ ws. FitsIn h s.rest (ws ++ g.order)) (named_is h w s.rest apart step.among) placed in
+    record { order = w ∷ g.order; fits = first; made = g.made }
+
+-- The steps from some ways.
+
+record Comes (h : History) (k : ℕ) (ways : List Way) (t : Way) : Type 0 where
+  from : Way
+  among : IsIn from ways
+  by : Write
+  step : IsStep h k from by
+  is : t ≡ stepped k from by
+
+steps_old : (h : History) (k : ℕ) (s : Way) (ws : List Write) (next : List Way) (t : Way)
+    → IsIn t next → IsIn t (steps_of h k s ws next)
+steps_old h k s [] next t among = among
+steps_old h k s (w ∷ more) next t among =
+    steps_old h k s more (cond (waits_for_one h s.rest w.number) next (put_by same_way next (stepped k s w))) t
+    (cond_both (waits_for_one h s.rest w.number) next (put_by same_way next (stepped k s w)) (λ ns. IsIn t ns) (λ _. among) (λ _. in_put_old same_way t (stepped k s w) next among))
+
+steps_new : (h : History) (k : ℕ) (s : Way) (ws : List Write) (next : List Way) (w : Write)
+    → IsIn w ws → waits_for_one h s.rest w.number ≡ false
+    → IsIn (stepped k s w) (steps_of h k s ws next)
+steps_new h k s [] next w among free = absurd among
+steps_new h k s (v ∷ more) next w (inl same) free =
+    steps_old h k s more (cond (waits_for_one h s.rest v.number) next (put_by same_way next (stepped k s v))) (stepped k s w)
+    (subst (λ x. IsIn (stepped k s x) (cond (waits_for_one h s.rest v.number) next (put_by same_way next (stepped k s v)))) (sym same)
+    (subst (λ ns. IsIn (stepped k s v) ns) (sym (cond-false (waits_for_one h s.rest v.number) next (put_by same_way next (stepped k s v)) (subst (λ x. waits_for_one h s.rest x.number ≡ false) same free)))
+    (in_put_new same_way (stepped k s v) next ways_tell)))
+steps_new h k s (v ∷ more) next w (inr later) free =
+    steps_new h k s more (cond (waits_for_one h s.rest v.number) next (put_by same_way next (stepped k s v))) w later free
+
+put_comes : (h : History) (k : ℕ) (s : Way) (w : Write) (next : List Way) (t : Way)
+    → IsIn w s.rest → IsIn t (cond (waits_for_one h s.rest w.number) next (put_by same_way next (stepped k s w)))
+    → IsIn t next ⊎ ((v : Write) × IsStep h k s v × (t ≡ stepped k s v))
+put_comes h k s w next t within =
+    cond_both (waits_for_one h s.rest w.number) next (put_by same_way next (stepped k s w)) (λ ns. IsIn t ns → IsIn t next ⊎ ((v : Write) × IsStep h k s v × (t ≡ stepped k s v)))
+    (λ _ among. inl among)
+    (λ free among. elim (of_put same_way t (stepped k s w) next among) [
+      | inl old ↦ inl old
+      | inr is ↦ inr (w, record { among = within; free = free }, is)
+    ])
+
+of_steps : (h : History) (k : ℕ) (s : Way) (ws : List Write) (next : List Way) (t : Way)
+    → ((w : Write) → IsIn w ws → IsIn w s.rest) → IsIn t (steps_of h k s ws next)
+    → IsIn t next ⊎ ((w : Write) × IsStep h k s w × (t ≡ stepped k s w))
+of_steps h k s [] next t within among = inl among
+of_steps h k s (w ∷ more) next t within among =
+    elim (of_steps h k s more (cond (waits_for_one h s.rest w.number) next (put_by same_way next (stepped k s w))) t (λ v later. within v (inr later)) among) [
+      | inl early ↦ put_comes h k s w next t (within w (inl refl)) early
+      | inr found ↦ inr found
+    ]
+
+next_old : (h : History) (k : ℕ) (ways next : List Way) (t : Way) → IsIn t next
+    → IsIn t (next_ways h k ways next)
+next_old h k [] next t among = among
+next_old h k (s ∷ more) next t among = next_old h k more (steps_of h k s s.rest next) t (steps_old h k s s.rest next t among)
+
+next_new : (h : History) (k : ℕ) (ways next : List Way) (s : Way) (w : Write) → IsIn s ways
+    → IsStep h k s w → IsIn (stepped k s w) (next_ways h k ways next)
+next_new h k [] next s w among step = absurd among
+next_new h k (r ∷ more) next s w (inl same) step =
+    next_old h k more (steps_of h k r r.rest next) (stepped k s w)
+    (subst (λ x. IsIn (stepped k s w) (steps_of h k x x.rest next)) same (steps_new h k s s.rest next w step.among step.free))
+next_new h k (r ∷ more) next s w (inr later) step = next_new h k more (steps_of h k r r.rest next) s w later step
+
+of_next : (h : History) (k : ℕ) (ways next : List Way) (t : Way) → IsIn t (next_ways h k ways next)
+    → IsIn t next ⊎ Comes h k ways t
+of_next h k [] next t among = inl among
+of_next h k (s ∷ more) next t among =
+    elim (of_next h k more (steps_of h k s s.rest next) t among) [
+      | inl early ↦ elim (of_steps h k s s.rest next t (λ w is. is) early) [
+        | inl old ↦ inl old
+        | inr found ↦ inr (record { from = s; among = inl refl; by = found.0; step = found.1; is = found.2 })
+      ]
+      | inr comes ↦ inr (record { from = comes.from; among = inr comes.among; by = comes.by; step = comes.step; is = comes.is })
+    ]
+
+-- What has been found at some ways.
+
+at_old : (h : History) (ways : List Way) (found : List (List ℕ)) (c : List ℕ) → IsIn c found
+    → IsIn c (found_at h ways found)
+at_old h [] found c among = among
+at_old h (s ∷ more) found c among =
+    at_old h more (cond (has_safe h s.rest) found (put_by (pointwise nat_eq) found s.now)) c
+    (cond_both (has_safe h s.rest) found (put_by (pointwise nat_eq) found s.now) (λ cs. IsIn c cs) (λ _. among) (λ _. in_put_old (pointwise nat_eq) c s.now found among))
+
+at_new : (h : History) (ways : List Way) (found : List (List ℕ)) (s : Way) → IsIn s ways
+    → has_safe h s.rest ≡ false → IsIn s.now (found_at h ways found)
+at_new h [] found s among none = absurd among
+at_new h (r ∷ more) found s (inl same) none =
+    at_old h more (cond (has_safe h r.rest) found (put_by (pointwise nat_eq) found r.now)) s.now
+    (subst (λ x. IsIn x.now (cond (has_safe h r.rest) found (put_by (pointwise nat_eq) found r.now))) (sym same)
+    (subst (λ cs. IsIn r.now cs) (sym (cond-false (has_safe h r.rest) found (put_by (pointwise nat_eq) found r.now) (subst (λ x. has_safe h x.rest ≡ false) same none)))
+    (in_put_new (pointwise nat_eq) r.now found bytes_tell)))
+at_new h (r ∷ more) found s (inr later) none =
+    at_new h more (cond (has_safe h r.rest) found (put_by (pointwise nat_eq) found r.now)) s later none
+
+put_end : (h : History) (s : Way) (found : List (List ℕ)) (c : List ℕ)
+    → IsIn c (cond (has_safe h s.rest) found (put_by (pointwise nat_eq) found s.now))
+    → IsIn c found ⊎ IsEnd h s c
+put_end h s found c =
+    cond_both (has_safe h s.rest) found (put_by (pointwise nat_eq) found s.now) (λ cs. IsIn c cs → IsIn c found ⊎ IsEnd h s c)
+    (λ _ among. inl among)
+    (λ none among. elim (of_put (pointwise nat_eq) c s.now found among) [
+      | inl old ↦ inl old
+      | inr is ↦ inr (record { none = none; is = is })
+    ])
+
+of_at : (h : History) (ways : List Way) (found : List (List ℕ)) (c : List ℕ)
+    → IsIn c (found_at h ways found) → IsIn c found ⊎ ((s : Way) × IsIn s ways × IsEnd h s c)
+of_at h [] found c among = inl among
+of_at h (s ∷ more) found c among =
+    elim (of_at h more (cond (has_safe h s.rest) found (put_by (pointwise nat_eq) found s.now)) c among) [
+      | inl early ↦ elim (put_end h s found c early) [
+        | inl old ↦ inl old
+        | inr is ↦ inr (s, inl refl, is)
+      ]
+      | inr later ↦ inr (later.0, inr later.1, later.2)
+    ]
+
+at_once : (h : History) (ways : List Way) (found : List (List ℕ)) → IsEachOnce found
+    → IsEachOnce (found_at h ways found)
+at_once h [] found once = once
+at_once h (s ∷ more) found once =
+    at_once h more (cond (has_safe h s.rest) found (put_by (pointwise nat_eq) found s.now))
+    (cond_both (has_safe h s.rest) found (put_by (pointwise nat_eq) found s.now) (λ cs. IsEachOnce cs) (λ _. once) (λ _. put_once (pointwise nat_eq) s.now found bytes_tell once))
+
+-- All steps.
+
+filter_short : (p : Write → Bool) (ws : List Write) → length (filter p ws) ≤ length ws
+filter_short p [] = omega arith
+filter_short p (w ∷ ws) =
+    cond_both (p w) (w ∷ filter p ws) (filter p ws) (λ vs. length vs ≤ suc (length ws)) (λ _. omega (arith, filter_short p ws)) (λ _. omega (arith, filter_short p ws))
+
+filter_shorter : (p : Write → Bool) (w : Write) (ws : List Write) → IsIn w ws → p w ≡ false
+    → length (filter p ws) < length ws
+filter_shorter p w [] among out = absurd among
+filter_shorter p w (v ∷ ws) (inl same) out =
+    omega (arith, filter_short p ws, ap length (cond-false (p v) (v ∷ filter p ws) (filter p ws) (subst (λ x. p x ≡ false) same out)))
+filter_shorter p w (v ∷ ws) (inr later) out =
+    cond_both (p v) (v ∷ filter p ws) (filter p ws) (λ vs. length vs < suc (length ws)) (λ _. omega (arith, filter_shorter p w ws later out)) (λ _. omega (arith, filter_shorter p w ws later out))
+
+pub record IsShort (h : History) (n : ℕ) (s : Way) : Type 0 where
+  pub apart : AreApart h s.rest
+  pub short : length s.rest < n
+
+next_short : (h : History) (k n : ℕ) (ways : List Way)
+    → ((s : Way) → IsIn s ways → IsShort h (suc n) s) → (t : Way)
+    → IsIn t (next_ways h k ways []) → IsShort h n t
+next_short h k n ways all t among = elim (of_next h k ways [] t among) [
+  | inl none ↦ absurd none
+  | inr comes ↦
+      let was = all comes.from comes.among in
+      let fewer : length (without comes.by.number comes.from.rest) < length comes.from.rest = filter_shorter (lacks comes.by.number) comes.by comes.from.rest comes.step.among (ap not (eq-eqb comes.by.number comes.by.number refl)) in
+      subst (λ x. IsShort h n x) (sym comes.is) (record { apart = apart_filter h (lacks comes.by.number) comes.from.rest was.apart; short = omega (arith, was.short, fewer) })
+]
+
+found_old : (n : ℕ) (h : History) (k : ℕ) (ways : List Way) (found : List (List ℕ)) (c : List ℕ)
+    → IsIn c found → IsIn c (found_by n h k ways found)
+found_old zero h k ways found c among = among
+found_old (suc n) h k ways found c among =
+    found_old n h k (next_ways h k ways []) (found_at h ways found) c (at_old h ways found c among)
+
+found_new : (n : ℕ) (h : History) (k : ℕ) (ways : List Way) (found : List (List ℕ)) (s : Way)
+    (c : List ℕ) → ((t : Way) → IsIn t ways → IsShort h n t) → IsIn s ways → Gives h k s c
+    → IsIn c (found_by n h k ways found)
+found_new zero h k ways found s c all among g = absurd (let none : length s.rest < 0 = (all s among).short in omega arith)
+found_new (suc n) h k ways found s c all among g =
+    elim (step_down h k s c (all s among).apart g) [
+      | inl e ↦ found_old n h k (next_ways h k ways []) (found_at h ways found) c (subst (λ bs. IsIn bs (found_at h ways found)) (sym e.is) (at_new h ways found s among e.none))
+      | inr on ↦ found_new n h k (next_ways h k ways []) (found_at h ways found) (stepped k s on.0) c (next_short h k n ways all) (next_new h k ways [] s on.0 among on.1) on.2
+    ]
+
+of_found : (n : ℕ) (h : History) (k : ℕ) (ways : List Way) (found : List (List ℕ)) (c : List ℕ)
+    → ((t : Way) → IsIn t ways → IsShort h n t) → IsIn c (found_by n h k ways found)
+    → IsIn c found ⊎ ((s : Way) × IsIn s ways × Gives h k s c)
+of_found zero h k ways found c all among = inl among
+of_found (suc n) h k ways found c all among =
+    elim (of_found n h k (next_ways h k ways []) (found_at h ways found) c (next_short h k n ways all) among) [
+      | inl early ↦ elim (of_at h ways found c early) [
+        | inl old ↦ inl old
+        | inr last ↦ inr (last.0, last.1, end_gives h k last.0 c last.2)
+      ]
+      | inr later ↦ elim (of_next h k ways [] later.0 later.1) [
+        | inl none ↦ absurd none
+        | inr comes ↦ inr (comes.from, comes.among, step_up h k comes.from comes.by c (all comes.from comes.among).apart comes.step (subst (λ x. Gives h k x c) comes.is later.2))
+      ]
+    ]
+
+found_once : (n : ℕ) (h : History) (k : ℕ) (ways : List Way) (found : List (List ℕ))
+    → IsEachOnce found → IsEachOnce (found_by n h k ways found)
+found_once zero h k ways found once = once
+found_once (suc n) h k ways found once =
+    found_once n h k (next_ways h k ways []) (found_at h ways found) (at_once h ways found once)
+
+-- What may be left of some bytes.
+
+first_short : (h : History) (rest : List Write) (bytes : List ℕ) → AreApart h rest → (t : Way)
+    → IsIn t (way rest bytes ∷ []) → IsShort h (suc (length rest)) t
+first_short h rest bytes apart t (inl same) =
+    subst (λ x. IsShort h (suc (length rest)) x) (sym same) (record { apart = apart; short = omega arith })
+first_short h rest bytes apart t (inr none) = absurd none
+
+pub of_contents : (h : History) (k : ℕ) (rest : List Write) (bytes c : List ℕ) → AreApart h rest
+    → IsIn c (contents_of h k rest bytes) → Gives h k (way rest bytes) c
+of_contents h k rest bytes c apart among =
+    elim (of_found (suc (length rest)) h k (way rest bytes ∷ []) [] c (first_short h rest bytes apart) among) [
+      | inl none ↦ absurd none
+      | inr found ↦ elim found.1 as (λ _. Gives h k (way rest bytes) c) [
+        | inl same ↦ subst (λ x. Gives h k x c) same found.2
+        | inr none ↦ absurd none
+      ]
+    ]
+
+pub in_contents : (h : History) (k : ℕ) (rest : List Write) (bytes c : List ℕ) → AreApart h rest
+    → Gives h k (way rest bytes) c → IsIn c (contents_of h k rest bytes)
+in_contents h k rest bytes c apart g =
+    found_new (suc (length rest)) h k (way rest bytes ∷ []) [] (way rest bytes) c (first_short h rest bytes apart) (inl refl) g
+
+pub contents_once : (h : History) (k : ℕ) (rest : List Write) (bytes : List ℕ)
+    → IsEachOnce (contents_of h k rest bytes)
+contents_once h k rest bytes = found_once (suc (length rest)) h k (way rest bytes ∷ []) [] tt

@@ -1,0 +1,7 @@
+use Rattle.std.proofs.Common.{◌≡◌, map, reverse}
+use Rattle.uring_volume.specs.Ways.{fronts}
+use Rattle.uring_volume.proofs.listing.fronts.Given as goal
+
+abbrev pub invariant-loop-i : goal.invariant-loop-i
+invariant-loop-i g l =
+    map (λ b. b.items) l.files.items ≡ fronts l.unit l.first (reverse l.events) l.len l.i

@@ -1,0 +1,10 @@
+use Rattle.std.proofs.Common.{◌≡◌, false, map, take, reverse}
+use Rattle.uring_volume.specs.Ways.{goes_with}
+use Rattle.uring_volume.specs.Events.{is_safe}
+use Rattle.std.specs.List.{list_any}
+use Rattle.std.specs.Prelude.{◌&&◌}
+use Rattle.uring_volume.proofs.listing.is_needed.Given as goal
+
+abbrev pub invariant-loop-safe : goal.invariant-loop-safe
+invariant-loop-safe l =
+    list_any (λ s. is_safe (reverse l.events) s && goes_with (reverse l.events) s.number l.piece) (map (λ p. p.now) (take l.safe-index l.pieces)) ≡ false

@@ -1,0 +1,9 @@
+use Rattle.std.proofs.Common.{◌≡◌, ◌∷◌, [], map, drop, reverse}
+use Rattle.uring_volume.specs.Images.{length_over}
+use Rattle.uring_volume.specs.Ways.{fewest, lengths_by}
+use Rattle.uring_volume.proofs.listing.lengths.Given as goal
+
+abbrev pub invariant-loop-piece : goal.invariant-loop-piece
+invariant-loop-piece g l =
+    lengths_by (reverse l.events) (map (λ p. p.now) l.pieces) l.first (map (λ p. p.now) (drop l.piece-index l.pieces)) l.lengths.items
+    ≡ lengths_by (reverse l.events) (map (λ p. p.now) l.pieces) l.first (map (λ p. p.now) l.pieces) (length_over l.first (fewest (reverse l.events) (map (λ p. p.now) l.pieces)) ∷ [])

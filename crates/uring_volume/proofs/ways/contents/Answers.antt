@@ -1,0 +1,14 @@
+use Rattle.std.proofs.Common.{◌≡◌, ◌+◌, suc, [], map, reverse, ap, ◌∙◌, arith}
+use Rattle.uring_volume.specs.Ways.{way, next_ways, found_at, found_by}
+use Rattle.uring_volume.proofs.ways.contents.Goals as goal
+
+pub loop-step-preserved : goal.loop-step-preserved
+loop-step-preserved g c = λ n more.
+    ap (λ ws. found_by n (reverse c.args.events.now) c.args.from ws (map (λ b. b.items) c.put_found.new.found.items))
+    (c.in_ok-ways.ensures.next ∙ ap (λ xs. next_ways (reverse c.args.events.now) c.args.from (map (λ s. way (map (λ p. p.now) s.rest.items) s.now.items) xs) []) c.deref-in-loop-step.ensures.value)
+    ∙ ap (λ bs. found_by n (reverse c.args.events.now) c.args.from (next_ways (reverse c.args.events.now) c.args.from (map (λ s. way (map (λ p. p.now) s.rest.items) s.now.items) c.loop-step.ways.items) []) bs)
+    (c.in_ok-put_found.ensures.found ∙ ap (λ xs. found_at (reverse c.args.events.now) (map (λ s. way (map (λ p. p.now) s.rest.items) s.now.items) xs) (map (λ b. b.items) c.loop-step.found.items)) c.deref.ensures.value)
+    ∙ c.loop-step.invariant (suc n) (omega (arith, more))
+
+pub returns-clause-contents : goal.returns-clause-contents
+returns-clause-contents g c = c.loop-step.invariant 0 (omega arith)

@@ -1,0 +1,7 @@
+use Rattle.std.proofs.Common.{◌≡◌, false, map, take, reverse}
+use Rattle.uring_volume.specs.Choices.{has_safe}
+use Rattle.uring_volume.proofs.ways.has_safe.Given as goal
+
+abbrev pub invariant-loop-piece : goal.invariant-loop-piece
+invariant-loop-piece l =
+    has_safe (reverse l.events) (map (λ p. p.now) (take l.piece-index l.rest)) ≡ false

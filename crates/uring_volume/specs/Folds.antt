@@ -1,0 +1,84 @@
+-- Which writes can be folded into the first bytes of a file, so that no crash ever tells the difference. Our own rule.
+use Rattle.std.specs.Prelude.{◌≡◌, ◌≢◌, ◌↔◌, ◌⊎◌, ℕ, ◌+◌, ◌<◌, nat_lt, Bool, true, false, not, ◌&&◌, ◌||◌, ◌==◌, min, max, List, [], ◌∷◌, ◌++◌, length, slice_index}
+use Rattle.std.specs.List.{list_any, filter}
+use Rattle.uring_volume.specs.Writes.{Write}
+use Rattle.uring_volume.specs.declared.event.Event.{Event}
+use Rattle.uring_volume.specs.declared.event.Event.TheVariants.{WriteIssued, WriteEnded, SyncIssued, SyncEnded, SyncFailed}
+use Rattle.uring_volume.specs.Events.{History, writes, is_before, is_safe}
+use Rattle.uring_volume.specs.Images.{IsIn, is_under, end_of, byte_over, IsImage}
+use Rattle.uring_volume.specs.Choices.{IsLawful, issued}
+use Rattle.uring_volume.specs.Volume.{Volume, running_writes, running_syncs}
+
+-- A write that can be folded: it is safe, no write is before it, and it is before each other write of a byte of it.
+pub record IsFoldable (h : History) (w : Write) : Type 0 where
+  pub issued : IsIn w (writes h)
+  pub safe : is_safe h w ≡ true
+  pub oldest : (m : Write) → IsIn m (writes h) → is_before h m.number w.number ≡ false
+  pub lowest : (m : Write) (k : ℕ) → IsIn m (writes h) → m ≢ w → is_under m k ≡ true
+      → is_under w k ≡ true → is_before h w.number m.number ≡ true
+
+-- the first bytes of a file with a write over them
+pub record IsOver (first : List ℕ) (w : Write) (now : List ℕ) : Type 0 where
+  pub len : length now ≡ max (length first) (end_of w)
+  pub bytes : (k : ℕ) → slice_index now k ≡ byte_over (slice_index first k) (w ∷ []) k
+
+-- whether an event is the issue or the end of write n
+abbrev pub is_of_write : ℕ → Event → Bool
+is_of_write n (WriteIssued w) = w.number == n
+is_of_write n (WriteEnded m) = m == n
+is_of_write n (SyncIssued s range) = false
+is_of_write n (SyncEnded s) = false
+is_of_write n (SyncFailed s) = false
+
+-- what happened, without write n
+abbrev pub without_write : ℕ → History → History
+without_write n h = filter (λ e. not (is_of_write n e)) h
+
+-- a write that is folded takes no image away and adds none, whatever happens later
+abbrev pub FoldChangesNone : Type 0
+FoldChangesNone = (u : ℕ) (first over : List ℕ) (later h : History) (w : Write) (now : List ℕ)
+    → 0 < u → IsLawful (later ++ h) → IsFoldable h w → IsOver first w over
+    → IsImage u first (later ++ h) now ↔ IsImage u over (later ++ without_write w.number h) now
+
+-- whether two writes write the same byte
+abbrev pub overlap : Write → Write → Bool
+overlap v w = nat_lt (max v.off w.off) (min (v.off + length v.bytes) (w.off + length w.bytes))
+
+-- whether write m keeps write w from being folded
+abbrev pub is_in_way : History → Write → Write → Bool
+is_in_way h w m =
+    is_before h m.number w.number
+    || (not (m.number == w.number) && (overlap m w && not (is_before h w.number m.number)))
+
+-- whether write w, which was issued, can be folded
+abbrev pub can_fold : History → Write → Bool
+can_fold h w = is_safe h w && not (list_any (λ m. is_in_way h w m) (issued h))
+
+-- What becomes of a file's first bytes and of what happened to it when one write is folded.
+pub record IsOneFolded (first made : List ℕ) (h now : History) : Type 0 where
+  pub write : Write
+  pub issued : IsIn write (issued h)
+  pub can : can_fold h write ≡ true
+  pub over : IsOver first write made
+  pub without : now ≡ without_write write.number h
+
+-- A volume after some of its writes were folded: nothing that a caller can learn of it changes, but that those writes are gone.
+pub record IsFoldedFrom (old new : Volume) : Type 0 where
+  pub unit : new.unit ≡ old.unit
+  pub next : new.next ≡ old.next
+  -- whatever happens later, the same images may be left
+  pub images : (later : History) (now : List ℕ) → IsLawful (later ++ old.history)
+      → IsImage old.unit old.first (later ++ old.history) now
+      ↔ IsImage new.unit new.first (later ++ new.history) now
+  -- and the same writes are safe of those that are there
+  pub safe : (later : History) (w : Write) → IsLawful (later ++ old.history)
+      → IsIn w (writes (later ++ new.history))
+      → is_safe (later ++ new.history) w ≡ is_safe (later ++ old.history) w
+  pub lawful : (later : History) → IsLawful (later ++ old.history) → IsLawful (later ++ new.history)
+  -- no write has come, and each that is gone was safe
+  pub none_new : (w : Write) → IsIn w (writes new.history) → IsIn w (writes old.history)
+  pub gone : (w : Write) → IsIn w (writes old.history)
+      → IsIn w (writes new.history) ⊎ (is_safe old.history w ≡ true)
+  -- the same writes and syncs run
+  pub writes_run : running_writes new.history ≡ running_writes old.history
+  pub syncs_run : running_syncs new.history ≡ running_syncs old.history

@@ -1,0 +1,374 @@
+//! The images of a file, each once: what may be left of its units side by side, for each length.
+
+ghost use Rattle.std.specs.Prelude.{◌≡◌, ◌+◌, ◌-◌, ◌*◌, ◌^◌, ◌<◌, ◌≤◌, ◌∷◌, [], ◌++◌, ◌&&◌, ◌||◌, ℕ, min, max, nat_eq, length, slice_index, if◌then◌else◌, map, reverse, IfOk, OnOk, IsOk};
+ghost use Rattle.std.specs.List.{filter};
+ghost use Rattle.uring_volume.specs.Events as spec_events;
+ghost use Rattle.uring_volume.specs.Images.{end_of, length_over};
+ghost use Rattle.uring_volume.specs.Choices.{issued};
+ghost use Rattle.uring_volume.specs.Ways as spec;
+ghost use Rattle.uring_volume.specs.Ways.{put_by, fewest, fewest_with, lengths_by, contents_of, units_in, files_of, images_of};
+
+use crate::crash::{count_units, pieces_on};
+use crate::event::{Event, Piece};
+use crate::growth::push;
+use crate::order::issued_pieces;
+use crate::standing::{is_before, is_safe};
+use crate::ways::{contents, copied};
+use std::alloc::{AllocError, Global};
+use uring_memory::Memory;
+
+/// Whether a write is to be left if write `n` is.
+fn goes_with(events: &[Event], n: u64, piece: &Piece) -> bool
+    ensures { result ≡ spec.goes_with (reverse events.now) n piece.now }
+{
+    piece.number() == n || is_before(events, piece.number(), n)
+}
+
+/// Whether a write is to be left because this one is safe.
+fn needs(events: &[Event], safe: &Piece, piece: &Piece) -> bool
+    ensures { result ≡ (spec_events.is_safe (reverse events.now) safe.now
+        && spec.goes_with (reverse events.now) safe.now.number piece.now) }
+{
+    is_safe(events, safe) && goes_with(events, safe.number(), piece)
+}
+
+/// Whether a write is to be left because one of these is safe.
+fn is_needed(events: &[Event], pieces: &[&Piece], piece: &Piece) -> bool
+    ensures { result ≡ spec.is_needed (reverse events.now) (map (λ p. p.now) pieces.now) piece.now }
+{
+    for safe in pieces {
+        if needs(events, safe, piece) {
+            return true;
+        }
+    }
+    false
+}
+
+/// A length with a write after it, if that is left.
+fn longer_if(is_left: bool, len: u64, piece: &Piece) -> u64
+    ensures { result ≡ (if is_left then max len (end_of piece.now) else len) }
+{
+    if is_left && !piece.bytes().is_empty() {
+        len.max(piece.end())
+    } else {
+        len
+    }
+}
+
+/// The length that the fewest writes make that may be left of these.
+fn least_length(events: &[Event], pieces: &[&Piece], first: u64) -> u64
+    ensures { result ≡ length_over first (fewest (reverse events.now) (map (λ p. p.now) pieces.now)) }
+{
+    let mut len = first;
+    for piece in pieces {
+        len = longer_if(is_needed(events, pieces, piece), len, piece);
+    }
+    len
+}
+
+/// Whether a write is to be left if write `n` is, or anyway.
+fn is_left_with(events: &[Event], pieces: &[&Piece], n: u64, piece: &Piece) -> bool
+    ensures { result ≡ (spec.goes_with (reverse events.now) n piece.now
+        || spec.is_needed (reverse events.now) (map (λ p. p.now) pieces.now) piece.now) }
+{
+    goes_with(events, n, piece) || is_needed(events, pieces, piece)
+}
+
+/// The length that the fewest of these writes make that may be left with write `n`.
+fn least_length_with(events: &[Event], pieces: &[&Piece], n: u64, first: u64) -> u64
+    ensures { result ≡ length_over first (fewest_with (reverse events.now) (map (λ p. p.now) pieces.now) n) }
+{
+    let mut len = first;
+    for piece in pieces {
+        len = longer_if(is_left_with(events, pieces, n, piece), len, piece);
+    }
+    len
+}
+
+/// Puts a length behind these, if it isn't among them. Here and below: if the memory grants whatever is asked for, there is no error.
+fn put_length<M: Memory>(memory: &M, lengths: &mut Vec<u64>, len: u64) -> Result<(), AllocError>
+    ensures put { OnOk result (lengths.new.items ≡ put_by nat_eq lengths.old.items len) }
+    ensures granted { ((n : ℕ) → M.grants memory.now n) → IsOk result }
+{
+    if lengths.contains(&len) {
+        return Ok(());
+    }
+    push(memory, lengths, len)
+}
+
+/// The lengths that may be left, each once: that of the fewest writes, and that of the fewest with each one.
+fn lengths<M: Memory>(
+    memory: &M,
+    alloc: Global,
+    events: &[Event],
+    pieces: &[&Piece],
+    first: u64,
+) -> Result<Vec<u64>, AllocError>
+    ensures lengths { IfOk result (λ lengths. lengths.items
+        ≡ lengths_by (reverse events.now) (map (λ p. p.now) pieces.now) first (map (λ p. p.now) pieces.now)
+        (length_over first (fewest (reverse events.now) (map (λ p. p.now) pieces.now)) ∷ [])) }
+    ensures granted { ((n : ℕ) → M.grants memory.now n) → IsOk result }
+{
+    let mut lengths = Vec::new(alloc);
+    let least = least_length(events, pieces, first);
+    push(memory, &mut lengths, least)?;
+    for piece in pieces {
+        let len = least_length_with(events, pieces, piece.number(), first);
+        put_length(memory, &mut lengths, len)?;
+    }
+    Ok(lengths)
+}
+
+/// A byte of a file, or 0 past its end.
+fn byte_at(first: &[u8], k: u64) -> u8
+    ensures { result ≡ slice_index first.now k }
+{
+    if k < first.len() as u64 {
+        first[k as usize]
+    } else {
+        0
+    }
+}
+
+/// So many bytes of a file from an offset on, with zeros past its end.
+fn bytes_from<M: Memory>(
+    memory: &M,
+    alloc: Global,
+    first: &[u8],
+    from: u64,
+    count: u64,
+) -> Result<Vec<u8>, AllocError>
+    requires { from + count < 2 ^ 64 }
+    ensures bytes { IfOk result (λ bytes. bytes.items ≡ spec.bytes_from first.now from count) }
+    ensures granted { ((n : ℕ) → M.grants memory.now n) → IsOk result }
+{
+    let mut bytes = Vec::new(alloc);
+    for j in 0..count {
+        push(memory, &mut bytes, byte_at(first, from + j))?;
+    }
+    Ok(bytes)
+}
+
+/// What may be left of unit `i`, if the file has this length: each once.
+fn unit_contents<M: Memory>(
+    memory: &M,
+    alloc: Global,
+    unit: u64,
+    first: &[u8],
+    events: &[Event],
+    pieces: &[&Piece],
+    len: u64,
+    i: u64,
+) -> Result<Vec<Vec<u8>>, AllocError>
+    requires within { unit * i < len }
+    requires pieces { map (λ p. p.now) pieces.now ≡ issued (reverse events.now) }
+    ensures contents { IfOk result (λ found. map (λ b. b.items) found.items
+        ≡ spec.unit_contents unit first.now (reverse events.now) len i) }
+    ensures granted { ((n : ℕ) → M.grants memory.now n) → IsOk result }
+{
+    let on = pieces_on(memory, alloc, pieces, unit, i)?;
+    let from = unit * i;
+    let count = unit.min(len - from);
+    let bytes = bytes_from(memory, alloc, first, from, count)?;
+    contents(memory, alloc, events, from, on, bytes)
+}
+
+/// Some bytes with others behind them.
+fn with_end<M: Memory>(
+    memory: &M,
+    alloc: Global,
+    front: &[u8],
+    end: &[u8],
+) -> Result<Vec<u8>, AllocError>
+    ensures bytes { IfOk result (λ file. file.items ≡ front.now ++ end.now) }
+    ensures granted { ((n : ℕ) → M.grants memory.now n) → IsOk result }
+{
+    let mut file = copied(memory, alloc, front)?;
+    memory.reserve(&mut file, end.len())?;
+    file.extend_from_slice(end)?;
+    Ok(file)
+}
+
+/// Puts a front with each of these ends behind some files.
+fn put_joined<M: Memory>(
+    memory: &M,
+    alloc: Global,
+    front: &[u8],
+    ends: &[Vec<u8>],
+    files: &mut Vec<Vec<u8>>,
+) -> Result<(), AllocError>
+    ensures joined { OnOk result (map (λ b. b.items) files.new.items
+        ≡ map (λ b. b.items) files.old.items ++ map (λ e. front.now ++ e) (map (λ b. b.items) ends.now)) }
+    ensures granted { ((n : ℕ) → M.grants memory.now n) → IsOk result }
+{
+    for end in ends {
+        let file = with_end(memory, alloc, front, end)?;
+        push(memory, files, file)?;
+    }
+    Ok(())
+}
+
+/// Each of these fronts with each of these ends.
+fn joined<M: Memory>(
+    memory: &M,
+    alloc: Global,
+    fronts: &[Vec<u8>],
+    ends: &[Vec<u8>],
+) -> Result<Vec<Vec<u8>>, AllocError>
+    ensures joined { IfOk result (λ files. map (λ b. b.items) files.items
+        ≡ spec.joined (map (λ b. b.items) fronts.now) (map (λ b. b.items) ends.now)) }
+    ensures granted { ((n : ℕ) → M.grants memory.now n) → IsOk result }
+{
+    let mut files = Vec::new(alloc);
+    for front in fronts {
+        put_joined(memory, alloc, front, ends, &mut files)?;
+    }
+    Ok(files)
+}
+
+/// What may be left of all units, if the file has this length: each once.
+fn fronts<M: Memory>(
+    memory: &M,
+    alloc: Global,
+    unit: u64,
+    first: &[u8],
+    events: &[Event],
+    pieces: &[&Piece],
+    len: u64,
+) -> Result<Vec<Vec<u8>>, AllocError>
+    requires unit { 0 < unit }
+    requires pieces { map (λ p. p.now) pieces.now ≡ issued (reverse events.now) }
+    ensures fronts { IfOk result (λ files. map (λ b. b.items) files.items
+        ≡ spec.fronts unit first.now (reverse events.now) len (units_in unit len)) }
+    ensures granted { ((n : ℕ) → M.grants memory.now n) → IsOk result }
+{
+    let mut files = Vec::new(alloc);
+    push(memory, &mut files, Vec::new(alloc))?;
+    for i in 0..count_units(len, unit) {
+        let ends = unit_contents(memory, alloc, unit, first, events, pieces, len, i)?;
+        files = joined(memory, alloc, &files, &ends)?;
+    }
+    Ok(files)
+}
+
+/// Moves these files behind others.
+fn move_all<M: Memory>(
+    memory: &M,
+    files: &mut Vec<Vec<u8>>,
+    all: &mut Vec<Vec<u8>>,
+) -> Result<(), AllocError>
+    ensures moved { OnOk result (all.new.items ≡ all.old.items ++ files.old.items) }
+    ensures granted { ((n : ℕ) → M.grants memory.now n) → IsOk result }
+{
+    memory.reserve(all, files.len())?;
+    all.append(files)?;
+    Ok(())
+}
+
+/// The files of each of these lengths.
+fn files_of_lengths<M: Memory>(
+    memory: &M,
+    alloc: Global,
+    unit: u64,
+    first: &[u8],
+    events: &[Event],
+    pieces: &[&Piece],
+    lengths: &[u64],
+) -> Result<Vec<Vec<u8>>, AllocError>
+    requires unit { 0 < unit }
+    requires pieces { map (λ p. p.now) pieces.now ≡ issued (reverse events.now) }
+    ensures files { IfOk result (λ files. map (λ b. b.items) files.items
+        ≡ files_of unit first.now (reverse events.now) lengths.now) }
+    ensures granted { ((n : ℕ) → M.grants memory.now n) → IsOk result }
+{
+    let mut all = Vec::new(alloc);
+    for len in lengths {
+        let mut files = fronts(memory, alloc, unit, first, events, pieces, *len)?;
+        move_all(memory, &mut files, &mut all)?;
+    }
+    Ok(all)
+}
+
+/// How many files of this length may be left, or 2^64 - 1 if there are more.
+fn count_fronts<M: Memory>(
+    memory: &M,
+    alloc: Global,
+    unit: u64,
+    first: &[u8],
+    events: &[Event],
+    pieces: &[&Piece],
+    len: u64,
+) -> Result<u64, AllocError>
+    requires unit { 0 < unit }
+    requires pieces { map (λ p. p.now) pieces.now ≡ issued (reverse events.now) }
+    ensures count { IfOk result (λ count. count
+        ≡ min (length (spec.fronts unit first.now (reverse events.now) len (units_in unit len))) (2 ^ 64 - 1)) }
+    ensures granted { ((n : ℕ) → M.grants memory.now n) → IsOk result }
+{
+    let mut count: u64 = 1;
+    for i in 0..count_units(len, unit) {
+        let ends = unit_contents(memory, alloc, unit, first, events, pieces, len, i)?;
+        count = count.saturating_mul(ends.len() as u64);
+    }
+    Ok(count)
+}
+
+/// How many files of these lengths may be left, or 2^64 - 1 if there are more.
+fn count_files<M: Memory>(
+    memory: &M,
+    alloc: Global,
+    unit: u64,
+    first: &[u8],
+    events: &[Event],
+    pieces: &[&Piece],
+    lengths: &[u64],
+) -> Result<u64, AllocError>
+    requires unit { 0 < unit }
+    requires pieces { map (λ p. p.now) pieces.now ≡ issued (reverse events.now) }
+    ensures count { IfOk result (λ count. count
+        ≡ min (length (files_of unit first.now (reverse events.now) lengths.now)) (2 ^ 64 - 1)) }
+    ensures granted { ((n : ℕ) → M.grants memory.now n) → IsOk result }
+{
+    let mut count: u64 = 0;
+    for len in lengths {
+        let more = count_fronts(memory, alloc, unit, first, events, pieces, *len)?;
+        count = count.saturating_add(more);
+    }
+    Ok(count)
+}
+
+/// How many images there are of a file, or 2^64 - 1 if there are more.
+pub fn count_images<M: Memory>(
+    memory: &M,
+    alloc: Global,
+    unit: u64,
+    first: &[u8],
+    events: &[Event],
+) -> Result<u64, AllocError>
+    requires { 0 < unit }
+    ensures count { IfOk result (λ count. count
+        ≡ min (length (images_of unit first.now (reverse events.now))) (2 ^ 64 - 1)) }
+    ensures granted { ((n : ℕ) → M.grants memory.now n) → IsOk result }
+{
+    let pieces = issued_pieces(memory, alloc, events)?;
+    let lengths = lengths(memory, alloc, events, &pieces, first.len() as u64)?;
+    count_files(memory, alloc, unit, first, events, &pieces, &lengths)
+}
+
+/// The images of a file, each once.
+pub fn list_images<M: Memory>(
+    memory: &M,
+    alloc: Global,
+    unit: u64,
+    first: &[u8],
+    events: &[Event],
+) -> Result<Vec<Vec<u8>>, AllocError>
+    requires { 0 < unit }
+    ensures images { IfOk result (λ files. map (λ b. b.items) files.items
+        ≡ images_of unit first.now (reverse events.now)) }
+    ensures granted { ((n : ℕ) → M.grants memory.now n) → IsOk result }
+{
+    let pieces = issued_pieces(memory, alloc, events)?;
+    let lengths = lengths(memory, alloc, events, &pieces, first.len() as u64)?;
+    files_of_lengths(memory, alloc, unit, first, events, &pieces, &lengths)
+}

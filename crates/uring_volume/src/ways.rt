@@ -1,0 +1,293 @@
+//! What may be left of some bytes: from each way on by each write that may come next, each way once.
+
+ghost use Rattle.std.specs.Prelude.{◌≡◌, ◌+◌, ◌∷◌, [], ◌++◌, ℕ, ◌&&◌, ◌||◌, ◌==◌, nat_eq, length, map, reverse, IfOk, OnOk, IsOk};
+ghost use Rattle.std.specs.List.{list_any, filter};
+ghost use Rattle.std.specs.Cmp.Lexicographic.{pointwise};
+ghost use Rattle.uring_volume.specs.Ways as spec;
+ghost use Rattle.uring_volume.specs.Ways.{same_write, same_way, put_by, bytes_over, contents_of};
+ghost use Rattle.uring_volume.specs.Choices as choices;
+ghost use Rattle.uring_volume.specs.Choices.{without};
+ghost use Rattle.uring_volume.specs.Images.{byte_over};
+
+use crate::event::{Event, Piece};
+use crate::growth::push;
+use crate::order::has_one_before;
+use crate::standing::is_safe;
+use std::alloc::{AllocError, Global};
+use uring_memory::Memory;
+
+/// Some writes have been left, in some order: those that may still come, and what the others have made of the bytes.
+#[derive(Drop)]
+pub struct Way<'a> {
+    rest: Vec<&'a Piece>,
+    now: Vec<u8>,
+}
+
+/// A copy of some bytes. Here and below: if the memory grants whatever is asked for, there is no error.
+pub fn copied<M: Memory>(memory: &M, alloc: Global, bytes: &[u8]) -> Result<Vec<u8>, AllocError>
+    ensures bytes { IfOk result (λ copy. copy.items ≡ bytes.now) }
+    ensures granted { ((n : ℕ) → M.grants memory.now n) → IsOk result }
+{
+    let mut copy = memory.list(alloc, bytes.len())?;
+    copy.extend_from_slice(bytes)?;
+    Ok(copy)
+}
+
+/// Whether these bytes are among those found.
+fn has_bytes(found: &[Vec<u8>], bytes: &[u8]) -> bool
+    ensures { result ≡ list_any (λ y. pointwise nat_eq y bytes.now) (map (λ b. b.items) found.now) }
+{
+    for one in found {
+        if one.as_slice() == bytes {
+            return true;
+        }
+    }
+    false
+}
+
+/// Puts these bytes behind those found, if they aren't among them.
+fn put_bytes<M: Memory>(
+    memory: &M,
+    alloc: Global,
+    found: &mut Vec<Vec<u8>>,
+    bytes: &[u8],
+) -> Result<(), AllocError>
+    ensures put { OnOk result (map (λ b. b.items) found.new.items
+        ≡ put_by (pointwise nat_eq) (map (λ b. b.items) found.old.items) bytes.now) }
+    ensures granted { ((n : ℕ) → M.grants memory.now n) → IsOk result }
+{
+    if has_bytes(found, bytes) {
+        return Ok(());
+    }
+    let copy = copied(memory, alloc, bytes)?;
+    push(memory, found, copy)
+}
+
+/// Whether two writes are the same.
+fn is_same_write(one: &Piece, other: &Piece) -> bool
+    ensures { result ≡ same_write one.now other.now }
+{
+    one.number() == other.number() && (one.off() == other.off() && one.bytes() == other.bytes())
+}
+
+/// Whether two lists are of the same writes.
+fn are_same_writes(one: &[&Piece], other: &[&Piece]) -> bool
+    ensures { result ≡ pointwise same_write (map (λ p. p.now) one.now) (map (λ p. p.now) other.now) }
+{
+    if one.len() != other.len() {
+        return false;
+    }
+    for i in 0..one.len() {
+        if !is_same_write(one[i], other[i]) {
+            return false;
+        }
+    }
+    true
+}
+
+/// Whether a way has these writes still to come and these bytes.
+fn is_same_way(way: &Way, rest: &[&Piece], now: &[u8]) -> bool
+    ensures { result ≡ same_way (spec.way (map (λ p. p.now) way.entry.now.rest.items) way.entry.now.now.items)
+        (spec.way (map (λ p. p.now) rest.now) now.now) }
+{
+    way.now.as_slice() == now && are_same_writes(&way.rest, rest)
+}
+
+/// Whether a way is among these.
+fn has_way(ways: &[Way], rest: &[&Piece], now: &[u8]) -> bool
+    ensures { result ≡ list_any (λ y. same_way y (spec.way (map (λ p. p.now) rest.now) now.now))
+        (map (λ s. spec.way (map (λ p. p.now) s.rest.items) s.now.items) ways.now) }
+{
+    for way in ways {
+        if is_same_way(way, rest, now) {
+            return true;
+        }
+    }
+    false
+}
+
+/// Puts a way behind these, if it isn't among them.
+fn put_way<'a, M: Memory>(
+    memory: &M,
+    ways: &mut Vec<Way<'a>>,
+    way: Way<'a>,
+) -> Result<(), AllocError>
+    ensures put { OnOk result (map (λ s. spec.way (map (λ p. p.now) s.rest.items) s.now.items) ways.new.items
+        ≡ put_by same_way (map (λ s. spec.way (map (λ p. p.now) s.rest.items) s.now.items) ways.old.items)
+        (spec.way (map (λ p. p.now) way.entry.rest.items) way.entry.now.items)) }
+    ensures granted { ((n : ℕ) → M.grants memory.now n) → IsOk result }
+{
+    if has_way(ways, &way.rest, &way.now) {
+        return Ok(());
+    }
+    push(memory, ways, way)
+}
+
+/// The byte at offset `from + j`, with a write over it.
+fn byte_left(byte: u8, piece: &Piece, from: u64, j: u64) -> u8
+    ensures { result ≡ byte_over byte (piece.now ∷ []) (from + j) }
+{
+    let off = piece.off();
+    let end = piece.end();
+    match from.checked_add(j) {
+        Some(k) if off <= k && k < end => piece.bytes()[(k - off) as usize],
+        _ => byte,
+    }
+}
+
+/// Writes what a write has of the bytes from offset `from` on over them.
+fn write_at(now: &mut [u8], from: u64, piece: &Piece)
+    ensures { now.new ≡ bytes_over from now.old piece.now }
+{
+    for j in 0..now.len() {
+        now[j] = byte_left(now[j], piece, from, j as u64);
+    }
+}
+
+/// These writes without that of number `n`.
+fn others<'a, M: Memory>(
+    memory: &M,
+    alloc: Global,
+    rest: &[&'a Piece],
+    n: u64,
+) -> Result<Vec<&'a Piece>, AllocError>
+    ensures others { IfOk result (λ others. map (λ p. p.now) others.items
+        ≡ without n (map (λ p. p.now) rest.now)) }
+    ensures granted { ((n : ℕ) → M.grants memory.now n) → IsOk result }
+{
+    let mut others = Vec::new(alloc);
+    for piece in rest {
+        if piece.number() != n {
+            push(memory, &mut others, *piece)?;
+        }
+    }
+    Ok(others)
+}
+
+/// The way on by a write.
+fn stepped<'a, M: Memory>(
+    memory: &M,
+    alloc: Global,
+    from: u64,
+    rest: &[&'a Piece],
+    now: &[u8],
+    piece: &Piece,
+) -> Result<Way<'a>, AllocError>
+    ensures way { IfOk result (λ s. spec.way (map (λ p. p.now) s.rest.items) s.now.items
+        ≡ spec.stepped from (spec.way (map (λ p. p.now) rest.now) now.now) piece.now) }
+    ensures granted { ((n : ℕ) → M.grants memory.now n) → IsOk result }
+{
+    let rest = others(memory, alloc, rest, piece.number())?;
+    let mut left = copied(memory, alloc, now)?;
+    write_at(&mut left, from, piece);
+    Ok(Way { rest, now: left })
+}
+
+/// Puts the ways on from one behind others, by each of its writes that may come next.
+fn put_steps<'a, M: Memory>(
+    memory: &M,
+    alloc: Global,
+    events: &[Event],
+    from: u64,
+    rest: &[&'a Piece],
+    now: &[u8],
+    next: &mut Vec<Way<'a>>,
+) -> Result<(), AllocError>
+    ensures steps { OnOk result (map (λ s. spec.way (map (λ p. p.now) s.rest.items) s.now.items) next.new.items
+        ≡ spec.steps_of (reverse events.now) from (spec.way (map (λ p. p.now) rest.now) now.now) (map (λ p. p.now) rest.now)
+        (map (λ s. spec.way (map (λ p. p.now) s.rest.items) s.now.items) next.old.items)) }
+    ensures granted { ((n : ℕ) → M.grants memory.now n) → IsOk result }
+{
+    for piece in rest {
+        if !has_one_before(events, rest, piece.number()) {
+            let way = stepped(memory, alloc, from, rest, now, piece)?;
+            put_way(memory, next, way)?;
+        }
+    }
+    Ok(())
+}
+
+/// The ways on from each of these.
+fn next_ways<'a, M: Memory>(
+    memory: &M,
+    alloc: Global,
+    events: &[Event],
+    from: u64,
+    ways: &[Way<'a>],
+) -> Result<Vec<Way<'a>>, AllocError>
+    ensures next { IfOk result (λ next. map (λ s. spec.way (map (λ p. p.now) s.rest.items) s.now.items) next.items
+        ≡ spec.next_ways (reverse events.now) from
+        (map (λ s. spec.way (map (λ p. p.now) s.rest.items) s.now.items) ways.now) []) }
+    ensures granted { ((n : ℕ) → M.grants memory.now n) → IsOk result }
+{
+    let mut next = Vec::new(alloc);
+    for way in ways {
+        put_steps(memory, alloc, events, from, &way.rest, &way.now, &mut next)?;
+    }
+    Ok(next)
+}
+
+/// Whether one of these writes is safe.
+fn has_safe(events: &[Event], rest: &[&Piece]) -> bool
+    ensures { result ≡ choices.has_safe (reverse events.now) (map (λ p. p.now) rest.now) }
+{
+    for piece in rest {
+        if is_safe(events, piece) {
+            return true;
+        }
+    }
+    false
+}
+
+/// Puts the bytes of those ways behind those found on which no safe write is still to come.
+fn put_found<M: Memory>(
+    memory: &M,
+    alloc: Global,
+    events: &[Event],
+    ways: &[Way],
+    found: &mut Vec<Vec<u8>>,
+) -> Result<(), AllocError>
+    ensures found { OnOk result (map (λ b. b.items) found.new.items
+        ≡ spec.found_at (reverse events.now)
+        (map (λ s. spec.way (map (λ p. p.now) s.rest.items) s.now.items) ways.now)
+        (map (λ b. b.items) found.old.items)) }
+    ensures granted { ((n : ℕ) → M.grants memory.now n) → IsOk result }
+{
+    for way in ways {
+        if !has_safe(events, &way.rest) {
+            put_bytes(memory, alloc, found, &way.now)?;
+        }
+    }
+    Ok(())
+}
+
+/// What may be left of some bytes from offset `from` on, by these writes of them: each once. It takes one step for each of the writes, and looks at each way that there is after it.
+pub fn contents<'a, M: Memory>(
+    memory: &M,
+    alloc: Global,
+    events: &[Event],
+    from: u64,
+    on: Vec<&'a Piece>,
+    bytes: Vec<u8>,
+) -> Result<Vec<Vec<u8>>, AllocError>
+    ensures contents { IfOk result (λ found. map (λ b. b.items) found.items
+        ≡ contents_of (reverse events.now) from (map (λ p. p.now) on.entry.items) bytes.items) }
+    ensures granted { ((n : ℕ) → M.grants memory.now n) → IsOk result }
+{
+    let steps = on.len() + 1;
+    let mut found = Vec::new(alloc);
+    let mut ways = Vec::new(alloc);
+    push(
+        memory,
+        &mut ways,
+        Way {
+            rest: on,
+            now: bytes,
+        },
+    )?;
+    for step in 0..steps {
+        put_found(memory, alloc, events, &ways, &mut found)?;
+        ways = next_ways(memory, alloc, events, from, &ways)?;
+    }
+    Ok(found)
+}
