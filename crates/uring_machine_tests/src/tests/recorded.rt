@@ -76,7 +76,7 @@ fn told(alloc: Global, place: usize, answer: Answer) -> Result<[Option<(usize, W
 
 #[test]
 fn lawful_answers_are_followed(rt: HostRuntime) -> Result<(), Fail> {
-    assert_eq!(rt; told(rt.alloc(), 99, Answer::Shut)?, [None, None]);
+    assert!(rt; told(rt.alloc(), 99, Answer::Shut)? == [None, None]);
     Ok(())
 }
 
@@ -91,7 +91,7 @@ fn each_other_answer_is_told_at_its_place(rt: HostRuntime) -> Result<(), Fail> {
             _ => [Wanted::Only(event.1); 2],
         };
         let found = told(rt.alloc(), place, Answer::Spent)?;
-        assert_eq!(rt; found, [Some((place, wanted[0])), Some((place, wanted[1]))]);
+        assert!(rt; found == [Some((place, wanted[0])), Some((place, wanted[1]))]);
     }
     Ok(())
 }
@@ -100,17 +100,17 @@ fn each_other_answer_is_told_at_its_place(rt: HostRuntime) -> Result<(), Fail> {
 fn refusals_of_memory_are_followed(rt: HostRuntime) -> Result<(), Fail> {
     // A call that didn't open takes nothing.
     let found = told(rt.alloc(), 5, Answer::Again)?;
-    assert_eq!(rt; found, [Some((6, Wanted::Only(Answer::NoCall))); 2]);
+    assert!(rt; found == [Some((6, Wanted::Only(Answer::NoCall))); 2]);
 
     // The completion of the write comes behind the one that was reaped.
-    assert_eq!(rt; told(rt.alloc(), 14, ended(-12))?, [None, None]);
+    assert!(rt; told(rt.alloc(), 14, ended(-12))? == [None, None]);
     Ok(())
 }
 
 #[test]
 fn ends_are_any_apart_from_operations(rt: HostRuntime) -> Result<(), Fail> {
     let found = told(rt.alloc(), 14, ended(3))?;
-    assert_eq!(rt; found, [Some((14, Wanted::EndOrNoMemory(1))), None]);
+    assert!(rt; found == [Some((14, Wanted::EndOrNoMemory(1))), None]);
     Ok(())
 }
 
@@ -129,7 +129,7 @@ fn after_a_wrong_answer(alloc: Global) -> Result<[Result<(), Refusal>; 2], Fail>
 #[test]
 fn goes_on_after_a_wrong_answer(rt: HostRuntime) -> Result<(), Fail> {
     let wrong = Refusal::Wrong(Wanted::Only(Answer::Tail(0)));
-    assert_eq!(rt; after_a_wrong_answer(rt.alloc())?, [Err(wrong), Ok(())]);
+    assert!(rt; after_a_wrong_answer(rt.alloc())? == [Err(wrong), Ok(())]);
     Ok(())
 }
 
@@ -159,6 +159,6 @@ fn begin_is_told_before(rt: HostRuntime) -> Result<(), Fail> {
     let answer = would_begin(rt.alloc())?;
     assert!(rt; same_answer(&answer, &Answer::Call(1)));
     let around = would_begin_around_a_close(rt.alloc())?;
-    assert_eq!(rt; around, [Answer::Call(0), Answer::Closed]);
+    assert!(rt; around == [Answer::Call(0), Answer::Closed]);
     Ok(())
 }

@@ -50,7 +50,7 @@ fn drain_settles(rt: HostRuntime) -> Result<(), Fail> {
         Sqe::nop(2, SqeFlags::IO_DRAIN.bits()),
         Sqe::nop(3, 0),
     ];
-    assert_eq!(rt; settled(rt.alloc(), &entries)?, (6, idle(3, 3)));
+    assert!(rt; settled(rt.alloc(), &entries)? == (6, idle(3, 3)));
     Ok(())
 }
 
@@ -60,7 +60,7 @@ fn faulty_group_settles(rt: HostRuntime) -> Result<(), Fail> {
         Sqe::nop(1, SqeFlags::IO_LINK.bits()),
         Sqe::with_opcode(99, 2, 0),
     ];
-    assert_eq!(rt; settled(rt.alloc(), &entries)?, (2, idle(2, 2)));
+    assert!(rt; settled(rt.alloc(), &entries)? == (2, idle(2, 2)));
     Ok(())
 }
 
@@ -98,7 +98,7 @@ fn resting(alloc: Global) -> Result<[Option<u64>; 4], Fail> {
 #[test]
 fn completions_rest_until_reaped(rt: HostRuntime) -> Result<(), Fail> {
     let rest = resting(rt.alloc())?;
-    assert_eq!(rt; rest, [Some(1), Some(2), Some(3), None]);
+    assert!(rt; rest == [Some(1), Some(2), Some(3), None]);
     Ok(())
 }
 
@@ -176,7 +176,7 @@ fn state(len: u32, writes: u64) -> Option<FileState> {
 fn write_reaches_its_file(rt: HostRuntime) -> Result<(), Fail> {
     let (told, states, bytes) = written(rt.alloc())?;
     assert!(rt; told.is_right());
-    assert_eq!(rt; states, [state(4, 1), state(0, 0), None]);
-    assert_eq!(rt; bytes, [Some(0), Some(0), Some(b'a'), Some(b'b'), None]);
+    assert!(rt; states == [state(4, 1), state(0, 0), None]);
+    assert!(rt; bytes == [Some(0), Some(0), Some(b'a'), Some(b'b'), None]);
     Ok(())
 }

@@ -44,14 +44,26 @@ fn was_shown(shown: &Shown, times: u64, number: u64, len: u64) -> bool {
 }
 
 /// Whether two writes of two bytes each, one behind the other, are carried out, the gate being shown the file as the first left it.
-fn goes_through<K: KernelPort>(ends: &mut Ends<K, Noting>, shown: &Shown) -> bool {
+fn goes_through<K: KernelPort, G: Gate>(ends: &mut Ends<K, G>, shown: &Shown) -> bool {
     let first = Item::Entry(Sqe::write(1, 0, 0, 0, &[97, 98]));
     let second = Item::Entry(Sqe::write(2, 0, 0, 2, &[99, 100]));
-    let submitted = ends.submit(&[first, second]) && ends.turn().is_some();
+    let submitted = ends.submit(&[first, second]);
+    let taken = ends.turn().is_some();
     let before = was_shown(shown, 0, 99, 99);
-    let one = ends.work(0) == Some(Worked::Done(0)) && was_shown(shown, 1, 0, 0);
-    let two = ends.work(0) == Some(Worked::Done(1)) && was_shown(shown, 2, 1, 2);
-    submitted && before && one && two
+    let one = works(ends, shown, 0, 0);
+    let two = works(ends, shown, 1, 2);
+    submitted && taken && before && one && two
+}
+
+/// Whether worker 0 carries out this job, its gate being shown it as the one behind so many others, with file 0 of this length.
+fn works<K: KernelPort, G: Gate>(
+    ends: &mut Ends<K, G>,
+    shown: &Shown,
+    number: u64,
+    len: u64,
+) -> bool {
+    let worked = ends.work(0) == Some(Worked::Done(number));
+    worked && was_shown(shown, number.wrapping_add(1), number, len)
 }
 
 /// New ends of one worker, with a gate that notes here what it is shown.
@@ -63,10 +75,15 @@ fn noting_ends<'a, K: Ports>(alloc: Global, shown: &'a Shown) -> Result<Ends<K, 
 
 /// Whether it goes so at these ends.
 fn is_shown_at_new_ends<K: Ports>(alloc: Global, shown: &Shown) -> Result<bool, Fail> {
-    let mut ends = noting_ends::<K>(alloc, shown)?;
+    Ok(goes_through_these(noting_ends::<K>(alloc, shown)?, shown))
+}
+
+/// The same at these, whatever the gate: so no borrow of its own stands in this function.
+fn goes_through_these<K: KernelPort, G: Gate>(ends: Ends<K, G>, shown: &Shown) -> bool {
+    let mut ends = ends;
     let right = goes_through(&mut ends, shown);
     drop(ends);
-    Ok(right)
+    right
 }
 
 /// The same with nothing noted yet.

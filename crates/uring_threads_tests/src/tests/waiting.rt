@@ -25,9 +25,11 @@ fn are_served<K: KernelPort>(ends: &mut Ends<K, Open>, count: usize, delivered: 
 {
     let call = [nop(1), nop(2), nop(3), nop(4)];
     let many = count as u64;
-    let taken = ends.submit(&call[..count]) && ends.turn() == Some(turn(many, many, 0, 0));
+    let submitted = ends.submit(&call[..count]);
+    let taken = ends.turn() == Some(turn(many, many, 0, 0));
     let done = are_done(ends, count);
-    taken && done && ends.turn() == Some(turn(0, 0, many, delivered))
+    let ended = ends.turn() == Some(turn(0, 0, many, delivered));
+    submitted && taken && done && ended
 }
 
 /// Whether calls are taken in behind four completions that fill the ring, with one and then three that wait.
@@ -48,9 +50,12 @@ fn are_taken_in_at_new_ends<K: Ports>(alloc: Global) -> Result<bool, Fail> {
 
 /// Whether a turn that takes a call in also takes in the result of the call before it.
 fn are_taken_beside<K: KernelPort>(ends: &mut Ends<K, Open>) -> bool {
-    let first = ends.submit(&[nop(1)]) && ends.turn() == Some(turn(1, 1, 0, 0));
-    let done = first && are_done(ends, 1);
-    done && ends.submit(&[nop(2)]) && ends.turn() == Some(turn(1, 1, 1, 1))
+    let first = ends.submit(&[nop(1)]);
+    let taken = ends.turn() == Some(turn(1, 1, 0, 0));
+    let done = are_done(ends, 1);
+    let second = ends.submit(&[nop(2)]);
+    let beside = ends.turn() == Some(turn(1, 1, 1, 1));
+    first && taken && done && second && beside
 }
 
 /// The same at new ends.

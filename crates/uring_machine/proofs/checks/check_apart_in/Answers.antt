@@ -1,0 +1,20 @@
+use Rattle.std.proofs.Common.{◌+◌, subst, arith}
+use Rattle.std.proofs.lemmas.Bool.{false≢true}
+use Rattle.std.specs.Prelude.{IfOk, MatchOption}
+use Rattle.uring_core.specs.Histories.{IsLawfulApart, history_of}
+use Rattle.uring_core.specs.Recorded.{IsFirstWrongApart}
+use Rattle.uring_entry.specs.Setup.{Setup}
+use Rattle.uring_machine.proofs.checks.check_apart_in.Goals as goal
+
+pub returns-clause-found : goal.returns-clause-found
+returns-clause-found g c =
+    subst (λ (s : Setup). IfOk c.first_wrong_apart-found.result (λ found. MatchOption found (IsLawfulApart s (history_of c.args.events.now)) (λ at. IsFirstWrongApart s c.args.events.now at.0 at.1)))
+    c.in_ok-core.ensures.setup c.first_wrong_apart-found.ensures.found
+
+pub returns-clause-granted : goal.returns-clause-granted
+returns-clause-granted g c = c.first_wrong_apart-found.ensures.granted
+
+pub returns-in_err-core-clause-granted : goal.returns-in_err-core-clause-granted
+returns-in_err-core-clause-granted g c = λ sure.
+    let s : Setup = c.args.setup.now in
+    absurd (false≢true (c.in_err-core.ensures.granted (s.sq + s.cq) (sure _) (omega arith) (omega arith)))
