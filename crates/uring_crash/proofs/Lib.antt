@@ -1,0 +1,3 @@
+pub mod Watching
+pub mod FollowedLines
+pub mod Runs

@@ -1,0 +1,6 @@
+pub mod Logs
+pub mod FirstLines
+pub mod Crashes
+pub mod Watches
+pub mod Following
+pub mod Runs
