@@ -1,13 +1,12 @@
 //! The log of a file: its writes and syncs, as the requests that are these begin and end.
 
-ghost use Rattle.std.specs.Prelude.{◌≡◌, ◌+◌, ◌∷◌, ◌<◌, ◌^◌, pos, true, reverse, length, IfOk, OnOk, IfSome, if◌then◌else◌};
-ghost use Rattle.std.specs.Ordering.{int_eq};
+ghost use Rattle.std.specs.Prelude.{◌≡◌, ◌+◌, ◌∷◌, ◌<◌, ◌^◌, true, reverse, length, IfOk, OnOk, IfSome};
 ghost use Rattle.uring_files.specs.Operations.{IsForFiles};
 ghost use Rattle.uring_volume.specs.Images.{IsImage};
 ghost use Rattle.uring_volume.specs.Volume.{with_write, with_sync};
 ghost use Rattle.uring_volume.specs.declared.event.SyncRange.TheVariants.{Whole};
 ghost use Rattle.uring_crash.specs.Logs as spec;
-ghost use Rattle.uring_crash.specs.Logs.{empty_log, begun, issued_as, finished, finished_as, sync_ended, sync_failed};
+ghost use Rattle.uring_crash.specs.Logs.{empty_log, begun, issued_as, finished, finished_as, sync_with};
 
 use std::alloc::{AllocError, Global};
 use std::marker::Model;
@@ -111,10 +110,10 @@ impl FileLog {
                 off,
                 len,
                 bytes,
-            } if *fd == self.fd && has_effect(*off, *len) => {
+            } if self.fd == *fd && has_effect(*off, *len) => {
                 self.begin_write(n, *off, &bytes[..*len as usize])
             }
-            Op::Fsync { fd } if *fd == self.fd => self.begin_sync(n),
+            Op::Fsync { fd } if self.fd == *fd => self.begin_sync(n),
             _ => Ok(()),
         }
     }
@@ -159,18 +158,19 @@ impl FileLog {
     {
         let number = number_of(&self.requests, n);
         match op {
-            Op::Write { len, .. } if i64::from(res) == i64::from(*len) => {
-                self.volume.end_write(number);
-            }
-            Op::Fsync { .. } => self.end_sync(number, res),
+            Op::Write { fd, off, len, .. }
+                if self.fd == *fd && has_effect(*off, *len) && i64::from(res) == i64::from(*len) =>
+                {
+                    self.volume.end_write(number);
+                }
+            Op::Fsync { fd } if self.fd == *fd => self.end_sync(number, res),
             _ => {}
         }
     }
 
     /// The sync of this number ends with this result.
     fn end_sync(&mut self, number: u64, res: i32)
-        ensures log { self.new
-            ≡ (if int_eq res (pos 0) then record self.old { volume = sync_ended number self.old.volume } else record self.old { volume = sync_failed number self.old.volume }) }
+        ensures log { self.new ≡ record self.old { volume = sync_with res number self.old.volume } }
         ensures unit { self.new.volume.unit ≡ self.old.volume.unit }
         ensures first { self.new.volume.first ≡ self.old.volume.first }
     {

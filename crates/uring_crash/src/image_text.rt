@@ -11,11 +11,7 @@ use uring_text::{push_number, push_text};
 use uring_volume::Piece;
 
 /// Appends an image: its length and its bytes, two digits each.
-pub(crate) fn push_image(
-    alloc: Global,
-    text: &mut String,
-    image: &[u8],
-) -> Result<(), AllocError>
+pub(crate) fn push_image(alloc: Global, text: &mut String, image: &[u8]) -> Result<(), AllocError>
     ensures { OnOk result
         (string_bytes text.new ≡ string_bytes text.old ++ image_text image.now) }
 {
@@ -67,7 +63,10 @@ fn push_write(
     };
     let there = count_there(write, image);
     let all = write.bytes().len();
-    write!(text, "write {request} at {off}: {safe}, {there} of {all} bytes\n")
+    write!(
+        text,
+        "write {request} at {off}: {safe}, {there} of {all} bytes\n"
+    )
 }
 
 /// How many bytes of a write stand in an image.
@@ -90,7 +89,11 @@ fn count_parts(log: &FileLog, unit: u64) -> u64 {
 }
 
 /// The choice that leaves the least: in each part the safe writes alone, in the order in which they began.
-pub(crate) fn least_choice(alloc: Global, log: &FileLog, unit: u64) -> Result<Vec<u64>, AllocError> {
+pub(crate) fn least_choice(
+    alloc: Global,
+    log: &FileLog,
+    unit: u64,
+) -> Result<Vec<u64>, AllocError> {
     let mut part = Vec::new(alloc);
     for write in log.writes() {
         if log.is_safe(write.number()) {
