@@ -15,7 +15,8 @@ use Rattle.uring_trace.specs.Exchanges.{Exchange, IsReadAs, lines_of, events_of}
 use Rattle.uring_trace.proofs.Sessions.{one_more}
 use Rattle.uring_crash.specs.FirstLines.{AreFirstLines}
 use Rattle.uring_crash.specs.Crashes.{is_bad}
-use Rattle.uring_crash.specs.Watches.{Watch, Watches}
+use Rattle.uring_crash.specs.Watches.{Watches}
+use Rattle.uring_crash.specs.declared.watch.Watch.{Watch}
 use Rattle.uring_crash.specs.Following.{TookLines, ReadsLine, Following, Followed}
 
 -- before the first byte

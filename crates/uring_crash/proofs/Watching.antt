@@ -11,19 +11,19 @@ use Rattle.uring_machine.specs.Machine.{Machine, Fits}
 use Rattle.uring_volume.specs.Images.{IsImage}
 use Rattle.uring_volume.specs.Events as volume
 use Rattle.uring_crash.specs.Logs.{Log, log_of, issued_as, finished_as}
-use Rattle.uring_crash.specs.Watches.{Watch, Watches}
+use Rattle.uring_crash.specs.Watches.{Watching}
 
 -- the log that a step makes of another
 step_on : (unit : ℕ) (g : Setup) (fd : ℤ) (m m' : Machine) (old new : Log) (s : Step) (a : Answer) (h : History)
     → m'.core.setup ≡ m.core.setup → ((k : History) → Fits m k → Fits m' ((s, a) ∷ k))
     → new.volume.unit ≡ old.volume.unit → new.volume.first ≡ old.volume.first
-    → (w : Watches unit g fd (record { machine = m; log = old }) h)
+    → (w : Watching unit g fd m old h)
     → new ≡ log_of unit g fd ((s, a) ∷ h)
-    → Watches unit g fd (record { machine = m'; log = new }) ((s, a) ∷ h)
+    → Watching unit g fd m' new ((s, a) ∷ h)
 step_on unit g fd m m' old new s a h same fits units firsts w is = record {
   same = same ∙ w.same;
   fits = fits h w.fits;
-  log = is;
+  logs = is;
   unit = units ∙ w.unit;
   first = firsts ∙ w.first;
 }
@@ -35,13 +35,13 @@ pub issued_on : (unit : ℕ) (g : Setup) (fd : ℤ) (m m' : Machine) (old new : 
     → ((k : History) → Fits m' k → op ≡ operation_running (world m'.core.setup k).requests n)
     → new ≡ issued_as n op a old
     → new.volume.unit ≡ old.volume.unit → new.volume.first ≡ old.volume.first
-    → Watches unit g fd (record { machine = m; log = old }) h
-    → Watches unit g fd (record { machine = m'; log = new }) ((step.Issue n, a) ∷ h)
+    → Watching unit g fd m old h
+    → Watching unit g fd m' new ((step.Issue n, a) ∷ h)
 issued_on unit g fd m m' old new n a op h same fits asks logs units firsts w =
     let of : op ≡ operation_running (world g ((step.Issue n, a) ∷ h)).requests n =
     subst (λ (k : Setup). op ≡ operation_running (world k ((step.Issue n, a) ∷ h)).requests n) (same ∙ w.same) (asks ((step.Issue n, a) ∷ h) (fits h w.fits)) in
     step_on unit g fd m m' old new (step.Issue n) a h same fits units firsts w
-    (logs ∙ ap (λ (o : Option Op). issued_as n o a old) of ∙ ap (λ (l : Log). issued_as n (operation_running (world g ((step.Issue n, a) ∷ h)).requests n) a l) w.log)
+    (logs ∙ ap (λ (o : Option Op). issued_as n o a old) of ∙ ap (λ (l : Log). issued_as n (operation_running (world g ((step.Issue n, a) ∷ h)).requests n) a l) w.logs)
 
 -- a Finish
 pub finished_on : (unit : ℕ) (g : Setup) (fd : ℤ) (m m' : Machine) (old new : Log) (n : ℕ) (a : Answer) (op : Option Op) (h : History)
@@ -50,20 +50,19 @@ pub finished_on : (unit : ℕ) (g : Setup) (fd : ℤ) (m m' : Machine) (old new 
     → ((k : History) → Fits m k → op ≡ operation_running (world m.core.setup k).requests n)
     → new ≡ finished_as n op a old
     → new.volume.unit ≡ old.volume.unit → new.volume.first ≡ old.volume.first
-    → Watches unit g fd (record { machine = m; log = old }) h
-    → Watches unit g fd (record { machine = m'; log = new }) ((step.Finish n, a) ∷ h)
+    → Watching unit g fd m old h
+    → Watching unit g fd m' new ((step.Finish n, a) ∷ h)
 finished_on unit g fd m m' old new n a op h same fits asks logs units firsts w =
     let of : op ≡ operation_running (world g h).requests n =
     subst (λ (k : Setup). op ≡ operation_running (world k h).requests n) w.same (asks h w.fits) in
     step_on unit g fd m m' old new (step.Finish n) a h same fits units firsts w
-    (logs ∙ ap (λ (o : Option Op). finished_as n o a old) of ∙ ap (λ (l : Log). finished_as n (operation_running (world g h).requests n) a l) w.log)
+    (logs ∙ ap (λ (o : Option Op). finished_as n o a old) of ∙ ap (λ (l : Log). finished_as n (operation_running (world g h).requests n) a l) w.logs)
 
 -- an image of the log's volume
-pub image_of : (unit : ℕ) (g : Setup) (fd : ℤ) (w : Watch) (h : History) (now : List ℕ)
-    → Watches unit g fd w h
-    → IsImage w.log.volume.unit w.log.volume.first w.log.volume.history now
+pub image_of : (unit : ℕ) (g : Setup) (fd : ℤ) (m : Machine) (log : Log) (h : History) (now : List ℕ)
+    → Watching unit g fd m log h → IsImage log.volume.unit log.volume.first log.volume.history now
     → IsImage unit [] (log_of unit g fd h).volume.history now
-image_of unit g fd w h now is image =
-    subst (λ (e : volume.History). IsImage unit [] e now) (ap (λ (l : Log). l.volume.history) is.log)
-    (subst (λ (f : List ℕ). IsImage unit f w.log.volume.history now) is.first
-    (subst (λ (u : ℕ). IsImage u w.log.volume.first w.log.volume.history now) is.unit image))
+image_of unit g fd m log h now is image =
+    subst (λ (e : volume.History). IsImage unit [] e now) (ap (λ (l : Log). l.volume.history) is.logs)
+    (subst (λ (f : List ℕ). IsImage unit f log.volume.history now) is.first
+    (subst (λ (u : ℕ). IsImage u log.volume.first log.volume.history now) is.unit image))

@@ -7,7 +7,8 @@ use Rattle.uring_text.specs.Lines.{Splits}
 use Rattle.uring_text.specs.KeptLine.{KeptLine, kept_of}
 use Rattle.uring_trace.specs.Exchanges.{Exchange, IsReadAs, lines_of, events_of}
 use Rattle.uring_trace.specs.Sessions.{with_event}
-use Rattle.uring_crash.specs.Watches.{Watch, Watches}
+use Rattle.uring_crash.specs.Watches.{Watches}
+use Rattle.uring_crash.specs.declared.watch.Watch.{Watch}
 use Rattle.uring_crash.specs.FirstLines.{AreFirstLines}
 use Rattle.uring_crash.specs.Crashes.{is_bad}
 use Rattle.uring_crash.specs.declared.follower.Follower.{Follower}

@@ -4,17 +4,17 @@ use Rattle.uring_entry.specs.Setup.{Setup}
 use Rattle.uring_core.specs.Histories.{History}
 use Rattle.uring_machine.specs.Machine.{Machine, Fits}
 use Rattle.uring_crash.specs.Logs.{Log, log_of}
-
--- A machine and the log of one of its files.
-pub record Watch : Type 0 where
-  pub machine : Machine
-  pub log : Log
+use Rattle.uring_crash.specs.declared.watch.Watch.{Watch}
 
 -- The machine fits a history, and the log is that of the file.
-pub record Watches (unit : ℕ) (setup : Setup) (fd : ℤ) (w : Watch) (h : History) : Type 0 where
-  pub same : w.machine.core.setup ≡ setup
-  pub fits : Fits w.machine h
-  pub log : w.log ≡ log_of unit setup fd h
+pub record Watching (unit : ℕ) (setup : Setup) (fd : ℤ) (m : Machine) (log : Log) (h : History) : Type 0 where
+  pub same : m.core.setup ≡ setup
+  pub fits : Fits m h
+  pub logs : log ≡ log_of unit setup fd h
   -- its volume began with no bytes, in these units
-  pub unit : w.log.volume.unit ≡ unit
-  pub first : w.log.volume.first ≡ []
+  pub unit : log.volume.unit ≡ unit
+  pub first : log.volume.first ≡ []
+
+-- The watch has seen this history.
+abbrev pub Watches : ℕ → Setup → ℤ → Watch → History → Type 0
+Watches unit setup fd w h = Watching unit setup fd w.machine w.log h

@@ -18,7 +18,7 @@ const MAX_LEN: u64 = 65_536;
 
 /// A file as a volume, and the requests that its writes and syncs are.
 #[derive(Drop)]
-pub struct FileLog {
+pub(crate) struct FileLog {
     alloc: Global,
     fd: i32,
     volume: Volume,
@@ -60,7 +60,7 @@ fn has_effect(off: u64, len: u32) -> bool
 
 impl FileLog {
     /// The log of an empty file, in units of so many bytes.
-    pub fn new(alloc: Global, unit: u64, fd: i32) -> FileLog
+    pub(crate) fn new(alloc: Global, unit: u64, fd: i32) -> FileLog
         requires { 0 < unit }
         ensures { result ≡ empty_log unit fd }
     {
@@ -74,7 +74,12 @@ impl FileLog {
     }
 
     /// Notes how an Issue of a request was answered, whose operation this is if it runs now. `AllocError`: memory was refused, and the log is of no use any more.
-    pub fn note_issue(&mut self, n: u64, op: Option<Op>, answer: &Answer) -> Result<(), AllocError>
+    pub(crate) fn note_issue(
+        &mut self,
+        n: u64,
+        op: Option<Op>,
+        answer: &Answer,
+    ) -> Result<(), AllocError>
         requires { IfSome op IsForFiles }
         ensures log { OnOk result (self.new ≡ issued_as n op answer.now self.old) }
         ensures unit { self.new.volume.unit ≡ self.old.volume.unit }
@@ -87,7 +92,7 @@ impl FileLog {
     }
 
     /// Notes how a Finish of a request was answered, whose operation this was if it ran.
-    pub fn note_finish(&mut self, n: u64, op: Option<Op>, answer: &Answer)
+    pub(crate) fn note_finish(&mut self, n: u64, op: Option<Op>, answer: &Answer)
         ensures log { self.new ≡ finished_as n op answer.now self.old }
         ensures unit { self.new.volume.unit ≡ self.old.volume.unit }
         ensures first { self.new.volume.first ≡ self.old.volume.first }
@@ -182,7 +187,7 @@ impl FileLog {
     }
 
     /// The bytes that a crash leaves of the file, by a choice.
-    pub fn crash(&self, choice: &[u64]) -> Result<Vec<u8>, AllocError>
+    pub(crate) fn crash(&self, choice: &[u64]) -> Result<Vec<u8>, AllocError>
         ensures { IfOk result (λ now.
             IsImage self.now.volume.unit self.now.volume.first self.now.volume.history now.items) }
     {
@@ -190,23 +195,23 @@ impl FileLog {
     }
 
     /// The writes of the file, in the order in which they began. Each has its number on the volume.
-    pub fn writes(&self) -> &[Piece] {
+    pub(crate) fn writes(&self) -> &[Piece] {
         &self.writes
     }
 
     /// The request of a number on the volume, if it is one.
-    pub fn request(&self, number: u64) -> Option<u64> {
+    pub(crate) fn request(&self, number: u64) -> Option<u64> {
         let place = number.checked_sub(1)?;
         self.requests.get(place as usize).copied()
     }
 
     /// How many writes and syncs were begun.
-    pub fn count(&self) -> u64 {
+    pub(crate) fn count(&self) -> u64 {
         self.requests.len() as u64
     }
 
     /// Whether the write of a number on the volume is safe.
-    pub fn is_safe(&self, number: u64) -> bool {
+    pub(crate) fn is_safe(&self, number: u64) -> bool {
         self.volume.is_safe(number)
     }
 }

@@ -9,27 +9,18 @@ ghost use Rattle.uring_crash.specs.Watches.{Watches};
 
 use crate::file_log::FileLog;
 use std::alloc::{AllocError, Global};
-use std::marker::Model;
 use uring_machine::{Answer, Machine, Setup, Step};
 
 /// A machine, and the log of one of its files.
 #[derive(Drop)]
-pub struct Watch {
+pub(crate) struct Watch {
     machine: Machine,
     log: FileLog,
 }
 
-impl Model for Watch {
-    ghost use Rattle.uring_crash.specs.Watches.{Watch};
-
-    ghost Value = { Watch };
-
-    ghost view = { λ w. record { machine = w.machine; log = w.log } };
-}
-
 impl Watch {
     /// A new machine of this set-up, and the log of the file of a descriptor, in units of so many bytes. `AllocError`: memory was refused.
-    pub fn new(alloc: Global, setup: &Setup, unit: u64, fd: i32) -> Result<Watch, AllocError>
+    pub(crate) fn new(alloc: Global, setup: &Setup, unit: u64, fd: i32) -> Result<Watch, AllocError>
         requires { 0 < unit }
         ensures { IfOk result (λ watch. Watches unit setup.now fd watch []) }
     {
@@ -41,7 +32,7 @@ impl Watch {
     }
 
     /// Makes one step on the machine, and logs what it and its answer make of the file. `AllocError`: memory was refused for the log, which is of no use any more.
-    pub fn step(&mut self, step: Step) -> Result<Answer, AllocError>
+    pub(crate) fn step(&mut self, step: Step) -> Result<Answer, AllocError>
         ensures { IfOk result (λ answer. (unit : ℕ) (setup : Setup) (fd : ℤ) (h : History)
             → Watches unit setup fd self.old h → Watches unit setup fd self.new ((step, answer) ∷ h)) }
     {
@@ -77,7 +68,7 @@ impl Watch {
     }
 
     /// The bytes that a crash leaves of the file behind the steps so far, by a choice of numbers: any numbers are a choice.
-    pub fn crash(&self, choice: &[u64]) -> Result<Vec<u8>, AllocError>
+    pub(crate) fn crash(&self, choice: &[u64]) -> Result<Vec<u8>, AllocError>
         ensures { IfOk result (λ now. (unit : ℕ) (setup : Setup) (fd : ℤ) (h : History)
             → Watches unit setup fd self.now h
             → IsImage unit [] (log_of unit setup fd h).volume.history now.items) }
@@ -86,7 +77,7 @@ impl Watch {
     }
 
     /// The log of the file.
-    pub fn log(&self) -> &FileLog {
+    pub(crate) fn log(&self) -> &FileLog {
         &self.log
     }
 }
