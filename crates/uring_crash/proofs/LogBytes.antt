@@ -3,7 +3,7 @@ use Rattle.std.proofs.Common.{◌≡◌, ◌<◌, ◌≤◌, ◌+◌, ◌-◌, �
 use Rattle.std.proofs.Math.ListN.{get_or-eq_default}
 use Rattle.std.proofs.lemmas.Bool.{and_parts, leb-true, ltb-true, false_from_ne_true}
 use Rattle.uring_files.specs.Contents.{overwritten}
-use Rattle.uring_files.proofs.Overwrites.{is_written_over}
+use Rattle.uring_files.specs.Laws.{WritesOver}
 use Rattle.uring_volume.specs.Writes.{Write}
 use Rattle.uring_volume.specs.Events.{History}
 use Rattle.uring_volume.specs.Images.{is_under, end_of, byte_over, length_over}
@@ -62,12 +62,12 @@ shown_at h old k s = elim (below_or_from k (length old)) [
 ]
 
 -- one ended write more, of some bytes
-shown_some : (h now : History) (old new : List ℕ) (number off : ℕ) → 1 ≤ length new
+shown_some : WritesOver → (h now : History) (old new : List ℕ) (number off : ℕ) → 1 ≤ length new
     → ended now ≡ ended h ++ record { number = number; off = off; bytes = new } ∷ []
     → IsShown [] h old → IsShown [] now (overwritten old off new)
-shown_some h now old new number off some last s =
+shown_some writes_over h now old new number off some last s =
     let w : Write = record { number = number; off = off; bytes = new } in
-    let over = is_written_over old new off some in
+    let over = writes_over old new off some in
     record {
       len =
           over.len ∙ ap (λ (n : ℕ). max n (off + length new)) s.len
@@ -79,10 +79,10 @@ shown_some h now old new number off some last s =
     }
 
 -- one ended write more
-pub shown_more : (h now : History) (old new : List ℕ) (number off : ℕ)
+pub shown_more : WritesOver → (h now : History) (old new : List ℕ) (number off : ℕ)
     → ended now ≡ ended h ++ record { number = number; off = off; bytes = new } ∷ []
     → IsShown [] h old → IsShown [] now (overwritten old off new)
-shown_more h now old [] number off last s =
+shown_more writes_over h now old [] number off last s =
     let w : Write = record { number = number; off = off; bytes = [] } in
     record {
       len = s.len ∙ max_zero (length_over 0 (ended h)) ∙ sym (longer_last 0 (ended h) w) ∙ ap (length_over 0) (sym last);
@@ -90,8 +90,8 @@ shown_more h now old [] number off last s =
           s.bytes k within ∙ ap (λ (b : Bool). cond b 0 (byte_over 0 (ended h) k)) (sym (not_under w k (omega arith)))
           ∙ sym (over_last 0 k (ended h) w) ∙ ap (λ (ws : List Write). byte_over 0 ws k) (sym last);
     }
-shown_more h now old (b ∷ new) number off last s =
-    shown_some h now old (b ∷ new) number off (omega arith) last s
+shown_more writes_over h now old (b ∷ new) number off last s =
+    shown_some writes_over h now old (b ∷ new) number off (omega arith) last s
 
 -- an event that ends no write
 pub shown_same : (h now : History) (file : List ℕ) → ended now ≡ ended h → IsShown [] h file

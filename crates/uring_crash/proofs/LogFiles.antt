@@ -14,6 +14,7 @@ use Rattle.uring_entry.specs.declared.operation.Op.TheVariants.{Nop, Read, Write
 use Rattle.uring_entry.specs.declared.operation.Outcome.{Outcome}
 use Rattle.uring_files.specs.Contents.{FileContents, empty_file, empty_files, max_len, is_too_long, is_past_end, overwritten, written, with_writes_synced}
 use Rattle.uring_files.specs.Operations.{file_of, with_changed, after, IsOutcome, result_of, is_lengthening, on_file, ended_with}
+use Rattle.uring_files.specs.Laws.{WritesOver}
 use Rattle.uring_files.proofs.StandAlone.{others_stay}
 use Rattle.uring_volume.specs.Events.{History}
 use Rattle.uring_volume.specs.Choices.{issued, named}
@@ -111,15 +112,15 @@ changed_is files fd change (Some was) file is e =
     (was, is, same)
 
 -- a write that is too long can't have ended well
-too_long : (files : List FileContents) (own : ℤ) (off len : ℕ) (data : List ℕ) (was : FileContents) (res : ℤ) (bytes : List ℕ)
+too_long : (files : List FileContents) (own : ℤ) (off len : ℕ) (given : List ℕ) (was : FileContents) (res : ℤ) (bytes : List ℕ)
     → file_of files own ≡ Some was → is_too_long off len ≡ true
-    → IsOutcome files (Write own off len data) (record { res = res; bytes = bytes })
+    → IsOutcome files (Write own off len given) (record { res = res; bytes = bytes })
     → res ≡ pos len → ⊥
-too_long files own off len data was res bytes is long (inl called) good =
+too_long files own off len given was res bytes is long (inl called) good =
     let outcome : record { res = res; bytes = bytes } ≡ ended_with (neg_ℤ EFBIG) = called ∙ ap (λ (o : Option FileContents). on_file o (λ file. ended_with (cond (is_too_long off len) (neg_ℤ EFBIG) (pos len)))) is ∙ ap ended_with (cond-true (is_too_long off len) (neg_ℤ EFBIG) (pos len) long) in
     let e : pos len ≡ neg_ℤ EFBIG = sym good ∙ ap (λ (o : Outcome). o.res) outcome in
     absurd cc
-too_long files own off len data was res bytes is long (inr (longer, refused)) good =
+too_long files own off len given was res bytes is long (inr (longer, refused)) good =
     let e : pos len ≡ neg_ℤ ENOMEM = sym good ∙ ap (λ (o : Outcome). o.res) refused in
     absurd cc
 
@@ -130,41 +131,41 @@ no_effect off (suc len) none = inr (lt-ltb max_len (off + suc len) (leb-false (o
 
 -- A write that ended.
 
-write_shown : (fd : ℤ) (r : Requests) (n : ℕ) (files : List FileContents) (log : Log) (off len : ℕ) (data : List ℕ) (res : ℤ) (bytes : List ℕ)
-    → Stands fd r log → is_running r n ≡ true → operation_of (entry_of r n) ≡ Write fd off len data
-    → IsOutcome files (Write fd off len data) (record { res = res; bytes = bytes })
+write_shown : WritesOver → (fd : ℤ) (r : Requests) (n : ℕ) (files : List FileContents) (log : Log) (off len : ℕ) (given : List ℕ) (res : ℤ) (bytes : List ℕ)
+    → Stands fd r log → is_running r n ≡ true → operation_of (entry_of r n) ≡ Write fd off len given
+    → IsOutcome files (Write fd off len given) (record { res = res; bytes = bytes })
     → int_eq res (pos len) ≡ true → Shows fd files log
     → (was : FileContents) → file_of files fd ≡ Some was
-    → IsShown [] (finished n (Write fd off len data) res log).volume.history (overwritten was.bytes off (take len data))
-write_shown fd r n files log off len data res bytes s running is called good shows was here =
+    → IsShown [] (finished n (Write fd off len given) res log).volume.history (overwritten was.bytes off (take len given))
+write_shown over fd r n files log off len given res bytes s running is called good shows was here =
     let k : ℕ = number_of n log.requests in
-    let on : int_eq log.fd fd ≡ true = (Decides-int_eq log.fd fd).1 s.fd in
+    let on : int_eq log.fd fd ≡ true = (Decides-int_eq log.fd fd).1 s.file in
     let test : Bool = int_eq log.fd fd && has_effect off len && int_eq res (pos len) in
     let more : Log = record log { volume = write_ended k log.volume } in
-    let of (l : Log) : Type 0 = IsShown [] l.volume.history (overwritten was.bytes off (take len data)) in
+    let of : Log → Type 0 = λ l. IsShown [] l.volume.history (overwritten was.bytes off (take len given)) in
     elim (cases_Bool (has_effect off len)) [
       | inl sure ↦
           let passed : test ≡ true = and_from (int_eq log.fd fd) (has_effect off len && int_eq res (pos len)) on (and_from (has_effect off len) (int_eq res (pos len)) sure good) in
-          let runs = s.writes n fd off len data running is on sure in
+          let runs = s.writes n fd off len given running is on sure in
           let ends : write_ended k log.volume ≡ with_event (WriteEnded k) log.volume = cond-true (is_one_of k (running_writes log.volume.history)) (with_event (WriteEnded k) log.volume) log.volume runs.running in
-          let last : ended (with_event (WriteEnded k) log.volume).history ≡ ended log.volume.history ++ record { number = k; off = off; bytes = take len data } ∷ [] = ap (λ ws. ended log.volume.history ++ ws) runs.is in
+          let last : ended (with_event (WriteEnded k) log.volume).history ≡ ended log.volume.history ++ record { number = k; off = off; bytes = take len given } ∷ [] = ap (λ ws. ended log.volume.history ++ ws) runs.is in
           subst of (sym (cond-true test more log passed)) (subst (λ (v : Volume). of (record log { volume = v })) (sym ends)
-          (shown_more log.volume.history (with_event (WriteEnded k) log.volume).history was.bytes (take len data) k off last (shows was here)))
+          (shown_more over log.volume.history (with_event (WriteEnded k) log.volume).history was.bytes (take len given) k off last (shows was here)))
       | inr none ↦
           let failed : test ≡ false = ap (λ (b : Bool). int_eq log.fd fd && b) (ap (λ (b : Bool). b && int_eq res (pos len)) none) ∙ ap (λ (b : Bool). b && false) on in
           let short : len ≡ 0 = elim (no_effect off len none) [
             | inl zero_long ↦ zero_long
-            | inr long ↦ absurd (too_long files fd off len data was res bytes here long called ((Decides-int_eq res (pos len)).0 good))
+            | inr long ↦ absurd (too_long files fd off len given was res bytes here long called ((Decides-int_eq res (pos len)).0 good))
           ] in
-          let same : overwritten was.bytes off (take len data) ≡ was.bytes = ap (λ (l : ℕ). overwritten was.bytes off (take l data)) short in
+          let same : overwritten was.bytes off (take len given) ≡ was.bytes = ap (λ (l : ℕ). overwritten was.bytes off (take l given)) short in
           subst of (sym (cond-false test more log failed)) (subst (λ (bs : List ℕ). IsShown [] log.volume.history bs) (sym same) (shows was here))
     ]
 
 -- a write of another file, or one that failed
-write_unlogged : (n : ℕ) (log : Log) (own : ℤ) (off len : ℕ) (data : List ℕ) (res : ℤ)
+write_unlogged : (n : ℕ) (log : Log) (own : ℤ) (off len : ℕ) (given : List ℕ) (res : ℤ)
     → (int_eq log.fd own ≡ false) ⊎ (int_eq res (pos len) ≡ false)
-    → finished n (Write own off len data) res log ≡ log
-write_unlogged n log own off len data res why =
+    → finished n (Write own off len given) res log ≡ log
+write_unlogged n log own off len given res why =
     let test : Bool = int_eq log.fd own && has_effect off len && int_eq res (pos len) in
     elim (cases_Bool test) [
       | inl sure ↦
@@ -176,33 +177,33 @@ write_unlogged n log own off len data res why =
       | inr no ↦ cond-false test _ log no
     ]
 
-shows_finished : (fd : ℤ) (r : Requests) (n : ℕ) (files : List FileContents) (log : Log) (op : Op) (res : ℤ) (bytes : List ℕ)
+shows_finished : WritesOver → (fd : ℤ) (r : Requests) (n : ℕ) (files : List FileContents) (log : Log) (op : Op) (res : ℤ) (bytes : List ℕ)
     → Stands fd r log → is_running r n ≡ true → operation_of (entry_of r n) ≡ op
     → IsOutcome files op (record { res = res; bytes = bytes }) → Shows fd files log
     → Shows fd (after files op res) (finished n op res log)
-shows_finished fd r n files log (Write own off len data) res bytes s running is called shows =
+shows_finished over fd r n files log (Write own off len given) res bytes s running is called shows =
     elim (cases_Bool (int_eq fd own)) [
       | inl here ↦
           let at : fd ≡ own = (Decides-int_eq fd own).0 here in
           elim (cases_Bool (int_eq res (pos len))) [
             | inl good ↦ λ file there.
-                let went : file_of (with_changed files own (written off (take len data))) fd ≡ Some file = ap (λ fs. file_of fs fd) (sym (cond-true (int_eq res (pos len)) (with_changed files own (written off (take len data))) files good)) ∙ there in
-                let moved : file_of (with_changed files fd (written off (take len data))) fd ≡ Some file = ap (λ (k : ℤ). file_of (with_changed files k (written off (take len data))) fd) at ∙ went in
-                let found = changed_is files fd (written off (take len data)) (file_of files fd) file refl (sym (changed_same files fd (written off (take len data))) ∙ moved) in
-                let data_same : overwritten found.0.bytes off (take len data) ≡ file.bytes = ap (λ (f : FileContents). f.bytes) found.2 in
-                let shown = write_shown fd r n files log off len data res bytes s running (is ∙ ap (λ (k : ℤ). Write k off len data) (sym at)) (subst (λ (k : ℤ). IsOutcome files (Write k off len data) (record { res = res; bytes = bytes })) (sym at) called) good shows found.0 found.1 in
-                subst (λ (bs : List ℕ). IsShown [] (finished n (Write own off len data) res log).volume.history bs) data_same
-                (subst (λ (k : ℤ). IsShown [] (finished n (Write k off len data) res log).volume.history (overwritten found.0.bytes off (take len data))) at shown)
+                let went : file_of (with_changed files own (written off (take len given))) fd ≡ Some file = ap (λ fs. file_of fs fd) (sym (cond-true (int_eq res (pos len)) (with_changed files own (written off (take len given))) files good)) ∙ there in
+                let moved : file_of (with_changed files fd (written off (take len given))) fd ≡ Some file = ap (λ (k : ℤ). file_of (with_changed files k (written off (take len given))) fd) at ∙ went in
+                let found = changed_is files fd (written off (take len given)) (file_of files fd) file refl (sym (changed_same files fd (written off (take len given))) ∙ moved) in
+                let data_same : overwritten found.0.bytes off (take len given) ≡ file.bytes = ap (λ (f : FileContents). f.bytes) found.2 in
+                let shown = write_shown over fd r n files log off len given res bytes s running (is ∙ ap (λ (k : ℤ). Write k off len given) (sym at)) (subst (λ (k : ℤ). IsOutcome files (Write k off len given) (record { res = res; bytes = bytes })) (sym at) called) good shows found.0 found.1 in
+                subst (λ (bs : List ℕ). IsShown [] (finished n (Write own off len given) res log).volume.history bs) data_same
+                (subst (λ (k : ℤ). IsShown [] (finished n (Write k off len given) res log).volume.history (overwritten found.0.bytes off (take len given))) at shown)
             | inr bad ↦ λ file there.
-                subst (λ (l : Log). IsShown [] l.volume.history file.bytes) (sym (write_unlogged n log own off len data res (inr bad)))
-                (shows file (ap (λ fs. file_of fs fd) (sym (cond-false (int_eq res (pos len)) (with_changed files own (written off (take len data))) files bad)) ∙ there))
+                subst (λ (l : Log). IsShown [] l.volume.history file.bytes) (sym (write_unlogged n log own off len given res (inr bad)))
+                (shows file (ap (λ fs. file_of fs fd) (sym (cond-false (int_eq res (pos len)) (with_changed files own (written off (take len given))) files bad)) ∙ there))
           ]
       | inr other ↦ λ file there.
-          let apart : int_eq log.fd own ≡ false = ap (λ (k : ℤ). int_eq k own) s.fd ∙ other in
-          subst (λ (l : Log). IsShown [] l.volume.history file.bytes) (sym (write_unlogged n log own off len data res (inl apart)))
-          (shows file (sym (others_stay files (Write own off len data) res fd other) ∙ there))
+          let apart : int_eq log.fd own ≡ false = ap (λ (k : ℤ). int_eq k own) s.file ∙ other in
+          subst (λ (l : Log). IsShown [] l.volume.history file.bytes) (sym (write_unlogged n log own off len given res (inl apart)))
+          (shows file (sym (others_stay files (Write own off len given) res fd other) ∙ there))
     ]
-shows_finished fd r n files log (Fsync own) res bytes s running is called shows =
+shows_finished over fd r n files log (Fsync own) res bytes s running is called shows =
     let k : ℕ = number_of n log.requests in
     let test : Bool = int_eq log.fd own in
     let same : ended (finished n (Fsync own) res log).volume.history ≡ ended log.volume.history = elim (cases_Bool test) [
@@ -212,23 +213,23 @@ shows_finished fd r n files log (Fsync own) res bytes s running is called shows 
       | inr no ↦ ap (λ (l : Log). ended l.volume.history) (cond-false test (record log { volume = sync_with res k log.volume }) log no)
     ] in
     λ file there.
-        shown_same log.volume.history (finished n (Fsync own) res log).volume.history file.bytes same
-        (elim (cases_Bool (int_eq fd own)) [
-          | inl here ↦
-              let at : fd ≡ own = (Decides-int_eq fd own).0 here in
-              elim (cases_Bool (int_eq res (pos 0))) [
-                | inl good ↦
-                    let went : file_of (with_changed files own with_writes_synced) fd ≡ Some file = ap (λ fs. file_of fs fd) (sym (cond-true (int_eq res (pos 0)) (with_changed files own with_writes_synced) files good)) ∙ there in
-                    let moved : file_of (with_changed files fd with_writes_synced) fd ≡ Some file = ap (λ (k : ℤ). file_of (with_changed files k with_writes_synced) fd) at ∙ went in
-                    let found = changed_is files fd with_writes_synced (file_of files fd) file refl (sym (changed_same files fd with_writes_synced) ∙ moved) in
-                    subst (λ (bs : List ℕ). IsShown [] log.volume.history bs) (ap (λ (f : FileContents). f.bytes) found.2) (shows found.0 found.1)
-                | inr bad ↦ shows file (ap (λ fs. file_of fs fd) (sym (cond-false (int_eq res (pos 0)) (with_changed files own with_writes_synced) files bad)) ∙ there)
-              ]
-          | inr other ↦ shows file (sym (others_stay files (Fsync own) res fd other) ∙ there)
-        ])
-shows_finished fd r n files log Nop res bytes s running is called shows = shows
-shows_finished fd r n files log (Read own off len) res bytes s running is called shows = shows
-shows_finished fd r n files log (Cancel target all) res bytes s running is called shows = shows
+    shown_same log.volume.history (finished n (Fsync own) res log).volume.history file.bytes same
+    (elim (cases_Bool (int_eq fd own)) [
+      | inl here ↦
+          let at : fd ≡ own = (Decides-int_eq fd own).0 here in
+          elim (cases_Bool (int_eq res (pos 0))) [
+            | inl good ↦
+                let went : file_of (with_changed files own with_writes_synced) fd ≡ Some file = ap (λ fs. file_of fs fd) (sym (cond-true (int_eq res (pos 0)) (with_changed files own with_writes_synced) files good)) ∙ there in
+                let moved : file_of (with_changed files fd with_writes_synced) fd ≡ Some file = ap (λ (k : ℤ). file_of (with_changed files k with_writes_synced) fd) at ∙ went in
+                let found = changed_is files fd with_writes_synced (file_of files fd) file refl (sym (changed_same files fd with_writes_synced) ∙ moved) in
+                subst (λ (bs : List ℕ). IsShown [] log.volume.history bs) (ap (λ (f : FileContents). f.bytes) found.2) (shows found.0 found.1)
+            | inr bad ↦ shows file (ap (λ fs. file_of fs fd) (sym (cond-false (int_eq res (pos 0)) (with_changed files own with_writes_synced) files bad)) ∙ there)
+          ]
+      | inr other ↦ shows file (sym (others_stay files (Fsync own) res fd other) ∙ there)
+    ])
+shows_finished over fd r n files log Nop res bytes s running is called shows = shows
+shows_finished over fd r n files log (Read own off len) res bytes s running is called shows = shows
+shows_finished over fd r n files log (Cancel target all) res bytes s running is called shows = shows
 
 -- An event.
 
@@ -242,26 +243,26 @@ ends_called files r n false res bytes is called = absurd (both_ways false refl i
 abbrev files_by : Setup → Requests → List FileContents
 files_by g r = files_after r (empty_files g.files) r.ended
 
-shows_move : (g : Setup) (fd : ℤ) (r q : Requests) (s : Step) (a : Answer) (log : Log) → Move r s a q
+shows_move : WritesOver → (g : Setup) (fd : ℤ) (r q : Requests) (s : Step) (a : Answer) (log : Log) → Move r s a q
     → ((n : ℕ) → s ≡ step.Finish n → EndsOn (files_by g r) r n (is_running r n) a)
     → (IsNoFinish s → files_by g q ≡ files_by g r)
     → Stands fd r log → Shows fd (files_by g r) log → Shows fd (files_by g q) (logged r q s a log)
-shows_move g fd r q s a log (stays _ _ no_start no_end) called kept st shows =
+shows_move over g fd r q s a log (stays _ _ no_start no_end) called kept st shows =
     subst (Shows fd (files_by g r)) (sym (quiet r r s a log no_start no_end)) shows
-shows_move g fd r q s a log (accepts accepted missed head entries) called kept st shows =
+shows_move over g fd r q s a log (accepts accepted missed head entries) called kept st shows =
     subst (λ fs. Shows fd fs log) (sym (kept tt)) shows
-shows_move g fd r q s a log (starts n outstanding idle spared ready no_cancel) called kept st shows =
+shows_move over g fd r q s a log (starts n outstanding idle spared ready no_cancel) called kept st shows =
     subst (λ fs. Shows fd fs (begun_of n (operation_running q n) log)) (sym (kept tt))
     (shows_same fd (files_by g r) log (begun_of n (operation_running q n) log) (begun_of_same n (operation_running q n) log) shows)
-shows_move g fd r q s a log (ends_doomed n outstanding) called kept st shows =
+shows_move over g fd r q s a log (ends_doomed n outstanding) called kept st shows =
     subst (λ fs. Shows fd fs log) (sym (kept tt)) shows
-shows_move g fd r q s a log (ends_cancel n outstanding spared ready cancel) called kept st shows =
+shows_move over g fd r q s a log (ends_cancel n outstanding spared ready cancel) called kept st shows =
     subst (λ fs. Shows fd fs log) (sym (kept tt)) shows
-shows_move g fd r q s a log (ends_run n res bytes running) called kept st shows =
+shows_move over g fd r q s a log (ends_run n res bytes running) called kept st shows =
     let op : Op = operation_of (entry_of r n) in
     subst (λ fs. Shows fd fs (finished_of n (operation_running r n) res log)) (sym (files_ended r n res bytes (empty_files g.files)))
     (subst (λ (o : Option Op). Shows fd (after (files_by g r) op res) (finished_of n o res log)) (sym (cond-true (is_running r n) (Some op) None running))
-    (shows_finished fd r n (files_by g r) log op res bytes st running refl (ends_called (files_by g r) r n (is_running r n) res bytes running (called n refl)) shows))
+    (shows_finished over fd r n (files_by g r) log op res bytes st running refl (ends_called (files_by g r) r n (is_running r n) res bytes running (called n refl)) shows))
 
 -- a Finish is called for
 finish_called : (g : Setup) (s : Step) (a : Answer) (before : core.History) → IsLawful g ((s, a) ∷ before)
@@ -270,11 +271,11 @@ finish_called : (g : Setup) (s : Step) (a : Answer) (before : core.History) → 
 finish_called g s a before lawful n is =
     (subst (λ (k : Step). IsLawful g ((k, a) ∷ before)) is lawful).0
 
-pub shows_of : (unit : ℕ) (g : Setup) (fd : ℤ) (h : core.History) → IsLawful g h
+pub shows_of : WritesOver → (unit : ℕ) (g : Setup) (fd : ℤ) (h : core.History) → IsLawful g h
     → Shows fd (files_of g (world g h)) (log_of unit g fd h)
-shows_of unit g fd [] lawful = λ file is. shows_first file.bytes (first_of g.files fd file is)
-shows_of unit g fd ((s, a) ∷ before) lawful =
+shows_of over unit g fd [] lawful = λ file is. shows_first file.bytes (first_of g.files fd file is)
+shows_of over unit g fd ((s, a) ∷ before) lawful =
     let apart = lawful_apart g ((s, a) ∷ before) lawful in
-    shows_move g fd (world g before).requests (world g ((s, a) ∷ before)).requests s a (log_of unit g fd before)
+    shows_move over g fd (world g before).requests (world g ((s, a) ∷ before)).requests s a (log_of unit g fd before)
     (move_of g s a before apart) (finish_called g s a before lawful) (files_kept g s a before apart)
-    (stands_of unit g fd before apart.1) (shows_of unit g fd before lawful.1)
+    (stands_of unit g fd before apart.1) (shows_of over unit g fd before lawful.1)

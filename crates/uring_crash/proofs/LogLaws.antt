@@ -5,6 +5,7 @@ use Rattle.std.proofs.lemmas.Bool.Decides.{Decides-int_eq}
 use Rattle.uring_entry.specs.Preparation.{operation_of}
 use Rattle.uring_entry.specs.Requests.{Requests, entry_of, is_running, operation_running}
 use Rattle.uring_entry.specs.declared.operation.Op.{Op}
+use Rattle.uring_files.specs.Laws.{WritesOver}
 use Rattle.uring_core.specs.Histories.{world}
 use Rattle.uring_laws.proofs.WholeLaws.{lawful_apart}
 use Rattle.uring_crash.specs.Logs.{log_of}
@@ -29,13 +30,13 @@ pub running_writes_run : RunningWritesRun
 running_writes_run unit g fd h n off len bytes lawful is sure =
     let s = stands_of unit g fd h (lawful_apart g h lawful) in
     let runs = runs_as (world g h).requests n _ is in
-    (s.writes n fd off len bytes runs.0 runs.1 ((Decides-int_eq (log_of unit g fd h).fd fd).1 s.fd) sure).running
+    (s.writes n fd off len bytes runs.0 runs.1 ((Decides-int_eq (log_of unit g fd h).fd fd).1 s.file) sure).running
 
 pub running_syncs_run : RunningSyncsRun
 running_syncs_run unit g fd h n lawful is =
     let s = stands_of unit g fd h (lawful_apart g h lawful) in
     let runs = runs_as (world g h).requests n _ is in
-    (s.syncs n fd runs.0 runs.1 ((Decides-int_eq (log_of unit g fd h).fd fd).1 s.fd)).1
+    (s.syncs n fd runs.0 runs.1 ((Decides-int_eq (log_of unit g fd h).fd fd).1 s.file)).1
 
-pub volume_shows_the_file : VolumeShowsTheFile
-volume_shows_the_file unit g fd h file lawful is = shows_of unit g fd h lawful file is
+pub volume_shows_the_file : WritesOver → VolumeShowsTheFile
+volume_shows_the_file over unit g fd h file lawful is = shows_of over unit g fd h lawful file is

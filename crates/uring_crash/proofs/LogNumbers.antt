@@ -39,7 +39,7 @@ or_either false y is = inr is
 
 was_true : (b : Bool) → not b ≡ false → b ≡ true
 was_true true e = refl
-was_true false e = absurd (both_ways true refl e)
+was_true false e = absurd (both_ways true e refl)
 
 -- what runs, with one more
 pub in_more : (k j : ℕ) (ns : List ℕ) → is_one_of j ns ≡ true → is_one_of j (ns ++ k ∷ []) ≡ true

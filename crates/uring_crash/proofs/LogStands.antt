@@ -42,7 +42,7 @@ pub record Runs (h : History) (k off : ℕ) (bytes : List ℕ) : Type 0 where
 
 -- what runs of the file, as the requests stand, runs in the log
 pub record Stands (fd : ℤ) (r : Requests) (log : Log) : Type 0 where
-  pub fd : log.fd ≡ fd
+  pub file : log.fd ≡ fd
   pub next : log.volume.next ≡ suc (length log.requests)
   pub fresh : (k : ℕ) → log.volume.next ≤ k → named k (issued log.volume.history) ≡ []
   pub writes : (m : ℕ) (own : ℤ) (off len : ℕ) (bytes : List ℕ) → is_running r m ≡ true
@@ -56,7 +56,7 @@ pub record Stands (fd : ℤ) (r : Requests) (log : Log) : Type 0 where
 
 stands_first : (unit : ℕ) (fd : ℤ) → Stands fd no_request (empty_log unit fd)
 stands_first unit fd = record {
-  fd = refl;
+  file = refl;
   next = refl;
   fresh = λ k next. refl;
   writes = λ m own off len bytes runs is on sure. absurd (both_ways false refl runs);
@@ -87,8 +87,7 @@ run_less r n res bytes m is =
     let parts = and_parts (has_started r m) (not (has_ended q m)) is in
     let none : has_ended q m ≡ false = not_ended (has_ended q m) parts.1 in
     let all : has_ended q m ≡ (has_ended r m || ((n == m) || false)) = list_any-append (λ e. e.number == m) r.ended (record { number = n; res = res; bytes = bytes } ∷ []) in
-    let old : has_ended r m ≡ false = false_from_ne_true (has_ended r m) (λ e. both_ways (has_ended q m) none (all ∙ or_left (has_ended r m) ((n == m) || false) e)) in
-    (
+    let old : has_ended r m ≡ false = false_from_ne_true (has_ended r m) (λ e. both_ways (has_ended q m) none (all ∙ or_left (has_ended r m) ((n == m) || false) e)) in (
       and_from (has_started r m) (not (has_ended r m)) parts.0 (ap not old),
       λ same. both_ways (has_ended q m) none (all ∙ or_right (has_ended r m) ((n == m) || false) (or_left (n == m) false (eq-eqb n m (sym same)))),
     )
@@ -98,7 +97,7 @@ stands_less : (fd : ℤ) (r q : Requests) (log : Log)
     → ((m : ℕ) → is_running q m ≡ true → (is_running r m ≡ true) × (operation_of (entry_of q m) ≡ operation_of (entry_of r m)))
     → Stands fd r log → Stands fd q log
 stands_less fd r q log less s = record {
-  fd = s.fd;
+  file = s.file;
   next = s.next;
   fresh = s.fresh;
   writes = λ m own off len bytes runs is on sure. let old = less m runs in s.writes m own off len bytes old.0 (sym old.1 ∙ is) on sure;
@@ -119,7 +118,7 @@ stands_unlogged : (fd : ℤ) (r : Requests) (n : ℕ) (log : Log)
     → ((own : ℤ) → operation_of (entry_of r n) ≡ Fsync own → int_eq log.fd own ≡ true → ⊥)
     → Stands fd r log → Stands fd (with_started r n) log
 stands_unlogged fd r n log no_write no_sync s = record {
-  fd = s.fd;
+  file = s.file;
   next = s.next;
   fresh = s.fresh;
   writes = λ m own off len bytes runs is on sure. elim (run_or r n m runs) [
@@ -165,7 +164,7 @@ stands_write fd r n log own off len bytes is s =
     let w : piece.Write = record { number = next; off = off; bytes = take len bytes } in
     let now : History = (with_write off (take len bytes) log.volume).history in
     record {
-      fd = s.fd;
+      file = s.file;
       next = omega (arith, s.next);
       fresh = λ k from.
           named_old k (issued h) w (false_from_ne_true (next == k) (λ e. omega (arith, eqb-true next k e, from)))
@@ -176,10 +175,10 @@ stands_write fd r n log own off len bytes is s =
             let offs : off ≡ off' = cc in
             let lens : len ≡ len' = cc in
             let all : bytes ≡ bytes' = cc in
-            let data : take len bytes ≡ take len' bytes' = ap (λ (l : ℕ). take l bytes) lens ∙ ap (take len') all in
+            let given : take len bytes ≡ take len' bytes' = ap (λ (l : ℕ). take l bytes) lens ∙ ap (take len') all in
             let number : next ≡ number_of m (n ∷ log.requests) = s.next ∙ sym (cond-true (n == m) (suc (length log.requests)) (number_of m log.requests) same) in
             let runs_now : Runs now next off (take len bytes) = record { positive = omega (arith, s.next); running = in_new next (running_writes h); is = named_new next (issued h) w refl (s.fresh next (omega arith)) } in
-            subst (λ (k : ℕ). Runs now k off' (take len' bytes')) number (subst (λ (o : ℕ). Runs now next o (take len' bytes')) offs (subst (λ (bs : List ℕ). Runs now next off bs) data runs_now))
+            subst (λ (k : ℕ). Runs now k off' (take len' bytes')) number (subst (λ (o : ℕ). Runs now next o (take len' bytes')) offs (subst (λ (bs : List ℕ). Runs now next off bs) given runs_now))
         | inr other ↦
             let old = s.writes m own' off' len' bytes' (ran r n m other runs) is' on sure in
             let k : ℕ = number_of m log.requests in
@@ -206,7 +205,7 @@ stands_sync fd r n log own is s =
     let next : ℕ = log.volume.next in
     let now : History = (with_sync Whole log.volume).history in
     record {
-      fd = s.fd;
+      file = s.file;
       next = omega (arith, s.next);
       fresh = λ k from. s.fresh k (omega (arith, from));
       writes = λ m own' off' len' bytes' runs is' on sure. elim (cases_Bool (n == m)) [
@@ -240,11 +239,11 @@ stands_begun fd r n log (Write own off len bytes) is s =
       | inr no ↦
           let no_write : (own' : ℤ) (off' len' : ℕ) (bytes' : List ℕ) → operation_of (entry_of r n) ≡ Write own' off' len' bytes' → int_eq log.fd own' ≡ true → has_effect off' len' ≡ true → ⊥ =
           λ own' off' len' bytes' is' on sure.
-              let at : Write own off len bytes ≡ Write own' off' len' bytes' = sym is ∙ is' in
-              let owns : own ≡ own' = cc in
-              let offs : off ≡ off' = cc in
-              let lens : len ≡ len' = cc in
-              both_ways test no (and_from (int_eq log.fd own) (has_effect off len) (ap (int_eq log.fd) owns ∙ on) (ap (λ (o : ℕ). has_effect o len) offs ∙ ap (has_effect off') lens ∙ sure)) in
+          let at : Write own off len bytes ≡ Write own' off' len' bytes' = sym is ∙ is' in
+          let owns : own ≡ own' = cc in
+          let offs : off ≡ off' = cc in
+          let lens : len ≡ len' = cc in
+          both_ways test no (and_from (int_eq log.fd own) (has_effect off len) (ap (int_eq log.fd) owns ∙ on) (ap (λ (o : ℕ). has_effect o len) offs ∙ ap (has_effect off') lens ∙ sure)) in
           let no_sync : (own' : ℤ) → operation_of (entry_of r n) ≡ Fsync own' → int_eq log.fd own' ≡ true → ⊥ =
           λ own' is' on. let at : Write own off len bytes ≡ Fsync own' = sym is ∙ is' in absurd cc in
           subst (Stands fd (with_started r n)) (sym (cond-false test more log no)) (stands_unlogged fd r n log no_write no_sync s)
@@ -259,9 +258,9 @@ stands_begun fd r n log (Fsync own) is s =
           λ own' off' len' bytes' is' on sure. let at : Fsync own ≡ Write own' off' len' bytes' = sym is ∙ is' in absurd cc in
           let no_sync : (own' : ℤ) → operation_of (entry_of r n) ≡ Fsync own' → int_eq log.fd own' ≡ true → ⊥ =
           λ own' is' on.
-              let at : Fsync own ≡ Fsync own' = sym is ∙ is' in
-              let owns : own ≡ own' = cc in
-              both_ways test no (ap (int_eq log.fd) owns ∙ on) in
+          let at : Fsync own ≡ Fsync own' = sym is ∙ is' in
+          let owns : own ≡ own' = cc in
+          both_ways test no (ap (int_eq log.fd) owns ∙ on) in
           subst (Stands fd (with_started r n)) (sym (cond-false test more log no)) (stands_unlogged fd r n log no_write no_sync s)
     ]
 stands_begun fd r n log Nop is s = stands_unlogged fd r n log
@@ -287,12 +286,12 @@ stands_write_end : (fd : ℤ) (r : Requests) (n : ℕ) (res : ℤ) (bytes : List
 stands_write_end fd r n res bytes log s =
     let k : ℕ = number_of n log.requests in
     record {
-      fd = s.fd;
+      file = s.file;
       next = s.next;
       fresh = s.fresh;
-      writes = λ m own off len data runs is on sure.
+      writes = λ m own off len given runs is on sure.
           let less = run_less r n res bytes m runs in
-          let old = s.writes m own off len data less.0 is on sure in
+          let old = s.writes m own off len given less.0 is on sure in
           record {
             positive = old.positive;
             running = in_but k (number_of m log.requests) (running_writes log.volume.history) (λ same. less.1 (number_once m n log.requests old.positive same)) old.running;
@@ -307,11 +306,11 @@ stands_sync_end : (fd : ℤ) (r : Requests) (n : ℕ) (res : ℤ) (bytes : List 
 stands_sync_end fd r n res bytes log true s =
     let k : ℕ = number_of n log.requests in
     record {
-      fd = s.fd;
+      file = s.file;
       next = s.next;
       fresh = s.fresh;
-      writes = λ m own off len data runs is on sure.
-          let old = s.writes m own off len data (run_less r n res bytes m runs).0 is on sure in
+      writes = λ m own off len given runs is on sure.
+          let old = s.writes m own off len given (run_less r n res bytes m runs).0 is on sure in
           record { positive = old.positive; running = old.running; is = old.is };
       syncs = λ m own runs is on.
           let less = run_less r n res bytes m runs in
@@ -321,11 +320,11 @@ stands_sync_end fd r n res bytes log true s =
 stands_sync_end fd r n res bytes log false s =
     let k : ℕ = number_of n log.requests in
     record {
-      fd = s.fd;
+      file = s.file;
       next = s.next;
       fresh = s.fresh;
-      writes = λ m own off len data runs is on sure.
-          let old = s.writes m own off len data (run_less r n res bytes m runs).0 is on sure in
+      writes = λ m own off len given runs is on sure.
+          let old = s.writes m own off len given (run_less r n res bytes m runs).0 is on sure in
           record { positive = old.positive; running = old.running; is = old.is };
       syncs = λ m own runs is on.
           let less = run_less r n res bytes m runs in
@@ -335,7 +334,7 @@ stands_sync_end fd r n res bytes log false s =
 
 stands_finished : (fd : ℤ) (r : Requests) (n : ℕ) (res : ℤ) (bytes : List ℕ) (log : Log) (op : Op) → Stands fd r log
     → Stands fd (with_ended r n res bytes) (finished n op res log)
-stands_finished fd r n res bytes log (Write own off len data) s =
+stands_finished fd r n res bytes log (Write own off len given) s =
     let k : ℕ = number_of n log.requests in
     let q : Requests = with_ended r n res bytes in
     let test : Bool = int_eq log.fd own && has_effect off len && int_eq res (pos len) in
@@ -378,10 +377,10 @@ quiet r q _ a log no_start no_end = refl
 -- the operation of one that has just been started
 pub runs_now : (r : Requests) (n : ℕ) → has_ended r n ≡ false
     → operation_running (with_started r n) n ≡ Some (operation_of (entry_of r n))
-runs_now r n open =
+runs_now r n going =
     let started : has_started (with_started r n) n ≡ true = list_any-append (λ k. k == n) r.started (n ∷ []) ∙ or_right (has_started r n) ((n == n) || false) (or_left (n == n) false (eq-eqb n n refl)) in
     cond-true (is_running (with_started r n) n) (Some (operation_of (entry_of r n))) None
-    (and_from (has_started (with_started r n) n) (not (has_ended r n)) started (ap not open))
+    (and_from (has_started (with_started r n) n) (not (has_ended r n)) started (ap not going))
 
 stands_move : (fd : ℤ) (r q : Requests) (s : Step) (a : Answer) (log : Log) → Move r s a q
     → IsSoundRequests r → Stands fd r log → Stands fd q (logged r q s a log)
@@ -391,8 +390,8 @@ stands_move fd r q s a log (accepts accepted missed head entries) i st =
     stands_less fd r (with_call r entries) log
     (λ m runs. (runs, ap operation_of (entry_stays r entries m (i.started_accepted m (and_parts (has_started r m) (not (has_ended r m)) runs).0)))) st
 stands_move fd r q s a log (starts n outstanding idle spared ready no_cancel) i st =
-    let open : has_ended r n ≡ false = not_ended (has_ended r n) (and_parts _ (not (has_ended r n)) outstanding).1 in
-    subst (λ (o : Option Op). Stands fd (with_started r n) (begun_of n o log)) (sym (runs_now r n open))
+    let going : has_ended r n ≡ false = not_ended (has_ended r n) (and_parts _ (not (has_ended r n)) outstanding).1 in
+    subst (λ (o : Option Op). Stands fd (with_started r n) (begun_of n o log)) (sym (runs_now r n going))
     (stands_begun fd r n log (operation_of (entry_of r n)) refl st)
 stands_move fd r q s a log (ends_doomed n outstanding) i st =
     stands_less fd r q log (λ m runs. ((run_less r n _ _ m runs).0, refl)) st

@@ -1,7 +1,7 @@
 -- A step more of a machine that is watched.
-use Rattle.std.proofs.Common.{◌≡◌, ℕ, ℤ, List, [], ◌∷◌, Option, sym, ap, ◌∙◌, subst}
+use Rattle.std.proofs.Common.{◌≡◌, ℕ, ℤ, List, [], ◌∷◌, Option, refl, sym, ap, ◌∙◌, subst}
 use Rattle.uring_entry.specs.Setup.{Setup}
-use Rattle.uring_entry.specs.Requests.{operation_running}
+use Rattle.uring_entry.specs.Requests.{Requests, operation_running}
 use Rattle.uring_entry.specs.declared.operation.Op.{Op}
 use Rattle.uring_core.specs.Histories.{History, world}
 use Rattle.uring_core.specs.declared.step.Step.{Step}
@@ -10,7 +10,7 @@ use Rattle.uring_core.specs.declared.answer.Answer.{Answer}
 use Rattle.uring_machine.specs.Machine.{Machine, Fits}
 use Rattle.uring_volume.specs.Images.{IsImage}
 use Rattle.uring_volume.specs.Events as volume
-use Rattle.uring_crash.specs.Logs.{Log, log_of, issued_as, finished_as}
+use Rattle.uring_crash.specs.Logs.{Log, log_of, logged, issued_as, finished_as}
 use Rattle.uring_crash.specs.Watches.{Watching}
 
 -- the log that a step makes of another
@@ -24,8 +24,8 @@ step_on unit g fd m m' old new s a h same fits units firsts w is = record {
   same = same ∙ w.same;
   fits = fits h w.fits;
   logs = is;
-  unit = units ∙ w.unit;
-  first = firsts ∙ w.first;
+  units = units ∙ w.units;
+  begins = firsts ∙ w.begins;
 }
 
 -- an Issue
@@ -64,5 +64,20 @@ pub image_of : (unit : ℕ) (g : Setup) (fd : ℤ) (m : Machine) (log : Log) (h 
     → IsImage unit [] (log_of unit g fd h).volume.history now
 image_of unit g fd m log h now is image =
     subst (λ (e : volume.History). IsImage unit [] e now) (ap (λ (l : Log). l.volume.history) is.logs)
-    (subst (λ (f : List ℕ). IsImage unit f log.volume.history now) is.first
-    (subst (λ (u : ℕ). IsImage u log.volume.first log.volume.history now) is.unit image))
+    (subst (λ (f : List ℕ). IsImage unit f log.volume.history now) is.begins
+    (subst (λ (u : ℕ). IsImage u log.volume.first log.volume.history now) is.units image))
+
+-- any other step
+logged_other : (r q : Requests) (s : Step) (a : Answer) (log : Log) → ((n : ℕ) → s ≡ step.Issue n → ⊥)
+    → ((n : ℕ) → s ≡ step.Finish n → ⊥) → log ≡ logged r q s a log
+logged_other r q (step.Issue n) a log no_issue no_finish = absurd (no_issue n refl)
+logged_other r q (step.Finish n) a log no_issue no_finish = absurd (no_finish n refl)
+logged_other r q _ a log no_issue no_finish = refl
+
+pub other_on : (unit : ℕ) (g : Setup) (fd : ℤ) (m m' : Machine) (log : Log) (s : Step) (a : Answer) (h : History)
+    → ((n : ℕ) → s ≡ step.Issue n → ⊥) → ((n : ℕ) → s ≡ step.Finish n → ⊥)
+    → m'.core.setup ≡ m.core.setup → ((k : History) → Fits m k → Fits m' ((s, a) ∷ k))
+    → Watching unit g fd m log h → Watching unit g fd m' log ((s, a) ∷ h)
+other_on unit g fd m m' log s a h no_issue no_finish same fits w =
+    step_on unit g fd m m' log log s a h same fits refl refl w
+    (w.logs ∙ logged_other (world g h).requests (world g ((s, a) ∷ h)).requests s a (log_of unit g fd h) no_issue no_finish)

@@ -1,6 +1,3 @@
 pub mod Logs
-pub mod FirstLines
-pub mod Crashes
 pub mod Watches
-pub mod Following
-pub mod Runs
+pub mod Laws

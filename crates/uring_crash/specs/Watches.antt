@@ -12,8 +12,8 @@ pub record Watching (unit : ℕ) (setup : Setup) (fd : ℤ) (m : Machine) (log :
   pub fits : Fits m h
   pub logs : log ≡ log_of unit setup fd h
   -- its volume began with no bytes, in these units
-  pub unit : log.volume.unit ≡ unit
-  pub first : log.volume.first ≡ []
+  pub units : log.volume.unit ≡ unit
+  pub begins : log.volume.first ≡ []
 
 -- The watch has seen this history.
 abbrev pub Watches : ℕ → Setup → ℤ → Watch → History → Type 0

@@ -6,7 +6,7 @@ ghost use Rattle.uring_volume.specs.Images.{IsImage};
 ghost use Rattle.uring_volume.specs.Volume.{with_write, with_sync};
 ghost use Rattle.uring_volume.specs.declared.event.SyncRange.TheVariants.{Whole};
 ghost use Rattle.uring_crash.specs.Logs as spec;
-ghost use Rattle.uring_crash.specs.Logs.{empty_log, begun, issued_as, finished, finished_as, sync_with};
+ghost use Rattle.uring_crash.specs.Logs.{empty_log, begun, begun_of, issued_as, finished, finished_of, finished_as, write_ended, sync_with};
 
 use std::alloc::{AllocError, Global};
 use std::marker::Model;
@@ -85,8 +85,8 @@ impl FileLog {
         ensures unit { self.new.volume.unit ≡ self.old.volume.unit }
         ensures first { self.new.volume.first ≡ self.old.volume.first }
     {
-        match (answer, op) {
-            (Answer::Run, Some(op)) => self.begin(n, &op),
+        match answer {
+            Answer::Run => self.begin_running(n, op),
             _ => Ok(()),
         }
     }
@@ -97,8 +97,34 @@ impl FileLog {
         ensures unit { self.new.volume.unit ≡ self.old.volume.unit }
         ensures first { self.new.volume.first ≡ self.old.volume.first }
     {
-        if let (Answer::Ended { res, .. }, Some(op)) = (answer, op) {
-            self.end(n, &op, *res);
+        match answer {
+            Answer::Ended { res, .. } => self.end_running(n, op, *res),
+            _ => {}
+        }
+    }
+
+    /// A request begins, if it runs.
+    fn begin_running(&mut self, n: u64, op: Option<Op>) -> Result<(), AllocError>
+        requires { IfSome op IsForFiles }
+        ensures log { OnOk result (self.new ≡ begun_of n op self.old) }
+        ensures unit { self.new.volume.unit ≡ self.old.volume.unit }
+        ensures first { self.new.volume.first ≡ self.old.volume.first }
+    {
+        match op {
+            Some(op) => self.begin(n, &op),
+            None => Ok(()),
+        }
+    }
+
+    /// A request ends, if it ran.
+    fn end_running(&mut self, n: u64, op: Option<Op>, res: i32)
+        ensures log { self.new ≡ finished_of n op res self.old }
+        ensures unit { self.new.volume.unit ≡ self.old.volume.unit }
+        ensures first { self.new.volume.first ≡ self.old.volume.first }
+    {
+        match op {
+            Some(op) => self.end(n, &op, res),
+            None => {}
         }
     }
 
@@ -115,10 +141,20 @@ impl FileLog {
                 off,
                 len,
                 bytes,
-            } if self.fd == *fd && has_effect(*off, *len) => {
-                self.begin_write(n, *off, &bytes[..*len as usize])
+            } => {
+                if self.fd == *fd && has_effect(*off, *len) {
+                    self.begin_write(n, *off, &bytes[..*len as usize])
+                } else {
+                    Ok(())
+                }
             }
-            Op::Fsync { fd } if self.fd == *fd => self.begin_sync(n),
+            Op::Fsync { fd } => {
+                if self.fd == *fd {
+                    self.begin_sync(n)
+                } else {
+                    Ok(())
+                }
+            }
             _ => Ok(()),
         }
     }
@@ -136,7 +172,8 @@ impl FileLog {
         match self.volume.begin_write(off, written) {
             Ok(number) => {
                 self.writes.push(Piece::new(number, off, shown))?;
-                self.requests.push(n)
+                self.requests.push(n)?;
+                Ok(())
             }
             Err(_) => Err(AllocError),
         }
@@ -150,7 +187,10 @@ impl FileLog {
         ensures first { self.new.volume.first ≡ self.old.volume.first }
     {
         match self.volume.begin_sync(SyncRange::Whole) {
-            Ok(_) => self.requests.push(n),
+            Ok(_) => {
+                self.requests.push(n)?;
+                Ok(())
+            }
             Err(_) => Err(AllocError),
         }
     }
@@ -161,24 +201,39 @@ impl FileLog {
         ensures unit { self.new.volume.unit ≡ self.old.volume.unit }
         ensures first { self.new.volume.first ≡ self.old.volume.first }
     {
-        let number = number_of(&self.requests, n);
         match op {
-            Op::Write { fd, off, len, .. }
-                if self.fd == *fd && has_effect(*off, *len) && i64::from(res) == i64::from(*len) =>
-                {
-                    self.volume.end_write(number);
+            Op::Write { fd, off, len, .. } => {
+                if self.fd == *fd && has_effect(*off, *len) && i64::from(res) == i64::from(*len) {
+                    self.end_write(n);
                 }
-            Op::Fsync { fd } if self.fd == *fd => self.end_sync(number, res),
+            }
+            Op::Fsync { fd } => {
+                if self.fd == *fd {
+                    self.end_sync(n, res);
+                }
+            }
             _ => {}
         }
     }
 
-    /// The sync of this number ends with this result.
-    fn end_sync(&mut self, number: u64, res: i32)
-        ensures log { self.new ≡ record self.old { volume = sync_with res number self.old.volume } }
+    /// The write that a request is ends.
+    fn end_write(&mut self, n: u64)
+        ensures log { self.new
+            ≡ record self.old { volume = write_ended (spec.number_of n self.old.requests) self.old.volume } }
         ensures unit { self.new.volume.unit ≡ self.old.volume.unit }
         ensures first { self.new.volume.first ≡ self.old.volume.first }
     {
+        self.volume.end_write(number_of(&self.requests, n));
+    }
+
+    /// The sync that a request is ends with this result.
+    fn end_sync(&mut self, n: u64, res: i32)
+        ensures log { self.new
+            ≡ record self.old { volume = sync_with res (spec.number_of n self.old.requests) self.old.volume } }
+        ensures unit { self.new.volume.unit ≡ self.old.volume.unit }
+        ensures first { self.new.volume.first ≡ self.old.volume.first }
+    {
+        let number = number_of(&self.requests, n);
         if res == 0 {
             self.volume.end_sync(number);
         } else {
