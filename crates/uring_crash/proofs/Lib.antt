@@ -1,4 +1,6 @@
 pub mod Watching
+pub mod FollowedLines
+pub mod Runs
 pub mod LogBytes
 pub mod LogNumbers
 pub mod LogStands

@@ -1,3 +1,7 @@
 pub mod Logs
-pub mod Watches
+pub mod FirstLines
+pub mod Crashes
 pub mod Laws
+pub mod Watches
+pub mod Following
+pub mod Runs
