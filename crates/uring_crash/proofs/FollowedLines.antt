@@ -25,7 +25,7 @@ none_taken most = record {
   passed = [];
   all = refl;
   splits = record { whole = refl; each = tt; unbroken = tt };
-  count = refl;
+  count = omega arith;
   over = λ none. refl;
   enough = inl refl;
 }
@@ -81,11 +81,12 @@ end_taken most left left' bytes lines rest one t =
     }
 
 -- all that was passed over stands behind so many lines
-enough_of : (most left : ℕ) (passed : List ℕ) (lines : List (List ℕ)) → length lines + left ≡ most
-    → (passed ≡ []) ⊎ (left ≡ 0)
-    → (passed ≡ []) ⊎ ((length lines ≡ most) × ([] {ℕ} ≡ []))
-enough_of most left passed lines count (inl none) = inl none
-enough_of most left passed lines count (inr none) = inr (omega (arith, count, none), refl)
+enough_of : (most left : ℕ) (passed last : List ℕ) (lines : List (List ℕ)) → last ≡ []
+    → length lines + left ≡ most → (passed ≡ []) ⊎ (left ≡ 0)
+    → (passed ≡ []) ⊎ ((length lines ≡ most) × (last ≡ []))
+enough_of most left passed last lines ends count (inl none) = inl none
+enough_of most left passed last lines ends count (inr none) =
+    inr (omega (arith, count, none), ends)
 
 -- the lines are all, if the last one has its end
 first_ended : (most left : ℕ) (bytes : List ℕ) (lines : List (List ℕ)) (rest : List ℕ) → rest ≡ []
@@ -97,9 +98,9 @@ first_ended most left bytes lines rest none t = record {
   ended = lines;
   last = [];
   splits = subst (λ (l : List ℕ). Splits t.taken lines l) none t.splits;
-  lines = refl;
+  are = refl;
   few = omega (arith, t.count);
-  enough = enough_of most left t.passed lines t.count t.enough;
+  enough = enough_of most left t.passed [] lines refl t.count t.enough;
 }
 
 -- and if it has begun, it is one more
@@ -113,7 +114,7 @@ first_begun most (suc left) bytes lines rest some t = record {
   ended = lines;
   last = rest;
   splits = t.splits;
-  lines = sym (last_some lines rest some);
+  are = sym (last_some lines rest some);
   few = omega (arith, t.count);
   enough = inl refl;
 }
@@ -123,14 +124,14 @@ first_begun most (suc left) bytes lines rest some t = record {
 pub line_made : (old new : Watch) (was_bad bad : Bool) (line : List ℕ) (s : Step) → IsStep line s → bad ≡ was_bad
     → MakesStep old new s → ReadsLine old new was_bad bad line
 line_made old new was_bad bad line s is same made =
-    record { event = Some (s, made.answer); read = is; bad = same; watches = made.watches }
+    record { event = Some (s, made.answer); read = is; now_bad = same; watches = made.watches }
 
 pub line_remarked : (watch : Watch) (bad : Bool) (line : List ℕ) → IsBad line → is_remark line ≡ true
     → ReadsLine watch watch bad bad line
 line_remarked watch bad line none is = record {
   event = None;
   read = none;
-  bad = ap (λ (r : Bool). not r || bad) (sym is);
+  now_bad = ap (λ (r : Bool). not r || bad) (sym is);
   watches = λ unit setup fd h w. w;
 }
 
@@ -139,7 +140,7 @@ pub line_bad : (watch watch' : Watch) (was_bad bad : Bool) (line : List ℕ) →
 line_bad watch watch' was_bad bad line none is same now = record {
   event = None;
   read = none;
-  bad = now ∙ ap (λ (r : Bool). not r || was_bad) (sym is);
+  now_bad = now ∙ ap (λ (r : Bool). not r || was_bad) (sym is);
   watches = λ unit setup fd h w. subst (λ (v : Watch). Watches unit setup fd v h) (sym same) w;
 }
 
@@ -207,7 +208,7 @@ follows_line unit setup fd most watch watch' kept kept' left left' was_bad bad b
       took = end_taken most left left' before (lines_of f.exchanges) f.rest one f.took;
       keeps = empty;
       each = (r.read, f.each);
-      bad_lines = r.bad ∙ ap (λ (b : Bool). is_bad (record { line = f.rest; event = r.event }) || b) f.bad_lines;
+      bad_lines = r.now_bad ∙ ap (λ (b : Bool). is_bad (record { line = f.rest; event = r.event }) || b) f.bad_lines;
       watches = watched_more unit setup fd watch watch' was_bad bad f.rest f.exchanges r f.watches;
     }
 
@@ -236,6 +237,6 @@ followed_last unit setup fd most watch watch' kept left was_bad bad bytes some r
       exchanges = record { line = f.rest; event = r.event } ∷ f.exchanges;
       first = first_begun most left bytes (lines_of f.exchanges) f.rest (some f.rest f.keeps) f.took;
       each = (r.read, f.each);
-      bad_lines = r.bad ∙ ap (λ (b : Bool). is_bad (record { line = f.rest; event = r.event }) || b) f.bad_lines;
+      bad_lines = r.now_bad ∙ ap (λ (b : Bool). is_bad (record { line = f.rest; event = r.event }) || b) f.bad_lines;
       watches = watched_more unit setup fd watch watch' was_bad bad f.rest f.exchanges r f.watches;
     }

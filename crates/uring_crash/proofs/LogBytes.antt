@@ -1,7 +1,7 @@
 -- What one ended write more makes of what a volume shows.
 use Rattle.std.proofs.Common.{◌≡◌, ◌<◌, ◌≤◌, ◌+◌, ◌-◌, ◌==◌, ◌&&◌, ℕ, zero, suc, Bool, true, false, cond, max, List, [], ◌∷◌, ◌++◌, length, get_or, leb, ltb, refl, sym, ap, ◌∙◌, inl, inr, arith}
 use Rattle.std.proofs.Math.ListN.{get_or-eq_default}
-use Rattle.std.proofs.lemmas.Bool.{and_parts, leb-true, ltb-true, false_from_ne_true}
+use Rattle.std.proofs.lemmas.Bool.{cases_Bool, and_parts, leb-true, ltb-true, eqb-true, cond-false, false_from_ne_true}
 use Rattle.uring_files.specs.Contents.{overwritten}
 use Rattle.uring_files.specs.Laws.{WritesOver}
 use Rattle.uring_volume.specs.Writes.{Write}
@@ -28,8 +28,10 @@ grows len (w ∷ later) = omega (arith, grows (max len (end_of w)) later)
 
 -- an offset under so many bytes lies before their end
 before_end : (len off k : ℕ) → cond (len == 0) 0 (off + len) ≤ k → off ≤ k → k < off + len → ⊥
-before_end zero off k past from to = omega (arith, from, to)
-before_end (suc len) off k past from to = omega (arith, past, to)
+before_end len off k past from to = elim (cases_Bool (len == 0)) [
+  | inl none ↦ omega (arith, eqb-true len 0 none, from, to)
+  | inr some ↦ omega (arith, cond-false (len == 0) 0 (off + len) some, past, to)
+]
 
 not_under : (m : Write) (k : ℕ) → end_of m ≤ k → is_under m k ≡ false
 not_under m k past = false_from_ne_true (is_under m k) (λ under.
@@ -47,8 +49,8 @@ beyond byte len k (m ∷ order) past =
     ∙ beyond byte (max len (end_of m)) k order past
 
 end_some : (len off : ℕ) → 1 ≤ len → cond (len == 0) 0 (off + len) ≡ off + len
-end_some zero off some = omega (arith, some)
-end_some (suc len) off some = refl
+end_some len off some =
+    cond-false (len == 0) 0 (off + len) (false_from_ne_true (len == 0) (λ e. omega (arith, eqb-true len 0 e, some)))
 
 max_zero : (n : ℕ) → n ≡ max n 0
 max_zero n = omega arith

@@ -3,7 +3,7 @@ use Rattle.std.proofs.Common.{◌≡◌, ◌<◌, ◌≤◌, ◌+◌, ◌==◌, 
 use Rattle.std.specs.Prelude.{pos, negsuc, neg_ℤ, replicate, slice_get, slice_set}
 use Rattle.std.specs.Option.{option_map, option_map_or}
 use Rattle.std.specs.Ordering.{int_eq}
-use Rattle.std.proofs.lemmas.Bool.{cases_Bool, both_ways, cond-true, cond-false, and_parts, and_from, leb-false, lt-ltb}
+use Rattle.std.proofs.lemmas.Bool.{cases_Bool, both_ways, cond-true, cond-false, and_parts, and_from, eqb-true, leb-false, lt-ltb}
 use Rattle.std.proofs.lemmas.Bool.Decides.{Decides-int_eq}
 use Rattle.uring_entry.specs.Setup.{Setup}
 use Rattle.uring_entry.specs.Preparation.{operation_of}
@@ -18,7 +18,8 @@ use Rattle.uring_files.specs.Laws.{WritesOver}
 use Rattle.uring_files.proofs.StandAlone.{others_stay}
 use Rattle.uring_volume.specs.Events.{History}
 use Rattle.uring_volume.specs.Choices.{issued, named}
-use Rattle.uring_volume.specs.Volume.{Volume, ended, IsShown, is_one_of, running_writes, running_syncs, with_event}
+use Rattle.uring_volume.specs.Volume.{Volume, ended, IsShown, is_one_of, running_writes, running_syncs, with_event, with_write, with_sync}
+use Rattle.uring_volume.specs.declared.event.SyncRange.TheVariants.{Whole}
 use Rattle.uring_volume.specs.declared.event.Event.TheVariants.{WriteEnded, SyncEnded, SyncFailed}
 use Rattle.uring_core.specs.Histories as core
 use Rattle.uring_core.specs.Histories.{world, IsLawfulApart}
@@ -68,14 +69,20 @@ shows_same fd files log now same shows = λ file is. shown_same log.volume.histo
 
 begun_same : (n : ℕ) (op : Op) (log : Log)
     → ended (begun n op log).volume.history ≡ ended log.volume.history
-begun_same n (Write own off len bytes) log = elim (cases_Bool (int_eq log.fd own && has_effect off len)) [
-  | inl sure ↦ ap (λ (l : Log). ended l.volume.history) (cond-true (int_eq log.fd own && has_effect off len) _ log sure)
-  | inr no ↦ ap (λ (l : Log). ended l.volume.history) (cond-false (int_eq log.fd own && has_effect off len) _ log no)
-]
-begun_same n (Fsync own) log = elim (cases_Bool (int_eq log.fd own)) [
-  | inl sure ↦ ap (λ (l : Log). ended l.volume.history) (cond-true (int_eq log.fd own) _ log sure)
-  | inr no ↦ ap (λ (l : Log). ended l.volume.history) (cond-false (int_eq log.fd own) _ log no)
-]
+begun_same n (Write own off len bytes) log =
+    let test : Bool = int_eq log.fd own && has_effect off len in
+    let more : Log = record log { volume = with_write off (take len bytes) log.volume; requests = n ∷ log.requests } in
+    elim (cases_Bool test) [
+      | inl sure ↦ ap (λ (l : Log). ended l.volume.history) (cond-true test more log sure)
+      | inr fails ↦ ap (λ (l : Log). ended l.volume.history) (cond-false test more log fails)
+    ]
+begun_same n (Fsync own) log =
+    let test : Bool = int_eq log.fd own in
+    let more : Log = record log { volume = with_sync Whole log.volume; requests = n ∷ log.requests } in
+    elim (cases_Bool test) [
+      | inl sure ↦ ap (λ (l : Log). ended l.volume.history) (cond-true test more log sure)
+      | inr fails ↦ ap (λ (l : Log). ended l.volume.history) (cond-false test more log fails)
+    ]
 begun_same n _ log = refl
 
 begun_of_same : (n : ℕ) (op : Option Op) (log : Log)
@@ -126,8 +133,16 @@ too_long files own off len given was res bytes is long (inr (longer, refused)) g
 
 -- without an effect a write has no bytes, or is too long
 no_effect : (off len : ℕ) → has_effect off len ≡ false → (len ≡ 0) ⊎ (is_too_long off len ≡ true)
-no_effect off zero none = inl refl
-no_effect off (suc len) none = inr (lt-ltb max_len (off + suc len) (leb-false (off + suc len) max_len none))
+no_effect off len none = elim (cases_Bool (len == 0)) [
+  | inl zero_long ↦ inl (eqb-true len 0 zero_long)
+  | inr other ↦
+      let some : not (len == 0) ≡ true = ap not other in
+      let past : leb (off + len) max_len ≡ false = elim (cases_Bool (leb (off + len) max_len)) [
+        | inl fits ↦ absurd (both_ways (has_effect off len) none (and_from (not (len == 0)) (leb (off + len) max_len) some fits))
+        | inr out ↦ out
+      ] in
+      inr (and_from (not (len == 0)) (ltb max_len (off + len)) some (lt-ltb max_len (off + len) (leb-false (off + len) max_len past)))
+]
 
 -- A write that ended.
 
@@ -145,14 +160,14 @@ write_shown over fd r n files log off len given res bytes s running is called go
     let of : Log → Type 0 = λ l. IsShown [] l.volume.history (overwritten was.bytes off (take len given)) in
     elim (cases_Bool (has_effect off len)) [
       | inl sure ↦
-          let passed : test ≡ true = and_from (int_eq log.fd fd) (has_effect off len && int_eq res (pos len)) on (and_from (has_effect off len) (int_eq res (pos len)) sure good) in
+          let passed : test ≡ true = and_from (int_eq log.fd fd && has_effect off len) (int_eq res (pos len)) (and_from (int_eq log.fd fd) (has_effect off len) on sure) good in
           let runs = s.writes n fd off len given running is on sure in
           let ends : write_ended k log.volume ≡ with_event (WriteEnded k) log.volume = cond-true (is_one_of k (running_writes log.volume.history)) (with_event (WriteEnded k) log.volume) log.volume runs.running in
           let last : ended (with_event (WriteEnded k) log.volume).history ≡ ended log.volume.history ++ record { number = k; off = off; bytes = take len given } ∷ [] = ap (λ ws. ended log.volume.history ++ ws) runs.is in
           subst of (sym (cond-true test more log passed)) (subst (λ (v : Volume). of (record log { volume = v })) (sym ends)
           (shown_more over log.volume.history (with_event (WriteEnded k) log.volume).history was.bytes (take len given) k off last (shows was here)))
       | inr none ↦
-          let failed : test ≡ false = ap (λ (b : Bool). int_eq log.fd fd && b) (ap (λ (b : Bool). b && int_eq res (pos len)) none) ∙ ap (λ (b : Bool). b && false) on in
+          let failed : test ≡ false = ap (λ (b : Bool). (int_eq log.fd fd && b) && int_eq res (pos len)) none ∙ ap (λ (b : Bool). (b && false) && int_eq res (pos len)) on in
           let short : len ≡ 0 = elim (no_effect off len none) [
             | inl zero_long ↦ zero_long
             | inr long ↦ absurd (too_long files fd off len given was res bytes here long called ((Decides-int_eq res (pos len)).0 good))
@@ -169,12 +184,12 @@ write_unlogged n log own off len given res why =
     let test : Bool = int_eq log.fd own && has_effect off len && int_eq res (pos len) in
     elim (cases_Bool test) [
       | inl sure ↦
-          let parts = and_parts (int_eq log.fd own) (has_effect off len && int_eq res (pos len)) sure in
+          let parts = and_parts (int_eq log.fd own && has_effect off len) (int_eq res (pos len)) sure in
           elim why [
-            | inl other ↦ absurd (both_ways (int_eq log.fd own) other parts.0)
-            | inr bad ↦ absurd (both_ways (int_eq res (pos len)) bad (and_parts (has_effect off len) (int_eq res (pos len)) parts.1).1)
+            | inl other ↦ absurd (both_ways (int_eq log.fd own) other (and_parts (int_eq log.fd own) (has_effect off len) parts.0).0)
+            | inr bad ↦ absurd (both_ways (int_eq res (pos len)) bad parts.1)
           ]
-      | inr no ↦ cond-false test _ log no
+      | inr fails ↦ cond-false test (record log { volume = write_ended (number_of n log.requests) log.volume }) log fails
     ]
 
 shows_finished : WritesOver → (fd : ℤ) (r : Requests) (n : ℕ) (files : List FileContents) (log : Log) (op : Op) (res : ℤ) (bytes : List ℕ)
@@ -210,7 +225,7 @@ shows_finished over fd r n files log (Fsync own) res bytes s running is called s
       | inl sure ↦
           ap (λ (l : Log). ended l.volume.history) (cond-true test (record log { volume = sync_with res k log.volume }) log sure)
           ∙ sync_same res k log.volume (int_eq res (pos 0)) (is_one_of k (running_syncs log.volume.history))
-      | inr no ↦ ap (λ (l : Log). ended l.volume.history) (cond-false test (record log { volume = sync_with res k log.volume }) log no)
+      | inr fails ↦ ap (λ (l : Log). ended l.volume.history) (cond-false test (record log { volume = sync_with res k log.volume }) log fails)
     ] in
     λ file there.
     shown_same log.volume.history (finished n (Fsync own) res log).volume.history file.bytes same

@@ -236,32 +236,32 @@ stands_begun fd r n log (Write own off len bytes) is s =
     let more : Log = record log { volume = with_write off (take len bytes) log.volume; requests = n ∷ log.requests } in
     elim (cases_Bool test) [
       | inl sure ↦ subst (Stands fd (with_started r n)) (sym (cond-true test more log sure)) (stands_write fd r n log own off len bytes is s)
-      | inr no ↦
+      | inr fails ↦
           let no_write : (own' : ℤ) (off' len' : ℕ) (bytes' : List ℕ) → operation_of (entry_of r n) ≡ Write own' off' len' bytes' → int_eq log.fd own' ≡ true → has_effect off' len' ≡ true → ⊥ =
           λ own' off' len' bytes' is' on sure.
           let at : Write own off len bytes ≡ Write own' off' len' bytes' = sym is ∙ is' in
           let owns : own ≡ own' = cc in
           let offs : off ≡ off' = cc in
           let lens : len ≡ len' = cc in
-          both_ways test no (and_from (int_eq log.fd own) (has_effect off len) (ap (int_eq log.fd) owns ∙ on) (ap (λ (o : ℕ). has_effect o len) offs ∙ ap (has_effect off') lens ∙ sure)) in
+          both_ways test fails (and_from (int_eq log.fd own) (has_effect off len) (ap (int_eq log.fd) owns ∙ on) (ap (λ (o : ℕ). has_effect o len) offs ∙ ap (has_effect off') lens ∙ sure)) in
           let no_sync : (own' : ℤ) → operation_of (entry_of r n) ≡ Fsync own' → int_eq log.fd own' ≡ true → ⊥ =
           λ own' is' on. let at : Write own off len bytes ≡ Fsync own' = sym is ∙ is' in absurd cc in
-          subst (Stands fd (with_started r n)) (sym (cond-false test more log no)) (stands_unlogged fd r n log no_write no_sync s)
+          subst (Stands fd (with_started r n)) (sym (cond-false test more log fails)) (stands_unlogged fd r n log no_write no_sync s)
     ]
 stands_begun fd r n log (Fsync own) is s =
     let test : Bool = int_eq log.fd own in
     let more : Log = record log { volume = with_sync Whole log.volume; requests = n ∷ log.requests } in
     elim (cases_Bool test) [
       | inl sure ↦ subst (Stands fd (with_started r n)) (sym (cond-true test more log sure)) (stands_sync fd r n log own is s)
-      | inr no ↦
+      | inr fails ↦
           let no_write : (own' : ℤ) (off' len' : ℕ) (bytes' : List ℕ) → operation_of (entry_of r n) ≡ Write own' off' len' bytes' → int_eq log.fd own' ≡ true → has_effect off' len' ≡ true → ⊥ =
           λ own' off' len' bytes' is' on sure. let at : Fsync own ≡ Write own' off' len' bytes' = sym is ∙ is' in absurd cc in
           let no_sync : (own' : ℤ) → operation_of (entry_of r n) ≡ Fsync own' → int_eq log.fd own' ≡ true → ⊥ =
           λ own' is' on.
           let at : Fsync own ≡ Fsync own' = sym is ∙ is' in
           let owns : own ≡ own' = cc in
-          both_ways test no (ap (int_eq log.fd) owns ∙ on) in
-          subst (Stands fd (with_started r n)) (sym (cond-false test more log no)) (stands_unlogged fd r n log no_write no_sync s)
+          both_ways test fails (ap (int_eq log.fd) owns ∙ on) in
+          subst (Stands fd (with_started r n)) (sym (cond-false test more log fails)) (stands_unlogged fd r n log no_write no_sync s)
     ]
 stands_begun fd r n log Nop is s = stands_unlogged fd r n log
     (λ own off len bytes is' on sure. let at : Nop ≡ Write own off len bytes = sym is ∙ is' in absurd cc)
@@ -343,9 +343,9 @@ stands_finished fd r n res bytes log (Write own off len given) s =
     elim (cases_Bool test) [
       | inl sure ↦ subst (Stands fd q) (sym (cond-true test more log sure)) (elim (cases_Bool runs) [
         | inl is ↦ subst (λ (v : Volume). Stands fd q (record log { volume = v })) (sym (cond-true runs (with_event (WriteEnded k) log.volume) log.volume is)) (stands_write_end fd r n res bytes log s)
-        | inr no ↦ subst (λ (v : Volume). Stands fd q (record log { volume = v })) (sym (cond-false runs (with_event (WriteEnded k) log.volume) log.volume no)) (stands_after fd r n res bytes log s)
+        | inr fails ↦ subst (λ (v : Volume). Stands fd q (record log { volume = v })) (sym (cond-false runs (with_event (WriteEnded k) log.volume) log.volume fails)) (stands_after fd r n res bytes log s)
       ])
-      | inr no ↦ subst (Stands fd q) (sym (cond-false test more log no)) (stands_after fd r n res bytes log s)
+      | inr fails ↦ subst (Stands fd q) (sym (cond-false test more log fails)) (stands_after fd r n res bytes log s)
     ]
 stands_finished fd r n res bytes log (Fsync own) s =
     let k : ℕ = number_of n log.requests in
@@ -357,9 +357,9 @@ stands_finished fd r n res bytes log (Fsync own) s =
     elim (cases_Bool test) [
       | inl sure ↦ subst (Stands fd q) (sym (cond-true test more log sure)) (elim (cases_Bool runs) [
         | inl is ↦ subst (λ (v : Volume). Stands fd q (record log { volume = v })) (sym (cond-true runs (with_event event log.volume) log.volume is)) (stands_sync_end fd r n res bytes log (int_eq res (pos 0)) s)
-        | inr no ↦ subst (λ (v : Volume). Stands fd q (record log { volume = v })) (sym (cond-false runs (with_event event log.volume) log.volume no)) (stands_after fd r n res bytes log s)
+        | inr fails ↦ subst (λ (v : Volume). Stands fd q (record log { volume = v })) (sym (cond-false runs (with_event event log.volume) log.volume fails)) (stands_after fd r n res bytes log s)
       ])
-      | inr no ↦ subst (Stands fd q) (sym (cond-false test more log no)) (stands_after fd r n res bytes log s)
+      | inr fails ↦ subst (Stands fd q) (sym (cond-false test more log fails)) (stands_after fd r n res bytes log s)
     ]
 stands_finished fd r n res bytes log _ s = stands_after fd r n res bytes log s
 

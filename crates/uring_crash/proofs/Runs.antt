@@ -54,16 +54,16 @@ far_end unit setup fd most a r r' s s' read end ends so = record {
 }
 
 -- the text of an image was written, and the words
-pub written_image : (result : Result (Unit {0}) TraceFault) (w : Watch) (image words none first text : List ℕ) (a a' : Known)
-    → none ≡ [] → first ≡ none ++ image_text image → text ≡ first ++ words
+pub written_image : (result : Result (Unit {0}) TraceFault) (w : Watch) (image seen words none first text : List ℕ) (a a' : Known)
+    → seen ≡ image → none ≡ [] → first ≡ none ++ image_text seen → text ≡ first ++ words
     → ((unit : ℕ) (setup : Setup) (fd : ℤ) (h : History) → Watches unit setup fd w h → IsImage unit [] (log_of unit setup fd h).volume.history image)
     → (written : List ℕ) × Appends a a' written × WritesText result text written
     → OnOk result
     ((image : List ℕ) × (words : List ℕ) × Appends a a' (image_text image ++ words)
     × ((unit : ℕ) (setup : Setup) (fd : ℤ) (h : History) → Watches unit setup fd w h → IsImage unit [] (log_of unit setup fd h).volume.history image))
-written_image (Ok done) w image words none first text a a' start line whole is x =
-    (image, words, subst (λ (l : List ℕ). Appends a a' l) (x.2 ∙ whole ∙ ap (λ (l : List ℕ). l ++ words) (line ∙ ap (λ (l : List ℕ). l ++ image_text image) start)) x.1, is)
-written_image (Err e) w image words none first text a a' start line whole is x = tt
+written_image (Ok done) w image seen words none first text a a' same start line whole is x =
+    (image, words, subst (λ (l : List ℕ). Appends a a' l) (x.2 ∙ whole ∙ ap (λ (l : List ℕ). l ++ words) (line ∙ ap (λ (l : List ℕ). none ++ image_text l) same ∙ ap (λ (l : List ℕ). l ++ image_text image) start)) x.1, is)
+written_image (Err e) w image seen words none first text a a' same start line whole is x = tt
 
 -- an image is left
 pub image_left : (asked : Asked) (setup : Setup) (bad : Bool) (s : Follower) (w : Watch) (image words : List ℕ) (a a' b b' : Known)
@@ -79,7 +79,7 @@ image_left asked setup bad s w image words a a' b b' r is none same writes possi
   each = r.followed.each;
   first = r.followed.first;
   lawful = subst (λ (g : Setup). IsLawful g (history_of (events_of r.followed.exchanges))) r.followed.watches.same r.followed.watches.fits.lawful;
-  is_bad = is ∙ r.followed.bad_lines;
+  some_bad = is ∙ r.followed.bad_lines;
   image = image;
   words = words;
   possible = λ fine. possible asked.unit setup asked.fd (history_of (events_of r.followed.exchanges)) (subst (λ (v : Watch). Watches asked.unit setup asked.fd v (history_of (events_of r.followed.exchanges))) (sym same) r.followed.watches);
@@ -99,7 +99,7 @@ none_left asked setup bad s a a' b r is some = record {
   each = r.followed.each;
   first = r.followed.first;
   lawful = subst (λ (g : Setup). IsLawful g (history_of (events_of r.followed.exchanges))) r.followed.watches.same r.followed.watches.fits.lawful;
-  is_bad = is ∙ r.followed.bad_lines;
+  some_bad = is ∙ r.followed.bad_lines;
   image = [];
   words = [];
   possible = λ fine. let is_false : true ≡ false = sym some ∙ fine in absurd cc;

@@ -33,7 +33,7 @@ pub record Leaves (asked : Asked) (setup : Setup) (bad : Bool) (left_before left
   pub each : AllByRecursion (λ x. IsReadAs x.line x.event) exchanges
   pub first : AreFirstLines asked.lines bytes (lines_of exchanges)
   pub lawful : IsLawful setup (history_of (events_of exchanges))
-  pub is_bad : bad ≡ list_any is_bad exchanges
+  pub some_bad : bad ≡ list_any is_bad exchanges
   pub image : List ℕ
   pub words : List ℕ
   pub possible : bad ≡ false

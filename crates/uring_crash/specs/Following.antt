@@ -35,7 +35,7 @@ pub record MakesStep (old new : Watch) (s : Step) : Type 0 where
 pub record ReadsLine (old new : Watch) (was_bad bad : Bool) (line : List ℕ) : Type 0 where
   pub event : Option Event
   pub read : IsReadAs line event
-  pub bad : bad ≡ (is_bad (record { line = line; event = event }) || was_bad)
+  pub now_bad : bad ≡ (is_bad (record { line = line; event = event }) || was_bad)
   pub watches : (unit : ℕ) (setup : Setup) (fd : ℤ) (h : History) → Watches unit setup fd old h
       → Watches unit setup fd new (with_event event h)
 

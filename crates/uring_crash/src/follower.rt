@@ -1,6 +1,6 @@
 //! Follows the lines of a trace, and watches a file.
 
-ghost use Rattle.std.specs.Prelude.{◌≡◌, ◌≢◌, ◌+◌, ◌<◌, ◌++◌, ◌∷◌, [], ℕ, ℤ, List, true, IfOk, OnOk, MatchOption};
+ghost use Rattle.std.specs.Prelude.{◌≡◌, ◌≢◌, ◌+◌, ◌<◌, ◌++◌, ◌∷◌, [], ℕ, ℤ, List, true, false, IfOk, OnOk, MatchOption};
 ghost use Rattle.uring_entry.specs.Setup.{Setup};
 ghost use Rattle.uring_text.specs.KeptLine.{kept_of};
 ghost use Rattle.uring_trace.specs.Spelling.{IsStep, IsBad};
@@ -104,14 +104,34 @@ impl Follower {
             → Follows unit setup fd most self.old before
             → Follows unit setup fd most self.new (before ++ byte ∷ [])) }
     {
-        if self.left == 0 {
-            Ok(())
-        } else if byte == b'\n' {
-            self.end_line()
+        if self.is_over() {
+            return Ok(());
+        }
+        self.take_in(byte)
+    }
+
+    /// Whether no line may come any more.
+    fn is_over(&self) -> bool
+        ensures over { result ≡ true → self.now.left ≡ 0 }
+        ensures more { result ≡ false → 0 < self.now.left }
+    {
+        self.left == 0
+    }
+
+    /// Takes in one byte, and reads the line that it ends, if it ends one.
+    fn take_in(&mut self, byte: u8) -> Result<(), AllocError>
+        requires { 0 < self.old.left }
+        ensures { OnOk result
+            ((unit : ℕ) (setup : Setup) (fd : ℤ) (most : ℕ) (before : List ℕ)
+            → Follows unit setup fd most self.old before
+            → Follows unit setup fd most self.new (before ++ byte ∷ [])) }
+    {
+        if byte == b'\n' {
+            self.end_line()?;
         } else {
             self.keep(byte);
-            Ok(())
         }
+        Ok(())
     }
 
     /// Takes in one byte of a line, which isn't its end.
@@ -150,9 +170,22 @@ impl Follower {
     {
         match step_of(self.alloc, &self.line)? {
             Some(step) => self.make(step),
-            None if self.line.is_remark() => Ok(()),
-            None => self.note_bad(),
+            None => self.pass(),
         }
+    }
+
+    /// Passes over a line that is no step, and notes if it is bad.
+    fn pass(&mut self) -> Result<(), AllocError>
+        ensures line { self.new.line ≡ self.old.line }
+        ensures left { self.new.left ≡ self.old.left }
+        ensures read { OnOk result
+            ((line : List ℕ) → self.old.line ≡ kept_of line → IsBad line
+            → ReadsLine self.old.watch self.new.watch self.old.has_bad self.new.has_bad line) }
+    {
+        if self.line.is_remark() {
+            return Ok(());
+        }
+        self.note_bad()
     }
 
     /// Makes a step.
