@@ -206,11 +206,24 @@ fn run_crash(
     let asked = Asked {
         fd: file as i32,
         unit: u64::from(unit).max(1),
-        lines: at.map_or(u64::MAX, u64::from),
-        seed: seed.map(u64::from),
+        lines: match at {
+            Some(line) => u64::from(line),
+            None => u64::MAX,
+        },
+        seed: match seed {
+            Some(seed) => Some(u64::from(seed)),
+            None => None,
+        },
     };
     let (mut input, mut output) = (rt.stdin(), Outlet::new(rt.stdout()));
-    let left = crash(rt.alloc(), &mut input, &mut output, &mut rt.stderr(), setup, &asked);
+    let left = crash(
+        rt.alloc(),
+        &mut input,
+        &mut output,
+        &mut rt.stderr(),
+        setup,
+        &asked,
+    );
     Ok(status_behind(unless_closed(&output, left)?))
 }
 
