@@ -16,6 +16,9 @@ pub enum Fault {
     /// A fault of the command line.
     Options(OptionsFault),
 
+    /// The set-up has no file of this number, but so many.
+    NoFile(u32, u32),
+
     /// Nobody reads standard output any more: its pipe was closed at the other end.
     Closed,
 }

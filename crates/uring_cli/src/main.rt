@@ -19,6 +19,7 @@ use std::process::ExitCode;
 use std::sync::Wait;
 use std::thread::Threads;
 use uring_check::{Verdict, check};
+use uring_crash::{Asked, crash};
 use uring_options::{Options, Setup, not_text, options};
 use uring_page::Form;
 use uring_pictures::{graph, timeline};
@@ -31,7 +32,7 @@ const DONE: u8 = 0;
 /// The exit status if an answer of a recorded trace isn't called for.
 const WRONG: u8 = 3;
 
-/// The exit status if a line of `explain`, `check` or a strict trace was bad.
+/// The exit status if a line of `explain`, `check`, `crash` or a strict trace was bad.
 const BAD_LINE: u8 = 4;
 
 fn main(rt: HostRuntime) -> ExitCode {
@@ -85,6 +86,13 @@ fn run<R: Threads + Wait + Copy + Send + 'static>(
         Options::Json(setup) => run_page(rt, &setup, Form::Json),
         Options::CheckPage(setup) => run_recorded_page(rt, &setup, Form::Page),
         Options::CheckJson(setup) => run_recorded_page(rt, &setup, Form::Json),
+        Options::Crash {
+            setup,
+            file,
+            unit,
+            at,
+            seed,
+        } => run_crash(rt, &setup, file, unit, at, seed),
     }
 }
 
@@ -181,6 +189,42 @@ fn run_timeline(rt: &HostRuntime, setup: &Setup) -> Result<u8, Fault> {
     let (mut input, mut output) = (rt.stdin(), Outlet::new(rt.stdout()));
     let drawn = timeline(rt.alloc(), &mut input, &mut output, &mut rt.stderr(), setup);
     Ok(status_behind(unless_closed(&output, drawn)?))
+}
+
+/// What a crash behind the trace that standard input has leaves of a file.
+fn run_crash(
+    rt: &HostRuntime,
+    setup: &Setup,
+    file: u32,
+    unit: u32,
+    at: Option<u32>,
+    seed: Option<u32>,
+) -> Result<u8, Fault> {
+    if file >= setup.files() {
+        return Err(Fault::NoFile(file, setup.files()));
+    }
+    let asked = Asked {
+        fd: file as i32,
+        unit: u64::from(unit).max(1),
+        lines: match at {
+            Some(line) => u64::from(line),
+            None => u64::MAX,
+        },
+        seed: match seed {
+            Some(seed) => Some(u64::from(seed)),
+            None => None,
+        },
+    };
+    let (mut input, mut output) = (rt.stdin(), Outlet::new(rt.stdout()));
+    let left = crash(
+        rt.alloc(),
+        &mut input,
+        &mut output,
+        &mut rt.stderr(),
+        setup,
+        &asked,
+    );
+    Ok(status_behind(unless_closed(&output, left)?))
 }
 
 /// The exit status behind the lines of an explanation, of which some may have been bad.

@@ -31,6 +31,7 @@ pub fn tell<W: Write>(alloc: Global, writer: &mut W, fault: &Fault) -> u8 {
 fn status_of(fault: &Fault) -> u8 {
     match fault {
         Fault::Options(fault) if !fault.is_memory() => REFUSED,
+        Fault::NoFile(..) => REFUSED,
         _ => FAILED,
     }
 }
@@ -41,6 +42,9 @@ fn text_of(alloc: Global, fault: &Fault) -> Result<String, AllocError> {
         Fault::Trace(fault) => format!(in alloc; "uring: {fault}\n"),
         Fault::Play(fault) => format!(in alloc; "uring: {fault}\n"),
         Fault::Options(fault) => text_of_options(alloc, fault),
+        Fault::NoFile(file, files) => {
+            format!(in alloc; "uring: no file {file}: there are {files}, from 0 on\n")
+        }
         Fault::Closed => Ok(String::new(alloc)),
     }
 }

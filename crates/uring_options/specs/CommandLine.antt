@@ -14,7 +14,7 @@ use Rattle.clap.specs.declared.builder.value_parser.ValueParser.TheVariants.{Sig
 use Rattle.clap.specs.declared.error.kind.ErrorKind.TheVariants.{OutOfMemory}
 use Rattle.uring_entry.specs.Setup.{Setup, IsSetupFor}
 use Rattle.uring_options.specs.declared.answers.Options.{Options}
-use Rattle.uring_options.specs.declared.answers.Options.TheVariants.{Trace, Explain, Graph, Timeline, Page, Json, Check, CheckPage, CheckJson, Play, Shared}
+use Rattle.uring_options.specs.declared.answers.Options.TheVariants.{Trace, Explain, Graph, Timeline, Page, Json, Check, CheckPage, CheckJson, Play, Shared, Crash}
 use Rattle.uring_options.specs.declared.answers.OptionsFault.{OptionsFault}
 use Rattle.uring_options.specs.declared.answers.OptionsFault.TheVariants.{Small, Words}
 
@@ -24,6 +24,7 @@ pub data Run : Type 0 where
   Explains : Run
   Checks : Run
   Plays : Run
+  Crashes : Run
 
 -- an option of a command: its name, and if it takes a number, the least and the most one
 abbrev pub CommandOption : Type 0
@@ -50,6 +51,9 @@ own_options Explains = flag (codes "stop") ∷ flag (codes "graph") ∷ flag (co
 own_options Checks = flag (codes "stop") ∷ flag (codes "all") ∷ flag (codes "apart")
     ∷ flag (codes "page") ∷ flag (codes "json") ∷ []
 own_options Plays = number (codes "workers") 1 8 ∷ flag (codes "shared") ∷ []
+own_options Crashes = flag (codes "stop") ∷ number (codes "file") 0 63
+    ∷ number (codes "unit") 1 65536 ∷ number (codes "at") 0 4294967295
+    ∷ number (codes "seed") 0 4294967295 ∷ []
 
 -- to clap, an option of this name that takes a number, which this parser checks
 abbrev pub option_rule : Text → ValueParser → Rule
@@ -77,6 +81,7 @@ name_of Traces = codes "trace"
 name_of Explains = codes "explain"
 name_of Checks = codes "check"
 name_of Plays = codes "play"
+name_of Crashes = codes "crash"
 
 -- a command of the program with its options
 abbrev pub app_for : Run → App
@@ -92,7 +97,7 @@ with_commands_of app (run ∷ rest) =
 -- the program's command line, as clap sees a command
 abbrev pub uring : App
 uring =
-    with_commands_of (new_app (codes "uring")) (Traces ∷ Explains ∷ Checks ∷ Plays ∷ [])
+    with_commands_of (new_app (codes "uring")) (Traces ∷ Explains ∷ Checks ∷ Plays ∷ Crashes ∷ [])
 
 -- the command, a trace without one
 abbrev pub run_of : Option (Text × List Row) → Run
@@ -101,6 +106,7 @@ run_of (Some named) =
     if bytes_eq named.0 (codes "explain") then Explains else
     if bytes_eq named.0 (codes "check") then Checks else
     if bytes_eq named.0 (codes "play") then Plays else
+    if bytes_eq named.0 (codes "crash") then Crashes else
     Traces
 
 -- what the words after a command give, nothing without one
@@ -110,6 +116,7 @@ command_rows (Some named) =
     if bytes_eq named.0 (codes "explain") then named.1 else
     if bytes_eq named.0 (codes "check") then named.1 else
     if bytes_eq named.0 (codes "play") then named.1 else
+    if bytes_eq named.0 (codes "crash") then named.1 else
     if bytes_eq named.0 (codes "trace") then named.1 else
     []
 
@@ -158,6 +165,11 @@ GivesWorkers rows n = Gives rows (codes "workers") n × IsWithin 1 8 n
 abbrev pub AreWorkers : List Row → ℕ → Type 0
 AreWorkers rows workers = (n : Option ℕ) × GivesWorkers rows n × (workers ≡ unwrap_or n 2)
 
+-- the option of this name gives this number, in its range, or none: then it is the default
+abbrev pub IsNumberOr : List Row → Text → ℕ → ℕ → ℕ → ℕ → Type 0
+IsNumberOr rows id low high default value =
+    (n : Option ℕ) × Gives rows id n × IsWithin low high n × (value ≡ unwrap_or n default)
+
 -- clap finds no fault in the words of a command line, and they give these numbers
 pub record Writes (words : List Text) (n : Numbers) : Type 0 where
   pub no_fault : fault_of uring words ≡ []
@@ -187,7 +199,7 @@ TellsVerdict rows false false = IsGiven rows (codes "page") false × IsGiven row
 abbrev pub IsDrawnCheck : List Row → Type 0
 IsDrawnCheck rows = IsGiven rows (codes "all") false × IsGiven rows (codes "apart") false
 
--- what a command runs, over the set-up that these rows and numbers give: `uring explain` the graph if `--graph` is given, else the timeline if `--timeline` is, else the page if `--page` is, else its data if `--json` is, and else the answers; `uring check` the verdict with `--all` or `--apart`, else the page if `--page` is given, else its data if `--json` is, and else the verdict; `uring play` a play over shared words if `--shared` is given, and else one over lanes
+-- what a command runs, over the set-up that these rows and numbers give: `uring explain` the graph if `--graph` is given, else the timeline if `--timeline` is, else the page if `--page` is, else its data if `--json` is, and else the answers; `uring check` the verdict with `--all` or `--apart`, else the page if `--page` is given, else its data if `--json` is, and else the verdict; `uring play` a play over shared words if `--shared` is given, and else one over lanes; `uring crash` what is left of file 0 if none is given, in units of one byte if none is given
 abbrev pub IsRunOver : Run → List Row → Numbers → Options → Type 0
 IsRunOver run rows n (Trace s echo strict) = (run ≡ Traces) × IsTracedOver rows n s
     × IsGiven rows (codes "echo") echo × IsGiven rows (codes "strict") strict
@@ -215,6 +227,9 @@ IsRunOver run rows n (Play s workers) =
     (run ≡ Plays) × IsSetupOver n s × AreWorkers rows workers × IsGiven rows (codes "shared") false
 IsRunOver run rows n (Shared s workers) =
     (run ≡ Plays) × IsSetupOver n s × AreWorkers rows workers × IsGiven rows (codes "shared") true
+IsRunOver run rows n (Crash s file unit at seed) = (run ≡ Crashes) × IsTracedOver rows n s
+    × IsNumberOr rows (codes "file") 0 63 0 file × IsNumberOr rows (codes "unit") 1 65536 1 unit
+    × Gives rows (codes "at") at × Gives rows (codes "seed") seed
 
 -- a completion ring is given, and is smaller after rounding than the submission ring
 pub record IsTooSmall (n : Numbers) : Type 0 where

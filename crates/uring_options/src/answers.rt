@@ -54,6 +54,19 @@ pub enum Options {
 
     /// `uring play --shared`: the same play, whose application and dispatcher share words in place of lanes.
     Shared(Setup, u32),
+
+    /// `uring crash`: what a crash behind a trace over this set-up leaves of a file.
+    Crash {
+        setup: Setup,
+        /// The descriptor of the file, 0 to 63 (`--file`).
+        file: u32,
+        /// How many bytes are left by themselves, 1 to 65,536 (`--unit`).
+        unit: u32,
+        /// Behind how many lines the power fails (`--at`).
+        at: Option<u32>,
+        /// By which seed an image is chosen (`--seed`).
+        seed: Option<u32>,
+    },
 }
 
 /// Why a command line is refused.

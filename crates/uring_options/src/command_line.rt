@@ -3,7 +3,7 @@
 ghost use Rattle.std.specs.Prelude.{◌≡◌, ◌↔◌, ◌≤◌, ℕ, List, Some, codes, [], ◌∷◌, IfOk, IfErr, IsErrOf, IsErrAnd, ◌||◌, false, if◌then◌else◌};
 ghost use Rattle.clap.specs.Words.{FailsBy, HasMatchesOf, fault_of, found_of, kind_of, rows_of, subcommand_of};
 ghost use Rattle.clap.specs.Walk.{Text, texts};
-ghost use Rattle.uring_options.specs.CommandLine.{uring, Run, flag, number, setup_options, Gives, IsWithin, Numbers, AreInRange, GivesNumbers, AreWorkers, IsSetupOver, IsGiven, IsTracedOver, IsTooSmall, AskFor, AskForTooSmall, IsWords, IsMemory, IsFaultOf};
+ghost use Rattle.uring_options.specs.CommandLine.{uring, Run, flag, number, setup_options, Gives, IsWithin, Numbers, AreInRange, GivesNumbers, AreWorkers, IsNumberOr, IsSetupOver, IsGiven, IsTracedOver, IsTooSmall, AskFor, AskForTooSmall, IsWords, IsMemory, IsFaultOf};
 ghost use Rattle.uring_options.specs.OptionRows.{TakesOption, TakesOptions, TakesFor, TakesNamed, IsSmallFor, Answers, AnswersNamed};
 
 use crate::answers::{Options, OptionsFault};
@@ -25,7 +25,13 @@ const DEFAULT_START: u32 = 0;
 /// Workers of a play if the command line doesn't say.
 const DEFAULT_WORKERS: u32 = 2;
 
-/// Reads a command line, whose first word is the program's name: `uring`, or `uring trace`, `uring explain`, `uring check` or `uring play` with options for the entries of the submission ring (`--sq`, 1 to 4,096, else 4) and of the completion ring (`--cq`, 1 to 8,192, else twice as many), for the files (`--files`, 1 to 64, else 2) and for the word at which both rings begin (`--start`, 32 bits, else 0). A play takes one more for its workers (`--workers`, 1 to 8, else 2) and one by which its application and dispatcher share words (`--shared`, else they have lanes), and the others one by which submission calls stop behind an entry with a fault (`--stop`, else they go on). A trace takes one by which its steps are written too (`--echo`) and one by which the first bad line ends it (`--strict`), an explained trace four for what is written in place of the answers (`--graph`, `--timeline`, `--page` and `--json`, of which the first in this order counts), and a check one by which all wrong lines are told (`--all`), one by which ends may be any (`--apart`), and two for what is written in place of the verdict (`--page`, which goes before `--json`; with `--all` or `--apart` the verdict is written). Our own rule.
+/// The file that a crash is of if the command line doesn't say.
+const DEFAULT_FILE: u32 = 0;
+
+/// Bytes of a unit if the command line doesn't say.
+const DEFAULT_UNIT: u32 = 1;
+
+/// Reads a command line, whose first word is the program's name: `uring`, or `uring trace`, `uring explain`, `uring check`, `uring play` or `uring crash` with options for the entries of the submission ring (`--sq`, 1 to 4,096, else 4) and of the completion ring (`--cq`, 1 to 8,192, else twice as many), for the files (`--files`, 1 to 64, else 2) and for the word at which both rings begin (`--start`, 32 bits, else 0). A play takes one more for its workers (`--workers`, 1 to 8, else 2) and one by which its application and dispatcher share words (`--shared`, else they have lanes), and the others one by which submission calls stop behind an entry with a fault (`--stop`, else they go on). A trace takes one by which its steps are written too (`--echo`) and one by which the first bad line ends it (`--strict`), an explained trace four for what is written in place of the answers (`--graph`, `--timeline`, `--page` and `--json`, of which the first in this order counts), and a check one by which all wrong lines are told (`--all`), one by which ends may be any (`--apart`), and two for what is written in place of the verdict (`--page`, which goes before `--json`; with `--all` or `--apart` the verdict is written). A crash takes one for its file (`--file`, 0 to 63, else 0), one for its unit (`--unit`, 1 to 65,536 bytes, else 1), one for the line behind which the power fails (`--at`, 32 bits, else the last), and one for the seed of an image (`--seed`, 32 bits, else the least is left). Our own rule.
 ///
 /// `Words` comes for a fault of the words, a number out of its range among them, for a call for help, and if memory is refused. `Small` comes if there is none, and the options give a completion ring that is smaller after rounding than the submission ring. Numbers may have a leading `+` or leading zeros.
 pub fn options<'a>(alloc: Global, args: &'a [&'a str]) -> Result<Options, OptionsFault>
@@ -64,6 +70,7 @@ fn named(name: &str, matches: &ArgMatches<'_>) -> Result<Options, OptionsFault>
         "explain" => explained(matches),
         "check" => checked(matches),
         "play" => played(matches),
+        "crash" => crashed(matches),
         "trace" => traced(matches),
         _ => defaulted(),
     }
@@ -189,6 +196,41 @@ fn played_over(setup: Setup, workers: u32, shared: bool) -> Options
     } else {
         Options::Play(setup, workers)
     }
+}
+
+/// What the options of `uring crash` ask for.
+fn crashed(matches: &ArgMatches<'_>) -> Result<Options, OptionsFault>
+    requires { TakesFor Run.Crashes (rows_of (found_of matches.now)) }
+    ensures { Answers Run.Crashes (rows_of (found_of matches.now)) result }
+{
+    let setup = traced_setup_of(matches)?;
+    let file = file_of(matches);
+    let unit = unit_of(matches);
+    let at = given_number(matches, "at");
+    let seed = given_number(matches, "seed");
+    Ok(Options::Crash {
+        setup,
+        file,
+        unit,
+        at,
+        seed,
+    })
+}
+
+/// The file that the options of `uring crash` give.
+fn file_of(matches: &ArgMatches<'_>) -> u32
+    requires { TakesOption (rows_of (found_of matches.now)) (number (codes "file") 0 63) }
+    ensures { IsNumberOr (rows_of (found_of matches.now)) (codes "file") 0 63 0 result }
+{
+    given_number(matches, "file").unwrap_or(DEFAULT_FILE)
+}
+
+/// The bytes of a unit that the options of `uring crash` give.
+fn unit_of(matches: &ArgMatches<'_>) -> u32
+    requires { TakesOption (rows_of (found_of matches.now)) (number (codes "unit") 1 65536) }
+    ensures { IsNumberOr (rows_of (found_of matches.now)) (codes "unit") 1 65536 1 result }
+{
+    given_number(matches, "unit").unwrap_or(DEFAULT_UNIT)
 }
 
 /// The set-up that the options of a command give which takes the one by which calls stop.

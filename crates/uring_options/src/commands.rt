@@ -7,7 +7,7 @@ ghost use Rattle.clap.specs.declared.builder.command.Command.TheViews.{out-Comma
 ghost use Rattle.uring_options.specs.OptionRows.{app_of_row, rule_of_row, with_rows_of};
 ghost use Rattle.uring_options.specs.CommandLine.{option_rule, flag_rule, uring};
 
-use crate::helps::{ITEMS, REASONS, RECORDS, STEPS};
+use crate::helps::{IMAGES, ITEMS, REASONS, RECORDS, STEPS};
 use clap::builder::ValueParser;
 use clap::{Arg, ArgAction, Command};
 use std::alloc::{AllocError, Global};
@@ -120,6 +120,30 @@ const SHARED: OptionRow = OptionRow {
     numbers: None,
 };
 
+const FILE: OptionRow = OptionRow {
+    id: "file",
+    help: "The file of which an image is written, 0 to 63 [default: 0]",
+    numbers: Some((0, 63)),
+};
+
+const UNIT: OptionRow = OptionRow {
+    id: "unit",
+    help: "How many bytes a crash leaves by themselves, 1 to 65536 [default: 1]",
+    numbers: Some((1, 65_536)),
+};
+
+const AT: OptionRow = OptionRow {
+    id: "at",
+    help: "Let the power fail behind so many lines [default: behind the last]",
+    numbers: Some((0, 4_294_967_295)),
+};
+
+const SEED: OptionRow = OptionRow {
+    id: "seed",
+    help: "Leave an image by this seed, any 32 bits [default: the least, the safe writes alone]",
+    numbers: Some((0, 4_294_967_295)),
+};
+
 /// `uring trace`.
 static TRACE: CommandRow = CommandRow {
     name: "trace",
@@ -152,6 +176,14 @@ static PLAY: CommandRow = CommandRow {
     options: &[SQ, CQ, FILES, START, WORKERS, SHARED],
 };
 
+/// `uring crash`.
+static CRASH: CommandRow = CommandRow {
+    name: "crash",
+    about: "Read steps as trace does, let the power fail, and write what is left of a file",
+    after_help: IMAGES,
+    options: &[SQ, CQ, FILES, START, STOP, FILE, UNIT, AT, SEED],
+};
+
 /// The program's command line.
 pub(crate) fn uring_command<'a>(alloc: Global) -> Result<Command<'a>, AllocError>
     ensures { IfOk result (λ command. app_of command ≡ uring) }
@@ -164,7 +196,8 @@ pub(crate) fn uring_command<'a>(alloc: Global) -> Result<Command<'a>, AllocError
     let command = with_command(alloc, command, &TRACE)?;
     let command = with_command(alloc, command, &EXPLAIN)?;
     let command = with_command(alloc, command, &CHECK)?;
-    with_command(alloc, command, &PLAY)
+    let command = with_command(alloc, command, &PLAY)?;
+    with_command(alloc, command, &CRASH)
 }
 
 /// The command with one command more.

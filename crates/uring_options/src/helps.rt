@@ -134,3 +134,22 @@ and then how many requests were accepted, and how many words were dropped:
   taken N dropped N
 A bad line, or a call that is too long, is told on standard error with its
 number, counted from 1, and nothing is played; the status is then 1.";
+
+/// What `uring crash` writes, for its help.
+pub(crate) const IMAGES: &str = "\
+Steps are those of trace; no answers are written. A line that is empty or begins
+with # is passed over. All input is read; the steps of its first lines are made,
+up to that of --at, and then the power fails. Of the file of --file is written
+  len N data HEX                               what is left of it
+  write NUM at OFF: safe, K of N bytes         of each write that began, in
+  write NUM at OFF: not safe, K of N bytes     order: K of its bytes stand there
+NUM is the request, and HEX is - or two digits a byte.
+
+A write is safe if it had finished when an fsync of the file was issued that has
+finished since. Without --seed the safe writes alone are left, and with it some
+of the others too, whole or in part: for each N another image, and each is one
+that a crash may leave. With --unit 512 each 512 bytes of the file are left as
+a whole. A write that ended with an error may be left too.
+
+A bad line is told on standard error with its number, and nothing is written;
+the status is then 4. It is 2 if there is no such file.";

@@ -9,5 +9,8 @@ checked-requires c = rw c.in-check.is at c.requires
 pub played-requires : goal.played-requires
 played-requires c = rw c.in-play.is at c.requires
 
+pub crashed-requires : goal.crashed-requires
+crashed-requires c = rw c.in-crash.is at c.requires
+
 pub traced-requires : goal.traced-requires
 traced-requires c = rw c.in-trace.is at c.requires

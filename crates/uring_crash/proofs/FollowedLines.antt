@@ -1,0 +1,242 @@
+-- What a follower keeps, byte by byte and line by line.
+use Rattle.std.proofs.Common.{◌≡◌, ◌≢◌, ◌⊎◌, inl, inr, ℕ, ℤ, zero, suc, ◌+◌, ◌<◌, ◌≤◌, Bool, true, false, not, ◌&&◌, ◌||◌, List, [], ◌∷◌, ◌++◌, length, Option, Some, None, refl, sym, ap, subst, ◌∙◌, append_assoc, arith}
+use Rattle.std.specs.List.{AllByRecursion, list_any}
+use Rattle.std.proofs.lemmas.List.{append-nil}
+use Rattle.uring_entry.specs.Setup.{Setup}
+use Rattle.uring_core.specs.Histories.{History, history_of}
+use Rattle.uring_core.specs.declared.step.Step.{Step}
+use Rattle.uring_text.specs.Lines.{Splits, with_last}
+use Rattle.uring_text.specs.KeptLine.{KeptLine, kept_of}
+use Rattle.uring_text.specs.Remarks.{is_remark}
+use Rattle.uring_text.proofs.Splits.{split_more, split_end, last_some}
+use Rattle.uring_trace.specs.Spelling.{IsStep, IsBad}
+use Rattle.uring_trace.specs.Exchanges.{Exchange, IsReadAs, lines_of, events_of}
+use Rattle.uring_trace.proofs.Sessions.{one_more}
+use Rattle.uring_crash.specs.FirstLines.{AreFirstLines}
+use Rattle.uring_crash.specs.Crashes.{is_bad}
+use Rattle.uring_crash.specs.Watches.{Watches}
+use Rattle.uring_crash.specs.declared.watch.Watch.{Watch}
+use Rattle.uring_crash.specs.Following.{TookLines, MakesStep, ReadsLine, Following, Followed}
+
+-- before the first byte
+none_taken : (most : ℕ) → TookLines most most [] [] []
+none_taken most = record {
+  taken = [];
+  passed = [];
+  all = refl;
+  splits = record { whole = refl; each = tt; unbroken = tt };
+  count = omega arith;
+  over = λ none. refl;
+  enough = inl refl;
+}
+
+-- while lines may come, nothing is passed over
+nothing_passed : (left : ℕ) (bytes taken passed : List ℕ) → 0 < left → bytes ≡ taken ++ passed
+    → (passed ≡ []) ⊎ (left ≡ 0) → bytes ≡ taken
+nothing_passed left bytes taken passed more all (inl none) =
+    all ∙ ap (λ (l : List ℕ). taken ++ l) none ∙ append-nil taken
+nothing_passed left bytes taken passed more all (inr none) = absurd (omega (arith, more, none))
+
+-- a byte more behind the last line
+byte_passed : (most left : ℕ) (bytes : List ℕ) (lines : List (List ℕ)) (rest : List ℕ) (b : ℕ) → left ≡ 0
+    → TookLines most left bytes lines rest → TookLines most left (bytes ++ b ∷ []) lines rest
+byte_passed most left bytes lines rest b none t = record {
+  taken = t.taken;
+  passed = t.passed ++ b ∷ [];
+  all = ap (λ (l : List ℕ). l ++ b ∷ []) t.all ∙ append_assoc t.taken t.passed (b ∷ []);
+  splits = t.splits;
+  count = t.count;
+  over = t.over;
+  enough = inr none;
+}
+
+-- a byte more of a line
+byte_taken : (most left : ℕ) (bytes : List ℕ) (lines : List (List ℕ)) (rest : List ℕ) (b : ℕ) → b ≢ 10 → 0 < left
+    → TookLines most left bytes lines rest
+    → TookLines most left (bytes ++ b ∷ []) lines (rest ++ b ∷ [])
+byte_taken most left bytes lines rest b ne more t = record {
+  taken = t.taken ++ b ∷ [];
+  passed = [];
+  all = ap (λ (l : List ℕ). l ++ b ∷ []) (nothing_passed left bytes t.taken t.passed more t.all t.enough) ∙ sym (append-nil (t.taken ++ b ∷ []));
+  splits = split_more t.taken lines rest b ne t.splits;
+  count = t.count;
+  over = λ none. absurd (omega (arith, more, none));
+  enough = inl refl;
+}
+
+-- the end of a line
+end_taken : (most left left' : ℕ) (bytes : List ℕ) (lines : List (List ℕ)) (rest : List ℕ) → left ≡ left' + 1
+    → TookLines most left bytes lines rest
+    → TookLines most left' (bytes ++ 10 ∷ []) (rest ∷ lines) []
+end_taken most left left' bytes lines rest one t =
+    let more : 0 < left = omega (arith, one) in
+    record {
+      taken = t.taken ++ 10 ∷ [];
+      passed = [];
+      all = ap (λ (l : List ℕ). l ++ 10 ∷ []) (nothing_passed left bytes t.taken t.passed more t.all t.enough) ∙ sym (append-nil (t.taken ++ 10 ∷ []));
+      splits = split_end t.taken lines rest t.splits;
+      count = omega (arith, one, t.count);
+      over = λ none. refl;
+      enough = inl refl;
+    }
+
+-- all that was passed over stands behind so many lines
+enough_of : (most left : ℕ) (passed last : List ℕ) (lines : List (List ℕ)) → last ≡ []
+    → length lines + left ≡ most → (passed ≡ []) ⊎ (left ≡ 0)
+    → (passed ≡ []) ⊎ ((length lines ≡ most) × (last ≡ []))
+enough_of most left passed last lines ends count (inl none) = inl none
+enough_of most left passed last lines ends count (inr none) =
+    inr (omega (arith, count, none), ends)
+
+-- the lines are all, if the last one has its end
+first_ended : (most left : ℕ) (bytes : List ℕ) (lines : List (List ℕ)) (rest : List ℕ) → rest ≡ []
+    → TookLines most left bytes lines rest → AreFirstLines most bytes lines
+first_ended most left bytes lines rest none t = record {
+  taken = t.taken;
+  passed = t.passed;
+  all = t.all;
+  ended = lines;
+  last = [];
+  splits = subst (λ (l : List ℕ). Splits t.taken lines l) none t.splits;
+  are = refl;
+  few = omega (arith, t.count);
+  enough = enough_of most left t.passed [] lines refl t.count t.enough;
+}
+
+-- and if it has begun, it is one more
+first_begun : (most left : ℕ) (bytes : List ℕ) (lines : List (List ℕ)) (rest : List ℕ) → rest ≢ []
+    → TookLines most left bytes lines rest → AreFirstLines most bytes (rest ∷ lines)
+first_begun most zero bytes lines rest some t = absurd (some (t.over refl))
+first_begun most (suc left) bytes lines rest some t = record {
+  taken = t.taken;
+  passed = [];
+  all = nothing_passed (suc left) bytes t.taken t.passed (omega arith) t.all t.enough ∙ sym (append-nil t.taken);
+  ended = lines;
+  last = rest;
+  splits = t.splits;
+  are = sym (last_some lines rest some);
+  few = omega (arith, t.count);
+  enough = inl refl;
+}
+
+-- What becomes of a line: a step, a remark, or a bad one.
+
+pub line_made : (old new : Watch) (was_bad bad : Bool) (line : List ℕ) (s : Step) → IsStep line s → bad ≡ was_bad
+    → MakesStep old new s → ReadsLine old new was_bad bad line
+line_made old new was_bad bad line s is same made =
+    record { event = Some (s, made.answer); read = is; now_bad = same; watches = made.watches }
+
+pub line_remarked : (watch : Watch) (bad : Bool) (line : List ℕ) → IsBad line → is_remark line ≡ true
+    → ReadsLine watch watch bad bad line
+line_remarked watch bad line none is = record {
+  event = None;
+  read = none;
+  now_bad = ap (λ (r : Bool). not r || bad) (sym is);
+  watches = λ unit setup fd h w. w;
+}
+
+pub line_bad : (watch watch' : Watch) (was_bad bad : Bool) (line : List ℕ) → IsBad line → is_remark line ≡ false
+    → watch' ≡ watch → bad ≡ true → ReadsLine watch watch' was_bad bad line
+line_bad watch watch' was_bad bad line none is same now = record {
+  event = None;
+  read = none;
+  now_bad = now ∙ ap (λ (r : Bool). not r || was_bad) (sym is);
+  watches = λ unit setup fd h w. subst (λ (v : Watch). Watches unit setup fd v h) (sym same) w;
+}
+
+-- nothing yet
+pub follows_none : (unit : ℕ) (setup : Setup) (fd : ℤ) (most : ℕ) (watch : Watch) (kept : KeptLine)
+    → kept ≡ kept_of [] → Watches unit setup fd watch []
+    → Following unit setup fd most watch kept most false []
+follows_none unit setup fd most watch kept keeps watches = record {
+  exchanges = [];
+  rest = [];
+  took = none_taken most;
+  keeps = keeps;
+  each = tt;
+  bad_lines = refl;
+  watches = watches;
+}
+
+-- a byte that is passed over
+pub follows_passed : (unit : ℕ) (setup : Setup) (fd : ℤ) (most : ℕ) (watch : Watch) (kept : KeptLine) (left : ℕ) (bad : Bool) (before : List ℕ) (b : ℕ)
+    → left ≡ 0 → Following unit setup fd most watch kept left bad before
+    → Following unit setup fd most watch kept left bad (before ++ b ∷ [])
+follows_passed unit setup fd most watch kept left bad before b none f = record {
+  exchanges = f.exchanges;
+  rest = f.rest;
+  took = byte_passed most left before (lines_of f.exchanges) f.rest b none f.took;
+  keeps = f.keeps;
+  each = f.each;
+  bad_lines = f.bad_lines;
+  watches = f.watches;
+}
+
+-- a byte of a line
+pub follows_byte : (unit : ℕ) (setup : Setup) (fd : ℤ) (most : ℕ) (watch : Watch) (kept kept' : KeptLine) (left : ℕ) (bad : Bool) (before : List ℕ) (b : ℕ)
+    → b ≢ 10 → 0 < left → ((line : List ℕ) → kept ≡ kept_of line → kept' ≡ kept_of (line ++ b ∷ []))
+    → Following unit setup fd most watch kept left bad before
+    → Following unit setup fd most watch kept' left bad (before ++ b ∷ [])
+follows_byte unit setup fd most watch kept kept' left bad before b ne more keeps f = record {
+  exchanges = f.exchanges;
+  rest = f.rest ++ b ∷ [];
+  took = byte_taken most left before (lines_of f.exchanges) f.rest b ne more f.took;
+  keeps = keeps f.rest f.keeps;
+  each = f.each;
+  bad_lines = f.bad_lines;
+  watches = f.watches;
+}
+
+-- one exchange more
+watched_more : (unit : ℕ) (setup : Setup) (fd : ℤ) (old new : Watch) (was_bad bad : Bool) (line : List ℕ) (xs : List Exchange)
+    → (r : ReadsLine old new was_bad bad line) → Watches unit setup fd old (history_of (events_of xs))
+    → Watches unit setup fd new (history_of (events_of (record { line = line; event = r.event } ∷ xs)))
+watched_more unit setup fd old new was_bad bad line xs r w =
+    subst (λ (h : History). Watches unit setup fd new h) (one_more r.event (events_of xs)) (r.watches unit setup fd (history_of (events_of xs)) w)
+
+-- the end of a line
+pub follows_line : (unit : ℕ) (setup : Setup) (fd : ℤ) (most : ℕ) (watch watch' : Watch) (kept kept' : KeptLine) (left left' : ℕ) (was_bad bad : Bool) (before : List ℕ)
+    → left ≡ left' + 1 → kept' ≡ kept_of []
+    → ((line : List ℕ) → kept ≡ kept_of line → ReadsLine watch watch' was_bad bad line)
+    → Following unit setup fd most watch kept left was_bad before
+    → Following unit setup fd most watch' kept' left' bad (before ++ 10 ∷ [])
+follows_line unit setup fd most watch watch' kept kept' left left' was_bad bad before one empty reads f =
+    let r = reads f.rest f.keeps in
+    record {
+      exchanges = record { line = f.rest; event = r.event } ∷ f.exchanges;
+      rest = [];
+      took = end_taken most left left' before (lines_of f.exchanges) f.rest one f.took;
+      keeps = empty;
+      each = (r.read, f.each);
+      bad_lines = r.now_bad ∙ ap (λ (b : Bool). is_bad (record { line = f.rest; event = r.event }) || b) f.bad_lines;
+      watches = watched_more unit setup fd watch watch' was_bad bad f.rest f.exchanges r f.watches;
+    }
+
+-- the end of the input, behind the end of a line
+pub followed_none : (unit : ℕ) (setup : Setup) (fd : ℤ) (most : ℕ) (watch : Watch) (kept : KeptLine) (left : ℕ) (bad : Bool) (bytes : List ℕ)
+    → ((line : List ℕ) → kept ≡ kept_of line → line ≡ [])
+    → Following unit setup fd most watch kept left bad bytes
+    → Followed unit setup fd most watch bad bytes
+followed_none unit setup fd most watch kept left bad bytes none f = record {
+  exchanges = f.exchanges;
+  first = first_ended most left bytes (lines_of f.exchanges) f.rest (none f.rest f.keeps) f.took;
+  each = f.each;
+  bad_lines = f.bad_lines;
+  watches = f.watches;
+}
+
+-- and in a line
+pub followed_last : (unit : ℕ) (setup : Setup) (fd : ℤ) (most : ℕ) (watch watch' : Watch) (kept : KeptLine) (left : ℕ) (was_bad bad : Bool) (bytes : List ℕ)
+    → ((line : List ℕ) → kept ≡ kept_of line → line ≢ [])
+    → ((line : List ℕ) → kept ≡ kept_of line → ReadsLine watch watch' was_bad bad line)
+    → Following unit setup fd most watch kept left was_bad bytes
+    → Followed unit setup fd most watch' bad bytes
+followed_last unit setup fd most watch watch' kept left was_bad bad bytes some reads f =
+    let r = reads f.rest f.keeps in
+    record {
+      exchanges = record { line = f.rest; event = r.event } ∷ f.exchanges;
+      first = first_begun most left bytes (lines_of f.exchanges) f.rest (some f.rest f.keeps) f.took;
+      each = (r.read, f.each);
+      bad_lines = r.now_bad ∙ ap (λ (b : Bool). is_bad (record { line = f.rest; event = r.event }) || b) f.bad_lines;
+      watches = watched_more unit setup fd watch watch' was_bad bad f.rest f.exchanges r f.watches;
+    }

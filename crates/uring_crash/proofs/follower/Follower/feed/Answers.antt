@@ -1,0 +1,13 @@
+use Rattle.std.proofs.Common.{◌≡◌, ◌<◌, ◌+◌, ℕ, List, [], ◌∷◌, ◌++◌, length, take, get_or, sym, ap, subst, ◌∙◌, append_assoc, rules}
+use Rattle.std.proofs.lemmas.List.{take_more}
+use Rattle.uring_crash.specs.Following.{Follows}
+use Rattle.uring_crash.proofs.follower.Follower.feed.Goals as goal
+
+pub loop-byte-preserved : goal.loop-byte-preserved
+loop-byte-preserved c = λ unit setup fd most before f.
+    let bytes : List ℕ = c.args.bytes.now in
+    let i : ℕ = c.loop-byte.byte-index in
+    let more = c.in_ok-take.ensures unit setup fd most (before ++ take i bytes) (c.loop-byte.invariant unit setup fd most before f) in
+    let lt : i < length bytes = search rules in
+    let next : take (i + 1) bytes ≡ take i bytes ++ get_or bytes i 0 ∷ [] = take_more bytes i 0 lt in
+    subst (λ (l : List ℕ). Follows unit setup fd most c.take.new.self l) (append_assoc before (take i bytes) (get_or bytes i 0 ∷ []) ∙ ap (λ (l : List ℕ). before ++ l) (sym next)) more

@@ -1,0 +1,138 @@
+//! The run of a trace behind which the power fails.
+
+ghost use Rattle.std.specs.Prelude.{◌≡◌, ◌<◌, ◌++◌, [], ℕ, ℤ, List, IfOk, OnOk};
+ghost use Rattle.std.specs.Io.KnownBytes.{Appends};
+ghost use Rattle.uring_entry.specs.Setup.{Setup};
+ghost use Rattle.uring_core.specs.Histories.{History};
+ghost use Rattle.uring_volume.specs.Images.{IsImage};
+ghost use Rattle.uring_crash.specs.Logs.{log_of};
+ghost use Rattle.uring_crash.specs.Watches.{Watches};
+ghost use Rattle.uring_crash.specs.Following.{Follows};
+ghost use Rattle.uring_crash.specs.Crashes.{Leaves, image_text};
+ghost use Rattle.uring_crash.specs.Runs.{ReadsAll};
+
+use crate::follower::Follower;
+use crate::image_text::{least_choice, push_image, seeded_choice, told_writes};
+use crate::watch::Watch;
+use std::alloc::{AllocError, Global};
+use std::io::{Read, Write};
+use uring_machine::Setup;
+use uring_text::{Calls, TraceFault, push_text, read_once, write_all};
+
+/// Most bytes that are read at once.
+const CHUNK: usize = 512;
+
+/// What is asked of a crash.
+#[derive(Clone, Copy, Debug, PartialEq, Eq)]
+pub struct Asked {
+    /// The descriptor of the file.
+    pub fd: i32,
+
+    /// How many bytes of it a crash leaves by themselves.
+    pub unit: u64,
+
+    /// How many lines count; the power fails behind the last of them.
+    pub lines: u64,
+
+    /// By which seed an image is chosen; without one the least is left, the safe writes alone.
+    pub seed: Option<u64>,
+}
+
+/// Reads the lines of a trace from `reader`, makes the steps of the first of them on a new machine of this set-up, and writes to `writer`, once the input has ended, what a crash behind them leaves of a file: a line with its length and its bytes, and a line for each write of the file, in the order in which they began, with its request, where it wrote, whether it is safe, and how many of its bytes stand there.
+///
+/// `Ok` tells whether a line was bad: then nothing is left, and the first such line is noted with its number, from 1 on, on `errors`. A line that is empty or begins with `#` is passed over.
+///
+/// - `Read`: a read failed, or 2^64 - 1 reads were made. Nothing is written.
+/// - `Write`: a write failed or took no byte, or 2^64 - 1 writes were made. What is written is cut short.
+/// - `Memory`: memory was refused. Nothing is written.
+pub fn crash<R: Read, W: Write, E: Write>(
+    alloc: Global,
+    reader: &mut R,
+    writer: &mut W,
+    errors: &mut E,
+    setup: &Setup,
+    asked: &Asked,
+) -> Result<bool, TraceFault>
+    requires { 0 < asked.now.unit }
+    ensures { IfOk result
+        (λ bad. Leaves asked.now setup.now bad (R.remaining reader.old) (R.remaining reader.new) (W.contents writer.old) (W.contents writer.new)) }
+{
+    let mut follower = Follower::new(alloc, setup, asked.unit, asked.fd, asked.lines)?;
+    let left = leave_all(alloc, &mut follower, reader, writer, errors, asked);
+    drop(follower);
+    left
+}
+
+/// Takes in all lines, and writes what is left, or the note on a bad line. Returns whether a line was bad.
+fn leave_all<R: Read, W: Write, E: Write>(
+    alloc: Global,
+    follower: &mut Follower,
+    reader: &mut R,
+    writer: &mut W,
+    errors: &mut E,
+    asked: &Asked,
+) -> Result<bool, TraceFault>
+    ensures { IfOk result
+        (λ bad. (setup : Setup) → Follows asked.now.unit setup asked.now.fd asked.now.lines follower.old []
+        → Leaves asked.now setup bad (R.remaining reader.old) (R.remaining reader.new) (W.contents writer.old) (W.contents writer.new)) }
+{
+    read_all(follower, reader)?;
+    if follower.has_bad() {
+        write_all(errors, follower.note().as_bytes(), &mut Calls::new())?;
+        return Ok(true);
+    }
+    write_image(alloc, follower.watch(), writer, asked)?;
+    Ok(false)
+}
+
+/// Takes in all lines.
+fn read_all<R: Read>(follower: &mut Follower, reader: &mut R) -> Result<(), TraceFault>
+    ensures { OnOk result
+        ((unit : ℕ) (setup : Setup) (fd : ℤ) (most : ℕ) → Follows unit setup fd most follower.old []
+        → ReadsAll unit setup fd most follower.new (R.remaining reader.old) (R.remaining reader.new)) }
+{
+    let mut reads = Calls::new();
+    let mut chunk = [0; CHUNK];
+    while !reads.are_over() {
+        match read_once(reader, &mut chunk, &mut reads) {
+            Ok(0) => return Ok(follower.finish()?),
+            Ok(count) => follower.feed(&chunk[..count])?,
+            Err(_) => {}
+        }
+    }
+    Err(TraceFault::Read)
+}
+
+/// Writes what a crash leaves of the file, and what it shows of each write.
+fn write_image<W: Write>(
+    alloc: Global,
+    watch: &Watch,
+    writer: &mut W,
+    asked: &Asked,
+) -> Result<(), TraceFault>
+    ensures { OnOk result
+        ((image : List ℕ) × (words : List ℕ)
+        × Appends (W.contents writer.old) (W.contents writer.new) (image_text image ++ words)
+        × ((unit : ℕ) (setup : Setup) (fd : ℤ) (h : History) → Watches unit setup fd watch.now h
+        → IsImage unit [] (log_of unit setup fd h).volume.history image)) }
+{
+    let image = left_image(alloc, watch, asked)?;
+    let words = told_writes(alloc, watch.log(), &image)?;
+    let mut text = String::new(alloc);
+    push_image(alloc, &mut text, &image)?;
+    push_text(&alloc, &mut text, words.as_str())?;
+    write_all(writer, text.as_bytes(), &mut Calls::new())
+}
+
+/// The bytes that a crash leaves of the file, as they are asked for.
+fn left_image(alloc: Global, watch: &Watch, asked: &Asked) -> Result<Vec<u8>, AllocError>
+    ensures { IfOk result (λ now. (unit : ℕ) (setup : Setup) (fd : ℤ) (h : History)
+        → Watches unit setup fd watch.now h
+        → IsImage unit [] (log_of unit setup fd h).volume.history now.items) }
+{
+    let choice = match asked.seed {
+        Some(seed) => seeded_choice(alloc, watch.log(), asked.unit, seed)?,
+        None => least_choice(alloc, watch.log(), asked.unit)?,
+    };
+    watch.crash(&choice)
+}

@@ -1,0 +1,239 @@
+//! Follows the lines of a trace, and watches a file.
+
+ghost use Rattle.std.specs.Prelude.{◌≡◌, ◌≢◌, ◌+◌, ◌<◌, ◌++◌, ◌∷◌, [], ℕ, ℤ, List, true, false, IfOk, OnOk, MatchOption};
+ghost use Rattle.uring_entry.specs.Setup.{Setup};
+ghost use Rattle.uring_text.specs.KeptLine.{kept_of};
+ghost use Rattle.uring_trace.specs.Spelling.{IsStep, IsBad};
+ghost use Rattle.uring_crash.specs.Following.{ReadsLine, MakesStep, Follows, HasFollowed};
+
+use crate::watch::Watch;
+use std::alloc::{AllocError, Global};
+use std::fmt::Write;
+use uring_machine::{Setup, Step};
+use uring_text::KeptLine;
+use uring_trace::{Language, push_line_flaw, read_step};
+
+/// A watched machine, and what is kept of the unfinished line.
+#[derive(Drop)]
+pub(crate) struct Follower {
+    alloc: Global,
+    watch: Watch,
+    line: KeptLine,
+    // The lines that may still come.
+    left: u64,
+    // The number of the unfinished line, from 1 on.
+    number: u64,
+    // Whether a line was bad, and what is told of the first that was.
+    has_bad: bool,
+    note: String,
+}
+
+impl Follower {
+    /// A new machine of this set-up whose file of this descriptor is watched, before the first of so many lines.
+    pub(crate) fn new(
+        alloc: Global,
+        setup: &Setup,
+        unit: u64,
+        fd: i32,
+        lines: u64,
+    ) -> Result<Follower, AllocError>
+        requires { 0 < unit }
+        ensures { IfOk result (λ s. Follows unit setup.now fd lines s []) }
+    {
+        let line = KeptLine::new(alloc)?;
+        Ok(Follower {
+            alloc,
+            watch: Watch::new(alloc, setup, unit, fd)?,
+            line,
+            left: lines,
+            number: 1,
+            has_bad: false,
+            note: String::new(alloc),
+        })
+    }
+
+    /// Whether a line was bad so far.
+    pub(crate) fn has_bad(&self) -> bool
+        ensures { result ≡ self.now.has_bad }
+    {
+        self.has_bad
+    }
+
+    /// What is told of the first bad line.
+    pub(crate) fn note(&self) -> &str {
+        self.note.as_str()
+    }
+
+    /// The machine and its file, as the lines taken in so far have left them.
+    pub(crate) fn watch(&self) -> &Watch
+        ensures { result.now ≡ self.now.watch }
+    {
+        &self.watch
+    }
+
+    /// Takes in the next bytes.
+    pub(crate) fn feed(&mut self, bytes: &[u8]) -> Result<(), AllocError>
+        ensures { OnOk result
+            ((unit : ℕ) (setup : Setup) (fd : ℤ) (most : ℕ) (before : List ℕ)
+            → Follows unit setup fd most self.old before
+            → Follows unit setup fd most self.new (before ++ bytes.now)) }
+    {
+        for byte in bytes {
+            self.take(*byte)?;
+        }
+        Ok(())
+    }
+
+    /// Ends the input.
+    pub(crate) fn finish(&mut self) -> Result<(), AllocError>
+        ensures { OnOk result
+            ((unit : ℕ) (setup : Setup) (fd : ℤ) (most : ℕ) (bytes : List ℕ)
+            → Follows unit setup fd most self.old bytes
+            → HasFollowed unit setup fd most self.new bytes) }
+    {
+        if self.line.is_empty() {
+            return Ok(());
+        }
+        self.read_line()
+    }
+
+    /// Takes in one byte. Behind the last of the lines it is passed over.
+    fn take(&mut self, byte: u8) -> Result<(), AllocError>
+        ensures { OnOk result
+            ((unit : ℕ) (setup : Setup) (fd : ℤ) (most : ℕ) (before : List ℕ)
+            → Follows unit setup fd most self.old before
+            → Follows unit setup fd most self.new (before ++ byte ∷ [])) }
+    {
+        if self.is_over() {
+            return Ok(());
+        }
+        self.take_in(byte)
+    }
+
+    /// Whether no line may come any more.
+    fn is_over(&self) -> bool
+        ensures over { result ≡ true → self.now.left ≡ 0 }
+        ensures more { result ≡ false → 0 < self.now.left }
+    {
+        self.left == 0
+    }
+
+    /// Takes in one byte, and reads the line that it ends, if it ends one.
+    fn take_in(&mut self, byte: u8) -> Result<(), AllocError>
+        requires { 0 < self.old.left }
+        ensures { OnOk result
+            ((unit : ℕ) (setup : Setup) (fd : ℤ) (most : ℕ) (before : List ℕ)
+            → Follows unit setup fd most self.old before
+            → Follows unit setup fd most self.new (before ++ byte ∷ [])) }
+    {
+        if byte == b'\n' {
+            self.end_line()?;
+        } else {
+            self.keep(byte);
+        }
+        Ok(())
+    }
+
+    /// Takes in one byte of a line, which isn't its end.
+    fn keep(&mut self, byte: u8)
+        requires inside { byte ≢ 10 }
+        requires more { 0 < self.old.left }
+        ensures { (unit : ℕ) (setup : Setup) (fd : ℤ) (most : ℕ) (before : List ℕ)
+            → Follows unit setup fd most self.old before
+            → Follows unit setup fd most self.new (before ++ byte ∷ []) }
+    {
+        self.line.push(byte);
+    }
+
+    /// Reads the line, and begins the next one.
+    fn end_line(&mut self) -> Result<(), AllocError>
+        requires { 0 < self.old.left }
+        ensures { OnOk result
+            ((unit : ℕ) (setup : Setup) (fd : ℤ) (most : ℕ) (before : List ℕ)
+            → Follows unit setup fd most self.old before
+            → Follows unit setup fd most self.new (before ++ 10 ∷ [])) }
+    {
+        self.read_line()?;
+        self.line.clear();
+        self.left -= 1;
+        self.number = self.number.saturating_add(1);
+        Ok(())
+    }
+
+    /// Makes the step that the line is, and notes if it is bad.
+    fn read_line(&mut self) -> Result<(), AllocError>
+        ensures line { self.new.line ≡ self.old.line }
+        ensures left { self.new.left ≡ self.old.left }
+        ensures read { OnOk result
+            ((line : List ℕ) → self.old.line ≡ kept_of line
+            → ReadsLine self.old.watch self.new.watch self.old.has_bad self.new.has_bad line) }
+    {
+        match step_of(self.alloc, &self.line)? {
+            Some(step) => self.make(step),
+            None => self.pass(),
+        }
+    }
+
+    /// Passes over a line that is no step, and notes if it is bad.
+    fn pass(&mut self) -> Result<(), AllocError>
+        ensures line { self.new.line ≡ self.old.line }
+        ensures left { self.new.left ≡ self.old.left }
+        ensures read { OnOk result
+            ((line : List ℕ) → self.old.line ≡ kept_of line → IsBad line
+            → ReadsLine self.old.watch self.new.watch self.old.has_bad self.new.has_bad line) }
+    {
+        if self.line.is_remark() {
+            return Ok(());
+        }
+        self.note_bad()
+    }
+
+    /// Makes a step.
+    fn make(&mut self, step: Step) -> Result<(), AllocError>
+        ensures line { self.new.line ≡ self.old.line }
+        ensures left { self.new.left ≡ self.old.left }
+        ensures bad { self.new.has_bad ≡ self.old.has_bad }
+        ensures made { OnOk result (MakesStep self.old.watch self.new.watch step) }
+    {
+        self.watch.step(step)?;
+        Ok(())
+    }
+
+    /// Notes that the line is bad, and what is wrong with it, if it is the first bad one.
+    fn note_bad(&mut self) -> Result<(), AllocError>
+        ensures line { self.new.line ≡ self.old.line }
+        ensures left { self.new.left ≡ self.old.left }
+        ensures watch { self.new.watch ≡ self.old.watch }
+        ensures bad { OnOk result (self.new.has_bad ≡ true) }
+    {
+        if self.has_bad {
+            return Ok(());
+        }
+        self.has_bad = true;
+        push_note(self.alloc, &mut self.note, self.number, &self.line)
+    }
+}
+
+/// Appends the note on a bad line of this number.
+fn push_note(
+    alloc: Global,
+    note: &mut String,
+    number: u64,
+    line: &KeptLine,
+) -> Result<(), AllocError> {
+    write!(note, "uring: line {number}: bad line: ")?;
+    push_line_flaw(alloc, note, line, Language::Steps)?;
+    note.push_str("\n")
+}
+
+/// The step that a line is, if it is one. A line of more than 300 bytes is none.
+fn step_of(alloc: Global, line: &KeptLine) -> Result<Option<Step>, AllocError>
+    ensures { IfOk result
+        (λ read. (bytes : List ℕ) → line.now ≡ kept_of bytes
+        → MatchOption read (IsBad bytes) (IsStep bytes)) }
+{
+    match line.whole() {
+        Some(bytes) => read_step(alloc, bytes),
+        None => Ok(None),
+    }
+}

@@ -1,0 +1,83 @@
+//! A machine, and the log of one of its files.
+
+ghost use Rattle.std.specs.Prelude.{◌≡◌, ◌<◌, ◌∷◌, [], ℕ, ℤ, IfOk};
+ghost use Rattle.uring_entry.specs.Setup.{Setup};
+ghost use Rattle.uring_volume.specs.Images.{IsImage};
+ghost use Rattle.uring_core.specs.Histories.{History};
+ghost use Rattle.uring_crash.specs.Logs.{log_of};
+ghost use Rattle.uring_crash.specs.Watches.{Watches};
+
+use crate::file_log::FileLog;
+use std::alloc::{AllocError, Global};
+use uring_machine::{Answer, Machine, Setup, Step};
+
+/// A machine, and the log of one of its files.
+#[derive(Drop)]
+pub(crate) struct Watch {
+    machine: Machine,
+    log: FileLog,
+}
+
+impl Watch {
+    /// A new machine of this set-up, and the log of the file of a descriptor, in units of so many bytes. `AllocError`: memory was refused.
+    pub(crate) fn new(alloc: Global, setup: &Setup, unit: u64, fd: i32) -> Result<Watch, AllocError>
+        requires { 0 < unit }
+        ensures { IfOk result (λ watch. Watches unit setup.now fd watch []) }
+    {
+        let log = FileLog::new(alloc, unit, fd);
+        Ok(Watch {
+            machine: Machine::new(alloc, setup)?,
+            log,
+        })
+    }
+
+    /// Makes one step on the machine, and logs what it and its answer make of the file. `AllocError`: memory was refused for the log, which is of no use any more.
+    pub(crate) fn step(&mut self, step: Step) -> Result<Answer, AllocError>
+        ensures { IfOk result (λ answer. (unit : ℕ) (setup : Setup) (fd : ℤ) (h : History)
+            → Watches unit setup fd self.old h → Watches unit setup fd self.new ((step, answer) ∷ h)) }
+    {
+        match step {
+            Step::Issue { number } => self.issue(number),
+            Step::Finish { number } => Ok(self.finish(number)),
+            _ => Ok(self.machine.step(step)),
+        }
+    }
+
+    /// Issues a request, and logs it if it runs from then on.
+    fn issue(&mut self, number: u64) -> Result<Answer, AllocError>
+        ensures { IfOk result (λ answer. (unit : ℕ) (setup : Setup) (fd : ℤ) (h : History)
+            → Watches unit setup fd self.old h
+            → Watches unit setup fd self.new ((Step.Issue number, answer) ∷ h)) }
+    {
+        let answer = self.machine.step(Step::Issue { number });
+        let op = self.machine.running_op(number);
+        self.log.note_issue(number, op, &answer)?;
+        Ok(answer)
+    }
+
+    /// Finishes a request, and logs its end if it ran.
+    fn finish(&mut self, number: u64) -> Answer
+        ensures { (unit : ℕ) (setup : Setup) (fd : ℤ) (h : History)
+            → Watches unit setup fd self.old h
+            → Watches unit setup fd self.new ((Step.Finish number, result) ∷ h) }
+    {
+        let op = self.machine.running_op(number);
+        let answer = self.machine.step(Step::Finish { number });
+        self.log.note_finish(number, op, &answer);
+        answer
+    }
+
+    /// The bytes that a crash leaves of the file behind the steps so far, by a choice of numbers: any numbers are a choice.
+    pub(crate) fn crash(&self, choice: &[u64]) -> Result<Vec<u8>, AllocError>
+        ensures { IfOk result (λ now. (unit : ℕ) (setup : Setup) (fd : ℤ) (h : History)
+            → Watches unit setup fd self.now h
+            → IsImage unit [] (log_of unit setup fd h).volume.history now.items) }
+    {
+        self.log.crash(choice)
+    }
+
+    /// The log of the file.
+    pub(crate) fn log(&self) -> &FileLog {
+        &self.log
+    }
+}
