@@ -21,11 +21,12 @@ use Rattle.uring_outcomes.specs.Walks.{ending_of, BeginsIn, IsCovered, HasNoted,
 -- Lists.
 
 contains_map : {X Y : Type 0} (f : X → Y) (xs : List X) (x : X) → Contains xs x → Contains (map f xs) (f x)
-contains_map f xs x (k, low, is) =
-    (k, omega (arith, low, length-map xs f), get_or-map f xs k x ∙ ap f is)
+contains_map f xs x there =
+    let low : there.0 < length xs = there.1 in
+    (there.0, omega (arith, low, length-map xs f), get_or-map f xs there.0 x ∙ ap f there.2)
 
 none_there : {X : Type 0} (x : X) → Contains [] x → ⊥
-none_there x (k, low, is) = omega (arith, low)
+none_there x there = let low : there.0 < 0 = there.1 in omega (arith, low)
 
 -- Moves behind moves.
 
@@ -180,8 +181,9 @@ found_by : (g : Setup) (calls : List (List Sqe)) (prompt : Bool) (found : List E
     → IsCovered g calls prompt [] found → (prompt ≡ true → ArePrompt (starting g calls) to.moves)
     → Contains found e
 found_by g calls prompt found e to covered prompted =
+    let same : ending_of to.last ≡ e = ap₂ (λ posted files. record { posted = posted; files = files }) to.posts to.leaves in
     elim (covered to.moves to.last prompted to.leads to.over) [
-      | inl there ↦ subst (Contains found) (ap₂ (λ posted files. record { posted = posted; files = files }) to.posts to.leaves) there
+      | inl there ↦ subst (Contains found) same there
       | inr b ↦ absurd (none_there b.path b.there)
     ]
 

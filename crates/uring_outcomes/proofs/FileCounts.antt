@@ -46,23 +46,23 @@ one_count : (m next : Moment) (x : Move) → moved m x ≡ Some next → length 
 one_count m next move.Accept e = by_left m.left e where
   by_left : (left : List (List Sqe)) → accepted m left ≡ Some next → length next.files ≡ length m.files
   by_left [] e = absurd cc
-  by_left (call ∷ later) e = ap (λ o. length (unwrap_or o m).files) (sym e)
+  by_left (call ∷ later) e = ap (λ (o : Option Moment). length (unwrap_or o m).files) (sym e)
 one_count m next (move.Issue n) e = by_test (is_issuable m.requests n) e where
   by_test : (can : Bool) → (if can then Some (issued m n) else None) ≡ Some next → length next.files ≡ length m.files
   by_test false e = absurd cc
   by_test true e =
-      ap (λ o. length (unwrap_or o m).files) (sym e)
+      ap (λ (o : Option Moment). length (unwrap_or o m).files) (sym e)
       ∙ issue_count m n (is_doomed m.requests n) (is_cancel (entry_of m.requests n)) (doomed_result m.requests n) (cancel_result m.requests n)
 one_count m next (move.Finish n) e = by_test (is_finishable m.requests n) e where
   by_test : (can : Bool) → (if can then Some (finished m n) else None) ≡ Some next → length next.files ≡ length m.files
   by_test false e = absurd cc
   by_test true e =
-      ap (λ o. length (unwrap_or o m).files) (sym e)
+      ap (λ (o : Option Moment). length (unwrap_or o m).files) (sym e)
       ∙ after_count m.files (operation_of (entry_of m.requests n)) (result_of m.files (operation_of (entry_of m.requests n))).res
 
 count_on : (moves : List Move) (m last : Moment) → after_moves m moves ≡ Some last
     → length last.files ≡ length m.files
-count_on [] m last e = ap (λ o. length (unwrap_or o m).files) (sym e)
+count_on [] m last e = ap (λ (o : Option Moment). length (unwrap_or o m).files) (sym e)
 count_on (first ∷ later) m last e =
     by_first (moved m first) refl e (λ next. count_on later next last) where
       by_first : (next : Option Moment) → moved m first ≡ next → option_and_then (λ n. after_moves n later) next ≡ Some last → ((n : Moment) → after_moves n later ≡ Some last → length last.files ≡ length n.files) → length last.files ≡ length m.files

@@ -23,7 +23,7 @@ use Rattle.uring_dispatch.specs.Issuable.{issuable_from}
 use Rattle.uring_dispatch.specs.IssueAndFinish as asked
 use Rattle.uring_dispatch.specs.declared.answers.Issued.{Issued}
 use Rattle.uring_dispatch.specs.declared.answers.Issued.TheVariants.{Run, Ended, NotReady, Running, Unknown}
-use Rattle.uring_moves.specs.Moments.{Moment, accepted, started, ended_at_once, issued, finished, is_finishable, moved, after_moves}
+use Rattle.uring_moves.specs.Moments.{Moment, starting, accepted, started, ended_at_once, issued, finished, is_finishable, moved, after_moves}
 use Rattle.uring_moves.specs.declared.move_of_calls.Move.{Move}
 use Rattle.uring_moves.specs.declared.move_of_calls.Move.TheVariants as move
 use Rattle.uring_moves.proofs.MovesLead.{one_move_more, can_then}
@@ -46,7 +46,7 @@ reached_on calls m next x r is = record {
   setup = r.setup;
   few_files = r.few_files;
   moves = r.moves ++ x ∷ [];
-  leads = one_move_more r.moves _ x ∙ (ap (option_and_then (λ z. moved z x)) r.leads ∙ is);
+  leads = one_move_more r.moves (starting r.setup calls) x ∙ (ap (option_and_then (λ z. moved z x)) r.leads ∙ is);
 }
 
 pub sound_at : (calls : List (List Sqe)) (m : Moment) → IsReached calls m → IsSoundMoment m.requests

@@ -101,7 +101,7 @@ issue_ends calls old new m n res entry at is told shows between posted files nex
     (files ∙ at.files) (at.left ∙ ap (λ k. drop k calls) (sym next))
 
 -- an issue that is refused
-pub IsRefused : Issued → Type 0
+abbrev pub IsRefused : Issued → Type 0
 IsRefused (answer.Run op) = ⊥
 IsRefused (answer.Ended res) = ⊥
 IsRefused _ = Unit {0}
@@ -109,7 +109,6 @@ IsRefused _ = Unit {0}
 pub issue_refused : (calls : List (List Sqe)) (run : Run) (m : Moment) (n : ℕ) (a : Issued)
     → IsRefused a → a ≡ asked.issued m.requests n
     → MadeAs false (moved m (move.Issue n)) (StandsAt calls run)
-unfolding IsRefused
 issue_refused calls run m n (answer.Run op) refused is = absurd refused
 issue_refused calls run m n (answer.Ended res) refused is = absurd refused
 issue_refused calls run m n answer.NotReady refused is =

@@ -78,6 +78,26 @@ same_by_state (Some f) (Some h) s t is are same bytes =
     (file_by f h (same_by_places f.bytes h.bytes (length f.bytes) (omega arith) (omega arith) (λ k low. bytes k (omega arith)))
      (ap (λ (x : FileState). x.writes) both) (ap (λ (x : FileState). x.synced) both))
 
+-- what `==` returns of two states
+abbrev pub same_state : FileState → FileState → Bool
+same_state s t = nat_eq s.len t.len && (nat_eq s.writes t.writes && nat_eq s.synced t.synced)
+
+state_by : (s t : FileState) → s.len ≡ t.len → s.writes ≡ t.writes → s.synced ≡ t.synced → s ≡ t
+state_by s t len writes synced = λ i. record { len = len i; writes = writes i; synced = synced i }
+
+pub state_decides : (s t : FileState) → Decides (same_state s t) (s ≡ t)
+state_decides s t = (same, itself) where
+  same : same_state s t ≡ true → s ≡ t
+  same e =
+      let p = and_parts (nat_eq s.len t.len) (nat_eq s.writes t.writes && nat_eq s.synced t.synced) e in
+      let q = and_parts (nat_eq s.writes t.writes) (nat_eq s.synced t.synced) p.1 in
+      state_by s t (eqb-true s.len t.len p.0) (eqb-true s.writes t.writes q.0) (eqb-true s.synced t.synced q.1)
+
+  itself : s ≡ t → same_state s t ≡ true
+  itself e =
+      and_from (nat_eq s.len t.len) (nat_eq s.writes t.writes && nat_eq s.synced t.synced) (eq-eqb s.len t.len (ap (λ (x : FileState). x.len) e))
+      (and_from (nat_eq s.writes t.writes) (nat_eq s.synced t.synced) (eq-eqb s.writes t.writes (ap (λ (x : FileState). x.writes) e)) (eq-eqb s.synced t.synced (ap (λ (x : FileState). x.synced) e)))
+
 -- files of one descriptor with the same state and the same bytes
 pub same_of_states : (a b : List FileContents) (fd : ℤ) (s t : FileState) → Some s ≡ state_of a fd
     → Some t ≡ state_of b fd → s ≡ t

@@ -3,6 +3,8 @@
 ghost use Rattle.std.specs.Prelude.{◌≡◌, ◌↔◌, ◌<◌, ◌≤◌, ℕ, IsTrue, Contains, OnOk, length};
 ghost use Rattle.uring_moves.specs.Moments.{Moment};
 ghost use Rattle.uring_files.specs.Operations.{file_of, byte_of};
+ghost use Rattle.uring_outcomes.specs.Runs.{entries_of, StandsAt, Stands};
+ghost use Rattle.uring_outcomes.specs.Walks.{HasNoted, AddsOnce};
 
 use crate::fault::WalkFault;
 use crate::run::Run;
@@ -45,9 +47,6 @@ impl Ending {
         &self.files
     }
 }
-
-ghost use Rattle.uring_outcomes.specs.Runs.{entries_of, StandsAt, Stands};
-ghost use Rattle.uring_outcomes.specs.Walks.{HasNoted, ending_of, AddsOnce};
 
 /// Notes what the calls came to, if all is over and it isn't there yet. The run is used up.
 pub(crate) fn note(
@@ -118,13 +117,13 @@ fn same_files(one: &Files, other: &Files) -> bool
 fn same_file(one: &Files, other: &Files, fd: i32) -> bool
     ensures { IsTrue result ↔ (file_of one.now fd ≡ file_of other.now fd) }
 {
-    match (one.state(fd), other.state(fd)) {
-        (Some(state), Some(wanted)) => {
-            state == wanted && same_bytes(one, other, fd, state.len)
-        }
-        (None, None) => true,
-        _ => false,
-    }
+    let Some(state) = one.state(fd) else {
+        return other.state(fd).is_none();
+    };
+    let Some(wanted) = other.state(fd) else {
+        return false;
+    };
+    state == wanted && same_bytes(one, other, fd, state.len)
 }
 
 /// Whether the files of this descriptor have the same first bytes, so many.
@@ -133,9 +132,16 @@ fn same_bytes(one: &Files, other: &Files, fd: i32, len: u32) -> bool
         ↔ ((k : ℕ) → k < len → byte_of one.now fd k ≡ byte_of other.now fd k) }
 {
     for at in 0..len {
-        if one.byte(fd, u64::from(at)) != other.byte(fd, u64::from(at)) {
+        if !same_byte(one.byte(fd, u64::from(at)), other.byte(fd, u64::from(at))) {
             return false;
         }
     }
     true
+}
+
+/// Whether two bytes are the same, or there is neither.
+fn same_byte(one: Option<u8>, other: Option<u8>) -> bool
+    ensures { IsTrue result ↔ (one ≡ other) }
+{
+    one == other
 }

@@ -12,4 +12,4 @@ pub use ending::Ending;
 pub use fault::WalkFault;
 pub use uring_entry::{Cqe, Setup, Sqe};
 pub use uring_files::Files;
-pub use walk::outcomes;
+pub use walk::{Found, outcomes, outcomes_within};

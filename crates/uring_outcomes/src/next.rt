@@ -1,6 +1,6 @@
 //! The moves that can be made next.
 
-ghost use Rattle.std.specs.Prelude.{◌≡◌, ◌++◌, ℕ, true, List, IfOk, OnOk, MatchOption, Contains, Some};
+ghost use Rattle.std.specs.Prelude.{◌≡◌, [], true, List, IfOk, OnOk, MatchOption, Contains, Some};
 ghost use Rattle.uring_entry.specs.Layout.{Sqe};
 ghost use Rattle.uring_entry.specs.Requests.{is_issuable, is_running};
 ghost use Rattle.uring_moves.specs.Moments.{Moment, moved, is_finishable};
@@ -26,11 +26,32 @@ pub(crate) fn next_moves(
         → IfOk result (λ moves. HasNext prompt m moves.items) }
 {
     let mut moves = Vec::new(alloc);
-    match first_running(run, prompt) {
-        Some(number) => moves.push(Move::Finish { number })?,
-        None => add_all(run, calls, &mut moves)?,
+    match add_next(run, calls, prompt, &mut moves) {
+        Ok(()) => Ok(moves),
+        Err(fault) => {
+            drop(moves);
+            Err(fault)
+        }
     }
-    Ok(moves)
+}
+
+/// Adds the moves that can be made next to none.
+fn add_next(
+    run: &Run,
+    calls: &[Vec<Sqe>],
+    prompt: bool,
+    moves: &mut Vec<Move>,
+) -> Result<(), WalkFault>
+    requires stands { Stands (entries_of calls.now) run.now }
+    requires none { moves.old.items ≡ [] }
+    ensures { (m : Moment) → StandsAt (entries_of calls.now) run.now m
+        → OnOk result (HasNext prompt m moves.new.items) }
+{
+    let Some(number) = first_running(run, prompt) else {
+        return add_all(run, calls, moves);
+    };
+    moves.push(Move::Finish { number })?;
+    Ok(())
 }
 
 /// A request that runs, if only prompt moves are asked for and there is one.
@@ -43,7 +64,7 @@ fn first_running(run: &Run, prompt: bool) -> Option<u64>
         return None;
     }
     for number in 0..run.dispatch.accepted() {
-        if run.dispatch.running_op(number).is_some() {
+        if runs(run, number) {
             return Some(number);
         }
     }
@@ -78,11 +99,32 @@ fn add_of(run: &Run, number: u64, moves: &mut Vec<Move>) -> Result<(), WalkFault
         → OnOk result
         (is_finishable m.requests number ≡ true → Contains moves.new.items (move.Finish number)) }
 {
-    if run.dispatch.next_issuable(number) == Some(number) {
+    if can_issue(run, number) {
         moves.push(Move::Issue { number })?;
     }
-    if run.dispatch.running_op(number).is_some() {
+    if runs(run, number) {
         moves.push(Move::Finish { number })?;
     }
     Ok(())
+}
+
+/// Whether a request can be issued.
+fn can_issue(run: &Run, number: u64) -> bool
+    requires { (calls : List (List Sqe)) × Stands calls run.now }
+    ensures { (calls : List (List Sqe)) (m : Moment) → StandsAt calls run.now m
+        → is_issuable m.requests number ≡ true → result ≡ true }
+{
+    match run.dispatch.next_issuable(number) {
+        Some(next) => next == number,
+        None => false,
+    }
+}
+
+/// Whether a request runs.
+fn runs(run: &Run, number: u64) -> bool
+    requires { (calls : List (List Sqe)) × Stands calls run.now }
+    ensures { (calls : List (List Sqe)) (m : Moment) → StandsAt calls run.now m
+        → result ≡ is_running m.requests number }
+{
+    run.dispatch.running_op(number).is_some()
 }

@@ -4,7 +4,7 @@ ghost use Rattle.std.specs.Prelude.{◌≡◌, ◌++◌, ◌∷◌, [], true, fa
 ghost use Rattle.uring_entry.specs.Preparation.{is_cancel};
 ghost use Rattle.uring_moves.specs.Moments.{Moment, starting};
 ghost use Rattle.uring_moves.specs.Prompt.{NoneCancels};
-ghost use Rattle.uring_outcomes.specs.Outcomes.{AreAllEndings, AreOnce};
+ghost use Rattle.uring_outcomes.specs.Outcomes.{AreAllEndings, AreEndings, AreOnce};
 ghost use Rattle.uring_outcomes.specs.Runs.{entries_of, Stands, StandsAt};
 ghost use Rattle.uring_outcomes.specs.Walks.{paths_of, HasLonger, IsWalk, TakesPath};
 
@@ -16,7 +16,19 @@ use std::alloc::Global;
 use uring_entry::{Setup, Sqe, opcode};
 use uring_moves::Move;
 
-/// Everything that these calls may come to on empty files of this set-up: each outcome that moves give them is in the list, once, and nothing else is. Each call has the entries that it accepts.
+/// What was found of all that calls may come to.
+#[derive(Drop)]
+pub struct Found {
+    /// What moves lead to, each once.
+    pub endings: Vec<Ending>,
+
+    /// Whether these are all.
+    pub is_all: bool,
+}
+
+/// Everything that these calls may come to on empty files of this set-up: each ending that moves lead to is in the list, once, and nothing else is. Each call has the entries that it accepts.
+///
+/// `Paths`: 2^64 - 1 paths were taken, and some are left.
 pub fn outcomes(
     alloc: Global,
     setup: &Setup,
@@ -26,54 +38,83 @@ pub fn outcomes(
         (λ found. AreAllEndings setup.now (entries_of calls.now) found.items) }
     ensures once { IfOk result (λ found. AreOnce found.items) }
 {
-    let mut found = Vec::new(alloc);
-    match walk(alloc, setup, calls, &mut found) {
-        Ok(()) => Ok(found),
+    let found = outcomes_within(alloc, setup, calls, u64::MAX)?;
+    let Found { endings, is_all } = found;
+    if is_all {
+        Ok(endings)
+    } else {
+        drop(endings);
+        Err(WalkFault::Paths)
+    }
+}
+
+/// As `outcomes`, but it stops after so many paths. What it has found by then is right, and each of it is there once; whether it is all is told.
+pub fn outcomes_within(
+    alloc: Global,
+    setup: &Setup,
+    calls: &[Vec<Sqe>],
+    most: u64,
+) -> Result<Found, WalkFault>
+    ensures right { IfOk result
+        (λ found. AreEndings setup.now (entries_of calls.now) found.endings.items) }
+    ensures all { IfOk result
+        (λ found. found.is_all ≡ true → AreAllEndings setup.now (entries_of calls.now) found.endings.items) }
+    ensures once { IfOk result (λ found. AreOnce found.endings.items) }
+{
+    let mut endings = Vec::new(alloc);
+    match walk(alloc, setup, calls, most, &mut endings) {
+        Ok(is_all) => Ok(Found { endings, is_all }),
         Err(fault) => {
-            drop(found);
+            drop(endings);
             Err(fault)
         }
     }
 }
 
-/// Finds all outcomes, if none was found yet.
+/// Takes at most so many paths, from that of no move on, and tells whether none is left. Nothing was found yet.
 fn walk(
     alloc: Global,
     setup: &Setup,
     calls: &[Vec<Sqe>],
+    most: u64,
     found: &mut Vec<Ending>,
-) -> Result<(), WalkFault>
+) -> Result<bool, WalkFault>
     requires { found.old.items ≡ [] }
-    ensures all { OnOk result (AreAllEndings setup.now (entries_of calls.now) found.new.items) }
+    ensures right { OnOk result (AreEndings setup.now (entries_of calls.now) found.new.items) }
+    ensures all { IfOk result
+        (λ is_all. is_all ≡ true → AreAllEndings setup.now (entries_of calls.now) found.new.items) }
     ensures once { OnOk result (AreOnce found.new.items) }
 {
     let prompt = none_cancels(calls);
     let mut todo = Vec::new(alloc);
-    let done = take_all(alloc, setup, calls, prompt, &mut todo, found);
+    let done = take_all(alloc, setup, calls, prompt, most, &mut todo, found);
     drop(todo);
     done
 }
 
-/// Takes all paths, from that of no move on.
+/// Takes at most so many paths, from that of no move on, and tells whether none is left.
 fn take_all(
     alloc: Global,
     setup: &Setup,
     calls: &[Vec<Sqe>],
     prompt: bool,
+    most: u64,
     todo: &mut Vec<Vec<Move>>,
     found: &mut Vec<Ending>,
-) -> Result<(), WalkFault>
+) -> Result<bool, WalkFault>
     requires none { todo.old.items ≡ [] }
     requires none_found { found.old.items ≡ [] }
-    ensures { OnOk result (IsWalk setup.now (entries_of calls.now) prompt [] found.new.items) }
+    ensures walk { OnOk result
+        (IsWalk setup.now (entries_of calls.now) prompt (paths_of todo.new.items) found.new.items) }
+    ensures over { IfOk result (λ is_all. is_all ≡ true → todo.new.items ≡ []) }
 {
     todo.push(Vec::new(alloc))?;
-    'paths: for _ in 0..u64::MAX {
+    'paths: for _ in 0..most {
         if !take_one(alloc, setup, calls, prompt, todo, found)? {
-            return Ok(());
+            return Ok(true);
         }
     }
-    Err(WalkFault::Paths)
+    Ok(todo.is_empty())
 }
 
 /// Takes the last path, if there is one, and tells whether there was.
