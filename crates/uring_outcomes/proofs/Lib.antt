@@ -7,6 +7,7 @@ pub mod RunSteps
 pub mod Replaying
 -- Paths, and what was found:
 pub mod Covering
+pub mod Walking
 -- Endings that are the same:
 pub mod SameEndings
 -- How many files there are:

@@ -1,5 +1,7 @@
 -- What the run stands at behind each move: an acceptance, an issue that starts its request or ends it, and a finish.
 use Rattle.std.proofs.Common.{◌≡◌, ℕ, ◌+◌, ◌<◌, ◌≤◌, ℤ, Bool, true, false, List, [], ◌∷◌, ◌++◌, length, drop, get_or, Option, Some, None, if◌then◌else◌, refl, sym, subst, ap, ap₂, ◌∙◌, arith}
+use Rattle.std.specs.Borrow.{Bor}
+use Rattle.std.specs.Slice.{IsItemAt}
 use Rattle.std.specs.declared.vec.Vec.{Vec}
 use Rattle.std.specs.declared.alloc.Global.{Global}
 use Rattle.uring_entry.specs.Setup.{Setup}
@@ -196,3 +198,10 @@ pub posts_nothing : (old : List Cqe) (entry : Sqe) (res : ℤ) (bytes : List ℕ
     → posts_completion entry res ≡ false → old ≡ posted_with old entry res bytes
 posts_nothing old entry res bytes skipped =
     sym (ap (λ b. if b then old ++ completion_for entry res bytes ∷ [] else old) skipped)
+
+-- the call that is got
+pub call_there : (calls : List (Vec Sqe Global)) (k : ℕ) (call : Bor (Vec Sqe Global))
+    → IsItemAt calls k (Some call) → (k < length calls) × (call.now ≡ get_or calls k call.now)
+call_there calls k call is =
+    let among = is.3 in
+    (among.0, is.1)

@@ -155,8 +155,10 @@ fn post(
     ensures { OnOk result
         (posted.new.items ≡ posted_with posted.old.items entry.now res bytes) }
 {
-    if posts_completion(entry, succeeded(entry, res)) {
-        posted.push(Cqe::new(entry.user_data(), res, bytes))?;
+    let told = posts_completion(entry, succeeded(entry, res));
+    if !told {
+        return Ok(());
     }
+    posted.push(Cqe::new(entry.user_data(), res, bytes))?;
     Ok(())
 }
