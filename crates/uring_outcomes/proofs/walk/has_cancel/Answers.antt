@@ -9,7 +9,7 @@ use Rattle.uring_outcomes.proofs.walk.has_cancel.Goals as goal
 
 pub loop-entry-preserved : goal.loop-entry-preserved
 loop-entry-preserved c =
-    let no : is_cancel c.entry-item.result ≡ false = ne_eqb _ _ (λ e. c.if-opcode-eq.false (c.opcode.ensures ∙ e)) in
+    let no : is_cancel c.entry-item.result ≡ false = ne_eqb _ _ (λ e. c.if-opcode-eq-ASYNC_CANCEL.false (c.opcode.ensures ∙ e)) in
     All-more (λ e. is_cancel e ≡ false) c.args.entries.now c.loop-entry.entry-index c.entry-item.result (omega arith) c.loop-entry.invariant (subst (λ (e : Sqe). is_cancel e ≡ false) c.entry-item.is no)
 
 pub returns : goal.returns

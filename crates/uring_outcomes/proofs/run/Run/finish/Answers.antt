@@ -7,7 +7,7 @@ use Rattle.uring_outcomes.proofs.run.Run.finish.Goals as goal
 
 pub unreachable-requires : goal.unreachable-requires
 unreachable-requires c =
-    running_told c.requires.0 c.args.self.now c.args.number c.in-Some.op c.entry.result c.requires.1.moment c.requires.1.at (sym c.in-Some.is ∙ c.running_op.ensures _ c.requires.1.at.requests) (c.entry.ensures _ c.requires.1.at.requests) (sym c.in-None.is)
+    running_told c.requires.0 c.args.self.now c.args.number c.in-Some.op c.entry.result c.requires.1.moment c.requires.1.at (sym c.in-Some.is ∙ c.running_op.ensures _ c.requires.1.at.requests) (c.entry.ensures _ c.requires.1.at.requests) (sym c.in_default-entry.is)
 
 pub apply-outcome-requires : goal.apply-outcome-requires
 apply-outcome-requires c =
@@ -15,11 +15,11 @@ apply-outcome-requires c =
 
 pub returns : goal.returns
 returns c = λ calls m at.
-    finishes calls c.args.self.now _ m c.args.number c.in-Some.op c.in-Some-2.entry c.apply-outcome.result c.finish.result at
+    finishes calls c.args.self.now _ m c.args.number c.in-Some.op c.in-Some-entry.entry c.apply-outcome.result c.finish.result at
     (sym c.in-Some.is ∙ c.running_op.ensures m.requests at.requests)
-    (sym c.in-Some-2.is ∙ c.entry.ensures m.requests at.requests)
-    (called_for c.args.self.now.files c.in-Some.op c.apply-outcome.result c.apply-outcome.ensures.outcome c.if-outcome-res-eq.false)
+    (sym c.in-Some-entry.is ∙ c.entry.ensures m.requests at.requests)
+    (called_for c.args.self.now.files c.in-Some.op c.apply-outcome.result c.apply-outcome.ensures.outcome c.if-outcome.false)
     (c.finish.ensures.answer m.requests at.requests)
     (c.finish.ensures.shows m.requests at.requests)
     (finish_between c.finish.result _ _ c.finish.ensures.counts at.between)
-    c.in_ok-post.ensures c.apply-outcome.ensures.files refl
+    (let same = to_z-of_z w32 c.apply-outcome.result.res (search rules) in cc (c.in_ok-post.ensures, same)) c.apply-outcome.ensures.files refl

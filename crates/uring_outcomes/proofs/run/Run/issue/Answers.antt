@@ -11,4 +11,4 @@ returns-in-Run c = λ calls m at.
 pub returns-in_ok-post-in-Ended : goal.returns-in_ok-post-in-Ended
 returns-in_ok-post-in-Ended c = λ calls m at.
     let same = to_z-of_z w32 c.in-Ended.res (search rules) in
-    issue_ends calls c.args.self.now _ m c.args.number c.in-Ended.res c.in-Some.entry at (c.in-Ended.ensures.answer m.requests at.requests) (sym c.in-Some.is ∙ c.entry-entry.ensures m.requests at.requests) (c.in-Ended.ensures.shows m.requests at.requests) (c.in-Ended.ensures.counts.between ∙ at.between) (simp same at c.in_ok-post.ensures) refl refl
+    issue_ends calls c.args.self.now _ m c.args.number c.in-Ended.res c.in-Some.entry at (c.in-Ended.ensures.answer m.requests at.requests) (sym c.in-Some.is ∙ c.entry-entry.ensures m.requests at.requests) (c.in-Ended.ensures.shows m.requests at.requests) (c.in-Ended.ensures.counts.between ∙ at.between) (simp same at c.in_ok-post-in-Ended.ensures) refl refl
