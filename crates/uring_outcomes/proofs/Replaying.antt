@@ -2,7 +2,7 @@
 use Rattle.std.proofs.Common.{◌≡◌, ℕ, suc, ◌+◌, ◌<◌, ◌≤◌, Bool, true, false, List, [], ◌∷◌, ◌++◌, length, take, drop, get_or, Option, Some, None, refl, sym, subst, ap, ◌∙◌, arith, ◌⊎◌, inl, inr}
 use Rattle.std.specs.Prelude.{Contains}
 use Rattle.std.specs.Option.{option_and_then}
-use Rattle.std.proofs.lemmas.List.{take_more, take_all, take-append-drop}
+use Rattle.std.proofs.lemmas.List.{take_more, take_all, take-append-drop, get_or_default}
 use Rattle.std.proofs.Math.Seq.{drop-cons}
 use Rattle.std.proofs.lemmas.List.Elements.{Contains-append_left, Contains-push}
 use Rattle.std.proofs.lemmas.Bool.{cases_lt}
@@ -66,6 +66,29 @@ led_nowhere calls m path k x old new low is led made =
     let split : path ≡ take k path ++ (x ∷ drop (suc k) path) = sym (take-append-drop k path) ∙ ap (λ ys. take k path ++ ys) rest in
     not_made (StandsAt calls new) (after_moves m path)
     (ap (after_moves m) split ∙ (moves_behind (take k path) (x ∷ drop (suc k) path) m ∙ (ap (option_and_then (λ y. after_moves y (x ∷ drop (suc k) path))) led.leads ∙ ap (option_and_then (λ n. after_moves n (drop (suc k) path))) stops)))
+
+-- The same by the place of the move.
+
+pub stands_on_at : (calls : List (List Sqe)) (old new : Run) (path : List Move) (k : ℕ) (d : Move) (made : Bool)
+    → Stands calls old → made ≡ true
+    → ((m : Moment) → StandsAt calls old m → MadeAs made (moved m (get_or path k d)) (StandsAt calls new))
+    → Stands calls new
+stands_on_at calls old new path k d made s is makes =
+    stands_on calls old new (get_or path k d) s (λ m at. subst (λ b. MadeAs b (moved m (get_or path k d)) (StandsAt calls new)) is (makes m at))
+
+pub led_on_at : (calls : List (List Sqe)) (m : Moment) (path : List Move) (k : ℕ) (d : Move) (old new : Run) (made : Bool)
+    → k < length path → LedTo calls m (take k path) old → made ≡ true
+    → ((n : Moment) → StandsAt calls old n → MadeAs made (moved n (get_or path k d)) (StandsAt calls new))
+    → LedTo calls m (take (k + 1) path) new
+led_on_at calls m path k d old new made low led is makes =
+    led_on calls m path k (get_or path k d) old new low (get_or_default path k d (get_or path k d) low) led (λ n at. subst (λ b. MadeAs b (moved n (get_or path k d)) (StandsAt calls new)) is (makes n at))
+
+pub led_nowhere_at : (calls : List (List Sqe)) (m : Moment) (path : List Move) (k : ℕ) (d : Move) (old new : Run) (made : Bool)
+    → k < length path → LedTo calls m (take k path) old → made ≡ false
+    → ((n : Moment) → StandsAt calls old n → MadeAs made (moved n (get_or path k d)) (StandsAt calls new))
+    → MadeAs false (after_moves m path) (StandsAt calls new)
+led_nowhere_at calls m path k d old new made low led is makes =
+    led_nowhere calls m path k (get_or path k d) old new low (get_or_default path k d (get_or path k d) low) led (λ n at. subst (λ b. MadeAs b (moved n (get_or path k d)) (StandsAt calls new)) is (makes n at))
 
 pub led_all : (calls : List (List Sqe)) (m : Moment) (path : List Move) (k : ℕ) (run : Run)
     → length path ≤ k → LedTo calls m (take k path) run

@@ -1,4 +1,4 @@
-use Rattle.std.proofs.Common.{refl, sym, ◌∙◌, rules}
+use Rattle.std.proofs.Common.{refl, sym, ap, ◌∙◌, of_z, rules}
 use Rattle.std.specs.Int.{w32}
 use Rattle.std.proofs.lemmas.Int.{to_z-of_z}
 use Rattle.uring_outcomes.proofs.Moving.{called_for}
@@ -18,7 +18,7 @@ returns c = λ calls m at.
     finishes calls c.args.self.now _ m c.args.number c.in-Some.op c.in-Some-entry.entry c.apply-outcome.result c.finish.result at
     (sym c.in-Some.is ∙ c.running_op.ensures m.requests at.requests)
     (sym c.in-Some-entry.is ∙ c.entry.ensures m.requests at.requests)
-    (called_for c.args.self.now.files c.in-Some.op c.apply-outcome.result c.apply-outcome.ensures.outcome c.if-outcome.false)
+    (called_for c.args.self.now.files c.in-Some.op c.apply-outcome.result c.apply-outcome.ensures.outcome (λ e. c.if-outcome.false (ap (of_z w32) e)))
     (c.finish.ensures.answer m.requests at.requests)
     (c.finish.ensures.shows m.requests at.requests)
     (finish_between c.finish.result _ _ c.finish.ensures.counts at.between)
