@@ -1,21 +1,19 @@
 -- That a walk covers all lists of moves: `path_taken` when a path is taken, `no_path` when it can't be made, and `all_found` when none is left.
-use Rattle.std.proofs.Common.{◌≡◌, ℕ, ◌+◌, ◌<◌, Bool, true, false, List, [], ◌∷◌, ◌++◌, length, get_or, map, Option, Some, None, refl, sym, subst, ap, ap₂, ◌∙◌, arith, ◌⊎◌, inl, inr, append_assoc, append-nil}
-use Rattle.std.specs.Prelude.{Contains, AllPairs, unwrap_or, ◌↔◌}
+use Rattle.std.proofs.Common.{◌≡◌, ◌<◌, Bool, true, false, List, [], ◌∷◌, ◌++◌, length, get_or, map, Option, Some, None, refl, sym, subst, ap, ap₂, ◌∙◌, arith, ◌⊎◌, inl, inr, append_assoc, append-nil}
+use Rattle.std.specs.Prelude.{Contains}
 use Rattle.std.specs.Option.{option_and_then}
 use Rattle.std.proofs.Math.ListN.{get_or-map}
 use Rattle.std.proofs.lemmas.List.{length-map}
-use Rattle.std.proofs.lemmas.Bool.{cases_Bool}
 use Rattle.std.proofs.lemmas.List.Elements.{Contains-append_left, Contains-append_right, Contains-push, Contains-push_cases, Contains-get_or}
 use Rattle.std.proofs.lemmas.List.Quantifiers.{all_pairs_push}
 use Rattle.uring_entry.specs.Setup.{Setup}
 use Rattle.uring_entry.specs.Layout.{Sqe}
 use Rattle.uring_moves.specs.Moments.{Moment, starting, moved, after_moves}
-use Rattle.uring_moves.specs.Outcomes.{IsOver, LeadsTo}
+use Rattle.uring_moves.specs.Outcomes.{IsOver}
 use Rattle.uring_moves.specs.Prompt.{IsPrompt, ArePrompt, NoneCancels}
 use Rattle.uring_moves.specs.declared.move_of_calls.Move.{Move}
 use Rattle.uring_moves.proofs.Prompting.{prompt_moves_lead}
 use Rattle.uring_outcomes.specs.Outcomes.{Ending, CanEnd, AreEndings, AreAllEndings, AreOnce}
-use Rattle.uring_outcomes.specs.Runs.{HasNext}
 use Rattle.uring_outcomes.specs.Walks.{ending_of, BeginsIn, IsCovered, HasNoted, AddsOnce, IsWalk, TakesPath, HasLonger}
 
 -- Lists.
@@ -105,11 +103,11 @@ covered_on g calls prompt path m todo after found noted leads longer n covered m
       | inl there ↦ inl (n.kept (ending_of last) there)
       | inr b ↦ elim (Contains-push_cases todo path b.path b.there) [
         | inl old ↦ inr (record {
-            path = b.path;
-            rest = b.rest;
-            there = stays_todo todo after b.path (map (λ x. path ++ x ∷ []) longer.moves) longer.is old;
-            is = b.is;
-          })
+          path = b.path;
+          rest = b.rest;
+          there = stays_todo todo after b.path (map (λ x. path ++ x ∷ []) longer.moves) longer.is old;
+          is = b.is;
+        })
         | inr this ↦
             let is : moves ≡ path ++ b.rest = b.is ∙ ap (λ p. p ++ b.rest) (sym this) in
             subst (λ xs. Contains noted (ending_of last) ⊎ BeginsIn after xs) (sym is)
@@ -124,13 +122,13 @@ right_on g calls path m found noted leads n right e there =
     elim (n.right e there) [
       | inl old ↦ right e old
       | inr new ↦ subst (CanEnd g calls) (sym new.1) (record {
-          moves = path;
-          last = m;
-          leads = leads;
-          over = new.0;
-          posts = refl;
-          leaves = refl;
-        })
+        moves = path;
+        last = m;
+        leads = leads;
+        over = new.0;
+        posts = refl;
+        leaves = refl;
+      })
     ]
 
 pub path_taken : (g : Setup) (calls : List (List Sqe)) (prompt : Bool) (path : List Move) (m : Moment) (todo after : List (List Move)) (found noted : List Ending)
@@ -212,20 +210,20 @@ pub noted_over : (m : Moment) (old new : List Ending) → IsOver m → AddsOnce 
 noted_over m old new over adds =
     elim adds [
       | inl there ↦ record {
-          kept = λ e has. subst (λ xs. Contains xs e) (sym there.0) has;
-          right = λ e has. inl (subst (λ xs. Contains xs e) there.0 has);
-          noted = λ o. subst (λ xs. Contains xs (ending_of m)) (sym there.0) there.1;
-          once = λ o. subst AreOnce (sym there.0) o;
-        }
+        kept = λ e has. subst (λ xs. Contains xs e) (sym there.0) has;
+        right = λ e has. inl (subst (λ xs. Contains xs e) there.0 has);
+        noted = λ o. subst (λ xs. Contains xs (ending_of m)) (sym there.0) there.1;
+        once = λ o. subst AreOnce (sym there.0) o;
+      }
       | inr more ↦ record {
-          kept = λ e has. subst (λ xs. Contains xs e) (sym more.0) (Contains-append_left old (ending_of m ∷ []) e has);
-          right = λ e has. elim (Contains-push_cases old (ending_of m) e (subst (λ xs. Contains xs e) more.0 has)) [
-            | inl was ↦ inl was
-            | inr is ↦ inr (over, sym is)
-          ];
-          noted = λ o. subst (λ xs. Contains xs (ending_of m)) (sym more.0) (Contains-push old (ending_of m));
-          once = λ o. subst AreOnce (sym more.0) (not_again old (ending_of m) more.1 o);
-        }
+        kept = λ e has. subst (λ xs. Contains xs e) (sym more.0) (Contains-append_left old (ending_of m ∷ []) e has);
+        right = λ e has. elim (Contains-push_cases old (ending_of m) e (subst (λ xs. Contains xs e) more.0 has)) [
+          | inl was ↦ inl was
+          | inr is ↦ inr (over, sym is)
+        ];
+        noted = λ o. subst (λ xs. Contains xs (ending_of m)) (sym more.0) (Contains-push old (ending_of m));
+        once = λ o. subst AreOnce (sym more.0) (not_again old (ending_of m) more.1 o);
+      }
     ]
 
 pub none_noted : (m : Moment) (found : List Ending) → (IsOver m → ⊥) → HasNoted m found found

@@ -1,12 +1,7 @@
 -- The law of `laws.rt`, by those of `uring_moves`.
-use Rattle.std.proofs.Common.{◌≡◌, List, map, refl}
-use Rattle.std.specs.Prelude.{◌↔◌, Contains}
+use Rattle.std.proofs.Common.{refl}
 use Rattle.uring_entry.specs.Setup.{Setup}
-use Rattle.uring_entry.specs.Submission.{Published}
-use Rattle.uring_moves.specs.Outcomes.{CallsOutcome, IsOutcomeOf, entries_in}
-use Rattle.uring_moves.specs.Laws.{AreTakenWhole}
 use Rattle.uring_moves.proofs.OutcomeLaws.{histories_are_moves, moves_are_histories}
-use Rattle.uring_outcomes.specs.Outcomes.{Ending, AreAllEndings}
 use Rattle.uring_outcomes.specs.Laws.{outcome_of, EndingsAreOutcomes}
 
 pub endings_are_outcomes : (g : Setup) → EndingsAreOutcomes g

@@ -1,14 +1,13 @@
 -- What the dispatcher answers, and the moves that it makes: `issue_moves`, `accept_moves` and `finish_moves`.
 -- What the run stands at behind them.
-use Rattle.std.proofs.Common.{◌≡◌, ℕ, suc, ◌+◌, ◌<◌, ◌≤◌, ℤ, neg_ℤ, Bool, true, false, not, ◌&&◌, ◌||◌, nat_lt, nat_le, if◌then◌else◌, List, [], ◌∷◌, ◌++◌, length, drop, get_or, map, Option, Some, None, is_some, refl, sym, subst, ap, ◌∙◌, arith, ◌⊎◌, inl, inr}
-use Rattle.std.specs.Prelude.{Contains, unwrap_or}
+use Rattle.std.proofs.Common.{◌≡◌, ℕ, suc, ◌+◌, ◌<◌, ◌≤◌, ℤ, neg_ℤ, Bool, true, false, not, ◌&&◌, ◌||◌, nat_lt, nat_le, if◌then◌else◌, List, [], ◌∷◌, ◌++◌, length, drop, get_or, Option, Some, None, refl, sym, subst, ap, ◌∙◌, arith, inl, inr}
 use Rattle.std.specs.Option.{option_and_then}
 use Rattle.std.specs.declared.vec.Vec.{Vec}
 use Rattle.std.specs.declared.alloc.Global.{Global}
 use Rattle.std.proofs.Math.ListN.{get_or-map}
 use Rattle.std.proofs.Math.Seq.{drop-cons}
 use Rattle.std.proofs.lemmas.List.{drop_all, length-map}
-use Rattle.std.proofs.lemmas.Bool.{and_parts, both_ways, cases_lt, lt-ltb, le-leb, ltb-true, leb-true, false_from_ne_true}
+use Rattle.std.proofs.lemmas.Bool.{and_parts, lt-ltb, le-leb, ltb-true, leb-true, false_from_ne_true}
 use Rattle.uring_entry.specs.Layout.{Sqe}
 use Rattle.uring_entry.specs.Preparation.{is_cancel, operation_of}
 use Rattle.uring_entry.specs.Requests.{Requests, entry_of, has_started, has_ended, is_outstanding, is_running, is_doomed, is_ready, is_issuable, doomed_result, cancel_result, with_call, operation_running, entry_outstanding}
@@ -17,18 +16,17 @@ use Rattle.uring_entry.specs.declared.operation.Op.{Op}
 use Rattle.uring_entry.specs.declared.operation.Outcome.{Outcome}
 use Rattle.uring_entry.proofs.BelowLemmas.{least_below-some}
 use Rattle.uring_files.specs.Contents.{FileContents}
-use Rattle.uring_files.specs.Operations.{IsForFiles, IsOutcome, result_of}
-use Rattle.uring_dispatch.specs.Dispatch.{Dispatch, ShowsRequests}
+use Rattle.uring_files.specs.Operations.{IsOutcome, result_of}
 use Rattle.uring_dispatch.specs.Issuable.{issuable_from}
 use Rattle.uring_dispatch.specs.IssueAndFinish as asked
 use Rattle.uring_dispatch.specs.declared.answers.Issued.{Issued}
 use Rattle.uring_dispatch.specs.declared.answers.Issued.TheVariants.{Run, Ended, NotReady, Running, Unknown}
-use Rattle.uring_moves.specs.Moments.{Moment, starting, accepted, started, ended_at_once, issued, finished, is_finishable, moved, after_moves}
+use Rattle.uring_moves.specs.Moments.{Moment, starting, accepted, started, ended_at_once, issued, finished, is_finishable, moved}
 use Rattle.uring_moves.specs.declared.move_of_calls.Move.{Move}
 use Rattle.uring_moves.specs.declared.move_of_calls.Move.TheVariants as move
 use Rattle.uring_moves.proofs.MovesLead.{one_move_more, can_then}
-use Rattle.uring_moves.proofs.SoundMoments.{IsSoundMoment, moment_sound, asks_files}
-use Rattle.uring_outcomes.specs.Runs.{entries_of, IsReached, StandsAt, Stands, MadeAs}
+use Rattle.uring_moves.proofs.SoundMoments.{IsSoundMoment, moment_sound}
+use Rattle.uring_outcomes.specs.Runs.{entries_of, IsReached, MadeAs}
 
 -- What was made.
 
@@ -59,16 +57,16 @@ abbrev answer_by : (outstanding running doomed ready cancel : Bool) → (as_doom
 answer_by outstanding running doomed ready cancel as_doomed as_cancel op =
     if not outstanding then Unknown else
     (if running then Running else
-     (if doomed then Ended as_doomed else
-      (if not ready then NotReady else
-       (if cancel then Ended as_cancel else Run op))))
+    (if doomed then Ended as_doomed else
+    (if not ready then NotReady else
+    (if cancel then Ended as_cancel else Run op))))
 
 -- the move, by the same
 abbrev move_by : Moment → ℕ → (outstanding running doomed ready cancel : Bool) → (as_doomed as_cancel : ℤ) → Option Moment
 move_by m n outstanding running doomed ready cancel as_doomed as_cancel =
     if (outstanding && not running && (doomed || ready)) then
-      Some (if doomed then ended_at_once m n as_doomed else
-            (if cancel then ended_at_once m n as_cancel else started m n))
+    Some (if doomed then ended_at_once m n as_doomed else
+    (if cancel then ended_at_once m n as_cancel else started m n))
     else None
 
 -- the move that an issue with this answer makes

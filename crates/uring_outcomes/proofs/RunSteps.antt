@@ -1,5 +1,5 @@
 -- What the run stands at behind each move: an acceptance, an issue that starts its request or ends it, and a finish.
-use Rattle.std.proofs.Common.{◌≡◌, ℕ, ◌+◌, ◌<◌, ◌≤◌, ℤ, Bool, true, false, List, [], ◌∷◌, ◌++◌, length, drop, get_or, Option, Some, None, if◌then◌else◌, refl, sym, subst, ap, ap₂, ◌∙◌, arith}
+use Rattle.std.proofs.Common.{◌≡◌, ℕ, ◌+◌, ◌<◌, ◌≤◌, ℤ, true, false, List, [], ◌∷◌, ◌++◌, length, drop, get_or, Option, Some, None, if◌then◌else◌, refl, sym, subst, ap, ap₂, ◌∙◌, arith}
 use Rattle.std.specs.Borrow.{Bor}
 use Rattle.std.specs.Slice.{IsItemAt}
 use Rattle.std.specs.declared.vec.Vec.{Vec}
@@ -12,7 +12,7 @@ use Rattle.uring_entry.specs.Preparation.{operation_of}
 use Rattle.uring_entry.specs.Requests.{Requests, no_request, entry_of, is_running, no_bytes, with_call, with_started, with_ended, with_issued_end, operation_running, entry_outstanding}
 use Rattle.uring_entry.specs.declared.operation.Op.{Op}
 use Rattle.uring_entry.specs.declared.operation.Outcome.{Outcome}
-use Rattle.uring_files.specs.Contents.{FileContents, empty_files}
+use Rattle.uring_files.specs.Contents.{empty_files}
 use Rattle.uring_files.specs.Operations.{IsForFiles, after, result_of}
 use Rattle.uring_dispatch.specs.Dispatch.{Dispatch, ShowsRequests, FinishCounts}
 use Rattle.uring_dispatch.specs.IssueAndFinish as asked
@@ -24,7 +24,7 @@ use Rattle.uring_moves.specs.Moments.{Moment, starting, started, ended_at_once, 
 use Rattle.uring_moves.specs.declared.move_of_calls.Move.{Move}
 use Rattle.uring_moves.specs.declared.move_of_calls.Move.TheVariants as move
 use Rattle.uring_moves.proofs.SoundMoments.{asks_files}
-use Rattle.uring_outcomes.specs.Runs.{entries_of, StandsAt, Stands, MadeAs}
+use Rattle.uring_outcomes.specs.Runs.{entries_of, StandsAt, MadeAs}
 use Rattle.uring_outcomes.specs.declared.run.Run.{Run}
 use Rattle.uring_outcomes.proofs.Moving.{made_so, not_made, reached_on, sound_at, issue_moves, ended_outstanding, entry_told, told_if_outstanding, accept_moves, none_left, none_accepted, runs_told, idle_told, running_outstanding, finish_moves, finish_stays}
 

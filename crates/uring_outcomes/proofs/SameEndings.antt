@@ -1,12 +1,11 @@
 -- That two endings are the same: completion by completion, and each file by what is told of it.
-use Rattle.std.proofs.Common.{◌≡◌, ℕ, suc, ◌-◌, ◌<◌, ◌≤◌, ℤ, pos, Bool, true, false, ◌&&◌, List, [], ◌∷◌, length, Option, Some, None, refl, sym, ap, ap₂, subst, ◌∙◌, arith}
+use Rattle.std.proofs.Common.{◌≡◌, ℕ, suc, ◌-◌, ◌<◌, ◌≤◌, ℤ, pos, Bool, true, ◌&&◌, List, [], ◌∷◌, length, Option, Some, None, refl, sym, ap, ap₂, ◌∙◌, arith}
 use Rattle.std.specs.Prelude.{nat_eq, slice_get}
 use Rattle.std.specs.Option.{option_map, option_and_then}
 use Rattle.std.specs.Bool.{Decides}
 use Rattle.std.specs.Ordering.{int_eq}
 use Rattle.std.proofs.lemmas.Bool.{eq-eqb, eqb-true, and_parts, and_from}
 use Rattle.std.proofs.lemmas.Bool.Decides.{Decides-int_eq}
-use Rattle.std.proofs.lemmas.Slice.Eq.{slice_eq-Decides}
 use lib.Pointwise.{pointwise, bytes_decides}
 use Rattle.uring_entry.specs.Layout.{Cqe}
 use Rattle.uring_files.specs.Contents.{FileContents}
@@ -76,7 +75,7 @@ same_by_state (Some f) (Some h) s t is are same bytes =
     let lens : length f.bytes ≡ length h.bytes = ap (λ (x : FileState). x.len) both in
     ap (λ x. Some x)
     (file_by f h (same_by_places f.bytes h.bytes (length f.bytes) (omega arith) (omega arith) (λ k low. bytes k (omega arith)))
-     (ap (λ (x : FileState). x.writes) both) (ap (λ (x : FileState). x.synced) both))
+    (ap (λ (x : FileState). x.writes) both) (ap (λ (x : FileState). x.synced) both))
 
 -- what `==` returns of two states
 abbrev pub same_state : FileState → FileState → Bool

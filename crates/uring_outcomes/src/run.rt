@@ -146,12 +146,7 @@ fn accept_call(dispatch: &mut Dispatch, entries: &[Sqe])
 }
 
 /// Posts the completion of a request of this entry that ended so, unless it is to be skipped.
-fn post(
-    posted: &mut Vec<Cqe>,
-    entry: &Sqe,
-    res: i32,
-    bytes: [u8; 64],
-) -> Result<(), WalkFault>
+fn post(posted: &mut Vec<Cqe>, entry: &Sqe, res: i32, bytes: [u8; 64]) -> Result<(), WalkFault>
     ensures { OnOk result
         (posted.new.items ≡ posted_with posted.old.items entry.now res bytes) }
 {

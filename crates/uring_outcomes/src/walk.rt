@@ -29,11 +29,7 @@ pub struct Found {
 /// Everything that these calls may come to on empty files of this set-up: each ending that moves lead to is in the list, once, and nothing else is. Each call has the entries that it accepts.
 ///
 /// `Paths`: 2^64 - 1 paths were taken, and some are left.
-pub fn outcomes(
-    alloc: Global,
-    setup: &Setup,
-    calls: &[Vec<Sqe>],
-) -> Result<Vec<Ending>, WalkFault>
+pub fn outcomes(alloc: Global, setup: &Setup, calls: &[Vec<Sqe>]) -> Result<Vec<Ending>, WalkFault>
     ensures all { IfOk result
         (λ found. AreAllEndings setup.now (entries_of calls.now) found.items) }
     ensures once { IfOk result (λ found. AreOnce found.items) }
