@@ -1,0 +1,235 @@
+-- That a walk covers all lists of moves: `path_taken` when a path is taken, `no_path` when it can't be made, and `all_found` when none is left.
+use Rattle.std.proofs.Common.{◌≡◌, ◌<◌, Bool, true, false, List, [], ◌∷◌, ◌++◌, length, get_or, map, Option, Some, None, refl, sym, subst, ap, ap₂, ◌∙◌, arith, ◌⊎◌, inl, inr, append_assoc, append-nil}
+use Rattle.std.specs.Prelude.{Contains}
+use Rattle.std.specs.Option.{option_and_then}
+use Rattle.std.proofs.Math.ListN.{get_or-map}
+use Rattle.std.proofs.lemmas.List.{length-map}
+use Rattle.std.proofs.lemmas.List.Elements.{Contains-append_left, Contains-append_right, Contains-push, Contains-push_cases, Contains-get_or}
+use Rattle.std.proofs.lemmas.List.Quantifiers.{all_pairs_push}
+use Rattle.uring_entry.specs.Setup.{Setup}
+use Rattle.uring_entry.specs.Layout.{Sqe}
+use Rattle.uring_moves.specs.Moments.{Moment, starting, moved, after_moves}
+use Rattle.uring_moves.specs.Outcomes.{IsOver}
+use Rattle.uring_moves.specs.Prompt.{IsPrompt, ArePrompt, NoneCancels}
+use Rattle.uring_moves.specs.declared.move_of_calls.Move.{Move}
+use Rattle.uring_moves.proofs.Prompting.{prompt_moves_lead}
+use Rattle.uring_outcomes.specs.Outcomes.{Ending, CanEnd, AreEndings, AreAllEndings, AreOnce}
+use Rattle.uring_outcomes.specs.Walks.{ending_of, BeginsIn, IsCovered, HasNoted, AddsOnce, IsWalk, TakesPath, HasLonger}
+
+-- Lists.
+
+contains_map : {X Y : Type 0} (f : X → Y) (xs : List X) (x : X) → Contains xs x → Contains (map f xs) (f x)
+contains_map f xs x there =
+    let low : there.0 < length xs = there.1 in
+    (there.0, omega (arith, low, length-map xs f), get_or-map f xs there.0 x ∙ ap f there.2)
+
+none_there : {X : Type 0} (x : X) → Contains [] x → ⊥
+none_there x there = let low : there.0 < 0 = there.1 in omega (arith, low)
+
+-- Moves behind moves.
+
+behind : (o : Option Moment) (f h : Moment → Option Moment) → ((y : Moment) → f y ≡ h y)
+    → option_and_then f o ≡ option_and_then h o
+behind None f h e = refl
+behind (Some y) f h e = e y
+
+nested : (o : Option Moment) (f h : Moment → Option Moment)
+    → option_and_then (λ y. option_and_then h (f y)) o ≡ option_and_then h (option_and_then f o)
+nested None f h = refl
+nested (Some y) f h = refl
+
+pub moves_behind : (path rest : List Move) (m : Moment)
+    → after_moves m (path ++ rest) ≡ option_and_then (λ y. after_moves y rest) (after_moves m path)
+moves_behind [] rest m = refl
+moves_behind (x ∷ path) rest m =
+    behind (moved m x) (λ y. after_moves y (path ++ rest)) (λ y. option_and_then (λ z. after_moves z rest) (after_moves y path)) (λ y. moves_behind path rest y)
+    ∙ nested (moved m x) (λ y. after_moves y path) (λ z. after_moves z rest)
+
+same_some : (m n : Moment) → Some m ≡ Some n → m ≡ n
+same_some m n e = cc
+
+-- the move behind a path is prompt where it is made
+prompt_behind : (path : List Move) (x : Move) (later : List Move) (start m : Moment)
+    → after_moves start path ≡ Some m → ArePrompt start (path ++ x ∷ later) → IsPrompt m x
+prompt_behind [] x later start m leads prompt =
+    subst (λ y. IsPrompt y x) (same_some start m leads) prompt.0
+prompt_behind (first ∷ path) x later start m leads prompt =
+    by_first (moved start first) refl leads (λ next. prompt_behind path x later next m) where
+      by_first : (next : Option Moment) → moved start first ≡ next → option_and_then (λ n. after_moves n path) next ≡ Some m → ((n : Moment) → after_moves n path ≡ Some m → ArePrompt n (path ++ x ∷ later) → IsPrompt m x) → IsPrompt m x
+      by_first None is e go_on = absurd cc
+      by_first (Some next) is e go_on = go_on next e (prompt.1 next is)
+
+-- A path is taken.
+
+-- what begins with the path goes on from it, by a move that can be made
+goes_on : (g : Setup) (calls : List (List Sqe)) (prompt : Bool) (path : List Move) (m last : Moment) (todo after : List (List Move)) (found : List Ending) (rest : List Move)
+    → after_moves (starting g calls) path ≡ Some m
+    → HasLonger prompt m path todo after
+    → (IsOver m → Contains found (ending_of m))
+    → (prompt ≡ true → ArePrompt (starting g calls) (path ++ rest))
+    → after_moves (starting g calls) (path ++ rest) ≡ Some last → IsOver last
+    → Contains found (ending_of last) ⊎ BeginsIn after (path ++ rest)
+goes_on g calls prompt path m last todo after found [] leads longer noted wanted ends over =
+    let here : m ≡ last = same_some m last (sym leads ∙ (sym (ap (after_moves (starting g calls)) (append-nil path)) ∙ ends)) in
+    inl (subst (λ y. Contains found (ending_of y)) here (noted (subst IsOver (sym here) over)))
+goes_on g calls prompt path m last todo after found (x ∷ later) leads longer noted wanted ends over =
+    by_next (moved m x) refl behind_path where
+      behind_path : option_and_then (λ n. after_moves n later) (moved m x) ≡ Some last
+      behind_path = sym (ap (option_and_then (λ y. after_moves y (x ∷ later))) leads) ∙ (sym (moves_behind path (x ∷ later) (starting g calls)) ∙ ends)
+
+      by_next : (next : Option Moment) → moved m x ≡ next → option_and_then (λ n. after_moves n later) next ≡ Some last → Contains found (ending_of last) ⊎ BeginsIn after (path ++ x ∷ later)
+      by_next None is e = absurd cc
+      by_next (Some next) is e =
+          let among : Contains longer.moves x = longer.next x next is (λ p. prompt_behind path x later (starting g calls) m leads (wanted p)) in
+          let added : Contains (map (λ y. path ++ y ∷ []) longer.moves) (path ++ x ∷ []) = contains_map (λ y. path ++ y ∷ []) longer.moves x among in
+          inr (record {
+            path = path ++ x ∷ [];
+            rest = later;
+            there = subst (λ ps. Contains ps (path ++ x ∷ [])) (sym longer.is) (Contains-append_right todo (map (λ y. path ++ y ∷ []) longer.moves) (path ++ x ∷ []) added);
+            is = sym (append_assoc path (x ∷ []) later);
+          })
+
+stays_todo : (todo after : List (List Move)) (path : List Move) (moves : List (List Move))
+    → after ≡ todo ++ moves → Contains todo path → Contains after path
+stays_todo todo after path moves is there =
+    subst (λ ps. Contains ps path) (sym is) (Contains-append_left todo moves path there)
+
+covered_on : (g : Setup) (calls : List (List Sqe)) (prompt : Bool) (path : List Move) (m : Moment) (todo after : List (List Move)) (found noted : List Ending)
+    → after_moves (starting g calls) path ≡ Some m
+    → HasLonger prompt m path todo after → HasNoted m found noted
+    → IsCovered g calls prompt (todo ++ path ∷ []) found → IsCovered g calls prompt after noted
+covered_on g calls prompt path m todo after found noted leads longer n covered moves last wanted ends over =
+    elim (covered moves last wanted ends over) [
+      | inl there ↦ inl (n.kept (ending_of last) there)
+      | inr b ↦ elim (Contains-push_cases todo path b.path b.there) [
+        | inl old ↦ inr (record {
+          path = b.path;
+          rest = b.rest;
+          there = stays_todo todo after b.path (map (λ x. path ++ x ∷ []) longer.moves) longer.is old;
+          is = b.is;
+        })
+        | inr this ↦
+            let is : moves ≡ path ++ b.rest = b.is ∙ ap (λ p. p ++ b.rest) (sym this) in
+            subst (λ xs. Contains noted (ending_of last) ⊎ BeginsIn after xs) (sym is)
+            (goes_on g calls prompt path m last todo after noted b.rest leads longer n.noted (λ p. subst (ArePrompt (starting g calls)) is (wanted p)) (sym (ap (after_moves (starting g calls)) is) ∙ ends) over)
+      ]
+    ]
+
+right_on : (g : Setup) (calls : List (List Sqe)) (path : List Move) (m : Moment) (found noted : List Ending)
+    → after_moves (starting g calls) path ≡ Some m → HasNoted m found noted
+    → AreEndings g calls found → AreEndings g calls noted
+right_on g calls path m found noted leads n right e there =
+    elim (n.right e there) [
+      | inl old ↦ right e old
+      | inr new ↦ subst (CanEnd g calls) (sym new.1) (record {
+        moves = path;
+        last = m;
+        leads = leads;
+        over = new.0;
+        posts = refl;
+        leaves = refl;
+      })
+    ]
+
+pub path_taken : (g : Setup) (calls : List (List Sqe)) (prompt : Bool) (path : List Move) (m : Moment) (todo after : List (List Move)) (found noted : List Ending)
+    → after_moves (starting g calls) path ≡ Some m
+    → HasLonger prompt m path todo after → HasNoted m found noted
+    → TakesPath g calls prompt path todo found after noted
+path_taken g calls prompt path m todo after found noted leads longer n walk = record {
+  covered = covered_on g calls prompt path m todo after found noted leads longer n walk.covered;
+  right = right_on g calls path m found noted leads n walk.right;
+  once = n.once walk.once;
+}
+
+-- nothing begins with a path that can't be made
+pub no_path : (g : Setup) (calls : List (List Sqe)) (prompt : Bool) (path : List Move) (todo : List (List Move)) (found : List Ending)
+    → after_moves (starting g calls) path ≡ None
+    → TakesPath g calls prompt path todo found todo found
+no_path g calls prompt path todo found none walk = record {
+  covered = λ moves last wanted ends over. elim (walk.covered moves last wanted ends over) [
+    | inl there ↦ inl there
+    | inr b ↦ elim (Contains-push_cases todo path b.path b.there) [
+      | inl old ↦ inr (record { path = b.path; rest = b.rest; there = old; is = b.is })
+      | inr this ↦
+          let is : moves ≡ path ++ b.rest = b.is ∙ ap (λ p. p ++ b.rest) (sym this) in
+          let fails : ◌≡◌ {A = Option Moment} None (Some last) = sym (ap (option_and_then (λ y. after_moves y b.rest)) none) ∙ (sym (moves_behind path b.rest (starting g calls)) ∙ (sym (ap (after_moves (starting g calls)) is) ∙ ends)) in
+          absurd cc
+    ]
+  ];
+  right = walk.right;
+  once = walk.once;
+}
+
+-- The beginning, and the end.
+
+pub at_first : (g : Setup) (calls : List (List Sqe)) (prompt : Bool) → IsWalk g calls prompt ([] ∷ []) []
+at_first g calls prompt = record {
+  covered = λ moves last wanted ends over. inr (record {
+    path = [];
+    rest = moves;
+    there = (0, omega arith, refl);
+    is = refl;
+  });
+  right = λ e there. absurd (none_there e there);
+  once = λ i j d first low. absurd (omega (arith, first, low));
+}
+
+-- what some moves lead to, and prompt ones if no entry is a cancel, is among those found
+found_by : (g : Setup) (calls : List (List Sqe)) (prompt : Bool) (found : List Ending) (e : Ending) (to : CanEnd g calls e)
+    → IsCovered g calls prompt [] found → (prompt ≡ true → ArePrompt (starting g calls) to.moves)
+    → Contains found e
+found_by g calls prompt found e to covered prompted =
+    let same : ending_of to.last ≡ e = ap₂ (λ posted files. record { posted = posted; files = files }) to.posts to.leaves in
+    elim (covered to.moves to.last prompted to.leads to.over) [
+      | inl there ↦ subst (Contains found) same there
+      | inr b ↦ absurd (none_there b.path b.there)
+    ]
+
+pub all_found : (g : Setup) (calls : List (List Sqe)) (prompt : Bool) (found : List Ending)
+    → (prompt ≡ true → NoneCancels calls) → IsWalk g calls prompt [] found
+    → AreAllEndings g calls found
+all_found g calls prompt found none walk e = (walk.right e, λ to. by_prompt prompt refl to) where
+  by_prompt : (p : Bool) → prompt ≡ p → CanEnd g calls e → Contains found e
+  by_prompt true is to =
+      let q = prompt_moves_lead g calls e.posted e.files (none is) to in
+      found_by g calls prompt found e q.0 walk.covered (λ p. q.1)
+  by_prompt false is to =
+      found_by g calls prompt found e to walk.covered (λ p. absurd (let f : false ≡ true = sym is ∙ p in cc))
+
+-- An ending is noted.
+
+same_there : {X : Type 0} (xs : List X) (y x : X) → y ≡ x → Contains xs y → Contains xs x
+same_there xs y x is there = subst (Contains xs) is there
+
+not_again : (found : List Ending) (e : Ending) → (Contains found e → ⊥) → AreOnce found → AreOnce (found ++ e ∷ [])
+not_again found e new once =
+    all_pairs_push (λ a b. a ≡ b → ⊥) found e once (λ k d low is. new (same_there found (get_or found k d) e is (Contains-get_or found k d low)))
+
+pub noted_over : (m : Moment) (old new : List Ending) → IsOver m → AddsOnce (ending_of m) old new
+    → HasNoted m old new
+noted_over m old new over adds =
+    elim adds [
+      | inl there ↦ record {
+        kept = λ e has. subst (λ xs. Contains xs e) (sym there.0) has;
+        right = λ e has. inl (subst (λ xs. Contains xs e) there.0 has);
+        noted = λ o. subst (λ xs. Contains xs (ending_of m)) (sym there.0) there.1;
+        once = λ o. subst AreOnce (sym there.0) o;
+      }
+      | inr more ↦ record {
+        kept = λ e has. subst (λ xs. Contains xs e) (sym more.0) (Contains-append_left old (ending_of m ∷ []) e has);
+        right = λ e has. elim (Contains-push_cases old (ending_of m) e (subst (λ xs. Contains xs e) more.0 has)) [
+          | inl was ↦ inl was
+          | inr is ↦ inr (over, sym is)
+        ];
+        noted = λ o. subst (λ xs. Contains xs (ending_of m)) (sym more.0) (Contains-push old (ending_of m));
+        once = λ o. subst AreOnce (sym more.0) (not_again old (ending_of m) more.1 o);
+      }
+    ]
+
+pub none_noted : (m : Moment) (found : List Ending) → (IsOver m → ⊥) → HasNoted m found found
+none_noted m found goes = record {
+  kept = λ e has. has;
+  right = λ e has. inl has;
+  noted = λ over. absurd (goes over);
+  once = λ o. o;
+}

@@ -1,0 +1,16 @@
+-- In the order in which they are best read.
+-- What the dispatcher answers, and the moves:
+pub mod Moving
+-- What the run stands at behind a move:
+pub mod RunSteps
+-- Moves made one after the other, and what can be made next:
+pub mod Replaying
+-- Paths, and what was found:
+pub mod Covering
+pub mod Walking
+-- Endings that are the same:
+pub mod SameEndings
+-- How many files there are:
+pub mod FileCounts
+-- The law:
+pub mod EndingLaws

@@ -1,0 +1,256 @@
+-- What the dispatcher answers, and the moves that it makes: `issue_moves`, `accept_moves` and `finish_moves`.
+-- What the run stands at behind them.
+use Rattle.std.proofs.Common.{◌≡◌, ℕ, suc, ◌+◌, ◌<◌, ◌≤◌, ℤ, neg_ℤ, Bool, true, false, not, ◌&&◌, ◌||◌, nat_lt, nat_le, if◌then◌else◌, List, [], ◌∷◌, ◌++◌, length, drop, get_or, Option, Some, None, refl, sym, subst, ap, ◌∙◌, arith, inl, inr}
+use Rattle.std.specs.Option.{option_and_then}
+use Rattle.std.specs.declared.vec.Vec.{Vec}
+use Rattle.std.specs.declared.alloc.Global.{Global}
+use Rattle.std.proofs.Math.ListN.{get_or-map}
+use Rattle.std.proofs.Math.Seq.{drop-cons}
+use Rattle.std.proofs.lemmas.List.{drop_all, length-map}
+use Rattle.std.proofs.lemmas.Bool.{and_parts, lt-ltb, le-leb, ltb-true, leb-true, false_from_ne_true}
+use Rattle.uring_entry.specs.Layout.{Sqe}
+use Rattle.uring_entry.specs.Preparation.{is_cancel, operation_of}
+use Rattle.uring_entry.specs.Requests.{Requests, entry_of, has_started, has_ended, is_outstanding, is_running, is_doomed, is_ready, is_issuable, doomed_result, cancel_result, with_call, operation_running, entry_outstanding}
+use Rattle.uring_entry.specs.declared.errno.TheConstants.{ENOMEM}
+use Rattle.uring_entry.specs.declared.operation.Op.{Op}
+use Rattle.uring_entry.specs.declared.operation.Outcome.{Outcome}
+use Rattle.uring_entry.proofs.BelowLemmas.{least_below-some}
+use Rattle.uring_files.specs.Contents.{FileContents}
+use Rattle.uring_files.specs.Operations.{IsOutcome, result_of}
+use Rattle.uring_dispatch.specs.Issuable.{issuable_from}
+use Rattle.uring_dispatch.specs.IssueAndFinish as asked
+use Rattle.uring_dispatch.specs.declared.answers.Issued.{Issued}
+use Rattle.uring_dispatch.specs.declared.answers.Issued.TheVariants.{Run, Ended, NotReady, Running, Unknown}
+use Rattle.uring_moves.specs.Moments.{Moment, starting, accepted, started, ended_at_once, issued, finished, is_finishable, moved}
+use Rattle.uring_moves.specs.declared.move_of_calls.Move.{Move}
+use Rattle.uring_moves.specs.declared.move_of_calls.Move.TheVariants as move
+use Rattle.uring_moves.proofs.MovesLead.{one_move_more, can_then}
+use Rattle.uring_moves.proofs.SoundMoments.{IsSoundMoment, moment_sound}
+use Rattle.uring_outcomes.specs.Runs.{entries_of, IsReached, MadeAs}
+
+-- What was made.
+
+pub made_so : (P : Moment → Type 0) (o : Option Moment) (next : Moment) → o ≡ Some next → P next
+    → MadeAs true o P
+made_so P o next is p = subst (λ x. MadeAs true x P) (sym is) (refl, p)
+
+pub not_made : (P : Moment → Type 0) (o : Option Moment) → o ≡ None → MadeAs false o P
+not_made P o is = subst (λ x. MadeAs false x P) (sym is) refl
+
+-- one move behind a reached moment
+pub reached_on : (calls : List (List Sqe)) (m next : Moment) (x : Move) → IsReached calls m
+    → moved m x ≡ Some next → IsReached calls next
+reached_on calls m next x r is = record {
+  setup = r.setup;
+  few_files = r.few_files;
+  moves = r.moves ++ x ∷ [];
+  leads = one_move_more r.moves (starting r.setup calls) x ∙ (ap (option_and_then (λ z. moved z x)) r.leads ∙ is);
+}
+
+pub sound_at : (calls : List (List Sqe)) (m : Moment) → IsReached calls m → IsSoundMoment m.requests
+sound_at calls m r = moment_sound r.setup calls r.moves m r.leads
+
+-- An issue.
+
+-- the answer, by what is so of the request
+abbrev answer_by : (outstanding running doomed ready cancel : Bool) → (as_doomed as_cancel : ℤ) → Op → Issued
+answer_by outstanding running doomed ready cancel as_doomed as_cancel op =
+    if not outstanding then Unknown else
+    (if running then Running else
+    (if doomed then Ended as_doomed else
+    (if not ready then NotReady else
+    (if cancel then Ended as_cancel else Run op))))
+
+-- the move, by the same
+abbrev move_by : Moment → ℕ → (outstanding running doomed ready cancel : Bool) → (as_doomed as_cancel : ℤ) → Option Moment
+move_by m n outstanding running doomed ready cancel as_doomed as_cancel =
+    if (outstanding && not running && (doomed || ready)) then
+    Some (if doomed then ended_at_once m n as_doomed else
+    (if cancel then ended_at_once m n as_cancel else started m n))
+    else None
+
+-- the move that an issue with this answer makes
+abbrev pub IssueMoves : Moment → ℕ → Issued → Option Moment → Type 0
+IssueMoves m n (Run op) o = o ≡ Some (started m n)
+IssueMoves m n (Ended res) o = o ≡ Some (ended_at_once m n res)
+IssueMoves m n NotReady o = o ≡ None
+IssueMoves m n Running o = o ≡ None
+IssueMoves m n Unknown o = o ≡ None
+
+moves_by : (m : Moment) (n : ℕ) (outstanding running doomed ready cancel : Bool) (as_doomed as_cancel : ℤ) (op : Op)
+    → IssueMoves m n (answer_by outstanding running doomed ready cancel as_doomed as_cancel op) (move_by m n outstanding running doomed ready cancel as_doomed as_cancel)
+moves_by m n false running doomed ready cancel as_doomed as_cancel op = refl
+moves_by m n true true doomed ready cancel as_doomed as_cancel op = refl
+moves_by m n true false true ready cancel as_doomed as_cancel op = refl
+moves_by m n true false false false cancel as_doomed as_cancel op = refl
+moves_by m n true false false true true as_doomed as_cancel op = refl
+moves_by m n true false false true false as_doomed as_cancel op = refl
+
+pub issue_moves : (m : Moment) (n : ℕ) (a : Issued) → a ≡ asked.issued m.requests n
+    → IssueMoves m n a (moved m (move.Issue n))
+issue_moves m n a is =
+    let r : Requests = m.requests in
+    subst (λ x. IssueMoves m n x (moved m (move.Issue n))) (sym is)
+    (moves_by m n (is_outstanding r n) (is_running r n) (is_doomed r n) (is_ready r n) (is_cancel (entry_of r n)) (doomed_result r n) (cancel_result r n) (operation_of (entry_of r n)))
+
+ended_by : (outstanding running doomed ready cancel : Bool) (as_doomed as_cancel res : ℤ) (op : Op)
+    → Ended res ≡ answer_by outstanding running doomed ready cancel as_doomed as_cancel op
+    → outstanding ≡ true
+ended_by true running doomed ready cancel as_doomed as_cancel res op e = refl
+ended_by false running doomed ready cancel as_doomed as_cancel res op e = absurd cc
+
+-- what ended as it was issued was outstanding
+pub ended_outstanding : (r : Requests) (n : ℕ) (res : ℤ) → Ended res ≡ asked.issued r n
+    → is_outstanding r n ≡ true
+ended_outstanding r n res e =
+    ended_by (is_outstanding r n) (is_running r n) (is_doomed r n) (is_ready r n) (is_cancel (entry_of r n)) (doomed_result r n) (cancel_result r n) res (operation_of (entry_of r n)) e
+
+-- the entry that is told of a request
+entry_by : (outstanding : Bool) (e told : Sqe) → Some told ≡ (if outstanding then Some e else None) → told ≡ e
+entry_by true e told is = cc
+entry_by false e told is = absurd cc
+
+pub entry_told : (r : Requests) (n : ℕ) (told : Sqe) → Some told ≡ entry_outstanding r n
+    → told ≡ entry_of r n
+entry_told r n told is = entry_by (is_outstanding r n) (entry_of r n) told is
+
+entry_there : (outstanding : Bool) (e : Sqe) → outstanding ≡ true
+    → None ≡ (if outstanding then Some e else None) → ⊥
+entry_there true e is none = cc
+entry_there false e is none = cc
+
+-- an outstanding request has an entry
+pub told_if_outstanding : (r : Requests) (n : ℕ) → is_outstanding r n ≡ true → None ≡ entry_outstanding r n
+    → ⊥
+told_if_outstanding r n is none = entry_there (is_outstanding r n) (entry_of r n) is none
+
+-- The next call.
+
+pub accept_moves : (calls : List (Vec Sqe Global)) (m : Moment) (k : ℕ) (call : Vec Sqe Global)
+    → m.left ≡ drop k (entries_of calls) → k < length calls → call ≡ get_or calls k call
+    → moved m move.Accept
+    ≡ Some (record m { requests = with_call m.requests call.items; left = drop (k + 1) (entries_of calls) })
+accept_moves calls m k call left low is =
+    let all : List (List Sqe) = entries_of calls in
+    let within : k < length all = omega (arith, length-map calls (λ (v : Vec Sqe Global). v.items)) in
+    let there : get_or all k call.items ≡ call.items = get_or-map (λ (v : Vec Sqe Global). v.items) calls k call ∙ ap (λ (v : Vec Sqe Global). v.items) (sym is) in
+    let next : suc k ≡ k + 1 = omega arith in
+    let split : m.left ≡ call.items ∷ drop (k + 1) all = left ∙ drop-cons all k call.items within ∙ ap (λ e. e ∷ drop (suc k) all) there ∙ ap (λ j. call.items ∷ drop j all) next in
+    ap (accepted m) split
+
+-- none is left behind the last
+pub none_left : (calls : List (Vec Sqe Global)) (m : Moment) (k : ℕ) → m.left ≡ drop k (entries_of calls)
+    → length calls ≤ k → m.left ≡ []
+none_left calls m k left past =
+    left ∙ drop_all k (entries_of calls) (omega (arith, length-map calls (λ (v : Vec Sqe Global). v.items)))
+
+pub none_accepted : (m : Moment) → m.left ≡ [] → moved m move.Accept ≡ None
+none_accepted m none = ap (accepted m) none
+
+-- some is left before it
+pub some_left : (calls : List (Vec Sqe Global)) (m : Moment) (k : ℕ) → m.left ≡ drop k (entries_of calls)
+    → k < length calls → m.left ≡ [] → ⊥
+some_left calls m k left low none =
+    let all : List (List Sqe) = entries_of calls in
+    let within : k < length all = omega (arith, length-map calls (λ (v : Vec Sqe Global). v.items)) in
+    let both : ◌≡◌ {A = List (List Sqe)} [] (get_or all k [] ∷ drop (suc k) all) = sym none ∙ left ∙ drop-cons all k [] within in
+    cc
+
+-- A finish.
+
+running_by : (running : Bool) (op told : Op) → Some told ≡ (if running then Some op else None)
+    → (running ≡ true) × (told ≡ op)
+running_by true op told is = (refl, cc)
+running_by false op told is = absurd cc
+
+idle_by : (running : Bool) (op : Op) → None ≡ (if running then Some op else None) → running ≡ false
+idle_by true op is = absurd cc
+idle_by false op is = refl
+
+pub runs_told : (r : Requests) (n : ℕ) (told : Op) → Some told ≡ operation_running r n
+    → (is_running r n ≡ true) × (told ≡ operation_of (entry_of r n))
+runs_told r n told is = running_by (is_running r n) (operation_of (entry_of r n)) told is
+
+pub idle_told : (r : Requests) (n : ℕ) → None ≡ operation_running r n → is_running r n ≡ false
+idle_told r n is = idle_by (is_running r n) (operation_of (entry_of r n)) is
+
+-- what runs was accepted
+pub running_accepted : (r : Requests) (n : ℕ) → IsSoundMoment r → is_running r n ≡ true
+    → n < length r.accepted
+running_accepted r n i running = i.sound.started_accepted n (and_parts (has_started r n) (not (has_ended r n)) running).0
+
+both_so : (a b : Bool) → a ≡ true → b ≡ true → (a && b) ≡ true
+both_so true true e f = refl
+both_so true false e f = absurd cc
+both_so false b e f = absurd cc
+
+-- and is outstanding
+pub running_outstanding : (r : Requests) (n : ℕ) → IsSoundMoment r → is_running r n ≡ true
+    → is_outstanding r n ≡ true
+running_outstanding r n i running =
+    both_so (nat_lt n (length r.accepted)) (not (has_ended r n)) (lt-ltb n (length r.accepted) (running_accepted r n i running)) (and_parts (has_started r n) (not (has_ended r n)) running).1
+
+pub finish_moves : (m : Moment) (n : ℕ) → IsSoundMoment m.requests → is_running m.requests n ≡ true
+    → moved m (move.Finish n) ≡ Some (finished m n)
+finish_moves m n i running =
+    can_then (is_finishable m.requests n) (finished m n) (finished m n) (both_so (nat_lt n (length m.requests.accepted)) (is_running m.requests n) (lt-ltb n (length m.requests.accepted) (running_accepted m.requests n i running)) running) refl
+
+and_idle : (a b : Bool) → b ≡ false → (a && b) ≡ false
+and_idle true b e = e
+and_idle false b e = refl
+
+pub finish_stays : (m : Moment) (n : ℕ) → is_running m.requests n ≡ false
+    → moved m (move.Finish n) ≡ None
+finish_stays m n idle =
+    ap (λ b. if b then Some (finished m n) else None) (and_idle (nat_lt n (length m.requests.accepted)) (is_running m.requests n) idle)
+
+-- What can be made next.
+
+-- what can be issued was accepted
+pub issuable_accepted : (r : Requests) (n : ℕ) → is_issuable r n ≡ true → n < length r.accepted
+issuable_accepted r n can =
+    let p = and_parts (is_outstanding r n && not (is_running r n)) (is_doomed r n || is_ready r n) can in
+    let q = and_parts (is_outstanding r n) (not (is_running r n)) p.0 in
+    let s = and_parts (nat_lt n (length r.accepted)) (not (has_ended r n)) q.0 in
+    ltb-true n (length r.accepted) s.0
+
+below_not : (n j : ℕ) → j < n → nat_le n j ≡ false
+below_not n j low = false_from_ne_true (nat_le n j) (λ e. let le : n ≤ j = leb-true n j e in omega arith)
+
+-- and is the least from its number on that can be
+pub issuable_first : (r : Requests) (n : ℕ) → is_issuable r n ≡ true → issuable_from r n ≡ Some n
+issuable_first r n can =
+    least_below-some (λ k. nat_le n k && is_issuable r k) (length r.accepted) n (issuable_accepted r n can)
+    (both_so (nat_le n n) (is_issuable r n) (le_itself n) can)
+    (λ j low. ap (λ b. b && is_issuable r j) (below_not n j low)) where
+      le_itself : (k : ℕ) → nat_le k k ≡ true
+      le_itself k = le-leb k k (omega arith)
+
+-- a move that can be made, by cases
+can_of : (can : Bool) (m next : Moment) → (if can then Some m else None) ≡ Some next → can ≡ true
+can_of true m next e = refl
+can_of false m next e = absurd cc
+
+pub issue_can : (m next : Moment) (n : ℕ) → moved m (move.Issue n) ≡ Some next
+    → is_issuable m.requests n ≡ true
+issue_can m next n e = can_of (is_issuable m.requests n) (issued m n) next e
+
+pub finish_can : (m next : Moment) (n : ℕ) → moved m (move.Finish n) ≡ Some next
+    → is_finishable m.requests n ≡ true
+finish_can m next n e = can_of (is_finishable m.requests n) (finished m n) next e
+
+-- what can be finished was accepted, and runs
+pub finishable_tells : (r : Requests) (n : ℕ) → is_finishable r n ≡ true
+    → (n < length r.accepted) × (is_running r n ≡ true)
+finishable_tells r n e =
+    let p = and_parts (nat_lt n (length r.accepted)) (is_running r n) e in
+    (ltb-true n (length r.accepted) p.0, p.1)
+
+-- an operation that didn't end for want of memory ended as it is called for
+pub called_for : (files : List FileContents) (op : Op) (o : Outcome) → IsOutcome files op o
+    → (o.res ≡ neg_ℤ ENOMEM → ⊥) → o ≡ result_of files op
+called_for files op o allowed granted =
+    elim allowed [
+      | inl called ↦ called
+      | inr refused ↦ absurd (granted (ap (λ (x : Outcome). x.res) refused.1))
+    ]

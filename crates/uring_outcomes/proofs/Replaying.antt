@@ -1,0 +1,149 @@
+-- Moves that are made one after the other, and the moves that can be made next.
+use Rattle.std.proofs.Common.{◌≡◌, ℕ, suc, ◌+◌, ◌<◌, ◌≤◌, Bool, true, false, List, [], ◌∷◌, ◌++◌, length, take, drop, get_or, Option, Some, None, refl, sym, subst, ap, ◌∙◌, arith, inl, inr}
+use Rattle.std.specs.Prelude.{Contains}
+use Rattle.std.specs.Option.{option_and_then}
+use Rattle.std.proofs.lemmas.List.{take_more, take_all, take-append-drop, get_or_default}
+use Rattle.std.proofs.Math.Seq.{drop-cons}
+use Rattle.std.proofs.lemmas.Bool.{cases_lt}
+use Rattle.uring_entry.specs.Layout.{Sqe}
+use Rattle.uring_entry.specs.Requests.{is_issuable, is_running}
+use Rattle.uring_moves.specs.Moments.{Moment, is_finishable, moved, after_moves}
+use Rattle.uring_moves.specs.declared.move_of_calls.Move.{Move}
+use Rattle.uring_moves.specs.declared.move_of_calls.Move.TheVariants as move
+use Rattle.uring_moves.proofs.MovesLead.{one_move_more}
+use Rattle.uring_outcomes.specs.Runs.{StandsAt, Stands, MadeAs, LedTo, HasNext, HasBelow}
+use Rattle.uring_outcomes.specs.declared.run.Run.{Run}
+use Rattle.uring_outcomes.proofs.Covering.{moves_behind}
+use Rattle.uring_outcomes.proofs.Moving.{made_so, not_made, issue_can, finish_can, issuable_accepted, finishable_tells}
+
+-- what is so of a move that was made, and of one that wasn't
+pub record IsMade (P : Moment → Type 0) (o : Option Moment) : Type 0 where
+  pub next : Moment
+  pub is : o ≡ Some next
+  pub so : P next
+
+pub made_tells : (P : Moment → Type 0) (o : Option Moment) → MadeAs true o P → IsMade P o
+made_tells P None made = absurd (let f : true ≡ false = made in cc)
+made_tells P (Some next) made = record { next = next; is = refl; so = made.1 }
+
+pub not_made_tells : (P : Moment → Type 0) (o : Option Moment) → MadeAs false o P → o ≡ None
+not_made_tells P None made = refl
+not_made_tells P (Some next) made = absurd (let f : false ≡ true = made.0 in cc)
+
+-- the run stands somewhere once a move was made
+pub stands_on : (calls : List (List Sqe)) (old new : Run) (x : Move) → Stands calls old
+    → ((m : Moment) → StandsAt calls old m → MadeAs true (moved m x) (StandsAt calls new))
+    → Stands calls new
+stands_on calls old new x s made =
+    let t = made_tells (StandsAt calls new) (moved s.moment x) (made s.moment s.at) in
+    record { moment = t.next; at = t.so }
+
+pub led_first : (calls : List (List Sqe)) (m : Moment) (run : Run) → StandsAt calls run m → LedTo calls m [] run
+led_first calls m run at = record { last = m; leads = refl; at = at }
+
+pub led_on : (calls : List (List Sqe)) (m : Moment) (path : List Move) (k : ℕ) (x : Move) (old new : Run)
+    → k < length path → x ≡ get_or path k x → LedTo calls m (take k path) old
+    → ((n : Moment) → StandsAt calls old n → MadeAs true (moved n x) (StandsAt calls new))
+    → LedTo calls m (take (k + 1) path) new
+led_on calls m path k x old new low is led made =
+    let t = made_tells (StandsAt calls new) (moved led.last x) (made led.last led.at) in
+    let more : take (k + 1) path ≡ take k path ++ x ∷ [] = take_more path k x low ∙ ap (λ y. take k path ++ y ∷ []) (sym is) in
+    record {
+      last = t.next;
+      leads = ap (after_moves m) more ∙ (one_move_more (take k path) m x ∙ (ap (option_and_then (λ z. moved z x)) led.leads ∙ t.is));
+      at = t.so;
+    }
+
+pub led_nowhere : (calls : List (List Sqe)) (m : Moment) (path : List Move) (k : ℕ) (x : Move) (old new : Run)
+    → k < length path → x ≡ get_or path k x → LedTo calls m (take k path) old
+    → ((n : Moment) → StandsAt calls old n → MadeAs false (moved n x) (StandsAt calls new))
+    → MadeAs false (after_moves m path) (StandsAt calls new)
+led_nowhere calls m path k x old new low is led made =
+    let stops : moved led.last x ≡ None = not_made_tells (StandsAt calls new) (moved led.last x) (made led.last led.at) in
+    let rest : drop k path ≡ x ∷ drop (suc k) path = drop-cons path k x low ∙ ap (λ y. y ∷ drop (suc k) path) (sym is) in
+    let split : path ≡ take k path ++ (x ∷ drop (suc k) path) = sym (take-append-drop k path) ∙ ap (λ ys. take k path ++ ys) rest in
+    not_made (StandsAt calls new) (after_moves m path)
+    (ap (after_moves m) split ∙ (moves_behind (take k path) (x ∷ drop (suc k) path) m ∙ (ap (option_and_then (λ y. after_moves y (x ∷ drop (suc k) path))) led.leads ∙ ap (option_and_then (λ n. after_moves n (drop (suc k) path))) stops)))
+
+-- The same by the place of the move.
+
+pub stands_on_at : (calls : List (List Sqe)) (old new : Run) (path : List Move) (k : ℕ) (d : Move) (made : Bool)
+    → Stands calls old → made ≡ true
+    → ((m : Moment) → StandsAt calls old m → MadeAs made (moved m (get_or path k d)) (StandsAt calls new))
+    → Stands calls new
+stands_on_at calls old new path k d made s is makes =
+    stands_on calls old new (get_or path k d) s (λ m at. subst (λ b. MadeAs b (moved m (get_or path k d)) (StandsAt calls new)) is (makes m at))
+
+pub led_on_at : (calls : List (List Sqe)) (m : Moment) (path : List Move) (k : ℕ) (d : Move) (old new : Run) (made : Bool)
+    → k < length path → LedTo calls m (take k path) old → made ≡ true
+    → ((n : Moment) → StandsAt calls old n → MadeAs made (moved n (get_or path k d)) (StandsAt calls new))
+    → LedTo calls m (take (k + 1) path) new
+led_on_at calls m path k d old new made low led is makes =
+    led_on calls m path k (get_or path k d) old new low (get_or_default path k d (get_or path k d) low) led (λ n at. subst (λ b. MadeAs b (moved n (get_or path k d)) (StandsAt calls new)) is (makes n at))
+
+pub led_nowhere_at : (calls : List (List Sqe)) (m : Moment) (path : List Move) (k : ℕ) (d : Move) (old new : Run) (made : Bool)
+    → k < length path → LedTo calls m (take k path) old → made ≡ false
+    → ((n : Moment) → StandsAt calls old n → MadeAs made (moved n (get_or path k d)) (StandsAt calls new))
+    → MadeAs false (after_moves m path) (StandsAt calls new)
+led_nowhere_at calls m path k d old new made low led is makes =
+    led_nowhere calls m path k (get_or path k d) old new low (get_or_default path k d (get_or path k d) low) led (λ n at. subst (λ b. MadeAs b (moved n (get_or path k d)) (StandsAt calls new)) is (makes n at))
+
+pub led_all : (calls : List (List Sqe)) (m : Moment) (path : List Move) (k : ℕ) (run : Run)
+    → length path ≤ k → LedTo calls m (take k path) run
+    → MadeAs true (after_moves m path) (StandsAt calls run)
+led_all calls m path k run past led =
+    made_so (StandsAt calls run) (after_moves m path) led.last (ap (after_moves m) (sym (take_all k path past)) ∙ led.leads) led.at
+
+-- What can be made next.
+
+pub none_below : (m : Moment) (xs : List Move) → HasBelow m 0 xs
+none_below m xs = record {
+  issues = λ n low can. absurd (omega (arith, low));
+  finishes = λ n low can. absurd (omega (arith, low));
+}
+
+pub more_below : (m : Moment) (k : ℕ) (old new : List Move) → HasBelow m k old
+    → ((x : Move) → Contains old x → Contains new x)
+    → (is_issuable m.requests k ≡ true → Contains new (move.Issue k))
+    → (is_finishable m.requests k ≡ true → Contains new (move.Finish k))
+    → HasBelow m (k + 1) new
+more_below m k old new below kept issue finish = record {
+  issues = λ n low can. elim (cases_lt n k) [
+    | inl before ↦ kept (move.Issue n) (below.issues n before can)
+    | inr here ↦
+        let same : k ≡ n = omega (arith, low, here) in
+        subst (λ j. Contains new (move.Issue j)) same (issue (subst (λ j. is_issuable m.requests j ≡ true) (sym same) can))
+  ];
+  finishes = λ n low can. elim (cases_lt n k) [
+    | inl before ↦ kept (move.Finish n) (below.finishes n before can)
+    | inr here ↦
+        let same : k ≡ n = omega (arith, low, here) in
+        subst (λ j. Contains new (move.Finish j)) same (finish (subst (λ j. is_finishable m.requests j ≡ true) (sym same) can))
+  ];
+}
+
+pub has_all : (m : Moment) (count : ℕ) (xs : List Move) → length m.requests.accepted ≤ count
+    → ((next : Moment) → moved m move.Accept ≡ Some next → Contains xs move.Accept)
+    → HasBelow m count xs
+    → (x : Move) (next : Moment) → moved m x ≡ Some next → Contains xs x
+has_all m count xs all accepts below move.Accept next is = accepts next is
+has_all m count xs all accepts below (move.Issue n) next is =
+    let can : is_issuable m.requests n ≡ true = issue_can m next n is in
+    let low : n < length m.requests.accepted = issuable_accepted m.requests n can in
+    below.issues n (omega arith) can
+has_all m count xs all accepts below (move.Finish n) next is =
+    let can : is_finishable m.requests n ≡ true = finish_can m next n is in
+    let low : n < length m.requests.accepted = (finishable_tells m.requests n can).0 in
+    below.finishes n (omega arith) can
+
+-- every move that can be made is among these, and so each prompt one
+pub next_any : (prompt : Bool) (m : Moment) (xs : List Move)
+    → ((x : Move) (next : Moment) → moved m x ≡ Some next → Contains xs x) → HasNext prompt m xs
+next_any prompt m xs all x next is wanted = all x next is
+
+-- while a request runs, only its finish is prompt
+pub next_finish : (prompt : Bool) (m : Moment) (n : ℕ) (xs : List Move) → prompt ≡ true
+    → is_running m.requests n ≡ true → xs ≡ move.Finish n ∷ [] → HasNext prompt m xs
+next_finish prompt m n xs asked running is x next made wanted =
+    let finishes : x ≡ move.Finish n = wanted asked n running in
+    subst (λ ys. Contains ys x) (sym is) (0, omega arith, sym finishes)

@@ -1,0 +1,207 @@
+-- What the run stands at behind each move: an acceptance, an issue that starts its request or ends it, and a finish.
+use Rattle.std.proofs.Common.{◌≡◌, ℕ, ◌+◌, ◌<◌, ◌≤◌, ℤ, true, false, List, [], ◌∷◌, ◌++◌, length, drop, get_or, Option, Some, None, if◌then◌else◌, refl, sym, subst, ap, ap₂, ◌∙◌, arith}
+use Rattle.std.specs.Borrow.{Bor}
+use Rattle.std.specs.Slice.{IsItemAt}
+use Rattle.std.specs.declared.vec.Vec.{Vec}
+use Rattle.std.specs.declared.alloc.Global.{Global}
+use Rattle.uring_entry.specs.Setup.{Setup}
+use Rattle.uring_entry.specs.Layout.{Sqe, Cqe}
+use Rattle.uring_entry.specs.Success.{posts_completion}
+use Rattle.uring_entry.specs.Completions.{completion_for}
+use Rattle.uring_entry.specs.Preparation.{operation_of}
+use Rattle.uring_entry.specs.Requests.{Requests, no_request, entry_of, is_running, no_bytes, with_call, with_started, with_ended, with_issued_end, operation_running, entry_outstanding}
+use Rattle.uring_entry.specs.declared.operation.Op.{Op}
+use Rattle.uring_entry.specs.declared.operation.Outcome.{Outcome}
+use Rattle.uring_files.specs.Contents.{empty_files}
+use Rattle.uring_files.specs.Operations.{IsForFiles, after, result_of}
+use Rattle.uring_dispatch.specs.Dispatch.{Dispatch, ShowsRequests, FinishCounts}
+use Rattle.uring_dispatch.specs.IssueAndFinish as asked
+use Rattle.uring_dispatch.specs.declared.answers.Issued.{Issued}
+use Rattle.uring_dispatch.specs.declared.answers.Issued.TheVariants as answer
+use Rattle.uring_dispatch.specs.declared.answers.Finished.{Finished}
+use Rattle.uring_dispatch.specs.declared.answers.Finished.TheVariants as finish
+use Rattle.uring_moves.specs.Moments.{Moment, starting, started, ended_at_once, finished, posted_with, moved}
+use Rattle.uring_moves.specs.declared.move_of_calls.Move.{Move}
+use Rattle.uring_moves.specs.declared.move_of_calls.Move.TheVariants as move
+use Rattle.uring_moves.proofs.SoundMoments.{asks_files}
+use Rattle.uring_outcomes.specs.Runs.{entries_of, StandsAt, MadeAs}
+use Rattle.uring_outcomes.specs.declared.run.Run.{Run}
+use Rattle.uring_outcomes.proofs.Moving.{made_so, not_made, reached_on, sound_at, issue_moves, ended_outstanding, entry_told, told_if_outstanding, accept_moves, none_left, none_accepted, runs_told, idle_told, running_outstanding, finish_moves, finish_stays}
+
+-- The run stands at the moment behind a move.
+pub stands_behind : (calls : List (List Sqe)) (old new : Run) (m next : Moment) (x : Move)
+    → StandsAt calls old m → moved m x ≡ Some next
+    → ShowsRequests new.dispatch next.requests → new.dispatch.is_between_calls ≡ true
+    → new.posted.items ≡ next.posted → new.files ≡ next.files → next.left ≡ drop new.next_call calls
+    → MadeAs true (moved m x) (StandsAt calls new)
+stands_behind calls old new m next x at is requests between posted files left =
+    made_so (StandsAt calls new) (moved m x) next is (record {
+      reached = reached_on calls m next x at.reached is;
+      requests = requests;
+      between = between;
+      posted = posted;
+      files = files;
+      left = left;
+    })
+
+-- a new run stands at the start
+pub starts : (calls : List (List Sqe)) (g : Setup) (run : Run) (count : ℕ) → g.files ≡ count → count ≤ 64
+    → ShowsRequests run.dispatch no_request → run.dispatch.is_between_calls ≡ true
+    → run.posted.items ≡ [] → run.files ≡ empty_files count → run.next_call ≡ 0
+    → StandsAt calls run (starting g calls)
+starts calls g run count same few shows between posted files next = record {
+  reached = record { setup = g; few_files = omega arith; moves = []; leads = refl };
+  requests = shows;
+  between = between;
+  posted = posted;
+  files = files ∙ ap empty_files (sym same);
+  left = ap (λ k. drop k calls) (sym next);
+}
+
+pub accepts : (calls : List (Vec Sqe Global)) (old new : Run) (m : Moment) (call : Vec Sqe Global)
+    → StandsAt (entries_of calls) old m → old.next_call < length calls
+    → call ≡ get_or calls old.next_call call
+    → ShowsRequests new.dispatch (with_call m.requests call.items)
+    → new.dispatch.is_between_calls ≡ true → new.posted.items ≡ old.posted.items
+    → new.files ≡ old.files → new.next_call ≡ old.next_call + 1
+    → MadeAs true (moved m move.Accept) (StandsAt (entries_of calls) new)
+accepts calls old new m call at low is shows between posted files next =
+    stands_behind (entries_of calls) old new m (record m { requests = with_call m.requests call.items; left = drop (old.next_call + 1) (entries_of calls) }) move.Accept at
+    (accept_moves calls m old.next_call call at.left low is)
+    shows between (posted ∙ at.posted) (files ∙ at.files) (ap (λ k. drop k (entries_of calls)) (sym next))
+
+pub none_accepts : (calls : List (Vec Sqe Global)) (run : Run) (m : Moment)
+    → StandsAt (entries_of calls) run m → length calls ≤ run.next_call
+    → MadeAs false (moved m move.Accept) (StandsAt (entries_of calls) run)
+none_accepts calls run m at past =
+    not_made (StandsAt (entries_of calls) run) (moved m move.Accept) (none_accepted m (none_left calls m run.next_call at.left past))
+
+-- An issue.
+
+pub issue_starts : (calls : List (List Sqe)) (old new : Run) (m : Moment) (n : ℕ) (op : Op)
+    → StandsAt calls old m → answer.Run op ≡ asked.issued m.requests n
+    → ShowsRequests new.dispatch (with_started m.requests n)
+    → new.dispatch.is_between_calls ≡ true → new.posted.items ≡ old.posted.items
+    → new.files ≡ old.files → new.next_call ≡ old.next_call
+    → MadeAs true (moved m (move.Issue n)) (StandsAt calls new)
+issue_starts calls old new m n op at is shows between posted files next =
+    stands_behind calls old new m (started m n) (move.Issue n) at (issue_moves m n (answer.Run op) is)
+    shows between (posted ∙ at.posted) (files ∙ at.files) (at.left ∙ ap (λ k. drop k calls) (sym next))
+
+pub issue_ends : (calls : List (List Sqe)) (old new : Run) (m : Moment) (n : ℕ) (res : ℤ) (entry : Sqe)
+    → StandsAt calls old m → answer.Ended res ≡ asked.issued m.requests n
+    → Some entry ≡ entry_outstanding m.requests n
+    → ShowsRequests new.dispatch (with_issued_end m.requests n res)
+    → new.dispatch.is_between_calls ≡ true
+    → new.posted.items ≡ posted_with old.posted.items entry res no_bytes
+    → new.files ≡ old.files → new.next_call ≡ old.next_call
+    → MadeAs true (moved m (move.Issue n)) (StandsAt calls new)
+issue_ends calls old new m n res entry at is told shows between posted files next =
+    stands_behind calls old new m (ended_at_once m n res) (move.Issue n) at (issue_moves m n (answer.Ended res) is)
+    shows between
+    (posted ∙ ap₂ (λ ps e. posted_with ps e res no_bytes) at.posted (entry_told m.requests n entry told))
+    (files ∙ at.files) (at.left ∙ ap (λ k. drop k calls) (sym next))
+
+-- an issue that is refused
+abbrev pub IsRefused : Issued → Type 0
+IsRefused (answer.Run op) = ⊥
+IsRefused (answer.Ended res) = ⊥
+IsRefused _ = Unit {0}
+
+pub issue_refused : (calls : List (List Sqe)) (run : Run) (m : Moment) (n : ℕ) (a : Issued)
+    → IsRefused a → a ≡ asked.issued m.requests n
+    → MadeAs false (moved m (move.Issue n)) (StandsAt calls run)
+issue_refused calls run m n (answer.Run op) refused is = absurd refused
+issue_refused calls run m n (answer.Ended res) refused is = absurd refused
+issue_refused calls run m n answer.NotReady refused is =
+    not_made (StandsAt calls run) (moved m (move.Issue n)) (issue_moves m n answer.NotReady is)
+issue_refused calls run m n answer.Running refused is =
+    not_made (StandsAt calls run) (moved m (move.Issue n)) (issue_moves m n answer.Running is)
+issue_refused calls run m n answer.Unknown refused is =
+    not_made (StandsAt calls run) (moved m (move.Issue n)) (issue_moves m n answer.Unknown is)
+
+-- what ended as it was issued had an entry
+pub ended_told : (calls : List (List Sqe)) (run : Run) (n : ℕ) (res : ℤ) (told : Option Sqe) (m : Moment)
+    → StandsAt calls run m → answer.Ended res ≡ asked.issued m.requests n
+    → told ≡ entry_outstanding m.requests n → None ≡ told → ⊥
+ended_told calls run n res told m at is told_so none =
+    told_if_outstanding m.requests n (ended_outstanding m.requests n res is) (none ∙ told_so)
+
+-- A finish.
+
+pub finish_idles : (calls : List (List Sqe)) (run : Run) (m : Moment) (n : ℕ)
+    → None ≡ operation_running m.requests n
+    → MadeAs false (moved m (move.Finish n)) (StandsAt calls run)
+finish_idles calls run m n none =
+    not_made (StandsAt calls run) (moved m (move.Finish n)) (finish_stays m n (idle_told m.requests n none))
+
+-- what runs can be asked of files
+pub running_asks : (calls : List (List Sqe)) (run : Run) (n : ℕ) (op : Op) (m : Moment) → StandsAt calls run m
+    → Some op ≡ operation_running m.requests n → IsForFiles op
+running_asks calls run n op m at is =
+    let runs = runs_told m.requests n op is in
+    subst IsForFiles (sym runs.1) (asks_files m.requests n (sound_at calls m at.reached) runs.0)
+
+-- and has an entry
+pub running_told : (calls : List (List Sqe)) (run : Run) (n : ℕ) (op : Op) (told : Option Sqe) (m : Moment) → StandsAt calls run m
+    → Some op ≡ operation_running m.requests n → told ≡ entry_outstanding m.requests n → None ≡ told → ⊥
+running_told calls run n op told m at is told_so none =
+    let runs = runs_told m.requests n op is in
+    told_if_outstanding m.requests n (running_outstanding m.requests n (sound_at calls m at.reached) runs.0) (none ∙ told_so)
+
+-- the requests behind a finish with this answer
+shows_ended : (r : Requests) (n : ℕ) (o : Outcome) (a : Finished) (d : Dispatch) → is_running r n ≡ true
+    → a ≡ asked.finished r n → ShowsRequests d (asked.after_finish r n o a)
+    → ShowsRequests d (with_ended r n o.res o.bytes)
+shows_ended r n o a d running is shows =
+    let ends : a ≡ finish.Ended = is ∙ ap (λ b. if b then finish.Ended else finish.NotRunning) running in
+    subst (λ x. ShowsRequests d (asked.after_finish r n o x)) ends shows
+
+pub finishes : (calls : List (List Sqe)) (old new : Run) (m : Moment) (n : ℕ) (op : Op) (entry : Sqe) (o : Outcome) (a : Finished)
+    → StandsAt calls old m → Some op ≡ operation_running m.requests n
+    → Some entry ≡ entry_outstanding m.requests n
+    → o ≡ result_of old.files op → a ≡ asked.finished m.requests n
+    → ShowsRequests new.dispatch (asked.after_finish m.requests n o a)
+    → new.dispatch.is_between_calls ≡ true
+    → new.posted.items ≡ posted_with old.posted.items entry o.res o.bytes
+    → new.files ≡ after old.files op o.res → new.next_call ≡ old.next_call
+    → MadeAs true (moved m (move.Finish n)) (StandsAt calls new)
+finishes calls old new m n op entry o a at is told called answered shows between posted files next =
+    let r : Requests = m.requests in
+    let runs = runs_told r n op is in
+    let right : Op = operation_of (entry_of r n) in
+    let as_called : o ≡ result_of m.files right = called ∙ ap₂ result_of at.files runs.1 in
+    let ended : ShowsRequests new.dispatch (with_ended r n o.res o.bytes) = shows_ended r n o a new.dispatch runs.0 answered shows in
+    stands_behind calls old new m (finished m n) (move.Finish n) at (finish_moves m n (sound_at calls m at.reached) runs.0)
+    (subst (λ (x : Outcome). ShowsRequests new.dispatch (with_ended r n x.res x.bytes)) as_called ended)
+    between
+    (posted ∙ ap₂ (λ ps e. posted_with ps e o.res o.bytes) at.posted (entry_told r n entry told) ∙ ap (λ (x : Outcome). posted_with m.posted (entry_of r n) x.res x.bytes) as_called)
+    (files ∙ ap₂ (λ fs x. after fs x o.res) at.files runs.1 ∙ ap (λ (x : Outcome). after m.files right x.res) as_called)
+    (at.left ∙ ap (λ k. drop k calls) (sym next))
+
+-- a finish leaves the dispatcher between calls
+pub finish_between : (a : Finished) (old new : Dispatch) → FinishCounts a old new
+    → old.is_between_calls ≡ true → new.is_between_calls ≡ true
+finish_between finish.Ended old new counts between = counts.between ∙ between
+finish_between finish.NotRunning old new counts between =
+    ap (λ (d : Dispatch). d.is_between_calls) counts ∙ between
+
+-- What the end of a request posts.
+
+pub posts : (old : List Cqe) (entry : Sqe) (res : ℤ) (bytes : List ℕ) (c : Cqe)
+    → posts_completion entry res ≡ true → c ≡ completion_for entry res bytes
+    → old ++ c ∷ [] ≡ posted_with old entry res bytes
+posts old entry res bytes c told is =
+    ap (λ x. old ++ x ∷ []) is ∙ sym (ap (λ b. if b then old ++ completion_for entry res bytes ∷ [] else old) told)
+
+pub posts_nothing : (old : List Cqe) (entry : Sqe) (res : ℤ) (bytes : List ℕ)
+    → posts_completion entry res ≡ false → old ≡ posted_with old entry res bytes
+posts_nothing old entry res bytes skipped =
+    sym (ap (λ b. if b then old ++ completion_for entry res bytes ∷ [] else old) skipped)
+
+-- the call that is got
+pub call_there : (calls : List (Vec Sqe Global)) (k : ℕ) (call : Bor (Vec Sqe Global))
+    → IsItemAt calls k (Some call) → (k < length calls) × (call.now ≡ get_or calls k call.now)
+call_there calls k call is =
+    let among = is.3 in
+    (among.0, is.1)

@@ -1,0 +1,13 @@
+use Rattle.std.proofs.Common.{◌≡◌, Some}
+use Rattle.std.specs.Prelude.{Contains}
+use Rattle.uring_moves.specs.Moments.{Moment, moved}
+use Rattle.uring_moves.specs.declared.move_of_calls.Move.TheVariants as move
+use Rattle.uring_outcomes.specs.Runs.{entries_of, StandsAt, HasBelow}
+use Rattle.uring_outcomes.proofs.next.add_all.Given as goal
+
+-- what can be made of the requests so far is there
+abbrev pub invariant-loop-number : goal.invariant-loop-number
+invariant-loop-number l = record {
+  accepts : (m next : Moment) → StandsAt (entries_of l.calls) l.run m → moved m move.Accept ≡ Some next → Contains l.moves.items move.Accept;
+  below : (m : Moment) → StandsAt (entries_of l.calls) l.run m → HasBelow m l.number l.moves.items;
+}

@@ -1,0 +1,11 @@
+use Rattle.std.proofs.Common.{◌≡◌, ◌+◌, ◌++◌, take}
+use Rattle.uring_entry.specs.Requests.{Requests}
+use Rattle.uring_dispatch.specs.Dispatch.{ShowsRequests}
+use Rattle.uring_outcomes.proofs.run.accept_call.Given as goal
+
+-- the entries so far are accepted, and there is room for the rest
+abbrev pub invariant-loop-entry : goal.invariant-loop-entry
+invariant-loop-entry l = record {
+  shows : (r : Requests) → ShowsRequests l.fn.dispatch r → ShowsRequests l.dispatch (record r { accepted = r.accepted ++ take l.entry-index l.entries });
+  room : l.dispatch.room + l.entry-index ≡ l.fn.dispatch.room;
+}

@@ -1,0 +1,4 @@
+pub mod Outcomes
+pub mod Laws
+pub mod Runs
+pub mod Walks

@@ -1,0 +1,60 @@
+-- Glue. A run of calls, and the moments that it may stand at.
+use Rattle.std.specs.Prelude.{◌≡◌, ℕ, Bool, true, false, List, drop, map, Option, Some, None, Contains, ◌<◌, ◌≤◌}
+use Rattle.std.specs.declared.vec.Vec.{Vec}
+use Rattle.std.specs.declared.alloc.Global.{Global}
+use Rattle.uring_entry.specs.Setup.{Setup}
+use Rattle.uring_entry.specs.Layout.{Sqe}
+use Rattle.uring_entry.specs.Requests.{is_issuable}
+use Rattle.uring_dispatch.specs.Dispatch.{ShowsRequests}
+use Rattle.uring_moves.specs.Moments.{Moment, starting, is_finishable, moved, after_moves}
+use Rattle.uring_moves.specs.Prompt.{IsPrompt}
+use Rattle.uring_moves.specs.declared.move_of_calls.Move.{Move}
+use Rattle.uring_moves.specs.declared.move_of_calls.Move.TheVariants as move
+use Rattle.uring_outcomes.specs.declared.run.Run.{Run}
+
+-- the entries of calls that vectors hold
+abbrev pub entries_of : List (Vec Sqe Global) → List (List Sqe)
+entries_of calls = map (λ call. call.items) calls
+
+-- moves lead to this moment from some start
+pub record IsReached (calls : List (List Sqe)) (m : Moment) : Type 0 where
+  pub setup : Setup
+  pub few_files : setup.files ≤ 64
+  pub moves : List Move
+  pub leads : after_moves (starting setup calls) moves ≡ Some m
+
+-- The run stands at this moment.
+pub record StandsAt (calls : List (List Sqe)) (run : Run) (m : Moment) : Type 0 where
+  pub reached : IsReached calls m
+  pub requests : ShowsRequests run.dispatch m.requests
+  pub between : run.dispatch.is_between_calls ≡ true
+  pub posted : run.posted.items ≡ m.posted
+  pub files : run.files ≡ m.files
+  pub left : m.left ≡ drop run.next_call calls
+
+-- the run stands at some moment
+pub record Stands (calls : List (List Sqe)) (run : Run) : Type 0 where
+  pub moment : Moment
+  pub at : StandsAt calls run moment
+
+-- whether moves were made, by what they lead to: if to nothing, they weren't, and else this is so of it
+abbrev pub MadeAs : Bool → Option Moment → (Moment → Type 0) → Type 0
+MadeAs made None P = made ≡ false
+MadeAs made (Some next) P = (made ≡ true) × P next
+
+-- these moves lead from a moment to one at which the run stands
+pub record LedTo (calls : List (List Sqe)) (from : Moment) (moves : List Move) (run : Run) : Type 0 where
+  pub last : Moment
+  pub leads : after_moves from moves ≡ Some last
+  pub at : StandsAt calls run last
+
+-- each move that can be made next is among these; if only prompt ones are asked for, each that is prompt
+abbrev pub HasNext : Bool → Moment → List Move → Type 0
+HasNext prompt m xs = (x : Move) (next : Moment) → moved m x ≡ Some next
+    → (prompt ≡ true → IsPrompt m x) → Contains xs x
+
+-- each issue and each finish of a request below this number that can be made is among these
+pub record HasBelow (m : Moment) (below : ℕ) (xs : List Move) : Type 0 where
+  pub issues : (n : ℕ) → n < below → is_issuable m.requests n ≡ true → Contains xs (move.Issue n)
+  pub finishes : (n : ℕ) → n < below → is_finishable m.requests n ≡ true
+      → Contains xs (move.Finish n)

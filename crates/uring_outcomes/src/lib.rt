@@ -1,0 +1,15 @@
+//! Everything that calls may come to: a walk over all lists of moves, which finds each outcome that they give.
+#![tactic(auto)]
+
+mod ending;
+mod fault;
+pub mod laws;
+mod next;
+mod run;
+mod walk;
+
+pub use ending::Ending;
+pub use fault::WalkFault;
+pub use uring_entry::{Cqe, Setup, Sqe};
+pub use uring_files::Files;
+pub use walk::{Found, outcomes, outcomes_within};

@@ -1,0 +1,130 @@
+//! The moves that can be made next.
+
+ghost use Rattle.std.specs.Prelude.{◌≡◌, [], true, List, IfOk, OnOk, MatchOption, Contains, Some};
+ghost use Rattle.uring_entry.specs.Layout.{Sqe};
+ghost use Rattle.uring_entry.specs.Requests.{is_issuable, is_running};
+ghost use Rattle.uring_moves.specs.Moments.{Moment, moved, is_finishable};
+ghost use Rattle.uring_moves.specs.declared.move_of_calls.Move.TheVariants as move;
+ghost use Rattle.uring_moves.specs.declared.move_of_calls.Move.{Move};
+ghost use Rattle.uring_outcomes.specs.Runs.{entries_of, Stands, StandsAt, HasNext, HasBelow};
+
+use crate::fault::WalkFault;
+use crate::run::Run;
+use std::alloc::Global;
+use uring_entry::Sqe;
+use uring_moves::Move;
+
+/// The moves that can be made next, with others that can't. If only prompt ones are asked for, and some request runs, its finish alone.
+pub(crate) fn next_moves(
+    alloc: Global,
+    run: &Run,
+    calls: &[Vec<Sqe>],
+    prompt: bool,
+) -> Result<Vec<Move>, WalkFault>
+    requires { Stands (entries_of calls.now) run.now }
+    ensures { (m : Moment) → StandsAt (entries_of calls.now) run.now m
+        → IfOk result (λ moves. HasNext prompt m moves.items) }
+{
+    let mut moves = Vec::new(alloc);
+    match add_next(run, calls, prompt, &mut moves) {
+        Ok(()) => Ok(moves),
+        Err(fault) => {
+            drop(moves);
+            Err(fault)
+        }
+    }
+}
+
+/// Adds the moves that can be made next to none.
+fn add_next(
+    run: &Run,
+    calls: &[Vec<Sqe>],
+    prompt: bool,
+    moves: &mut Vec<Move>,
+) -> Result<(), WalkFault>
+    requires stands { Stands (entries_of calls.now) run.now }
+    requires none { moves.old.items ≡ [] }
+    ensures { (m : Moment) → StandsAt (entries_of calls.now) run.now m
+        → OnOk result (HasNext prompt m moves.new.items) }
+{
+    let Some(number) = first_running(run, prompt) else {
+        return add_all(run, calls, moves);
+    };
+    moves.push(Move::Finish { number })?;
+    Ok(())
+}
+
+/// A request that runs, if only prompt moves are asked for and there is one.
+fn first_running(run: &Run, prompt: bool) -> Option<u64>
+    requires { (calls : List (List Sqe)) × Stands calls run.now }
+    ensures { (calls : List (List Sqe)) (m : Moment) → StandsAt calls run.now m
+        → MatchOption result (Unit {0}) (λ n. (prompt ≡ true) × (is_running m.requests n ≡ true)) }
+{
+    if !prompt {
+        return None;
+    }
+    for number in 0..run.dispatch.accepted() {
+        if runs(run, number) {
+            return Some(number);
+        }
+    }
+    None
+}
+
+/// Adds every move that can be made next.
+fn add_all(run: &Run, calls: &[Vec<Sqe>], moves: &mut Vec<Move>) -> Result<(), WalkFault>
+    requires { Stands (entries_of calls.now) run.now }
+    ensures { (m : Moment) → StandsAt (entries_of calls.now) run.now m
+        → OnOk result
+        ((x : Move) (next : Moment) → moved m x ≡ Some next → Contains moves.new.items x) }
+{
+    if run.next_call < calls.len() {
+        moves.push(Move::Accept)?;
+    }
+    for number in 0..run.dispatch.accepted() {
+        add_of(run, number, moves)?;
+    }
+    Ok(())
+}
+
+/// Adds the issue and the finish of a request, if they can be made.
+fn add_of(run: &Run, number: u64, moves: &mut Vec<Move>) -> Result<(), WalkFault>
+    requires { (calls : List (List Sqe)) × Stands calls run.now }
+    ensures kept { OnOk result
+        ((x : Move) → Contains moves.old.items x → Contains moves.new.items x) }
+    ensures issue { (calls : List (List Sqe)) (m : Moment) → StandsAt calls run.now m
+        → OnOk result
+        (is_issuable m.requests number ≡ true → Contains moves.new.items (move.Issue number)) }
+    ensures finish { (calls : List (List Sqe)) (m : Moment) → StandsAt calls run.now m
+        → OnOk result
+        (is_finishable m.requests number ≡ true → Contains moves.new.items (move.Finish number)) }
+{
+    if can_issue(run, number) {
+        moves.push(Move::Issue { number })?;
+    }
+    if runs(run, number) {
+        moves.push(Move::Finish { number })?;
+    }
+    Ok(())
+}
+
+/// Whether a request can be issued.
+fn can_issue(run: &Run, number: u64) -> bool
+    requires { (calls : List (List Sqe)) × Stands calls run.now }
+    ensures { (calls : List (List Sqe)) (m : Moment) → StandsAt calls run.now m
+        → is_issuable m.requests number ≡ true → result ≡ true }
+{
+    match run.dispatch.next_issuable(number) {
+        Some(next) => next == number,
+        None => false,
+    }
+}
+
+/// Whether a request runs.
+fn runs(run: &Run, number: u64) -> bool
+    requires { (calls : List (List Sqe)) × Stands calls run.now }
+    ensures { (calls : List (List Sqe)) (m : Moment) → StandsAt calls run.now m
+        → result ≡ is_running m.requests number }
+{
+    run.dispatch.running_op(number).is_some()
+}
