@@ -11,6 +11,8 @@
  *   head off, head on                from here on the head isn't stored behind a look, or is
  *   wait N                           waits until N more completions are seen, or half a second has passed
  *
+ * With the word `features` it writes what the ring says that it can do, as a number, and reads nothing.
+ *
  * A first line `# setup --sq N --cq N --files N --stop` has the options of `uring`. What is seen is written a line each:
  *
  *   call ASKED RETURNED HEAD DROPPED     a call, what it returned, and the words head and dropped behind it
@@ -47,6 +49,7 @@ struct setup {
 
 struct ring {
     int descriptor;
+    unsigned features;
     unsigned *sq_head, *sq_tail, *sq_array, *sq_dropped, *cq_head, *cq_tail;
     unsigned sq_mask, cq_mask, sq_entries;
     struct io_uring_sqe *entries;
@@ -91,6 +94,7 @@ static void open_ring(struct setup asked)
     ring.descriptor = (int)syscall(__NR_io_uring_setup, asked.sq, &parameters);
     if (ring.descriptor < 0)
         stop(NO_RING, strerror(errno));
+    ring.features = parameters.features;
     size_t sq_bytes = parameters.sq_off.array + parameters.sq_entries * sizeof(unsigned);
     size_t cq_bytes = parameters.cq_off.cqes + parameters.cq_entries * sizeof(struct io_uring_cqe);
     char *sq = mmap(NULL, sq_bytes, PROT_READ | PROT_WRITE, MAP_SHARED | MAP_POPULATE, ring.descriptor, IORING_OFF_SQ_RING);
@@ -326,9 +330,14 @@ static struct setup setup_of(int count, char **words)
     return it;
 }
 
-int main(void)
+int main(int count_of_words, char **asked)
 {
     char line[400];
+    if (count_of_words == 2 && !strcmp(asked[1], "features")) {
+        open_ring(setup_of(0, NULL));
+        printf("0x%x\n", ring.features);
+        return 0;
+    }
     while (fgets(line, sizeof line, stdin)) {
         char *words[16];
         int count = 0;
