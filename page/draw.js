@@ -136,7 +136,7 @@ function drawLabel(view, lanes, row, y) {
   const isHead = request.chain === request.request, goesOn = next && next.chain === request.chain;
   if (!isHead || goesOn) put(lanes, "path", { class: "chain", "data-chain": request.chain, d: `M14 ${isHead ? y + 12 : y}H10V${goesOn ? y + ROW : y + 12}H14` });
   const name = `${request.request}: ${short(request.user_data, 110)}`;
-  const words = short(wordsOf(request), LABEL - 24 - (name.length + request.flags.length + 2) * 6.4);
+  const words = short(wordsOf(request), LABEL - 38 - name.length * 6.4 - request.flags.length * 8);
   const label = put(lanes, "text", { class: "label", x: 20, y: y + 16, "data-request": request.request }, `${name} ${words} ${request.flags}`);
   put(label, "title", {}, `request ${request.request} of call ${request.call}, chain of ${request.chain}: user data ${request.user_data}, ${wordsOf(request)}, flags ${request.flags || "none"}`);
   return label;

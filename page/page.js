@@ -311,6 +311,9 @@ function told(run) {
   return { counts: `${run.size} lines, ${run.requests.length} requests`, rings: `submission ring ${run.setup.sq}, completion ring ${run.setup.cq}${files}${verdict}`, verdict };
 }
 
+// What keys do in every page.
+const KEYS_TOLD = get("keys").textContent;
+
 // The groups of runs that the page has, each shown by itself.
 const GROUPS = [...new Set(DATA_RUNS.map(run => run.group || ""))];
 
@@ -321,7 +324,8 @@ function openGroup(group) {
   panes.push(...runs.map(paneOf));
   clean(get("panes"), ...panes.map(pane => pane.section));
   get("panes").classList.toggle("several", panes.length > 1);
-  get("more_keys").hidden = panes.length < 2 && !runs[0].choices.length;
+  const more = [[panes.length > 1, "O the other run"], [runs.some(run => run.parts >= 0), "D where they part"], [runs.some(run => run.choices.length), "C the next choice"], [runs.some(run => run.wrong >= 0), "W the wrong line"]];
+  get("keys").textContent = [KEYS_TOLD, ...more.filter(([isThere]) => isThere).map(([, words]) => words)].join(", ");
   const { counts, rings, verdict } = told(runs[0]);
   get("summary").textContent = data.told || `${counts}; ${rings}`;
   get("title").textContent = data.title || "A run";

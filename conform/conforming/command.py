@@ -119,7 +119,7 @@ def outcome_of(scenario, checker):
         return Outcome(scenario, GAVE_UP, f"behind {found.states} states", seen)
     if found.kind == "unexplained":
         return Outcome(scenario, DIFFERS if scenario.differs else UNEXPLAINED, found.why, seen, found.trace, found.first)
-    wrong = judged(checker, scenario.text, found.trace) if checker else ""
+    wrong = judged(checker, found.trace) if checker else ""
     if wrong:
         return Outcome(scenario, REFUSED, wrong.strip(), seen, found.trace)
     return Outcome(scenario, UNFORESEEN if scenario.differs else AS_FORESEEN, "", seen, found.trace)

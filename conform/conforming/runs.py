@@ -49,7 +49,7 @@ def explain(scenario, recorded):
     """The verdict on what was recorded, by the search alone."""
     setup = Setup(scenario)
     fill = Fill(setup, events_of(scenario, recorded))
-    head = " ".join(["# setup", *setup.options, "--apart"]) + "\n"
+    head = setup.line() + "\n"
     try:
         steps = fill.trace()
     except GaveUp:
@@ -60,8 +60,7 @@ def explain(scenario, recorded):
     return Verdict("lawful", head + "\n".join(steps) + "\n", states=len(fill.been))
 
 
-def judged(uring, scenario, trace):
+def judged(uring, trace):
     """What the proved checker says of a trace: nothing if it is lawful."""
-    options = [it for it in Setup(scenario).options]
-    ran = subprocess.run([*uring, "check", "--apart", *options], input="\n".join(it for it in trace.splitlines() if not it.startswith("#")) + "\n", capture_output=True, text=True)
+    ran = subprocess.run([*uring, "check", "--apart"], input=trace, capture_output=True, text=True)
     return "" if ran.returncode == 0 else ran.stdout + ran.stderr

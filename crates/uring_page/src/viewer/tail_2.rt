@@ -1,0 +1,17 @@
+//! A piece of the page, which `page/embed` puts here.
+
+/// The piece.
+pub(crate) const PIECE: &str =
+    r###"  choose(run.wrong >= 0 ? run.wrong : run.parts >= 0 ? run.parts : Math.max(0, run.size - 1));
+}
+
+function start() {
+  get("group_label").hidden = GROUPS.length < 2;
+  clean(get("group"), ...GROUPS.map(group => node("option", group)));
+  openGroup(GROUPS[0]);
+}
+start();
+</script>
+</body>
+</html>
+"###;
