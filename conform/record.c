@@ -26,6 +26,7 @@
  * ones without a name, and all ends with the process, also if it is killed.
  */
 #define _GNU_SOURCE
+#include <dirent.h>
 #include <errno.h>
 #include <fcntl.h>
 #include <linux/io_uring.h>
@@ -41,6 +42,7 @@
 #include <unistd.h>
 
 enum { MOST_HOLDS = 64, MOST_FILES = 64, MOST_ITEMS = 4096, DATA = 64, NO_RING = 77, BAD_LINE = 2 };
+enum { TURN = 3000000 /* nanoseconds */, MOST_TURNS = 5000 };
 
 struct setup {
     unsigned sq, cq, files;
@@ -183,6 +185,35 @@ static bool wait_for(unsigned count)
             return false;
     }
     return true;
+}
+
+/* Whether a thread of this process but its first one runs, or waits for a disk: the kernel's workers are its threads, and sleep
+ * when they have nothing to do. */
+static bool has_busy_worker(void)
+{
+    DIR *tasks = opendir("/proc/self/task");
+    bool is_busy = false;
+    for (struct dirent *it; tasks && !is_busy && (it = readdir(tasks));) {
+        char path[300], text[200];
+        if (it->d_name[0] == '.' || atoi(it->d_name) == getpid())
+            continue;
+        snprintf(path, sizeof path, "/proc/self/task/%s/stat", it->d_name);
+        FILE *file = fopen(path, "r");
+        char *name_end = file && fgets(text, sizeof text, file) ? strrchr(text, ')') : NULL;
+        is_busy = name_end && (name_end[2] == 'R' || name_end[2] == 'D');
+        if (file)
+            fclose(file);
+    }
+    if (tasks)
+        closedir(tasks);
+    return is_busy;
+}
+
+/* Waits until the workers have nothing to do, and no longer than some 15 seconds: on a busy machine they may be late. */
+static void wait_for_workers(void)
+{
+    for (int turn = 0; turn < MOST_TURNS && has_busy_worker(); turn++)
+        nanosleep(&(struct timespec){ .tv_nsec = TURN }, NULL);
 }
 
 static void release(struct hold *it)
@@ -357,13 +388,14 @@ int main(int count_of_words, char **asked)
         release(&holds[at]);
         wait_for(1);
     }
-    /* (what is late: a worker's end) */
+    /* (what is late: a worker's end. One that skips its success, and fails, isn't awaited) */
     call(0, IORING_ENTER_GETEVENTS);
     while (awaited_count && !left_staged() && wait_for(1))
         continue;
     for (int quiet = 0; quiet < 3;) {
         unsigned before = ring.seen;
-        nanosleep(&(struct timespec){ .tv_nsec = 3000000 }, NULL);
+        nanosleep(&(struct timespec){ .tv_nsec = TURN }, NULL);
+        wait_for_workers();
         call(0, IORING_ENTER_GETEVENTS);
         quiet = ring.seen == before ? quiet + 1 : 0;
     }

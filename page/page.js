@@ -58,7 +58,8 @@ function headOf(pane) {
 }
 
 // Makes this run the one that keys and tools move.
-function turn(pane) {
+function turn(pane, isFocused) {
+  if (isFocused) pane.chart.focus();
   if (view === pane) return;
   view = pane;
   for (const one of panes) one.section.classList.toggle("is-chosen", one === pane);
@@ -255,7 +256,7 @@ const KEYS = {
   n: () => choose(nearest(true)), p: () => choose(nearest(false)), w: () => view.run.wrong >= 0 && choose(view.run.wrong),
   "+": () => zoom(1.5), "=": () => zoom(1.5), "-": () => zoom(1 / 1.5),
   j: () => get("line").select(), "/": () => get("filter").select(), f: () => { get("fold").checked = !get("fold").checked; arrangeAll(); },
-  o: () => panes[(panes.indexOf(view) + 1) % panes.length].chart.focus(), d: () => view.run.parts >= 0 && choose(view.run.parts), c: () => choose(nextChoice()),
+  o: () => turn(panes[(panes.indexOf(view) + 1) % panes.length], true), d: () => view.run.parts >= 0 && choose(view.run.parts), c: () => choose(nextChoice()),
 };
 
 document.addEventListener("keydown", event => {

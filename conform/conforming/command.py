@@ -145,12 +145,13 @@ def is_unexplained(text):
 
 
 def shorter(outcome):
-    """An unexplained outcome of as short a scenario as is unexplained too; the same one, if it isn't again."""
+    """An unexplained outcome of as short a scenario as is unexplained too. The same one, if it isn't again, which is said."""
     short = Scenario(outcome.scenario.name, shortened(outcome.scenario.text, is_unexplained))
     for _ in range(MOST_TRIES):
         found = outcome_of(short, None)
         if found.kind == UNEXPLAINED:
             return found
+    outcome.why += f" (and it wasn't seen again in {MOST_TRIES} runs)"
     return outcome
 
 
@@ -162,6 +163,17 @@ def chosen(words):
     if words.short:
         return them[::5] + [Scenario(f"seed {it}", random_scenario(it)) for it in range(1, 51)]
     return them
+
+
+def how_to_get_one():
+    """What stands between this process and a ring, as far as one can see."""
+    path = "/proc/sys/kernel/io_uring_disabled"
+    value = open(path, encoding="utf-8").read().strip() if os.path.exists(path) else None
+    if value is None:
+        return "Linux has rings from 5.1 on, if it was built with CONFIG_IO_URING; in a container its seccomp rules have to allow io_uring_setup, io_uring_enter and io_uring_register"
+    if value == "0":
+        return "The kernel would give one, so something about this process forbids it: in a container its seccomp rules have to allow io_uring_setup, io_uring_enter and io_uring_register"
+    return f"{path} has {value}: as root `sysctl kernel.io_uring_disabled=0` allows rings to all" + ("; with 1, those of the group of kernel.io_uring_group and of CAP_SYS_ADMIN have them" if value == "1" else "")
 
 
 def is_told():
@@ -197,5 +209,5 @@ def conform(words):
         run_all(them, words, report)
         return report.end()
     except NoRing as why:
-        print(f"conform: this machine gives no ring: {why}; see /proc/sys/kernel/io_uring_disabled, or a container's seccomp rules", file=sys.stderr)
+        print(f"conform: this machine gives no ring: {why}\n{how_to_get_one()}", file=sys.stderr)
         return NO_RING

@@ -22,7 +22,10 @@ class NoTrace(Exception):
 
 def record(scenario):
     """What the recorder saw of a scenario."""
-    ran = subprocess.run([RECORDER], input=scenario, capture_output=True, text=True, timeout=60)
+    try:
+        ran = subprocess.run([RECORDER], input=scenario, capture_output=True, text=True, timeout=60)
+    except subprocess.TimeoutExpired as late:
+        raise NoTrace("it took more than a minute") from late
     if ran.returncode == NO_RING:
         raise NoRing(ran.stderr.strip())
     if ran.returncode:

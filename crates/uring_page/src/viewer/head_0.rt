@@ -65,7 +65,7 @@ svg text { fill: var(--ink); font: 11px system-ui, sans-serif; } svg text.soft {
 @media (max-width: 560px) { #told { grid-template-columns: 1fr; } }
 @media print {
   body { height: auto; display: block; } #tools, #keys { display: none; } #panes .chart { overflow: visible; border: 0; height: auto !important; max-height: none; } #panes .lanes { position: static; } #told { display: block; overflow: visible; }
-  :root { --back: #ffffff; --ink: #000000; }
+  :root { --back: #ffffff; --ink: #000000; } #panes .choices { max-height: none; }
 }
 </style>
 </head>

@@ -84,7 +84,8 @@ function headOf(pane) {
   return head;
 }
 
-function turn(pane) {
+function turn(pane, isFocused) {
+  if (isFocused) pane.chart.focus();
   if (view === pane) return;
   view = pane;
   for (const one of panes) one.section.classList.toggle("is-chosen", one === pane);
@@ -271,7 +272,7 @@ const KEYS = {
   n: () => choose(nearest(true)), p: () => choose(nearest(false)), w: () => view.run.wrong >= 0 && choose(view.run.wrong),
   "+": () => zoom(1.5), "=": () => zoom(1.5), "-": () => zoom(1 / 1.5),
   j: () => get("line").select(), "/": () => get("filter").select(), f: () => { get("fold").checked = !get("fold").checked; arrangeAll(); },
-  o: () => panes[(panes.indexOf(view) + 1) % panes.length].chart.focus(), d: () => view.run.parts >= 0 && choose(view.run.parts), c: () => choose(nextChoice()),
+  o: () => turn(panes[(panes.indexOf(view) + 1) % panes.length], true), d: () => view.run.parts >= 0 && choose(view.run.parts), c: () => choose(nextChoice()),
 };
 
 document.addEventListener("keydown", event => {
@@ -347,7 +348,4 @@ function openGroup(group) {
     const wide = pane.chart.clientWidth - LABEL, longest = Math.max(...runs.map(run => run.size));
     if (longest && longest * pane.step < wide) pane.step = Math.min(48, (wide - 24) / longest);
   }
-  view = undefined;
-  turn(panes[0]);
-  const { run } = view;
 "###;

@@ -1,8 +1,10 @@
 //! A piece of the page, which `page/embed` puts here.
 
 /// The piece.
-pub(crate) const PIECE: &str =
-    r###"  choose(run.wrong >= 0 ? run.wrong : run.parts >= 0 ? run.parts : Math.max(0, run.size - 1));
+pub(crate) const PIECE: &str = r###"  view = undefined;
+  turn(panes[0]);
+  const { run } = view;
+  choose(run.wrong >= 0 ? run.wrong : run.parts >= 0 ? run.parts : Math.max(0, run.size - 1));
 }
 
 function start() {
