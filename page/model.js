@@ -78,7 +78,7 @@ function readRun(run) {
     if (line.changes) changed.push(place);
     if (line.file) files.push({ place, ...line.file });
     if (line.wrong !== undefined) wrong = place;
-    if (line.choice) choices.push({ place, ...line.choice });
+    for (const choice of line.choices || []) choices.push({ place, ...choice });
     if (line.beside !== undefined) beside = line.beside - 1;
     besides[place] = beside;
     for (const name of rings) {

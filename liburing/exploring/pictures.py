@@ -34,11 +34,14 @@ class Lines:
                 self.steps.append(tuple(line.split(" = ", 1)))
                 self.told.append(coming)
                 coming = {}
+        if self.told:
+            # (what the last choices led to isn't a step)
+            self.told[-1].update({name: self.told[-1].get(name, []) + some for name, some in coming.items()})
 
     def note(self, text, coming):
         choice, request, ends = CHOICE.fullmatch(text), REQUEST.fullmatch(text), ENDS.fullmatch(text)
         if choice:
-            coming["choice"] = {"choice": int(choice[1]), "way": int(choice[2]), "of": int(choice[3]), "what": choice[4]}
+            coming.setdefault("choices", []).append({"choice": int(choice[1]), "way": int(choice[2]), "of": int(choice[3]), "what": printing(choice[4].encode())})
         elif request:
             self.asked[int(request[1])] = request
         elif ends and self.told:

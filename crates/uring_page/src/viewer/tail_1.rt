@@ -194,7 +194,7 @@ function toldOf(line) {
   told.push(step);
   if (line.reason) told.push(node("p", line.reason, "reason"));
   for (const note of line.notes || []) told.push(node("p", note, "note"));
-  if (line.choice) told.push(node("p", tellChoice(line.choice), "note"));
+  for (const choice of line.choices || []) told.push(node("p", tellChoice(choice), "note"));
   if (line.bad) told.push(node("p", line.bad.replace(/^uring: line \d+: /, ""), "bad"));
   if (line.wrong !== undefined) told.push(node("p", `wrong: ${line.wrong}`, "wrong"));
   const list = node("ul");
