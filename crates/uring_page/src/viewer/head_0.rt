@@ -32,10 +32,10 @@ header p { display: inline-block; margin: 0 0 0 .8rem; color: var(--soft); }
 #panes .chart:focus { outline: 2px solid var(--ring); }
 #panes .space { position: relative; }
 #panes .lanes { position: sticky; left: 0; top: 0; display: block; }
-#panes.several .chart { max-height: 30vh; }
+#panes.several .chart { max-height: 25vh; }
 #panes.several .pane { border-left: 4px solid transparent; padding-left: .4rem; } #panes.several .pane.is-chosen { border-left-color: var(--ring); }
 #panes h2 { display: inline-block; margin: 0 .8rem 0 0; color: var(--ink); }
-#panes header p { margin: 0 .8rem 0 0; overflow-wrap: anywhere; } #panes .told { white-space: pre-wrap; } #panes .choices { max-height: 3.2rem; overflow: auto; }
+#panes header p { margin: 0 .8rem 0 0; overflow-wrap: anywhere; } #panes .told { white-space: pre-wrap; } #panes .choices { max-height: 3.2rem; overflow: auto; vertical-align: middle; }
 #panes button { font: inherit; font-size: .8rem; padding: 0 .4rem; margin: 0 .4rem .15rem 0; color: var(--ink); background: var(--back); border: 1px solid var(--soft); border-radius: 3px; cursor: pointer; }
 #panes.several ~ #rings { margin-left: calc(4px + .4rem); width: calc(100% - 4px - .4rem); }
 #rings { border: 1px solid var(--faint); height: 96px; width: 100%; flex: none; }

@@ -123,10 +123,20 @@ function drawSoon() {
 function choose(place, row) {
   move(view, place, row);
   const beside = view.run.size ? view.run.besides[view.here] : -1;
-  if (beside >= 0) panes.filter(pane => pane !== view).forEach(pane => move(pane, beside));
+  for (const pane of panes) {
+    if (pane === view || beside < 0) continue;
+    move(pane, beside);
+    if (pane.run.parts >= 0 && pane.rows.length === view.rows.length) alongside(pane);
+  }
   get("line").value = view.run.size ? view.run.lines[view.here].line : 0;
   draw();
   tell();
+}
+
+function alongside(pane) {
+  pane.chart.scrollTop = view.chart.scrollTop;
+  pane.chart.scrollLeft = view.chart.scrollLeft;
+  show(pane);
 }
 
 function move(pane, place, row) {
@@ -152,7 +162,7 @@ function show(pane, row) {
   const wanted = row ?? (near === undefined ? undefined : pane.rowOf.get(run.lines[near].changes[0].request));
   if (wanted === undefined) return;
   const y = wanted * ROW;
-  if (y < chart.scrollTop || y + ROW > chart.scrollTop + chart.clientHeight) chart.scrollTop = Math.max(0, y - chart.clientHeight / 2);
+  if (y < chart.scrollTop || y + ROW > chart.scrollTop + chart.clientHeight) chart.scrollTop = Math.max(0, Math.floor((y - chart.clientHeight / 2) / ROW) * ROW);
 }
 
 function tell() {
@@ -342,10 +352,4 @@ function openGroup(group) {
   get("summary").textContent = data.told || `${counts}; ${rings}`;
   get("title").textContent = data.title || "A run";
   document.title = `uring: ${data.title || `${counts}${verdict}`}`;
-  legend();
-  panes.forEach(arrange);
-  for (const pane of panes) {
-    const wide = pane.chart.clientWidth - LABEL, longest = Math.max(...runs.map(run => run.size));
-    if (longest && longest * pane.step < wide) pane.step = Math.min(48, (wide - 24) / longest);
-  }
 "###;

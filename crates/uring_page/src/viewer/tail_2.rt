@@ -1,7 +1,13 @@
 //! A piece of the page, which `page/embed` puts here.
 
 /// The piece.
-pub(crate) const PIECE: &str = r###"  view = undefined;
+pub(crate) const PIECE: &str = r###"  legend();
+  panes.forEach(arrange);
+  for (const pane of panes) {
+    const wide = pane.chart.clientWidth - LABEL, longest = Math.max(...runs.map(run => run.size));
+    if (longest && longest * pane.step < wide) pane.step = Math.min(48, (wide - 24) / longest);
+  }
+  view = undefined;
   turn(panes[0]);
   const { run } = view;
   choose(run.wrong >= 0 ? run.wrong : run.parts >= 0 ? run.parts : Math.max(0, run.size - 1));
