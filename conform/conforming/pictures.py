@@ -1,7 +1,9 @@
 """The page of a run: what was seen, beside the history that explains it, or the one that comes furthest."""
 
 import os
+import platform
 import sys
+from collections import Counter
 
 from conforming.requests import Requests
 from conforming.seen import item_of, statements_of
@@ -14,17 +16,20 @@ from recorded import Differs, explained, fields_of  # noqa: E402
 HOLD = "hold: a read of an empty pipe"
 
 
-def data_of(uring, outcomes):
-    """The data of a page of these outcomes, each a group of one run or two."""
-    runs = []
+def data_of(uring, outcomes, kernel="a kernel"):
+    """The data of a page of these outcomes, each a group of one run or two. A scenario's second run has its number in the group's name."""
+    runs, counts = [], Counter()
     for outcome in outcomes:
+        name = outcome.scenario.name
+        counts[name] += 1
         seen = Seen(outcome)
-        runs.append(seen.run())
+        group = [seen.run()]
         history = history_of(uring, outcome)
         if history:
             put_beside(seen, history)
-            runs.append(history)
-    return {"form": 2, "title": "What a kernel did", "told": "each scenario as it was seen, beside a history that the rules allow", "runs": runs}
+            group.append(history)
+        runs += [{"group": name if counts[name] == 1 else f"{name}, run {counts[name]}", **run} for run in group]
+    return {"form": 2, "title": f"What {kernel} did", "told": "each scenario as it was seen, beside a history that the rules allow", "runs": runs}
 
 
 class Seen:
@@ -41,7 +46,7 @@ class Seen:
             getattr(self, f"see_{words[0]}")(*words[1:])
         setup = {"sq": self.setup.sq, "cq": self.setup.cq, "start": 0, "stops": self.setup.is_stop}
         it = self.outcome
-        return {"form": 1, "group": it.scenario.name, "name": "what was seen", "told": f"{it.kind}: {it.why}" if it.why else it.kind, "setup": setup, "lines": self.lines, "requests": self.requests}
+        return {"form": 1, "name": "what was seen", "told": f"{it.kind}: {it.why}" if it.why else it.kind, "setup": setup, "lines": self.lines, "requests": self.requests}
 
     def add(self, kind, text, answer=None, **more):
         """Adds a line, with those of its members that there are. Of a kind that a history has too, it is kept which line that is."""
@@ -114,7 +119,7 @@ def history_of(uring, outcome):
         if int(request["user_data"]) in holds:
             request.update(operation="hold", told=HOLD)
     name, told = ("a history that shows the same", "lawful") if outcome.is_explained() else ("the history that comes furthest", outcome.why)
-    return {**run, "group": outcome.scenario.name, "name": name, "told": told}
+    return {**run, "name": name, "told": told}
 
 
 def put_beside(seen, history):
@@ -131,4 +136,4 @@ def put_beside(seen, history):
 
 def draw(uring, outcomes, page, other):
     """Writes the page, and its data, of what is unexplained first."""
-    write(data_of(uring, sorted(outcomes, key=lambda it: it.is_explained())), page, other)
+    write(data_of(uring, sorted(outcomes, key=lambda it: it.is_explained()), f"Linux {platform.release()}"), page, other)
