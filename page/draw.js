@@ -155,7 +155,7 @@ function drawArrow(view, lanes, arrow, x, y, first, last) {
 function arrowHeads(view) {
   return ["group", "drain", "cancel", "doom", "link"].map(kind => {
     const marker = make("marker", { id: `head-${kind}${view.end}`, viewBox: "0 0 8 8", refX: 7, refY: 4, markerWidth: 6, markerHeight: 6, orient: "auto" });
-    put(marker, "path", { class: `arrow arrow-${kind}`, "stroke-dasharray": "none", d: "M0 0L8 4L0 8" });
+    put(marker, "path", { class: `arrow arrow-${kind}`, style: "stroke-dasharray: none", d: "M0 0L8 4L0 8" });
     return marker;
   });
 }

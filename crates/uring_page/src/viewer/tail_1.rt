@@ -1,7 +1,8 @@
 //! A piece of the page, which `page/embed` puts here.
 
 /// The piece.
-pub(crate) const PIECE: &str = r###"  const { run, step, rings, here } = view;
+pub(crate) const PIECE: &str = r###"function drawRings(view) {
+  const { run, step, rings, here } = view;
   const seen = sight(view), high = 96;
   rings.replaceChildren();
   if (!run.size) return;
@@ -351,5 +352,4 @@ function openGroup(group) {
   const { counts, rings, verdict } = told(runs[0]);
   get("summary").textContent = data.told || `${counts}; ${rings}`;
   get("title").textContent = data.title || "A run";
-  document.title = `uring: ${data.title || `${counts}${verdict}`}`;
 "###;

@@ -1,7 +1,9 @@
 //! A piece of the page, which `page/embed` puts here.
 
 /// The piece.
-pub(crate) const PIECE: &str = r###"  legend();
+pub(crate) const PIECE: &str =
+    r###"  document.title = `uring: ${data.title || `${counts}${verdict}`}`;
+  legend();
   panes.forEach(arrange);
   for (const pane of panes) {
     const wide = pane.chart.clientWidth - LABEL, longest = Math.max(...runs.map(run => run.size));
