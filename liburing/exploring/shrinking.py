@@ -73,10 +73,6 @@ def show(options, program):
 def print_run(options, program, policy, title):
     """Prints a run: the choices that aren't in order, then what happened on each ring. Draws it too, if a page is asked for."""
     run = program.run(policy, is_tracing=True)
-    if options.page or options.json:
-        from exploring.pictures import draw
-
-        draw(options, program, run, title)
     variables = " ".join(f"{name}={value}" for name, value in run.environment.items() if name in ("WULGACH_POLICY", "WULGACH_CHOOSE"))
     # What the surroundings say of faults is part of the run: without it the same list gives another.
     faults = " ".join(f"{name}={shlex.quote(os.environ[name])}" for name in ("WULGACH_FAULTS", "WULGACH_FAULT_RATE") if name in os.environ)
@@ -92,6 +88,11 @@ def print_run(options, program, policy, title):
     print(f"\nstatus {run.status}")
     sys.stdout.flush()
     sys.stdout.buffer.write(run.output)
+    sys.stdout.flush()
+    if options.page or options.json:
+        from exploring.pictures import draw
+
+        draw(options, program, run, title)
     return 1 if run.fails() else 0
 
 
