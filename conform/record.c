@@ -11,6 +11,8 @@
  *   head off, head on                from here on the head isn't stored behind a look, or is
  *   wait N                           waits until N more completions are seen, or half a second has passed
  *
+ * With the word `features` it writes what the ring says that it can do, as a number, and reads nothing.
+ *
  * A first line `# setup --sq N --cq N --files N --stop` has the options of `uring`. What is seen is written a line each:
  *
  *   call ASKED RETURNED HEAD DROPPED     a call, what it returned, and the words head and dropped behind it
@@ -24,6 +26,7 @@
  * ones without a name, and all ends with the process, also if it is killed.
  */
 #define _GNU_SOURCE
+#include <dirent.h>
 #include <errno.h>
 #include <fcntl.h>
 #include <linux/io_uring.h>
@@ -39,6 +42,7 @@
 #include <unistd.h>
 
 enum { MOST_HOLDS = 64, MOST_FILES = 64, MOST_ITEMS = 4096, DATA = 64, NO_RING = 77, BAD_LINE = 2 };
+enum { TURN = 3000000 /* nanoseconds */, MOST_TURNS = 5000 };
 
 struct setup {
     unsigned sq, cq, files;
@@ -47,6 +51,7 @@ struct setup {
 
 struct ring {
     int descriptor;
+    unsigned features;
     unsigned *sq_head, *sq_tail, *sq_array, *sq_dropped, *cq_head, *cq_tail;
     unsigned sq_mask, cq_mask, sq_entries;
     struct io_uring_sqe *entries;
@@ -91,6 +96,7 @@ static void open_ring(struct setup asked)
     ring.descriptor = (int)syscall(__NR_io_uring_setup, asked.sq, &parameters);
     if (ring.descriptor < 0)
         stop(NO_RING, strerror(errno));
+    ring.features = parameters.features;
     size_t sq_bytes = parameters.sq_off.array + parameters.sq_entries * sizeof(unsigned);
     size_t cq_bytes = parameters.cq_off.cqes + parameters.cq_entries * sizeof(struct io_uring_cqe);
     char *sq = mmap(NULL, sq_bytes, PROT_READ | PROT_WRITE, MAP_SHARED | MAP_POPULATE, ring.descriptor, IORING_OFF_SQ_RING);
@@ -179,6 +185,35 @@ static bool wait_for(unsigned count)
             return false;
     }
     return true;
+}
+
+/* Whether a thread of this process but its first one runs, or waits for a disk: the kernel's workers are its threads, and sleep
+ * when they have nothing to do. */
+static bool has_busy_worker(void)
+{
+    DIR *tasks = opendir("/proc/self/task");
+    bool is_busy = false;
+    for (struct dirent *it; tasks && !is_busy && (it = readdir(tasks));) {
+        char path[300], text[200];
+        if (it->d_name[0] == '.' || atoi(it->d_name) == getpid())
+            continue;
+        snprintf(path, sizeof path, "/proc/self/task/%s/stat", it->d_name);
+        FILE *file = fopen(path, "r");
+        char *name_end = file && fgets(text, sizeof text, file) ? strrchr(text, ')') : NULL;
+        is_busy = name_end && (name_end[2] == 'R' || name_end[2] == 'D');
+        if (file)
+            fclose(file);
+    }
+    if (tasks)
+        closedir(tasks);
+    return is_busy;
+}
+
+/* Waits until the workers have nothing to do, and no longer than some 15 seconds: on a busy machine they may be late. */
+static void wait_for_workers(void)
+{
+    for (int turn = 0; turn < MOST_TURNS && has_busy_worker(); turn++)
+        nanosleep(&(struct timespec){ .tv_nsec = TURN }, NULL);
 }
 
 static void release(struct hold *it)
@@ -326,9 +361,14 @@ static struct setup setup_of(int count, char **words)
     return it;
 }
 
-int main(void)
+int main(int count_of_words, char **asked)
 {
     char line[400];
+    if (count_of_words == 2 && !strcmp(asked[1], "features")) {
+        open_ring(setup_of(0, NULL));
+        printf("0x%x\n", ring.features);
+        return 0;
+    }
     while (fgets(line, sizeof line, stdin)) {
         char *words[16];
         int count = 0;
@@ -348,13 +388,14 @@ int main(void)
         release(&holds[at]);
         wait_for(1);
     }
-    /* (what is late: a worker's end) */
+    /* (what is late: a worker's end. One that skips its success, and fails, isn't awaited) */
     call(0, IORING_ENTER_GETEVENTS);
     while (awaited_count && !left_staged() && wait_for(1))
         continue;
     for (int quiet = 0; quiet < 3;) {
         unsigned before = ring.seen;
-        nanosleep(&(struct timespec){ .tv_nsec = 3000000 }, NULL);
+        nanosleep(&(struct timespec){ .tv_nsec = TURN }, NULL);
+        wait_for_workers();
         call(0, IORING_ENTER_GETEVENTS);
         quiet = ring.seen == before ? quiet + 1 : 0;
     }

@@ -1,8 +1,8 @@
 // The lanes and the rings, drawn as they are seen: rows and lines out of sight have no elements.
 const ROW = 24, LABEL = 232, SVG = "http://www.w3.org/2000/svg";
-const STATES = [["waits", "waits"], ["ready", "may start"], ["doomed", "doomed"], ["runs", "runs"], ["ring", "completion in the ring"], ["overflow", "completion in the overflow list"]];
+const STATES = [["waits", "waits"], ["ready", "may start"], ["doomed", "doomed"], ["runs", "runs"], ["ring", "completion in the ring"], ["overflow", "completion in the overflow list"], ["hidden", "on its way, unseen"]];
 // A shape for each state too, for eyes that don't tell the colours apart.
-const LETTERS = { waits: "W", ready: "M", doomed: "X", runs: "R", ring: "C", overflow: "O" };
+const LETTERS = { waits: "W", ready: "M", doomed: "X", runs: "R", ring: "C", overflow: "O", hidden: "?" };
 
 function make(name, marks, text) {
   const element = document.createElementNS(SVG, name);
@@ -24,13 +24,13 @@ function sight(view) {
 
 function drawLanes(view) {
   const { run, rows, step, here, lanes } = view;
-  view.chart.style.height = `${rows.length * ROW + 20}px`;
+  view.chart.style.height = `${rows.length * ROW + 24}px`;
   const seen = sight(view);
   view.space.style.width = `${LABEL + run.size * step + 20}px`;
   view.space.style.height = `${rows.length * ROW}px`;
   lanes.setAttribute("width", seen.width);
   lanes.setAttribute("height", seen.height);
-  lanes.replaceChildren(...arrowHeads());
+  lanes.replaceChildren(...arrowHeads(view));
   const x = place => LABEL + place * step - seen.left;
   const y = row => row * ROW - seen.top;
   const first = Math.max(0, Math.floor(seen.left / step)), last = Math.min(run.size, Math.ceil((seen.left + seen.width) / step) + 1);
@@ -39,6 +39,7 @@ function drawLanes(view) {
   const arrows = new Set();
   for (let row = top; row < bottom; row += 1) drawRow(view, lanes, rows[row], y(row), x, first, last, arrows);
   if (view.hasArrows) for (const arrow of arrows) drawArrow(view, lanes, arrow, x, y, first, last);
+  drawChoices(view, lanes, x, first, last);
   put(lanes, "rect", { class: "panel", x: 0, y: 0, width: LABEL - 4, height: seen.height });
   for (let row = top; row < bottom; row += 1) drawLabel(view, lanes, rows[row], y(row));
   if (here >= first && here < last) put(lanes, "rect", { class: "chosen", x: Math.max(x(here), LABEL - 4), y: 1, width: step, height: seen.height - 2, "pointer-events": "none" });
@@ -55,6 +56,22 @@ function drawLines(view, lanes, x, first, last, seen) {
     if (line.bad !== undefined) put(lanes, "rect", { class: "bad-line", x: x(place), y: 0, width: step, height: seen.height });
     if (place % gap === 0) put(lanes, "line", { class: "grid", x1: x(place), x2: x(place), y1: 0, y2: seen.height });
   }
+}
+
+// Where this run parts from the one beside it, and the choices that led to each step: full ones aren't in order.
+function drawChoices(view, lanes, x, first, last) {
+  const { run, step } = view;
+  const high = sight(view).height;
+  if (run.parts >= first && run.parts < last) put(lanes, "line", { class: "parts", x1: x(run.parts), x2: x(run.parts), y1: 0, y2: high });
+  for (let at = firstFrom(run.choicePlaces, first); at < run.choices.length && run.choices[at].place < last; at += 1) {
+    const choice = run.choices[at], middle = x(choice.place) + step / 2;
+    const mark = put(lanes, "path", { class: choice.way ? "choice" : "plain", d: `M${middle - 4} 0h8l-4 7z`, "data-choice": choice.choice });
+    put(mark, "title", {}, tellChoice(choice));
+  }
+}
+
+function tellChoice(choice) {
+  return `choice ${choice.choice}: ${choice.what}, way ${choice.way} of 0 to ${choice.of - 1}`;
 }
 
 function drawRow(view, lanes, row, y, x, first, last, arrows) {
@@ -84,7 +101,7 @@ function drawSpan(view, lane, request, span, y, x) {
 
 function short(text, room) {
   const most = Math.floor(room / 6.4);
-  return text.length <= most ? text : `${text.slice(0, most - 1)}…`;
+  return text.length <= most ? text : `${text.slice(0, Math.max(0, most - 1))}…`;
 }
 
 function drawEnd(view, lane, request, y, x) {
@@ -118,7 +135,9 @@ function drawLabel(view, lanes, row, y) {
   const next = view.run.requests[request.request + 1];
   const isHead = request.chain === request.request, goesOn = next && next.chain === request.chain;
   if (!isHead || goesOn) put(lanes, "path", { class: "chain", "data-chain": request.chain, d: `M14 ${isHead ? y + 12 : y}H10V${goesOn ? y + ROW : y + 12}H14` });
-  const label = put(lanes, "text", { class: "label", x: 20, y: y + 16, "data-request": request.request }, `${request.request}: ${request.user_data} ${short(wordsOf(request), 130)} ${request.flags}`);
+  const name = `${request.request}: ${short(request.user_data, 110)}`;
+  const words = short(wordsOf(request), LABEL - 38 - name.length * 6.4 - request.flags.length * 8);
+  const label = put(lanes, "text", { class: "label", x: 20, y: y + 16, "data-request": request.request }, `${name} ${words} ${request.flags}`);
   put(label, "title", {}, `request ${request.request} of call ${request.call}, chain of ${request.chain}: user data ${request.user_data}, ${wordsOf(request)}, flags ${request.flags || "none"}`);
   return label;
 }
@@ -129,14 +148,14 @@ function drawArrow(view, lanes, arrow, x, y, first, last) {
   if (from === undefined || to === undefined) return;
   const at = x(arrow.place) + Math.min(view.step / 2, 8), y1 = y(from) + 12, y2 = y(to) + (to > from ? 3 : 19);
   const bend = arrow.kind === "link" ? 0 : 10;
-  const path = put(lanes, "path", { class: `arrow arrow-${arrow.kind}`, d: `M${at} ${y1}C${at + bend} ${y1} ${at + bend} ${y2} ${at} ${y2}`, "marker-end": `url(#head-${arrow.kind})`, "data-kind": arrow.kind, "data-from": arrow.from, "data-to": arrow.to });
+  const path = put(lanes, "path", { class: `arrow arrow-${arrow.kind}`, d: `M${at} ${y1}C${at + bend} ${y1} ${at + bend} ${y2} ${at} ${y2}`, "marker-end": `url(#head-${arrow.kind}${view.end})`, "data-kind": arrow.kind, "data-from": arrow.from, "data-to": arrow.to });
   put(path, "title", {}, `${arrow.kind}: from request ${arrow.from} to request ${arrow.to}\n${tellLine(view.run.lines[arrow.place])}`);
 }
 
-function arrowHeads() {
+function arrowHeads(view) {
   return ["group", "drain", "cancel", "doom", "link"].map(kind => {
-    const marker = make("marker", { id: `head-${kind}`, viewBox: "0 0 8 8", refX: 7, refY: 4, markerWidth: 6, markerHeight: 6, orient: "auto" });
-    put(marker, "path", { class: `arrow arrow-${kind}`, "stroke-dasharray": "none", d: "M0 0L8 4L0 8" });
+    const marker = make("marker", { id: `head-${kind}${view.end}`, viewBox: "0 0 8 8", refX: 7, refY: 4, markerWidth: 6, markerHeight: 6, orient: "auto" });
+    put(marker, "path", { class: `arrow arrow-${kind}`, style: "stroke-dasharray: none", d: "M0 0L8 4L0 8" });
     return marker;
   });
 }

@@ -1,5 +1,6 @@
 // The data of a run as the page goes through them: for each request the spans of its states, for each line the counts behind it. Lines are known by their places, from 0 on.
 const data = JSON.parse(document.getElementById("data").textContent);
+const DATA_RUNS = data.runs || [data];
 const COUNTS = ["accepted", "ended", "running", "posted", "reaped", "overflow"];
 
 // What an arrow tells, by the reason.
@@ -19,9 +20,9 @@ function readRun(run) {
   const words = Object.fromEntries(rings.map(name => [name, new Float64Array(size)]));
   const now = Object.fromEntries(COUNTS.map(name => [name, 0]));
   const at = Object.fromEntries(rings.map(name => [name, run.setup.start]));
-  const files = [], arrows = [], changed = [];
+  const files = [], arrows = [], changed = [], choices = [], besides = new Int32Array(size);
   const turn = 2 ** 32;
-  let wrong = -1;
+  let wrong = -1, beside = -1;
 
   const enter = (request, place, change) => {
     const last = request.spans[request.spans.length - 1];
@@ -77,6 +78,9 @@ function readRun(run) {
     if (line.changes) changed.push(place);
     if (line.file) files.push({ place, ...line.file });
     if (line.wrong !== undefined) wrong = place;
+    for (const choice of line.choices || []) choices.push({ place, ...choice });
+    if (line.beside !== undefined) beside = line.beside - 1;
+    besides[place] = beside;
     for (const name of rings) {
       if (line[name] !== undefined) {
         const step = ((line[name] - at[name]) % turn + turn) % turn;
@@ -92,7 +96,8 @@ function readRun(run) {
     (to.arrows ||= []).push(arrow);
     (from.arrows ||= []).push(arrow);
   }
-  return { ...run, size, requests, counts, words, files, arrows, changed, wrong };
+  const parts = run.parts === undefined ? -1 : run.parts - 1;
+  return { ...run, size, requests, counts, words, files, arrows, changed, choices, choicePlaces: choices.map(one => one.place), besides, parts, wrong };
 }
 
 // The rows of the lanes: a heading for each call, and its requests; what is folded is one row of each call.
@@ -143,6 +148,7 @@ function joinFolds(rows) {
 
 // The words for a request: what it asks for.
 function wordsOf(request) {
+  if (request.told) return request.told;
   const parts = [request.operation];
   if (request.target !== undefined) parts.push(`of ${request.target}`);
   if (request.file !== undefined) parts.push(`file ${request.file}`);

@@ -8,33 +8,61 @@ from collections import Counter
 
 from conforming import planted
 from conforming.differences import DIFFERENCES, untold
+from conforming.features import named
 from conforming.making import random_scenario
-from conforming.runs import RECORDER, TOP, NoRing, NoTrace, Verdict, explain, judged, record
+from conforming.runs import RECORDER, TOP, NoRing, NoTrace, explain, features, judged, record
 from conforming.scenarios import Scenario, scenarios
 from conforming.shrinking import shortened
 
 NO_RING = 77
 AS_FORESEEN, DIFFERS, UNFORESEEN, UNEXPLAINED, REFUSED, GAVE_UP, NOT_TRIED = "as foreseen", "differs as told", "no longer differs", "UNEXPLAINED", "REFUSED BY THE CHECK", "gave up", "not tried"
+MOST_TRIES = 10
 
 
 def build():
-    """Builds the recorder."""
+    """Builds the recorder. Where it is installed there is no source."""
     source = f"{TOP}/conform/record.c"
-    if os.path.exists(RECORDER) and os.path.getmtime(RECORDER) >= os.path.getmtime(source):
+    if not os.path.exists(source) or os.path.exists(RECORDER) and os.path.getmtime(RECORDER) >= os.path.getmtime(source):
         return
     os.makedirs(os.path.dirname(RECORDER), exist_ok=True)
     subprocess.run(["cc", "-O2", "-Wall", "-Wextra", "-Wno-unused-result", "-o", RECORDER, source], check=True)
 
 
-def checker():
-    """The proved program's words."""
-    built = f"{TOP}/crates/uring_cli/out/uring_cli"
-    return [built if os.path.exists(built) else f"{TOP}/uring"]
+def program():
+    """The words that run the proved program: that of URING, the one that was built here, or that which is installed beside this. None: it isn't built."""
+    for path in (os.environ.get("URING"), f"{TOP}/crates/uring_cli/out/uring_cli", None if os.path.isdir(f"{TOP}/crates") else f"{TOP}/uring"):
+        if path and os.path.exists(path):
+            return [path]
+    return None
+
+
+class Outcome:
+    """What became of one run of a scenario: the kind, why, what was seen, the trace that explains it or comes furthest, and the place of the first completion that no history reaches."""
+
+    def __init__(self, scenario, kind, why="", seen="", trace="", first=None):
+        self.scenario, self.kind, self.why, self.seen, self.trace, self.first = scenario, kind, why, seen, trace, first
+
+    def is_bad(self):
+        return self.kind in (UNEXPLAINED, REFUSED, UNFORESEEN)
+
+    def is_explained(self):
+        return self.kind in (AS_FORESEEN, UNFORESEEN)
+
+    def text(self):
+        """The whole of it, as it is printed."""
+        parts = [f"{self.kind}: {self.scenario.name}: {self.why}", indented(self.scenario.text)]
+        parts += ["  seen:", indented(self.seen)] if self.seen else []
+        parts += ["  the history that comes furthest:" if self.kind == UNEXPLAINED else "  its trace:", indented(self.trace)] if self.trace else []
+        return "\n".join(parts)
+
+
+def indented(text):
+    return "\n".join("    " + (it or "(call)") for it in text.rstrip("\n").splitlines())
 
 
 class Report:
     def __init__(self, words):
-        self.words, self.counts, self.rules, self.bad = words, Counter(), Counter(), []
+        self.words, self.counts, self.rules, self.bad, self.kept = words, Counter(), Counter(), [], []
 
     def say(self, text):
         print(text, flush=True)
@@ -43,60 +71,68 @@ class Report:
         if sys.stderr.isatty():
             print(f"\r{done} of {of}", end="\n" if done == of else "", file=sys.stderr, flush=True)
 
-    def tell(self, scenario, kind, why, seen, trace):
-        self.counts[kind] += 1
-        if kind == DIFFERS:
-            self.rules[scenario.differs] += 1
-        if kind in (UNEXPLAINED, REFUSED, UNFORESEEN):
-            self.bad.append((scenario, kind, why, seen))
+    def tell(self, outcome):
+        self.counts[outcome.kind] += 1
+        if outcome.kind == DIFFERS:
+            self.rules[outcome.scenario.differs] += 1
+        if outcome.is_bad():
+            self.bad.append(outcome)
+        elif self.words.page or self.words.json:
+            self.kept.append(outcome)
         if self.words.lines or self.words.scenario:
-            self.say(f"{kind}: {scenario.name}" + (f" ({why})" if why else ""))
+            self.say(f"{outcome.kind}: {outcome.scenario.name}" + (f" ({outcome.why})" if outcome.why else ""))
         if self.words.keep:
-            self.keep(scenario, seen, trace)
+            self.keep(outcome)
 
-    def keep(self, scenario, seen, trace):
-        at = os.path.join(self.words.keep, scenario.name.replace("/", "-").replace(" ", "_"))
+    def keep(self, outcome):
+        at = os.path.join(self.words.keep, outcome.scenario.name.replace("/", "-").replace(" ", "_"))
         os.makedirs(self.words.keep, exist_ok=True)
-        for kind, text in (("scenario", scenario.text), ("seen", seen), ("trace", trace)):
+        for kind, text in (("scenario", outcome.scenario.text), ("seen", outcome.seen), ("trace", outcome.trace)):
             if text:
                 with open(f"{at}.{kind}", "w", encoding="utf-8") as it:
                     it.write(text)
 
     def end(self):
+        """Prints the table of what differs, what is bad, and the totals. Returns the status."""
+        self.bad = [shorter(it) if it.kind == UNEXPLAINED else it for it in self.bad]
+        if self.words.page or self.words.json:
+            self.draw()
         for rule, count in sorted(self.rules.items()):
             self.say(f"differs as told, {count} times: {rule}\n    {DIFFERENCES[rule]}")
-        for scenario, kind, why, seen in self.bad:
-            self.say(f"{kind}: {scenario.name}: {why}\n{indented(scenario.text)}\n  seen:\n{indented(seen)}")
+        for outcome in self.bad:
+            self.say(outcome.text())
         self.say(f"Linux {platform.release()}: " + ", ".join(f"{count} {kind}" for kind, count in sorted(self.counts.items())))
+        self.say("features: " + " ".join(named(features())))
         return 1 if self.bad else 0
 
+    def draw(self):
+        from conforming.pictures import draw
 
-def indented(text):
-    return "\n".join("    " + (it or "(call)") for it in text.rstrip("\n").splitlines())
+        draw(program(), self.bad + self.kept, self.words.page, self.words.json)
 
 
-def verdict_on(scenario, words):
-    """What became of one run: the kind, why, what was seen and the trace."""
+def outcome_of(scenario, checker):
+    """What became of one run. `checker` has the words of the proved program that judges, or is None."""
     seen = record(scenario.text)
     found = explain(scenario.text, seen)
     if found.kind == "gave up":
-        return GAVE_UP, f"behind {found.states} states", seen, ""
+        return Outcome(scenario, GAVE_UP, f"behind {found.states} states", seen)
     if found.kind == "unexplained":
-        return (DIFFERS if scenario.differs else UNEXPLAINED), found.why, seen, ""
-    wrong = "" if words.no_check else judged(checker(), scenario.text, found.trace)
+        return Outcome(scenario, DIFFERS if scenario.differs else UNEXPLAINED, found.why, seen, found.trace, found.first)
+    wrong = judged(checker, found.trace) if checker else ""
     if wrong:
-        return REFUSED, wrong.strip(), seen, found.trace
-    return (UNFORESEEN if scenario.differs else AS_FORESEEN), "", seen, found.trace
+        return Outcome(scenario, REFUSED, wrong.strip(), seen, found.trace)
+    return Outcome(scenario, UNFORESEEN if scenario.differs else AS_FORESEEN, "", seen, found.trace)
 
 
 def run_all(them, words, report):
+    checker = None if words.no_check else program()
     for at, scenario in enumerate(them, 1):
         for _ in range(words.repeat):
             try:
-                kind, why, seen, trace = verdict_on(scenario, words)
+                report.tell(outcome_of(scenario, checker))
             except NoTrace as fault:
-                kind, why, seen, trace = NOT_TRIED, str(fault), "", ""
-            report.tell(scenario, kind, why, seen, trace)
+                report.tell(Outcome(scenario, NOT_TRIED, str(fault)))
         report.progress(at, len(them))
 
 
@@ -108,32 +144,70 @@ def is_unexplained(text):
         return False
 
 
-def shorten_all(report):
-    """Makes what is unexplained of the random scenarios short."""
-    report.bad = [(Scenario(it.name, shortened(it.text, is_unexplained)) if kind == UNEXPLAINED else it, kind, why, seen) for it, kind, why, seen in report.bad]
-    report.bad = [(it, kind, why, record(it.text)) if kind == UNEXPLAINED else (it, kind, why, seen) for it, kind, why, seen in report.bad]
+def shorter(outcome):
+    """An unexplained outcome of as short a scenario as is unexplained too. The same one, if it isn't again, which is said."""
+    short = Scenario(outcome.scenario.name, shortened(outcome.scenario.text, is_unexplained))
+    for _ in range(MOST_TRIES):
+        found = outcome_of(short, None)
+        if found.kind == UNEXPLAINED:
+            return found
+    outcome.why += f" (and it wasn't seen again in {MOST_TRIES} runs)"
+    return outcome
+
+
+def chosen(words):
+    """The scenarios that are to run."""
+    if words.seed is not None:
+        return [Scenario(f"seed {it}", random_scenario(it)) for it in range(words.seed, words.seed + words.count)]
+    them = [it for it in scenarios() if not words.scenario or words.scenario in it.name]
+    if words.short:
+        return them[::5] + [Scenario(f"seed {it}", random_scenario(it)) for it in range(1, 51)]
+    return them
+
+
+def how_to_get_one():
+    """What stands between this process and a ring, as far as one can see."""
+    path = "/proc/sys/kernel/io_uring_disabled"
+    value = open(path, encoding="utf-8").read().strip() if os.path.exists(path) else None
+    if value is None:
+        return "Linux has rings from 5.1 on, if it was built with CONFIG_IO_URING; in a container its seccomp rules have to allow io_uring_setup, io_uring_enter and io_uring_register"
+    if value == "0":
+        return "The kernel would give one, so something about this process forbids it: in a container its seccomp rules have to allow io_uring_setup, io_uring_enter and io_uring_register"
+    return f"{path} has {value}: as root `sysctl kernel.io_uring_disabled=0` allows rings to all" + ("; with 1, those of the group of kernel.io_uring_group and of CAP_SYS_ADMIN have them" if value == "1" else "")
+
+
+def is_told():
+    """Whether docs/PROTOCOL.md has each sentence that a difference cites; where it isn't, there is none to ask."""
+    path = f"{TOP}/docs/PROTOCOL.md"
+    if not os.path.exists(path):
+        return True
+    with open(path, encoding="utf-8") as page:
+        missing = untold(page.read())
+    for name in missing:
+        print(f"conform: docs/PROTOCOL.md doesn't have the sentence of: {name}", file=sys.stderr)
+    return not missing
 
 
 def conform(words):
-    with open(f"{TOP}/docs/PROTOCOL.md", encoding="utf-8") as page:
-        for name in untold(page.read()):
-            print(f"conform: docs/PROTOCOL.md doesn't have the sentence of: {name}", file=sys.stderr)
-            return 2
+    if not is_told():
+        return 2
+    if not program() and (words.page or words.json):
+        print("conform: a page takes the proved program: ./uring prove", file=sys.stderr)
+        return 2
     build()
     report = Report(words)
     try:
+        features()
         if words.planted:
             return planted.find(report, scenarios())
-        if words.seed is not None:
-            seeds = range(words.seed, words.seed + words.count)
-            run_all([Scenario(f"seed {it}", random_scenario(it)) for it in seeds], words, report)
-            shorten_all(report)
-        else:
-            them = [it for it in scenarios() if not words.scenario or words.scenario in it.name]
-            run_all(them[:: 5 if words.short else 1], words, report)
-        if words.short:
-            run_all([Scenario(f"seed {it}", random_scenario(it)) for it in range(1, 51)], words, report)
+        them = chosen(words)
+        if not them:
+            print(f"conform: no scenario has {words.scenario} in its name", file=sys.stderr)
+            return 2
+        if not program() and not words.no_check:
+            print("conform: the proved program isn't built, so what is explained is so by the search alone: ./uring prove", file=sys.stderr)
+        run_all(them, words, report)
         return report.end()
     except NoRing as why:
-        print(f"conform: this machine gives no ring: {why}; see /proc/sys/kernel/io_uring_disabled, or a container's seccomp rules", file=sys.stderr)
+        print(f"conform: this machine gives no ring: {why}\n{how_to_get_one()}", file=sys.stderr)
         return NO_RING

@@ -47,36 +47,56 @@ class Fill:
         self.mask = setup.sq - 1
         self.completions = [it for event in events if isinstance(event, Look) for it in event.completions]
         self.named = {it.item.target for it in events if isinstance(it, Staged) and not isinstance(it.item, int) and it.item.is_cancel}
-        self.been, self.furthest, self.shown = set(), -1, 0
+        # (the most completions that a history posts, how many events it passes then, and its steps: each part with those before it)
+        self.been, self.furthest, self.reached = set(), (-1, 0), None
         sys.setrecursionlimit(20_000)
 
     def trace(self):
         """The whole trace, or None if there is none."""
-        steps = self.search(0, 0, Requests(), Ring(self.size), 0)
+        steps = self.search(0, 0, Requests(), Ring(self.size), 0, None)
         return steps if steps is None else [line for part in steps for line in part]
 
-    def search(self, at, posted, requests, ring, dropped):
-        """The parts of a trace from this event on, or None."""
+    def furthest_trace(self):
+        """The steps of the history that posts the most of the completions, and then passes the most events."""
+        parts, path = [], self.reached
+        while path:
+            path, steps = path
+            parts.append(steps)
+        return [line for part in reversed(parts) for line in part]
+
+    def why(self):
+        """At what that history ends, and the place of the first completion that none reaches, if it is one."""
+        posted, at = self.furthest
+        event = self.events[at] if at < len(self.events) else None
+        if isinstance(event, Call):
+            return f"no history has a call that consumes {len(event.items)} positions and returns {event.returned}", None
+        if posted == len(self.completions):
+            return "no history ends so: a request is left without its end", None
+        user_data, result = self.completions[posted]
+        return f"no history posts cqe {user_data} {result}, completion {posted} from 0 on", posted
+
+    def search(self, at, posted, requests, ring, dropped, path):
+        """The parts of a trace from this event on, behind those of the path, or None."""
         key = at, posted, requests.key(), ring.key()
         if key in self.been:
             return None
         self.been.add(key)
         if len(self.been) > MOST_STATES:
             raise GaveUp
-        if posted > self.furthest:
-            self.furthest = posted
+        if (posted, at) > self.furthest:
+            self.furthest, self.reached = (posted, at), path
         if at == len(self.events):
             rest = self.rest(requests)
             if rest is not None and posted == len(self.completions):
                 return [rest]
-            return self.hidden(at, posted, requests, ring, dropped) if rest is None else None
+            return self.hidden(at, posted, requests, ring, dropped, path) if rest is None else None
         gone = self.passed(self.events[at], requests, ring, dropped)
         if gone:
             steps, behind, now, lost = gone
-            found = self.search(at + 1, posted, behind, now, lost)
+            found = self.search(at + 1, posted, behind, now, lost, (path, steps))
             if found is not None:
                 return [steps, *found]
-        return self.hidden(at, posted, requests, ring, dropped)
+        return self.hidden(at, posted, requests, ring, dropped, path)
 
     def passed(self, event, requests, ring, dropped):
         """The steps of an event, with what stands behind it, or None if it can't have been so now."""
@@ -109,9 +129,9 @@ class Fill:
             steps += [f"end = taken {len(event.entries())} dropped {event.dropped} head {event.head}"]
         return [*steps, f"head = head {event.head}"], requests.accepted(event.entries()), ring, event.dropped
 
-    def hidden(self, at, posted, requests, ring, dropped):
+    def hidden(self, at, posted, requests, ring, dropped, path):
         for steps, more, behind, now in self.moves(at, posted, requests, ring):
-            found = self.search(at, posted + more, behind, now, dropped)
+            found = self.search(at, posted + more, behind, now, dropped, (path, steps))
             if found is not None:
                 return [steps, *found]
         return None

@@ -22,7 +22,10 @@ class NoTrace(Exception):
 
 def record(scenario):
     """What the recorder saw of a scenario."""
-    ran = subprocess.run([RECORDER], input=scenario, capture_output=True, text=True, timeout=60)
+    try:
+        ran = subprocess.run([RECORDER], input=scenario, capture_output=True, text=True, timeout=60)
+    except subprocess.TimeoutExpired as late:
+        raise NoTrace("it took more than a minute") from late
     if ran.returncode == NO_RING:
         raise NoRing(ran.stderr.strip())
     if ran.returncode:
@@ -30,31 +33,37 @@ def record(scenario):
     return ran.stdout
 
 
-class Verdict:
-    """What became of a run: `lawful` with a trace, `unexplained` with the first completion that no history reaches, or `gave up`."""
+def features():
+    """The bits of what the ring says that it can do."""
+    ran = subprocess.run([RECORDER, "features"], capture_output=True, text=True, timeout=60)
+    if ran.returncode == NO_RING:
+        raise NoRing(ran.stderr.strip())
+    return int(ran.stdout, 0)
 
-    def __init__(self, kind, trace="", why="", states=0):
-        self.kind, self.trace, self.why, self.states = kind, trace, why, states
+
+class Verdict:
+    """What became of a run: `lawful` with a trace, `unexplained` with the trace that comes furthest and the first completion that no history reaches (its place, or None if it is none of them), or `gave up`."""
+
+    def __init__(self, kind, trace="", why="", states=0, first=None):
+        self.kind, self.trace, self.why, self.states, self.first = kind, trace, why, states, first
 
 
 def explain(scenario, recorded):
     """The verdict on what was recorded, by the search alone."""
     setup = Setup(scenario)
     fill = Fill(setup, events_of(scenario, recorded))
-    head = " ".join(["# setup", *setup.options, "--apart"]) + "\n"
+    head = setup.line() + "\n"
     try:
         steps = fill.trace()
     except GaveUp:
         return Verdict("gave up", states=len(fill.been))
     if steps is None:
-        at = fill.furthest
-        first = f"no history posts cqe {fill.completions[at][0]} {fill.completions[at][1]}, completion {at} from 0 on" if at < len(fill.completions) else "no history ends so: a request is left without its end, or a call's answer isn't called for"
-        return Verdict("unexplained", why=first, states=len(fill.been))
+        why, first = fill.why()
+        return Verdict("unexplained", head + "\n".join([*fill.furthest_trace(), f"# {why}"]) + "\n", why, len(fill.been), first)
     return Verdict("lawful", head + "\n".join(steps) + "\n", states=len(fill.been))
 
 
-def judged(uring, scenario, trace):
+def judged(uring, trace):
     """What the proved checker says of a trace: nothing if it is lawful."""
-    options = [it for it in Setup(scenario).options]
-    ran = subprocess.run([*uring, "check", "--apart", *options], input="\n".join(it for it in trace.splitlines() if not it.startswith("#")) + "\n", capture_output=True, text=True)
+    ran = subprocess.run([*uring, "check", "--apart"], input=trace, capture_output=True, text=True)
     return "" if ran.returncode == 0 else ran.stdout + ran.stderr

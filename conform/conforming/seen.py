@@ -46,6 +46,22 @@ def item_of(words):
     return int(words[1]) if words[0] == "bad" else Entry(words)
 
 
+def statements_of(scenario):
+    """For each call that the recorder tells of a scenario's own, the items that were staged since the one before."""
+    items = []
+    for line in scenario.splitlines():
+        words = line.split()
+        if words and words[0] in ("#", "events", "wait", "head", "release"):
+            continue
+        if words and is_item(words):
+            items.append(" ".join(words))
+        else:
+            yield items
+            items = []
+    if items:
+        yield items
+
+
 def events_of(scenario, recorded):
     """The events of a run, in order: each call has before it the items that were staged since the call before."""
     lines = [it.split() for it in scenario.splitlines() if not it.startswith("#")]

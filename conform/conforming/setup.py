@@ -1,4 +1,4 @@
-"""The options of a scenario's first line `# setup ..`, as the recorder reads them and as `uring check` takes them."""
+"""The options of a scenario's first line `# setup ..`, as the recorder reads them, and that line as `uring check` takes it."""
 
 
 def power(number):
@@ -13,3 +13,8 @@ class Setup:
         value = {word: words[at + 1] for at, word in enumerate(words) if word != "--stop" and word.startswith("--") and at + 1 < len(words)}
         self.sq = power(int(value.get("--sq", 4)))
         self.cq = power(int(value["--cq"])) if "--cq" in value else 2 * self.sq
+        self.files = int(value.get("--files", 2))
+
+    def line(self):
+        """The first line of a recorded trace."""
+        return f"# setup --sq {self.sq} --cq {self.cq} --files {self.files} --start 0" + (" --stop" if self.is_stop else "")

@@ -6,6 +6,7 @@ import shlex
 import sys
 
 from exploring.runs import Policies, list_of, stop
+from exploring.traces import URING
 
 POLICY = re.compile(r"order|lazy|seed:\d+|pct:\d+:\d+(:\d+)?|list:(\d+(=\d+)?(,\d+(=\d+)?)*)?")
 
@@ -28,7 +29,14 @@ def shortest(program, items):
         size //= 2
 
 
+def need_uring(options):
+    """A page takes the program `uring`: without it nothing is run."""
+    if (options.page or options.json) and not os.path.exists(URING):
+        stop(f"a page takes the program uring, and {URING} isn't there: ./uring prove")
+
+
 def shrink(options, program):
+    need_uring(options)
     if options.seed.isdecimal():
         policy, name = Policies(program, options.policy).of(int(options.seed)), f"seed {options.seed}"
     elif POLICY.fullmatch(options.seed):
@@ -49,19 +57,21 @@ def shrink(options, program):
         if len(fewer) == len(items):
             break
         items = fewer
-    print(f"{name} made {before} choices; {len(items)} {'is' if len(items) == 1 else 'are'} enough:\n")
-    return print_run(program, list_of(items))
+    enough = f"{name} made {before} choices; {len(items)} {'is' if len(items) == 1 else 'are'} enough"
+    print(f"{enough}:\n")
+    return print_run(options, program, list_of(items), enough)
 
 
 def show(options, program):
+    need_uring(options)
     policy = options.list if ":" in options.list or options.list in ("order", "lazy") else "list:" + options.list
     if not POLICY.fullmatch(policy):
         stop(f"{options.list}: a list of choices is wanted, as 3=1,7=2, or a policy")
-    return print_run(program, policy)
+    return print_run(options, program, policy, f"the run by {policy}")
 
 
-def print_run(program, policy):
-    """Prints a run: the choices that aren't in order, then what happened on each ring."""
+def print_run(options, program, policy, title):
+    """Prints a run: the choices that aren't in order, then what happened on each ring. Draws it too, if a page is asked for."""
     run = program.run(policy, is_tracing=True)
     variables = " ".join(f"{name}={value}" for name, value in run.environment.items() if name in ("WULGACH_POLICY", "WULGACH_CHOOSE"))
     # What the surroundings say of faults is part of the run: without it the same list gives another.
@@ -78,6 +88,11 @@ def print_run(program, policy):
     print(f"\nstatus {run.status}")
     sys.stdout.flush()
     sys.stdout.buffer.write(run.output)
+    sys.stdout.flush()
+    if options.page or options.json:
+        from exploring.pictures import draw
+
+        draw(options, program, run, title)
     return 1 if run.fails() else 0
 
 

@@ -7,8 +7,8 @@ import sys
 
 TOP = os.path.dirname(os.path.dirname(os.path.dirname(os.path.realpath(__file__))))
 IS_REPOSITORY = os.path.isdir(f"{TOP}/crates")
-# The program `uring`: the repository's, or the one that is installed beside this tool.
-URING = f"{TOP}/crates/uring_cli/out/uring_cli" if IS_REPOSITORY else f"{TOP}/../bin/uring"
+# The program `uring`: that of the variable, or the repository's, or the one that is installed beside this tool.
+URING = os.environ.get("URING") or (f"{TOP}/crates/uring_cli/out/uring_cli" if IS_REPOSITORY else f"{TOP}/../bin/uring")
 
 
 def numbers_of_failed(lines):

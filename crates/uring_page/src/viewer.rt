@@ -3,6 +3,7 @@
 mod head_0;
 mod tail_0;
 mod tail_1;
+mod tail_2;
 
 use std::io::Write;
 use uring_text::{Calls, TraceFault, write_all};
@@ -15,5 +16,6 @@ pub(crate) fn write_head<W: Write>(writer: &mut W, writes: &mut Calls) -> Result
 /// Writes what stands behind the data.
 pub(crate) fn write_tail<W: Write>(writer: &mut W, writes: &mut Calls) -> Result<(), TraceFault> {
     write_all(writer, tail_0::PIECE.as_bytes(), writes)?;
-    write_all(writer, tail_1::PIECE.as_bytes(), writes)
+    write_all(writer, tail_1::PIECE.as_bytes(), writes)?;
+    write_all(writer, tail_2::PIECE.as_bytes(), writes)
 }

@@ -27,12 +27,20 @@ header p { display: inline-block; margin: 0 0 0 .8rem; color: var(--soft); }
 #keys { color: var(--soft); font-size: .8rem; }
 #legend { display: flex; flex-wrap: wrap; gap: .3rem 1rem; list-style: none; margin: 0; padding: 0; font-size: .8rem; }
 #legend svg { width: 26px; height: 12px; vertical-align: -1px; margin-right: .3rem; }
-#chart { position: relative; overflow: auto; flex: none; min-height: 100px; max-height: 55vh; border: 1px solid var(--faint); }
-#chart:focus { outline: 2px solid var(--ring); }
-#space { position: relative; }
-#lanes { position: sticky; left: 0; top: 0; display: block; }
+#panes { flex: none; display: flex; flex-direction: column; gap: .35rem; }
+#panes .chart { position: relative; overflow: auto; flex: none; min-height: 100px; max-height: 55vh; border: 1px solid var(--faint); }
+#panes .chart:focus { outline: 2px solid var(--ring); }
+#panes .space { position: relative; }
+#panes .lanes { position: sticky; left: 0; top: 0; display: block; }
+#panes.several .chart { max-height: 25vh; }
+#panes.several .pane { border-left: 4px solid transparent; padding-left: .4rem; } #panes.several .pane.is-chosen { border-left-color: var(--ring); }
+#panes h2 { display: inline-block; margin: 0 .8rem 0 0; color: var(--ink); }
+#panes header p { margin: 0 .8rem 0 0; overflow-wrap: anywhere; } #panes .told { white-space: pre-wrap; } #panes .choices { max-height: 3.2rem; overflow: auto; vertical-align: middle; }
+#panes button { font: inherit; font-size: .8rem; padding: 0 .4rem; margin: 0 .4rem .15rem 0; color: var(--ink); background: var(--back); border: 1px solid var(--soft); border-radius: 3px; cursor: pointer; }
+#panes.several ~ #rings { margin-left: calc(4px + .4rem); width: calc(100% - 4px - .4rem); }
 #rings { border: 1px solid var(--faint); height: 96px; width: 100%; flex: none; }
-#told { display: grid; grid-template-columns: 1.3fr .9fr 1.1fr 1.7fr; gap: 1rem; flex: 1 1 30%; overflow: auto; min-height: 150px; }
+#told { display: grid; grid-template-columns: 1.3fr .9fr 1.1fr 1.7fr; grid-auto-rows: min-content; gap: 1rem; flex: 1 1 30%; overflow: auto; min-height: 150px; }
+#told p { margin: .2rem 0; }
 #told ul, #told ol { margin: 0; padding: 0; list-style: none; }
 #told dl { display: grid; grid-template-columns: auto 1fr; gap: 0 .7rem; margin: 0; } #told dd { margin: 0; }
 #lines li { white-space: pre; cursor: pointer; font: 12px/1.45 ui-monospace, monospace; overflow: hidden; text-overflow: ellipsis; }
@@ -43,6 +51,7 @@ code { font: 12px ui-monospace, monospace; overflow-wrap: anywhere; }
 svg text { fill: var(--ink); font: 11px system-ui, sans-serif; } svg text.soft { fill: var(--soft); } svg text.in { fill: #000; pointer-events: none; }
 .state { stroke: var(--back); stroke-width: .5; }
 .waits { fill: var(--waits); } .ready { fill: var(--ready); } .doomed { fill: var(--doomed); } .runs { fill: var(--runs); } .ring { fill: var(--ring); } .overflow { fill: var(--overflow); }
+.hidden { fill: var(--faint); stroke: var(--soft); stroke-dasharray: 3 3; } .choice { fill: var(--overflow); } .plain { fill: var(--faint); } .parts { stroke: var(--overflow); stroke-width: 1.5; stroke-dasharray: 6 3; }
 .reaped { fill: var(--soft); } .safe { fill: none; stroke: var(--ink); stroke-width: 1.8; } .end { stroke: var(--ink); stroke-width: 2; }
 .call { fill: var(--faint); opacity: .45; } .chain { fill: none; stroke: var(--soft); stroke-width: 2; }
 .grid { stroke: var(--faint); stroke-width: .5; } .chosen { fill: none; stroke: var(--ink); stroke-width: 1.2; }
@@ -50,9 +59,13 @@ svg text { fill: var(--ink); font: 11px system-ui, sans-serif; } svg text.soft {
 .arrow { fill: none; stroke-width: 1.8; } .arrow-group { stroke: var(--waits); } .arrow-drain { stroke: var(--ring); stroke-dasharray: 5 2; } .arrow-cancel { stroke: var(--doomed); stroke-dasharray: 2 2; } .arrow-doom { stroke: var(--doomed); } .arrow-link { stroke: var(--soft); }
 .tail { fill: none; stroke: var(--ring); stroke-width: 1.6; } .head { fill: none; stroke: var(--waits); stroke-width: 1.6; stroke-dasharray: 4 2; }
 .panel { fill: var(--back); }
+@media (max-width: 800px), (max-height: 600px) {
+  body { height: auto; gap: .2rem; } #keys { display: none; } #tools { gap: .4rem; } #told { flex: none; grid-template-columns: 1fr 1fr; }
+}
+@media (max-width: 560px) { #told { grid-template-columns: 1fr; } }
 @media print {
-  body { height: auto; display: block; } #tools, #keys { display: none; } #chart { overflow: visible; border: 0; height: auto !important; max-height: none; } #lanes { position: static; } #told { display: block; overflow: visible; }
-  :root { --back: #ffffff; --ink: #000000; }
+  body { height: auto; display: block; } #tools, #keys { display: none; } #panes .chart { overflow: visible; border: 0; height: auto !important; max-height: none; } #panes .lanes { position: static; } #told { display: block; overflow: visible; }
+  :root { --back: #ffffff; --ink: #000000; } #panes .choices { max-height: none; }
 }
 </style>
 </head>
@@ -65,6 +78,7 @@ svg text { fill: var(--ink); font: 11px system-ui, sans-serif; } svg text.soft {
 <button type="button" id="back" title="one line back (Left)">&#9664;</button>
 <label>line <input id="line" type="number" min="1" value="1"></label>
 <button type="button" id="on" title="one line on (Right)">&#9654;</button>
+<label id="group_label" hidden>show <select id="group"></select></label>
 <label>user data <input id="filter" type="text" placeholder="all" aria-describedby="filter_help"></label>
 <span id="filter_help" class="unseen">Numbers, with blanks between them. Nothing: all requests.</span>
 <label><input id="fold" type="checkbox"> fold what has ended</label>
@@ -72,9 +86,7 @@ svg text { fill: var(--ink); font: 11px system-ui, sans-serif; } svg text.soft {
 <span id="keys">Left and Right step, Home and End, N and P to the next and previous change, + and - zoom, J line, / user data, F fold</span>
 </form>
 <ul id="legend" aria-label="What the colours mean"></ul>
-<div id="chart" tabindex="0" role="application" aria-label="Lanes of requests; Left and Right step through the lines">
-<div id="space"><svg id="lanes" role="img" aria-labelledby="title summary"></svg></div>
-</div>
+<main id="panes"></main>
 <svg id="rings" role="img" aria-label="Heads and tails of both rings, line by line"></svg>
 <section id="told">
 <div id="now" aria-live="polite"></div>

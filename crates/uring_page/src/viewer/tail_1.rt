@@ -1,13 +1,37 @@
 //! A piece of the page, which `page/embed` puts here.
 
 /// The piece.
-pub(crate) const PIECE: &str =
-    r###"  for (let place = first + 1; place < last; place += 1) if (words[place] !== words[place - 1]) path += `H${x(place)}V${y(words[place])}`;
+pub(crate) const PIECE: &str = r###"function drawRings(view) {
+  const { run, step, rings, here } = view;
+  const seen = sight(view), high = 96;
+  rings.replaceChildren();
+  if (!run.size) return;
+  const first = Math.max(0, Math.floor(seen.left / step)), last = Math.min(run.size, Math.ceil((seen.left + seen.width) / step) + 1);
+  const x = place => LABEL + place * step - seen.left;
+  put(rings, "rect", { class: "here-line", x: x(here), y: 0, width: step, height: high });
+  ["sq", "cq"].forEach((ring, at) => {
+    const [head, tail] = [run.words[`${ring}_head`], run.words[`${ring}_tail`]];
+    const low = head[first], most = Math.max(tail[last - 1], low + 1);
+    const y = word => at * 48 + 42 - (word - low) / (most - low) * 34;
+    drawWord(rings, "tail", tail, first, last, x, y);
+    drawWord(rings, "head", head, first, last, x, y);
+  });
+  put(rings, "rect", { class: "panel", x: 0, y: 0, width: LABEL - 4, height: high });
+  const word = name => run.words[name][here] % 2 ** 32;
+  ["sq", "cq"].forEach((ring, at) => {
+    put(rings, "text", { x: 6, y: at * 48 + 20 }, `${ring === "sq" ? "submission" : "completion"} ring`);
+    put(rings, "text", { class: "soft", x: 6, y: at * 48 + 36, "data-ring": ring }, `head ${word(`${ring}_head`)} (- - -), tail ${word(`${ring}_tail`)} (—)`);
+  });
+}
+
+function drawWord(rings, name, words, first, last, x, y) {
+  let path = `M${x(first)} ${y(words[first])}`;
+  for (let place = first + 1; place < last; place += 1) if (words[place] !== words[place - 1]) path += `H${x(place)}V${y(words[place])}`;
   put(rings, "path", { class: name, d: `${path}H${x(last)}` });
 }
 const get = id => document.getElementById(id);
-const view = { run: readRun(data), here: 0, step: 16, rows: [], rowOf: new Map(), hasArrows: true, isPrinted: false, chart: get("chart"), space: get("space"), lanes: get("lanes"), rings: get("rings") };
-window.view = view;
+const panes = [];
+let view;
 
 function clean(parent, ...children) {
   parent.replaceChildren(...children);
@@ -20,16 +44,73 @@ function node(name, text, className) {
   return element;
 }
 
-function arrange() {
+function paneOf(run, at) {
+  const end = at ? `_${at}` : "";
+  const pane = { run, end, here: 0, step: 16, rows: [], rowOf: new Map(), hasArrows: true, isPrinted: false, rings: get("rings") };
+  pane.section = node("section", undefined, "pane");
+  pane.chart = node("div", undefined, "chart");
+  pane.space = node("div", undefined, "space");
+  pane.lanes = make("svg", { id: `lanes${end}`, class: "lanes", role: "img", "aria-labelledby": "title summary" });
+  pane.chart.id = `chart${end}`;
+  pane.chart.tabIndex = 0;
+  pane.chart.setAttribute("role", "application");
+  pane.chart.setAttribute("aria-label", `Lanes of requests${run.name ? ` of ${run.name}` : ""}; Left and Right step through the lines`);
+  pane.space.append(pane.lanes);
+  pane.chart.append(pane.space);
+  if (run.name) pane.section.append(headOf(pane));
+  pane.section.append(pane.chart);
+  pane.chart.addEventListener("scroll", drawSoon);
+  pane.chart.addEventListener("focus", () => turn(pane));
+  pane.lanes.addEventListener("click", event => pick(pane, event));
+  return pane;
+}
+
+function headOf(pane) {
+  const { run } = pane;
+  const head = node("header");
+  head.append(node("h2", run.name));
+  if (run.told) head.append(node("p", run.told, run.wrong >= 0 ? "told wrong" : "told"));
+  const choices = run.choices.filter(one => one.way);
+  if (choices.length) {
+    const list = node("p", undefined, "choices");
+    for (const choice of choices.slice(0, 12)) {
+      const button = node("button", tellChoice(choice));
+      button.type = "button";
+      button.addEventListener("click", () => { turn(pane); choose(choice.place); });
+      list.append(button);
+    }
+    if (choices.length > 12) list.append(`and ${choices.length - 12} more`);
+    head.append(list);
+  }
+  return head;
+}
+
+function turn(pane, isFocused) {
+  if (isFocused) pane.chart.focus();
+  if (view === pane) return;
+  view = pane;
+  for (const one of panes) one.section.classList.toggle("is-chosen", one === pane);
+  get("line").max = pane.run.size;
+  get("line").value = pane.run.size ? pane.run.lines[pane.here].line : 0;
+  draw();
+  tell();
+}
+
+function arrange(pane) {
   const words = get("filter").value.split(/[\s,]+/).filter(word => word);
-  view.run.last = undefined;
-  view.rows = rowsOf(view.run, words.length ? new Set(words) : null, get("fold").checked, view.here);
-  view.rowOf = new Map();
-  view.rows.forEach((row, at) => { if (row.kind === "request") view.rowOf.set(row.request.request, at); });
+  pane.run.last = undefined;
+  pane.rows = rowsOf(pane.run, words.length ? new Set(words) : null, get("fold").checked, pane.here);
+  pane.rowOf = new Map();
+  pane.rows.forEach((row, at) => { if (row.kind === "request") pane.rowOf.set(row.request.request, at); });
+}
+
+function arrangeAll() {
+  panes.forEach(arrange);
+  choose(view.here);
 }
 
 function draw() {
-  drawLanes(view);
+  panes.forEach(drawLanes);
   drawRings(view);
 }
 
@@ -41,13 +122,28 @@ function drawSoon() {
 }
 
 function choose(place, row) {
-  const { run } = view;
-  view.here = Math.max(0, Math.min(run.size - 1, place));
-  get("line").value = run.size ? run.lines[view.here].line : 0;
-  if (get("fold").checked) arrange();
-  show(row);
+  move(view, place, row);
+  const beside = view.run.size ? view.run.besides[view.here] : -1;
+  for (const pane of panes) {
+    if (pane === view || beside < 0) continue;
+    move(pane, beside);
+    if (pane.run.parts >= 0 && pane.rows.length === view.rows.length) alongside(pane);
+  }
+  get("line").value = view.run.size ? view.run.lines[view.here].line : 0;
   draw();
   tell();
+}
+
+function alongside(pane) {
+  pane.chart.scrollTop = view.chart.scrollTop;
+  pane.chart.scrollLeft = view.chart.scrollLeft;
+  show(pane);
+}
+
+function move(pane, place, row) {
+  pane.here = Math.max(0, Math.min(pane.run.size - 1, place));
+  if (get("fold").checked) arrange(pane);
+  show(pane, row);
 }
 
 function firstFrom(list, number) {
@@ -59,15 +155,15 @@ function firstFrom(list, number) {
   return low;
 }
 
-function show(row) {
-  const { chart, step, here, run } = view;
+function show(pane, row) {
+  const { chart, step, here, run } = pane;
   const x = here * step, wide = chart.clientWidth - LABEL;
   if (x < chart.scrollLeft || x + step > chart.scrollLeft + wide) chart.scrollLeft = Math.max(0, x - wide / 2);
   const near = run.changed[firstFrom(run.changed, here)] ?? run.changed[run.changed.length - 1];
-  const wanted = row ?? (near === undefined ? undefined : view.rowOf.get(run.lines[near].changes[0].request));
+  const wanted = row ?? (near === undefined ? undefined : pane.rowOf.get(run.lines[near].changes[0].request));
   if (wanted === undefined) return;
   const y = wanted * ROW;
-  if (y < chart.scrollTop || y + ROW > chart.scrollTop + chart.clientHeight) chart.scrollTop = Math.max(0, y - chart.clientHeight / 2);
+  if (y < chart.scrollTop || y + ROW > chart.scrollTop + chart.clientHeight) chart.scrollTop = Math.max(0, Math.floor((y - chart.clientHeight / 2) / ROW) * ROW);
 }
 
 function tell() {
@@ -108,6 +204,8 @@ function toldOf(line) {
   if (line.answer !== undefined) step.append(" = ", node("code", line.answer, line.wrong === undefined ? "answer" : "wrong"));
   told.push(step);
   if (line.reason) told.push(node("p", line.reason, "reason"));
+  for (const note of line.notes || []) told.push(node("p", note, "note"));
+  for (const choice of line.choices || []) told.push(node("p", tellChoice(choice), "note"));
   if (line.bad) told.push(node("p", line.bad.replace(/^uring: line \d+: /, ""), "bad"));
   if (line.wrong !== undefined) told.push(node("p", `wrong: ${line.wrong}`, "wrong"));
   const list = node("ul");
@@ -167,23 +265,29 @@ function nearest(isOn) {
 }
 
 function zoom(factor) {
-  const { chart, here } = view;
-  const at = here * view.step - chart.scrollLeft;
-  view.step = Math.max(2, Math.min(64, view.step * factor));
+  const step = Math.max(2, Math.min(64, view.step * factor));
+  const kept = panes.map(pane => pane.here * step - (pane.here * pane.step - pane.chart.scrollLeft));
+  for (const pane of panes) pane.step = step;
   draw();
-  chart.scrollLeft = here * view.step - at;
+  panes.forEach((pane, at) => { pane.chart.scrollLeft = kept[at]; });
   draw();
+}
+
+function nextChoice() {
+  const choices = view.run.choices.filter(one => one.way);
+  return (choices.find(one => one.place > view.here) || choices[0] || { place: view.here }).place;
 }
 
 const KEYS = {
   ArrowLeft: () => choose(view.here - 1), ArrowRight: () => choose(view.here + 1), Home: () => choose(0), End: () => choose(view.run.size - 1),
   n: () => choose(nearest(true)), p: () => choose(nearest(false)), w: () => view.run.wrong >= 0 && choose(view.run.wrong),
   "+": () => zoom(1.5), "=": () => zoom(1.5), "-": () => zoom(1 / 1.5),
-  j: () => get("line").select(), "/": () => get("filter").select(), f: () => { get("fold").checked = !get("fold").checked; arrange(); choose(view.here); },
+  j: () => get("line").select(), "/": () => get("filter").select(), f: () => { get("fold").checked = !get("fold").checked; arrangeAll(); },
+  o: () => turn(panes[(panes.indexOf(view) + 1) % panes.length], true), d: () => view.run.parts >= 0 && choose(view.run.parts), c: () => choose(nextChoice()),
 };
 
 document.addEventListener("keydown", event => {
-  const isTyped = event.target.matches("input[type=text], input[type=number]");
+  const isTyped = event.target.matches("input[type=text], input[type=number], select");
   if (isTyped && event.key === "Escape") return view.chart.focus();
   const act = KEYS[event.key] || KEYS[event.key.toLowerCase()];
   if (isTyped || event.ctrlKey || event.metaKey || event.altKey || !act) return;
@@ -191,28 +295,30 @@ document.addEventListener("keydown", event => {
   act();
 });
 
-view.lanes.addEventListener("click", event => {
-  const box = view.lanes.getBoundingClientRect();
-  const x = event.clientX - box.left, row = Math.floor((event.clientY - box.top + view.chart.scrollTop) / ROW);
-  const picked = view.rows[row];
+function pick(pane, event) {
+  turn(pane);
+  const box = pane.lanes.getBoundingClientRect();
+  const x = event.clientX - box.left, row = Math.floor((event.clientY - box.top + pane.chart.scrollTop) / ROW);
+  const picked = pane.rows[row];
   if (x < LABEL) return picked && picked.kind === "request" && choose(picked.request.from, row);
-  choose(Math.floor((x - LABEL + view.chart.scrollLeft) / view.step), row);
-});
+  choose(Math.floor((x - LABEL + pane.chart.scrollLeft) / pane.step), row);
+}
 
 get("back").addEventListener("click", KEYS.ArrowLeft);
 get("on").addEventListener("click", KEYS.ArrowRight);
 get("tools").addEventListener("submit", event => event.preventDefault());
 get("line").addEventListener("change", event => choose(Number(event.target.value) - 1));
-get("filter").addEventListener("input", () => { arrange(); choose(view.here); });
-get("fold").addEventListener("change", () => { arrange(); choose(view.here); });
-get("arrows").addEventListener("change", event => { view.hasArrows = event.target.checked; draw(); });
-view.chart.addEventListener("scroll", drawSoon);
+get("filter").addEventListener("input", arrangeAll);
+get("fold").addEventListener("change", arrangeAll);
+get("arrows").addEventListener("change", event => { for (const pane of panes) pane.hasArrows = event.target.checked; draw(); });
+get("group").addEventListener("change", event => openGroup(event.target.value));
 addEventListener("resize", drawSoon);
-addEventListener("beforeprint", () => { view.isPrinted = true; draw(); });
-addEventListener("afterprint", () => { view.isPrinted = false; draw(); });
+addEventListener("beforeprint", () => { for (const pane of panes) pane.isPrinted = true; draw(); });
+addEventListener("afterprint", () => { for (const pane of panes) pane.isPrinted = false; draw(); });
 
 function legend() {
-  const items = STATES.map(([name, words]) => {
+  const isSeen = name => name !== "hidden" || panes.some(pane => pane.run.requests.some(request => request.spans.some(span => span.is === name)));
+  const items = STATES.filter(([name]) => isSeen(name)).map(([name, words]) => {
     const item = node("li"), picture = make("svg", { width: 26, height: 12, "aria-hidden": "true" });
     put(picture, "rect", { class: name, width: 26, height: 12 });
     put(picture, "text", { class: "in", x: 8, y: 10 }, LETTERS[name]);
@@ -220,22 +326,30 @@ function legend() {
     return item;
   });
   const others = ["end, with its result", "○ reaped", "✓ what was written is safe", "arrows: solid orange a member of its group, long dashes a drain, short dashes a cancel, solid red what dooms, grey a link"];
+  if (panes.some(pane => pane.run.choices.length)) others.push("▼ a choice: pale where it is the one in order");
+  if (panes.some(pane => pane.run.parts >= 0)) others.push("a dashed line from top to bottom: where the runs part");
   clean(get("legend"), ...items, ...others.map(words => node("li", words)));
 }
 
-function start() {
-  const { run } = view;
+function told(run) {
   const verdict = run.wrong >= 0 ? `, line ${run.lines[run.wrong].line} is wrong` : "";
-  get("summary").textContent = `${run.size} lines, ${run.requests.length} requests; submission ring ${run.setup.sq}, completion ring ${run.setup.cq}, ${run.setup.files} files${verdict}`;
-  document.title = `uring: ${run.size} lines, ${run.requests.length} requests${verdict}`;
-  get("line").max = run.size;
-  legend();
-  arrange();
-  if (run.size && run.size * view.step < view.chart.clientWidth - LABEL) view.step = Math.min(48, (view.chart.clientWidth - LABEL - 24) / run.size);
-  choose(run.wrong >= 0 ? run.wrong : Math.max(0, run.size - 1));
+  const files = run.setup.files === undefined ? "" : `, ${run.setup.files} files`;
+  return { counts: `${run.size} lines, ${run.requests.length} requests`, rings: `submission ring ${run.setup.sq}, completion ring ${run.setup.cq}${files}${verdict}`, verdict };
 }
-start();
-</script>
-</body>
-</html>
+
+const KEYS_TOLD = get("keys").textContent;
+
+const GROUPS = [...new Set(DATA_RUNS.map(run => run.group || ""))];
+
+function openGroup(group) {
+  panes.length = 0;
+  const runs = DATA_RUNS.filter(run => (run.group || "") === group).map(readRun);
+  panes.push(...runs.map(paneOf));
+  clean(get("panes"), ...panes.map(pane => pane.section));
+  get("panes").classList.toggle("several", panes.length > 1);
+  const more = [[panes.length > 1, "O the other run"], [runs.some(run => run.parts >= 0), "D where they part"], [runs.some(run => run.choices.length), "C the next choice"], [runs.some(run => run.wrong >= 0), "W the wrong line"]];
+  get("keys").textContent = [KEYS_TOLD, ...more.filter(([isThere]) => isThere).map(([, words]) => words)].join(", ");
+  const { counts, rings, verdict } = told(runs[0]);
+  get("summary").textContent = data.told || `${counts}; ${rings}`;
+  get("title").textContent = data.title || "A run";
 "###;
