@@ -5,6 +5,7 @@ import re
 import shlex
 import sys
 
+from exploring.lines import places_of
 from exploring.runs import Policies, list_of, stop
 
 POLICY = re.compile(r"order|lazy|seed:\d+|pct:\d+:\d+(:\d+)?|list:(\d+(=\d+)?(,\d+(=\d+)?)*)?")
@@ -82,7 +83,11 @@ def print_run(program, policy):
 
 
 def print_line(line):
-    if line.startswith("# "):
+    if line.startswith("# called from "):
+        places = places_of(line[len("# called from ") :])
+        if places:
+            print(f"    submitted at {', from '.join(places)}")
+    elif line.startswith("# "):
         is_plain = line.startswith("# choice ") and " is 0 of " in line
         if not is_plain:
             print("    " + line[2:])

@@ -15,6 +15,7 @@
 #include "priorities.h"
 #include "readiness.h"
 #include "rules.h"
+#include "sockets.h"
 #include "steps.h"
 #include "streams.h"
 #include "timeouts.h"
@@ -74,6 +75,7 @@ static void end_of(struct ring *ring, struct request *request, int32_t res, int3
         record_silent_end(ring, request);
     bool is_cancel = request->mapping == CANCEL;
     ring->posted += note_end(ring, request, res, told) && !is_timeout(request);
+    ring->expired += is_timeout(request) && request->state == RUNS && !request->is_cancelled;
     disarm_linked_timeout(ring, request);
     if (request->file)
         unwatch(ring, request->file->fd);
@@ -146,6 +148,12 @@ static enum outcome finish_running(struct ring *ring, struct request *request)
         }
     }
     int32_t told = is_success(request, res) ? TOLD_SUCCESS : TOLD_FAILURE;
+    if (is_zero_copy(request) && !request->is_cancelled && can_post_extra(ring)) {
+        /* The request's own end is the second completion: its memory may be used again. */
+        post_extra(ring, request->entry.user_data, res, IORING_CQE_F_MORE);
+        request->flags = IORING_CQE_F_NOTIF;
+        res = request->entry.ioprio & IORING_SEND_ZC_REPORT_USAGE ? (int32_t)IORING_NOTIF_USAGE_ZC_COPIED : 0;
+    }
     finish(ring, request->number, told);
     end_of(ring, request, res, told);
     return HAS_ENDED;

@@ -1,5 +1,6 @@
 /* The side table of requests: an array of pointers, by rising number. */
 #include "requests.h"
+#include "buffers.h"
 #include "fault.h"
 #include "files.h"
 
@@ -81,6 +82,7 @@ static void free_parts(const struct request *request)
         close(request->epoll);
     release_file(request->file);
     release_file(request->second_file);
+    release_buffer(request->buffer);
 }
 
 void end_request(struct requests *requests, struct request *request)

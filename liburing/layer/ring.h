@@ -55,6 +55,7 @@ struct ring {
     size_t ways_room;
     uint32_t returns;                   /* how often in a row the choice was to return */
     uint64_t posted;                    /* how many completions a timeout with a count has counted so far */
+    uint64_t expired;                   /* how many timeouts have ended by their time or their count */
     struct files files;                 /* registered */
     struct buffers buffers;
     struct group *groups;               /* of provided buffers */
@@ -63,12 +64,14 @@ struct ring {
     int eventfd;                        /* registered: one of the layer's own; or negative */
     bool is_eventfd_async;              /* it is told only of what ends behind the call that submitted it */
     uint64_t call_number;               /* how many calls of enter were made */
-    pid_t issuer;                       /* of SINGLE_ISSUER: the one thread that may call, or 0 */
+    pid_t issuer;                       /* of SINGLE_ISSUER: the one thread that may call, or submit, or 0 */
+    bool has_skipped;                   /* where the layer is strict: an entry that skips its success was submitted */
     bool is_disabled;                   /* until it is enabled */
     struct restrictions restrictions;
     uint64_t accepted;                  /* how many requests were accepted so far */
     struct completions completions;     /* posted and not reaped */
     int64_t now;                        /* virtual time in nanoseconds */
+    int64_t origin;                     /* where time is real: when it was 0 */
     int64_t slept_until;                /* the real time up to which what was slept is in it */
     bool has_complained;                /* that the application stored a wrong head was said */
     bool has_trace;                     /* whether it is known where steps and answers go: */
