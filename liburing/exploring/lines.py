@@ -29,7 +29,9 @@ def places_of(note):
     found = []
     for item in note.split(", "):
         file, _, offset = item.rpartition("+0x")
-        function, line = place_of(file, int(offset, 16)) if file and re.fullmatch("[0-9a-f]+", offset) else (None, None)
+        if file.endswith("/uring-run.so") or not re.fullmatch("[0-9a-f]+", offset):
+            continue
+        function, line = place_of(file, int(offset, 16))
         if function and LAST.fullmatch(function):
             break
         if not line or (function and BETWEEN.fullmatch(function)):

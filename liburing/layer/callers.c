@@ -13,7 +13,7 @@
 #include <string.h>
 #include <unistd.h>
 
-enum { MOST_FRAMES = 48, MOST_TOLD = 8, ROOM = 8192 };
+enum { MOST_FRAMES = 48, MOST_TOLD = 16, ROOM = 16384 };
 
 static __thread const void *caller;
 

@@ -17,12 +17,7 @@
 
 bool can_post_extra(struct ring *ring)
 {
-    if (ring->staged.count > 0)
-        return false;
-    for (size_t i = 0; i < ring->requests.count; i++)
-        if (ring->requests.rows[i]->entry.flags & IOSQE_IO_DRAIN)
-            return false;
-    return reserve_all(ring, 1);
+    return ring->staged.count == 0 && ring->drains == 0 && reserve_all(ring, 1);
 }
 
 void post_extra(struct ring *ring, uint64_t user_data, int32_t res, uint32_t flags)

@@ -66,6 +66,22 @@ static void forget_refusals(struct ring *ring, bool is_success)
     }
 }
 
+/* Of the requests from a place on it isn't known any more that they can't be finished. */
+static void look_again(struct ring *ring, size_t place)
+{
+    if (ring->passed > place)
+        ring->passed = place;
+}
+
+/* Where an end can change which other requests can be finished, all are looked at again. */
+static void look_again_behind(struct ring *ring, const struct request *ended)
+{
+    uint8_t code = ended->entry.opcode;
+    bool acts_on_others = code == IORING_OP_ASYNC_CANCEL || code == IORING_OP_POLL_REMOVE || code == IORING_OP_TIMEOUT_REMOVE;
+    bool is_plain = !acts_on_others && ring->counting == 0 && ring->drains == 0 && !ring->has_refusals;
+    look_again(ring, is_plain ? place_of(&ring->requests, ended->number) : 0);
+}
+
 /* A request has ended: its completion is queued, and who was refused may be ready now. */
 static void end_of(struct ring *ring, struct request *request, int32_t res, int32_t told)
 {
@@ -81,6 +97,9 @@ static void end_of(struct ring *ring, struct request *request, int32_t res, int3
         unwatch(ring, request->file->fd);
     ring->has_changed = true;
     ring->running -= request->state == RUNS;
+    look_again_behind(ring, request);
+    ring->drains -= (request->entry.flags & IOSQE_IO_DRAIN) != 0;
+    ring->counting -= request->enough > 0;
     end_request(&ring->requests, request);
     forget_refusals(ring, told == TOLD_SUCCESS && !is_cancel);
     ring->completions.is_behind = true;
@@ -171,6 +190,10 @@ static void start(struct ring *ring, struct request *request)
     if (is_poll(request) && request->started == 0)
         request->started = start_poll(request);
     arm_linked_timeout(ring, request);
+    ring->counting += request->enough > 0;
+    look_again(ring, place_of(&ring->requests, request->number));
+    if (request->is_stream)
+        look_at(ring, request);
 }
 
 /* Issues a request that waits: it starts, or ends without being carried out, or the core refuses it. */
@@ -205,14 +228,31 @@ static enum outcome go_on_with(struct ring *ring, struct request *request)
     return outcome;
 }
 
+/* The least running request that can be finished, or NULL. */
+static struct request *first_to_finish(struct ring *ring)
+{
+    const struct requests *requests = &ring->requests;
+    if (ring->running == 0)
+        return NULL;
+    if (ring->passed_at != ring->moment)
+        ring->passed = 0;
+    ring->passed_at = ring->moment;
+    for (; ring->passed < requests->count; ring->passed++) {
+        struct request *request = requests->rows[ring->passed];
+        if (request->state == RUNS && can_finish(ring, request))
+            return request;
+    }
+    return NULL;
+}
+
 /* What the policy in order goes on with: the least running request that can be finished, else what the core says is
  * next. NULL if there is neither. */
 static struct request *first_in_order(struct ring *ring)
 {
     const struct requests *requests = &ring->requests;
-    for (size_t i = 0; i < requests->count && ring->running > 0; i++)
-        if (requests->rows[i]->state == RUNS && can_finish(ring, requests->rows[i]))
-            return requests->rows[i];
+    struct request *running = first_to_finish(ring);
+    if (running)
+        return running;
     /* The least outstanding one runs or can be issued, so of one that waits the core needn't be asked. */
     if (requests->count > 0 && requests->rows[0]->state == WAITS)
         return requests->rows[0];

@@ -44,7 +44,7 @@ void add_request(struct requests *requests, struct request *request)
     requests->rows[requests->count++] = request;
 }
 
-static size_t place_of(const struct requests *requests, uint64_t number)
+size_t place_of(const struct requests *requests, uint64_t number)
 {
     size_t low = 0, high = requests->count;
     while (low < high) {

@@ -74,6 +74,9 @@ void add_request(struct requests *requests, struct request *request);
 /* The request of a number. There is one. */
 struct request *request_of(const struct requests *requests, uint64_t number);
 
+/* Its place among the rows. */
+size_t place_of(const struct requests *requests, uint64_t number);
+
 /* Takes the first ones out, and frees nothing. */
 void drop_requests(struct requests *requests, size_t count);
 

@@ -12,6 +12,11 @@ static void note(const struct ring *ring, struct request *request, bool is_ready
     request->is_found_ready = is_ready;
 }
 
+void look_at(const struct ring *ring, struct request *request)
+{
+    note(ring, request, is_ready(request));
+}
+
 static bool is_to_be_looked_at(const struct ring *ring, const struct request *request)
 {
     return request->state == RUNS && request->is_stream && request->looked_at != ring->moment;
@@ -47,7 +52,7 @@ static bool look_at_all(struct ring *ring)
 bool is_found_ready(struct ring *ring, struct request *request)
 {
     if (request->looked_at != ring->moment && (ring->running < 2 || !look_at_all(ring)))
-        note(ring, request, is_ready(request));
+        look_at(ring, request);
     return request->is_found_ready;
 }
 

@@ -97,6 +97,7 @@ static void accept_one(struct ring *ring, struct request *request, const struct 
     request->chain = request->is_linked ? before->chain : request->number;
     if (!request->is_linked && !(request->entry.flags & IOSQE_IO_DRAIN))
         assign(ring, request);
+    ring->drains += (request->entry.flags & IOSQE_IO_DRAIN) != 0;
     add_request(&ring->requests, request);
 }
 

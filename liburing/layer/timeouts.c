@@ -99,6 +99,7 @@ void fire_linked_timeout(struct ring *ring, struct request *timeout)
         if (request->number + 1 == timeout->number && request->state == RUNS && is_cancellable(request)) {
             cancel_request(request);
             timeout->has_fired = true;
+            ring->passed = 0;
         }
     }
 }
@@ -108,6 +109,7 @@ int32_t change_timeout(struct ring *ring, struct request *timeout, const struct 
     *timeout->time = *change->time;
     timeout->entry.timeout_flags &= ~(uint32_t)(IORING_TIMEOUT_ABS | IORING_TIMEOUT_CLOCK_MASK);
     timeout->entry.timeout_flags |= change->entry.timeout_flags & (IORING_TIMEOUT_ABS | IORING_TIMEOUT_CLOCK_MASK);
+    ring->counting -= timeout->enough > 0;
     timeout->enough = 0;
     timeout->entry.off = 0;
     timeout->expiry = expiry_of(ring, timeout->time, timeout->entry.timeout_flags);

@@ -20,9 +20,6 @@ int real_sigmask(int how, const sigset_t *set, sigset_t *before);
 /* Catches SIGSYS, whoever has a filter already. */
 bool catch_for_good(void (*handler)(int, siginfo_t *, void *));
 
-/* What a program asks the kernel itself for SIGSYS: it is kept, and told. Returns what the call would have. */
-long keep_raw_action(const void *action, void *before);
-
 /* Whether a signal came on a stack of its own, which may be small; and calling a function on one that is large. */
 bool is_on_signal_stack(const ucontext_t *at);
 void call_on_own_stack(const ucontext_t *at, void (*function)(void *), void *argument);

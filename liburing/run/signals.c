@@ -1,6 +1,6 @@
 /* SIGSYS stays the trap's: a program that asks to catch, ignore or block it, or all signals, is told that it is so, and
  * it isn't. What a program says of SIGSYS is kept, so that it is told the same when it asks again. One that asks the kernel
- * itself to catch it, as the runtime of Go does, is trapped there too.
+ * itself, as the runtime of Go does, is told that it is done, and it isn't.
  *
  * A program that blocks it by a call of its own isn't reached: if a thread of its has blocked SIGSYS when it calls io_uring,
  * the kernel ends the program with that signal.
@@ -13,7 +13,6 @@
 #include <pthread.h>
 #include <stddef.h>
 #include <stdint.h>
-#include <string.h>
 #include <sys/syscall.h>
 #include <unistd.h>
 
@@ -27,7 +26,6 @@ struct raw_action {
 
 enum { HAS_RESTORER = 0x04000000 };
 
-static struct raw_action raw_asked;
 static struct sigaction asked = {.sa_handler = SIG_DFL};
 
 static void *next(const char *name)
@@ -59,16 +57,6 @@ bool catch_for_good(void (*handler)(int, siginfo_t *, void *))
 {
     struct raw_action action = {handler, SA_SIGINFO | SA_NODEFER | SA_RESTART | SA_ONSTACK | HAS_RESTORER, return_from_handler, 0};
     return syscall(SYS_rt_sigaction, SIGSYS, &action, NULL, sizeof action.mask, 0, ASKS_KERNEL) == 0;
-}
-
-long keep_raw_action(const void *action, void *before)
-{
-    struct raw_action asked_now = raw_asked;
-    if (action)
-        memcpy(&raw_asked, action, sizeof raw_asked);
-    if (before)
-        memcpy(before, &asked_now, sizeof asked_now);
-    return 0;
 }
 
 /* The set without SIGSYS. NULL stays NULL. */

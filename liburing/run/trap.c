@@ -52,10 +52,6 @@ static void serve(ucontext_t *at, long call)
 {
     greg_t *registers = at->uc_mcontext.gregs;
     long first = registers[REG_RDI], second = registers[REG_RSI];
-    if (call == SYS_rt_sigaction) {
-        registers[REG_RAX] = keep_raw_action((const void *)second, (void *)registers[REG_RDX]);
-        return;
-    }
     long result = wulgach_syscall(call, first, second, (long)registers[REG_RDX], (long)registers[REG_R10], (long)registers[REG_R8], (long)registers[REG_R9]);
     if (result == -1)
         result = -errno;
@@ -94,27 +90,33 @@ static bool catch_trap(void)
     return catch_for_good(answer);
 }
 
-/* The three calls are trapped, and what would take SIGSYS away. A call with the 6th argument that none of them uses is our
- * own, to the kernel: SIGSYS is caught so, and a strict layer asks the kernel for set-ups and its probe. */
+/* The three calls are trapped, and what would take SIGSYS away succeeds and does nothing: it can't be trapped, since a child
+ * that the C library spawns does it with all signals blocked. A call with the 6th argument that none of them uses is our own,
+ * to the kernel: SIGSYS is caught so, and a strict layer asks the kernel for set-ups and its probe. */
 static bool set_trap(void)
 {
     const uint32_t x86_64 = 0xc000003e;
     struct sock_filter lines[] = {
         /* 0 */ BPF_STMT(BPF_LD | BPF_W | BPF_ABS, offsetof(struct seccomp_data, arch)),
-        /* 1 */ BPF_JUMP(BPF_JMP | BPF_JEQ | BPF_K, x86_64, 0, 12),
+        /* 1 */ BPF_JUMP(BPF_JMP | BPF_JEQ | BPF_K, x86_64, 0, 17),
         /* 2 */ BPF_STMT(BPF_LD | BPF_W | BPF_ABS, offsetof(struct seccomp_data, nr)),
-        /* 3 */ BPF_JUMP(BPF_JMP | BPF_JEQ | BPF_K, SYS_io_uring_enter, 9, 0),
-        /* 4 */ BPF_JUMP(BPF_JMP | BPF_JEQ | BPF_K, SYS_io_uring_setup, 4, 0),
-        /* 5 */ BPF_JUMP(BPF_JMP | BPF_JEQ | BPF_K, SYS_io_uring_register, 3, 0),
-        /* 6 */ BPF_JUMP(BPF_JMP | BPF_JEQ | BPF_K, SYS_rt_sigaction, 0, 7),
+        /* 3 */ BPF_JUMP(BPF_JMP | BPF_JEQ | BPF_K, SYS_io_uring_enter, 13, 0),
+        /* 4 */ BPF_JUMP(BPF_JMP | BPF_JEQ | BPF_K, SYS_io_uring_setup, 8, 0),
+        /* 5 */ BPF_JUMP(BPF_JMP | BPF_JEQ | BPF_K, SYS_io_uring_register, 7, 0),
+        /* 6 */ BPF_JUMP(BPF_JMP | BPF_JEQ | BPF_K, SYS_rt_sigaction, 0, 12),
         /* 7 */ BPF_STMT(BPF_LD | BPF_W | BPF_ABS, offsetof(struct seccomp_data, args[0])),
-        /* 8 */ BPF_JUMP(BPF_JMP | BPF_JEQ | BPF_K, SIGSYS, 0, 5),
+        /* 8 */ BPF_JUMP(BPF_JMP | BPF_JEQ | BPF_K, SIGSYS, 0, 10),
         /* 9 */ BPF_STMT(BPF_LD | BPF_W | BPF_ABS, offsetof(struct seccomp_data, args[5])),
-        /* 10 */ BPF_JUMP(BPF_JMP | BPF_JEQ | BPF_K, (uint32_t)ASKS_KERNEL, 0, 2),
+        /* 10 */ BPF_JUMP(BPF_JMP | BPF_JEQ | BPF_K, (uint32_t)ASKS_KERNEL, 0, 7),
         /* 11 */ BPF_STMT(BPF_LD | BPF_W | BPF_ABS, offsetof(struct seccomp_data, args[5]) + 4),
-        /* 12 */ BPF_JUMP(BPF_JMP | BPF_JEQ | BPF_K, (uint32_t)(ASKS_KERNEL >> 32), 1, 0),
-        /* 13 */ BPF_STMT(BPF_RET | BPF_K, SECCOMP_RET_TRAP),
-        /* 14 */ BPF_STMT(BPF_RET | BPF_K, SECCOMP_RET_ALLOW),
+        /* 12 */ BPF_JUMP(BPF_JMP | BPF_JEQ | BPF_K, (uint32_t)(ASKS_KERNEL >> 32), 6, 5),
+        /* 13 */ BPF_STMT(BPF_LD | BPF_W | BPF_ABS, offsetof(struct seccomp_data, args[5])),
+        /* 14 */ BPF_JUMP(BPF_JMP | BPF_JEQ | BPF_K, (uint32_t)ASKS_KERNEL, 0, 2),
+        /* 15 */ BPF_STMT(BPF_LD | BPF_W | BPF_ABS, offsetof(struct seccomp_data, args[5]) + 4),
+        /* 16 */ BPF_JUMP(BPF_JMP | BPF_JEQ | BPF_K, (uint32_t)(ASKS_KERNEL >> 32), 2, 0),
+        /* 17 */ BPF_STMT(BPF_RET | BPF_K, SECCOMP_RET_TRAP),
+        /* 18 */ BPF_STMT(BPF_RET | BPF_K, SECCOMP_RET_ERRNO),
+        /* 19 */ BPF_STMT(BPF_RET | BPF_K, SECCOMP_RET_ALLOW),
     };
     struct sock_fprog program = {.len = sizeof lines / sizeof *lines, .filter = lines};
     return prctl(PR_SET_NO_NEW_PRIVS, 1, 0, 0, 0) == 0 && prctl(PR_SET_SECCOMP, SECCOMP_MODE_FILTER, &program) == 0;
