@@ -128,6 +128,7 @@ static int32_t change_poll(struct request *poll, const struct io_uring_sqe *chan
     if (change->len & IORING_POLL_UPDATE_USER_DATA)
         poll->entry.user_data = change->off;
     poll->is_refused = false;
+    poll->looked_at = UINT64_MAX;
     return poll->state == RUNS ? start_poll(poll) : 0;
 }
 

@@ -144,6 +144,23 @@ void end_extra(struct ring *ring, struct request *request, int32_t res)
 
 enum outcome { IS_REFUSED, IS_RUNNING, HAS_ENDED };
 
+/* Whether carrying a request out can make a descriptor ready, or unready. */
+static bool can_make_ready(const struct request *request)
+{
+    switch (request->entry.opcode) {
+    case IORING_OP_NOP:
+    case IORING_OP_POLL_ADD:
+    case IORING_OP_POLL_REMOVE:
+    case IORING_OP_TIMEOUT:
+    case IORING_OP_TIMEOUT_REMOVE:
+    case IORING_OP_LINK_TIMEOUT:
+    case IORING_OP_ASYNC_CANCEL:
+        return false;
+    default:
+        return true;
+    }
+}
+
 /* Finishes a running request. It goes on running if it would have to wait. */
 static enum outcome finish_running(struct ring *ring, struct request *request)
 {
@@ -154,7 +171,7 @@ static enum outcome finish_running(struct ring *ring, struct request *request)
             show_ends(ring);
         hear(ring, false);
         res = carry_out(ring, request, injected(ring, request));
-        if (request->entry.opcode != IORING_OP_NOP && !is_poll(request))
+        if (can_make_ready(request))
             ring->moment++;
         if (res == WOULD_WAIT) {
             note_refusal(ring, request);

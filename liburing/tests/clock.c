@@ -19,7 +19,8 @@ static int64_t now(void)
 /* Whether as long has passed as is said, where time is real. */
 static bool has_lasted(int64_t start, int64_t time)
 {
-    bool is_real = getenv("WULGACH_TIME");
+    const char *word = getenv("WULGACH_TIME");
+    bool is_real = word && strcmp(word, "real") == 0;
     return is_real ? now() - start >= time : true;
 }
 
