@@ -1,5 +1,5 @@
 /* Tests of what is registered, by direct calls: files and direct descriptors, buffers, their tags, provided buffers, eventfds,
- * restrictions; and of rings with SQPOLL. All hold under every policy, which the environment says.
+ * restrictions; of rings that are called by number, and of rings with SQPOLL. All hold under every policy, which the environment says.
  *
  *   resources [NAME]         with a name: that test alone
  */
@@ -258,6 +258,41 @@ static void test_restrictions(void)
     close_ring(&ring);
 }
 
+static long enter_by_number(unsigned number, unsigned to_submit)
+{
+    long result = wulgach_syscall(SYS_io_uring_enter, number, to_submit, to_submit, IORING_ENTER_GETEVENTS | IORING_ENTER_REGISTERED_RING, NULL, (size_t)0);
+    return result < 0 ? -errno : result;
+}
+
+/* A thread calls on a ring by a number, also where its descriptor is closed. */
+static void test_rings_by_number(void)
+{
+    struct ring ring, other;
+    int file = make_file();
+    make_ring(&ring, 8, 0, 0);
+    make_ring(&other, 8, 0, 0);
+    struct io_uring_rsrc_update row = {.offset = (unsigned)-1, .data = (uint64_t)ring.fd}, bad = {.offset = 3, .data = (uint64_t)file}, past = {.offset = 16};
+    check(enter_by_number(0, 0) == -EINVAL || enter_by_number(0, 0) == -EBADF);
+    check(register_at(other.fd, IORING_REGISTER_RING_FDS, &row, 0) == -EINVAL);
+    check(register_at(other.fd, IORING_REGISTER_RING_FDS, &row, 17) == -EINVAL);
+    check(register_at(other.fd, IORING_REGISTER_RING_FDS, NULL, 1) == -EFAULT);
+    check(register_at(other.fd, IORING_REGISTER_RING_FDS, &bad, 1) == -EOPNOTSUPP);
+    check(register_at(other.fd, IORING_REGISTER_RING_FDS, &past, 1) == -EINVAL);
+    check(register_at(other.fd, IORING_REGISTER_RING_FDS, &row, 1) == 1);
+    unsigned number = row.offset;
+    check(number < 16 && register_at(other.fd, IORING_REGISTER_RING_FDS, &row, 1) == -EBUSY);
+    close(ring.fd);
+    put(&ring, IORING_OP_NOP, 7, 0);
+    check(enter_by_number(number, 1) == 1 && reap(&ring).user_data == 7);
+    check(enter_by_number(15, 0) == -EBADF && enter_by_number(16, 0) == -EINVAL);
+    check(register_at(other.fd, IORING_UNREGISTER_RING_FDS, &row, 1) == -EINVAL);
+    row.data = 0;
+    check(register_at(other.fd, IORING_UNREGISTER_RING_FDS, &row, 1) == 1);
+    check(enter_by_number(number, 0) == -EBADF);
+    close(file);
+    close_ring(&other);
+}
+
 /* A ring whose thread takes entries: it sleeps, and a call wakes it. */
 static void test_sqpoll(void)
 {
@@ -284,6 +319,7 @@ int main(int count, char **words)
         {"provided", test_provided},
         {"eventfd", test_eventfd},
         {"restrictions", test_restrictions},
+        {"rings by number", test_rings_by_number},
         {"sqpoll", test_sqpoll},
     };
     return run_tests(tests, sizeof tests / sizeof *tests, count > 1 ? words[1] : NULL);
