@@ -76,9 +76,7 @@ static void look_again(struct ring *ring, size_t place)
 /* Where an end can change which other requests can be finished, all are looked at again. */
 static void look_again_behind(struct ring *ring, const struct request *ended)
 {
-    uint8_t code = ended->entry.opcode;
-    bool acts_on_others = code == IORING_OP_ASYNC_CANCEL || code == IORING_OP_POLL_REMOVE || code == IORING_OP_TIMEOUT_REMOVE;
-    bool is_plain = !acts_on_others && ring->counting == 0 && ring->drains == 0 && !ring->has_refusals;
+    bool is_plain = ring->counting == 0 && ring->drains == 0 && !ring->has_refusals;
     look_again(ring, is_plain ? place_of(&ring->requests, ended->number) : 0);
 }
 
@@ -112,7 +110,7 @@ static bool cancel_running(struct ring *ring, uint64_t target)
         struct request *request = ring->requests.rows[i];
         if (request->state == RUNS && request->entry.user_data == target) {
             if (is_cancellable(request))
-                cancel_request(request);
+                cancel_request(ring, request);
             return request->is_cancelled;
         }
     }

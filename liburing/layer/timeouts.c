@@ -97,9 +97,8 @@ void fire_linked_timeout(struct ring *ring, struct request *timeout)
     for (size_t i = 0; i < ring->requests.count; i++) {
         struct request *request = ring->requests.rows[i];
         if (request->number + 1 == timeout->number && request->state == RUNS && is_cancellable(request)) {
-            cancel_request(request);
+            cancel_request(ring, request);
             timeout->has_fired = true;
-            ring->passed = 0;
         }
     }
 }
