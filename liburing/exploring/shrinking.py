@@ -5,6 +5,7 @@ import re
 import shlex
 import sys
 
+from exploring.lines import places_of
 from exploring.runs import Policies, list_of, stop
 from exploring.traces import URING
 
@@ -97,7 +98,11 @@ def print_run(options, program, policy, title):
 
 
 def print_line(line):
-    if line.startswith("# "):
+    if line.startswith("# called from "):
+        places = places_of(line[len("# called from ") :])
+        if places:
+            print(f"    submitted at {', from '.join(places)}")
+    elif line.startswith("# "):
         is_plain = line.startswith("# choice ") and " is 0 of " in line
         if not is_plain:
             print("    " + line[2:])

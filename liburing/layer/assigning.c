@@ -26,6 +26,8 @@ static bool needs_file(uint8_t code)
     case IORING_OP_FADVISE:
     case IORING_OP_POLL_ADD:
     case IORING_OP_SENDMSG:
+    case IORING_OP_SEND_ZC:
+    case IORING_OP_SENDMSG_ZC:
     case IORING_OP_RECVMSG:
     case IORING_OP_SEND:
     case IORING_OP_RECV:
@@ -40,6 +42,12 @@ static bool needs_file(uint8_t code)
     default:
         return false;
     }
+}
+
+static bool uses_buffer(const struct io_uring_sqe *entry)
+{
+    bool is_transfer = entry->opcode == IORING_OP_READ_FIXED || entry->opcode == IORING_OP_WRITE_FIXED;
+    return is_transfer || (entry->opcode == IORING_OP_SEND_ZC && entry->ioprio & IORING_RECVSEND_FIXED_BUF);
 }
 
 /* A descriptor, or that of a registered file, which is kept. Negative if there is none. */
@@ -63,7 +71,7 @@ void assign(struct ring *ring, struct request *request)
         request->second_fd = find_fd(ring, entry->splice_fd_in, entry->splice_flags & SPLICE_F_FD_IN_FIXED, &request->second_file);
     if (request->fd < 0 || (is_splice(request) && request->second_fd < 0) || (is_poll(request) && fcntl(request->fd, F_GETFD) < 0))
         request->started = -EBADF;
-    else if (entry->opcode == IORING_OP_READ_FIXED || entry->opcode == IORING_OP_WRITE_FIXED)
-        request->started = check_buffer(ring, entry->buf_index, request->vectors);
+    else if (uses_buffer(entry))
+        request->started = use_buffer(ring, entry->buf_index, request->vectors, &request->buffer);
     request->is_stream = request->started == 0 && is_stream(request);
 }

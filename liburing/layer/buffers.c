@@ -1,5 +1,5 @@
 /* Registered buffers. The kernel pins their pages; here they are asked for once, so that what can't be written is told
- * where the kernel tells it.
+ * where the kernel tells it. A request that is started keeps its buffer, whatever becomes of the slot: its tag waits.
  */
 #define _GNU_SOURCE
 #include "buffers.h"
@@ -25,37 +25,78 @@ bool is_there(const struct iovec *buffer)
     return madvise((void *)start, at - start + buffer->iov_len, MADV_POPULATE_WRITE) == 0 || errno == EINVAL || errno == ENOSYS;
 }
 
-static int read_buffer(struct iovec *buffer, uint64_t vectors, uint32_t index)
+void release_buffer(struct buffer *buffer)
 {
-    if (copy_in(buffer, vectors + index * sizeof *buffer, sizeof *buffer) < 0)
-        return -EFAULT;
-    if (!buffer->iov_base)
-        return buffer->iov_len ? -EFAULT : 0;
-    return buffer->iov_len && buffer->iov_len <= LARGEST_BUFFER && is_there(buffer) ? 0 : -EFAULT;
+    if (!buffer || --buffer->uses > 0)
+        return;
+    if (buffer->tag)
+        put_message(buffer->told, buffer->tag);
+    free(buffer);
 }
 
-int register_no_buffers(struct ring *ring, uint32_t count)
+/* Reads a row of the application's lists. A list that isn't there has no buffers, or no tags. */
+static int read_row(struct iovec *bytes, uint64_t *tag, uint64_t vectors, uint64_t tags, uint32_t index)
+{
+    *bytes = (struct iovec){0};
+    *tag = 0;
+    if (tags && copy_in(tag, tags + index * sizeof *tag, sizeof *tag) < 0)
+        return -EFAULT;
+    if (vectors && copy_in(bytes, vectors + index * sizeof *bytes, sizeof *bytes) < 0)
+        return -EFAULT;
+    if (!bytes->iov_base)
+        return bytes->iov_len ? -EFAULT : tag && *tag ? -EINVAL : 0;
+    return bytes->iov_len && bytes->iov_len <= LARGEST_BUFFER && is_there(bytes) ? 0 : -EFAULT;
+}
+
+/* The buffer of a row; NULL if there is none. */
+static int make_buffer(struct ring *ring, struct buffer **made, uint64_t vectors, uint64_t tags, uint32_t index)
+{
+    struct iovec bytes;
+    uint64_t tag;
+    *made = NULL;
+    int result = read_row(&bytes, &tag, vectors, tags, index);
+    if (result < 0 || !bytes.iov_base)
+        return result;
+    struct message *message = tag ? make_message_of(tag, 0) : NULL;
+    *made = malloc(sizeof **made);
+    if (!*made || (tag && !message)) {
+        free(*made);
+        free(message);
+        *made = NULL;
+        return -ENOMEM;
+    }
+    **made = (struct buffer){.bytes = bytes, .uses = 1, .told = &ring->inbox, .tag = message};
+    return 0;
+}
+
+/* Of a table that isn't registered after all, no tag is told. */
+static void drop_tags(struct buffers *buffers)
+{
+    for (uint32_t i = 0; i < buffers->count; i++) {
+        if (buffers->slots[i]) {
+            free(buffers->slots[i]->tag);
+            buffers->slots[i]->tag = NULL;
+        }
+    }
+}
+
+int register_buffers(struct ring *ring, uint64_t vectors, uint64_t tags, uint32_t count)
 {
     if (ring->buffers.slots)
         return -EBUSY;
     if (!count || count > MOST_BUFFERS)
         return -EINVAL;
-    struct iovec *slots = calloc(count, sizeof *slots);
+    struct buffer **slots = calloc(count, sizeof *slots);
     if (!slots)
         return -ENOMEM;
     ring->buffers = (struct buffers){slots, count};
-    return 0;
-}
-
-int register_buffers(struct ring *ring, uint64_t vectors, uint32_t count)
-{
-    int result = register_no_buffers(ring, count);
-    if (result < 0)
-        return result;
-    for (uint32_t i = 0; result == 0 && i < count; i++)
-        result = read_buffer(&ring->buffers.slots[i], vectors, i);
-    if (result < 0)
+    int result = 0;
+    for (uint32_t i = 0; result == 0 && i < count && (vectors || tags); i++)
+        result = make_buffer(ring, &slots[i], vectors, tags, i);
+    if (result < 0) {
+        drop_tags(&ring->buffers);
         unregister_buffers(ring);
+    }
     return result;
 }
 
@@ -63,13 +104,15 @@ int unregister_buffers(struct ring *ring)
 {
     if (!ring->buffers.slots)
         return -ENXIO;
+    for (uint32_t i = 0; i < ring->buffers.count; i++)
+        release_buffer(ring->buffers.slots[i]);
     free(ring->buffers.slots);
     ring->buffers = (struct buffers){0};
     return 0;
 }
 
 /* Ends at the first that can't be updated: those before it stay so. */
-int update_buffers(struct ring *ring, uint32_t offset, uint64_t vectors, uint32_t count)
+int update_buffers(struct ring *ring, uint32_t offset, uint64_t vectors, uint64_t tags, uint32_t count)
 {
     if (!ring->buffers.slots)
         return -ENXIO;
@@ -78,22 +121,26 @@ int update_buffers(struct ring *ring, uint32_t offset, uint64_t vectors, uint32_
     if (offset + count > ring->buffers.count)
         return -EINVAL;
     for (uint32_t i = 0; i < count; i++) {
-        struct iovec buffer;
-        int result = read_buffer(&buffer, vectors, i);
+        struct buffer *buffer;
+        int result = vectors ? make_buffer(ring, &buffer, vectors, tags, i) : -EFAULT;
         if (result < 0)
             return i > 0 ? (int)i : result;
+        release_buffer(ring->buffers.slots[offset + i]);
         ring->buffers.slots[offset + i] = buffer;
     }
     return (int)count;
 }
 
-int check_buffer(const struct ring *ring, uint32_t index, const struct iovec *bytes)
+int use_buffer(struct ring *ring, uint32_t index, const struct iovec *bytes, struct buffer **used)
 {
-    if (!ring->buffers.slots || index >= ring->buffers.count)
+    struct buffer *buffer = ring->buffers.slots && index < ring->buffers.count ? ring->buffers.slots[index] : NULL;
+    uintptr_t from = (uintptr_t)bytes->iov_base, end;
+    if (!buffer || __builtin_add_overflow(from, bytes->iov_len, &end))
         return -EFAULT;
-    const struct iovec *buffer = &ring->buffers.slots[index];
-    uintptr_t from = (uintptr_t)bytes->iov_base, end, start = (uintptr_t)buffer->iov_base;
-    if (__builtin_add_overflow(from, bytes->iov_len, &end) || !buffer->iov_base)
+    uintptr_t start = (uintptr_t)buffer->bytes.iov_base;
+    if (from < start || end > start + buffer->bytes.iov_len)
         return -EFAULT;
-    return from >= start && end <= start + buffer->iov_len ? 0 : -EFAULT;
+    buffer->uses++;
+    *used = buffer;
+    return 0;
 }

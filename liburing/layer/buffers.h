@@ -6,23 +6,37 @@
 #include <stdint.h>
 #include <sys/uio.h>
 
+struct inbox;
+struct message;
+
+/* A registered buffer. It is gone once no slot and no request has it. */
+struct buffer {
+    struct iovec bytes;
+    uint32_t uses;
+    struct inbox *told;             /* who is told its tag then, */
+    struct message *tag;            /* or NULL: it has none */
+};
+
 struct buffers {
-    struct iovec *slots;            /* NULL: there is no table. An empty slot has no base */
+    struct buffer **slots;          /* NULL: there is no table. An empty slot is NULL */
     uint32_t count;
 };
 
 struct ring;
 
-/* The calls of io_uring_register(2). Each returns 0 or the number of buffers updated, or the negative of an error number. */
-int register_buffers(struct ring *ring, uint64_t vectors, uint32_t count);
-int register_no_buffers(struct ring *ring, uint32_t count);
+/* The calls of io_uring_register(2), with lists of buffers and of tags: one that isn't there is 0. Each returns 0 or the number
+ * of buffers updated, or the negative of an error number. */
+int register_buffers(struct ring *ring, uint64_t vectors, uint64_t tags, uint32_t count);
 int unregister_buffers(struct ring *ring);
-int update_buffers(struct ring *ring, uint32_t offset, uint64_t vectors, uint32_t count);
+int update_buffers(struct ring *ring, uint32_t offset, uint64_t vectors, uint64_t tags, uint32_t count);
 
 /* Whether all the pages of a buffer are there. A kernel that can't be asked says yes. */
 bool is_there(const struct iovec *buffer);
 
-/* Whether these bytes lie in the buffer of an index: 0 or -EFAULT. */
-int check_buffer(const struct ring *ring, uint32_t index, const struct iovec *bytes);
+/* The buffer of an index, one use more, if these bytes lie in it: 0 or -EFAULT. */
+int use_buffer(struct ring *ring, uint32_t index, const struct iovec *bytes, struct buffer **used);
+
+/* One use less. Nothing, of NULL. */
+void release_buffer(struct buffer *buffer);
 
 #endif

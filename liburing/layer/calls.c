@@ -1,8 +1,10 @@
-/* What a program calls in the place of the C library's syscall() and mmap(): the layer answers the three calls of
- * io_uring, and hands on all others. liburing's sources call wulgach_polled_syscall and wulgach_mmap. A program that maps
- * its rings by mmap itself calls wulgach_syscall: its descriptors are memory, and don't poll.
+/* What a program calls in the place of the C library's syscall(), mmap() and close(): the layer answers the three calls of
+ * io_uring, and hands on all others. liburing's sources call wulgach_polled_syscall, wulgach_mmap and wulgach_close. A program
+ * that maps its rings by mmap itself calls wulgach_syscall: its descriptors are memory, and don't poll.
  */
 #define _GNU_SOURCE
+#include "callers.h"
+#include "descriptors.h"
 #include "enter.h"
 
 #include <errno.h>
@@ -14,6 +16,7 @@
 SEEN long wulgach_syscall(long call, ...);
 SEEN long wulgach_polled_syscall(long call, ...);
 SEEN void *wulgach_mmap(void *at, size_t size, int protection, int flags, int fd, off_t offset);
+SEEN int wulgach_close(int fd);
 
 /* The way in which syscall() returns. */
 static long returned(long result)
@@ -73,6 +76,7 @@ static long call_any(long call, va_list arguments, bool is_polled)
 long wulgach_syscall(long call, ...)
 {
     va_list arguments;
+    note_caller(__builtin_return_address(0));
     va_start(arguments, call);
     long result = call_any(call, arguments, false);
     va_end(arguments);
@@ -82,6 +86,7 @@ long wulgach_syscall(long call, ...)
 long wulgach_polled_syscall(long call, ...)
 {
     va_list arguments;
+    note_caller(__builtin_return_address(0));
     va_start(arguments, call);
     long result = call_any(call, arguments, true);
     va_end(arguments);
@@ -91,4 +96,9 @@ long wulgach_polled_syscall(long call, ...)
 void *wulgach_mmap(void *at, size_t size, int protection, int flags, int fd, off_t offset)
 {
     return map_file(at, size, protection, flags, fd, offset);
+}
+
+int wulgach_close(int fd)
+{
+    return (int)returned(close_descriptor(fd));
 }

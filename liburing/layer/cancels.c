@@ -45,8 +45,17 @@ bool is_cancellable(const struct request *request)
     return request->is_stream || request->entry.opcode == IORING_OP_TIMEOUT;
 }
 
-void cancel_request(struct request *request)
+/* One that was passed over is looked at again. */
+static void look_again_at(struct ring *ring, const struct request *request)
 {
+    size_t place = place_of(&ring->requests, request->number);
+    if (ring->passed > place)
+        ring->passed = place;
+}
+
+void cancel_request(struct ring *ring, struct request *request)
+{
+    look_again_at(ring, request);
     request->is_cancelled = true;
     request->is_refused = false;
 }
@@ -84,7 +93,7 @@ static int32_t cancel_all(struct ring *ring, const struct key *key, const struct
     for (size_t i = 0; i < ring->requests.count && !(is_one && count > 0); i++) {
         struct request *request = ring->requests.rows[i];
         if (request != canceller && fits(key, request) && can_be_found(ring, request)) {
-            cancel_request(request);
+            cancel_request(ring, request);
             count++;
         }
     }
@@ -119,8 +128,9 @@ static struct request *find_request(struct ring *ring, uint8_t code, uint64_t us
     return NULL;
 }
 
-static int32_t change_poll(struct request *poll, const struct io_uring_sqe *change)
+static int32_t change_poll(struct ring *ring, struct request *poll, const struct io_uring_sqe *change)
 {
+    look_again_at(ring, poll);
     if (change->len & IORING_POLL_UPDATE_EVENTS) {
         poll->entry.poll32_events = change->poll32_events;
         poll->entry.len = change->len & IORING_POLL_ADD_MULTI;
@@ -128,6 +138,7 @@ static int32_t change_poll(struct request *poll, const struct io_uring_sqe *chan
     if (change->len & IORING_POLL_UPDATE_USER_DATA)
         poll->entry.user_data = change->off;
     poll->is_refused = false;
+    poll->looked_at = UINT64_MAX;
     return poll->state == RUNS ? start_poll(poll) : 0;
 }
 
@@ -137,8 +148,8 @@ static int32_t remove_poll(struct ring *ring, const struct io_uring_sqe *removal
     if (!poll)
         return -ENOENT;
     if (removal->len & (IORING_POLL_UPDATE_EVENTS | IORING_POLL_UPDATE_USER_DATA))
-        return change_poll(poll, removal);
-    cancel_request(poll);
+        return change_poll(ring, poll, removal);
+    cancel_request(ring, poll);
     return 0;
 }
 
@@ -151,7 +162,7 @@ static int32_t remove_timeout(struct ring *ring, const struct request *removal)
     if (!timeout)
         return -ENOENT;
     if (!(entry->timeout_flags & IORING_TIMEOUT_UPDATE)) {
-        cancel_request(timeout);
+        cancel_request(ring, timeout);
         return 0;
     }
     return change_timeout(ring, timeout, removal);

@@ -17,7 +17,7 @@ bool is_plain_cancel(const struct io_uring_sqe *entry);
 bool is_cancellable(const struct request *request);
 
 /* A cancel found this request running. It ends when it is next gone on with. */
-void cancel_request(struct request *request);
+void cancel_request(struct ring *ring, struct request *request);
 
 /* Carries out a cancel, a removal of a poll or one of a timeout. */
 int32_t act_on_others(struct ring *ring, const struct request *request);

@@ -1,4 +1,4 @@
-/* Finding the ring of a descriptor. The layer isn't told when a descriptor is closed: it keeps each ring until a set-up
+/* Finding the ring of a descriptor. Where the layer isn't told that a descriptor is closed, it keeps each ring until a set-up
  * finds that nobody can reach it any more and that no call is on it. What is left when the process ends isn't freed:
  * threads may use it to the last.
  */
@@ -9,6 +9,7 @@
 #include "sleep.h"
 
 #include <dirent.h>
+#include <errno.h>
 #include <stdlib.h>
 #include <string.h>
 #include <sys/stat.h>
@@ -117,6 +118,17 @@ void add_ring(struct ring *ring)
     pthread_mutex_unlock(&rings_lock);
 }
 
+/* Takes a ring out of the list, and frees it. */
+static void drop_ring(struct ring *ring)
+{
+    struct ring **at = &rings;
+    while (*at != ring)
+        at = &(*at)->next;
+    *at = ring->next;
+    forget(ring);
+    free_ring(ring);
+}
+
 static struct ring *search_rings(int fd)
 {
     struct ring *ring = rings;
@@ -137,6 +149,17 @@ static struct ring *find_ring(int fd)
     if (ring)
         remember(fd, ring);
     return ring;
+}
+
+int close_descriptor(int fd)
+{
+    pthread_mutex_lock(&rings_lock);
+    struct ring *ring = find_ring(fd);
+    int result = close(fd) < 0 ? -errno : 0;
+    if (ring && ring->calls == 0 && !is_open(ring))
+        drop_ring(ring);
+    pthread_mutex_unlock(&rings_lock);
+    return result;
 }
 
 struct ring *hold_ring(int fd)

@@ -23,6 +23,9 @@ void visit_ring(struct ring *ring);
 /* Whether a descriptor is a ring's. */
 bool is_ring(int fd);
 
+/* Closes a descriptor, and frees its ring if nobody can reach it any more. Returns 0 or the negative of an error number. */
+int close_descriptor(int fd);
+
 /* Frees a ring. */
 void free_ring(struct ring *ring);
 

@@ -5,6 +5,7 @@
 #include "enter.h"
 #include "copying.h"
 #include "descriptors.h"
+#include "enrolling.h"
 #include "outlook.h"
 #include "policy.h"
 #include "progress.h"
@@ -23,9 +24,10 @@
 #include <signal.h>
 #include <stdio.h>
 
-/* What the application waits for. */
+/* What the application waits for: so many completions, or, as in the kernel, a timeout that ends meanwhile. */
 struct waiting {
     uint32_t min_complete;
+    uint64_t expired;       /* how many timeouts had ended before */
     int64_t limit;          /* in nanoseconds, or negative */
     sigset_t signals;       /* the mask while the call sleeps */
 };
@@ -93,38 +95,42 @@ static int refuse_head(struct ring *ring)
     return -EBADFD;
 }
 
+static bool has_enough(struct ring *ring, const struct waiting *waiting)
+{
+    uint32_t most = ring->memory.cq_entries, enough = waiting->min_complete < most ? waiting->min_complete : most;
+    return count_ready(ring) >= enough || (ring->expired != waiting->expired && !has_expired(ring));
+}
+
 /* Nothing can go on: waits, unless enough completions are shown. Returns 1 if they are, 0 if something may go on, or the
  * negative of an error number. */
-static int wait_for_more(struct ring *ring, const struct waiting *waiting, uint32_t enough, int64_t deadline)
+static int wait_for_more(struct ring *ring, const struct waiting *waiting, int64_t deadline)
 {
     if (!hear(ring, true))
         return refuse_head(ring);
-    if (count_ready(ring) >= enough)
+    if (has_enough(ring, waiting))
         return 1;
     show_readiness(ring);
     int result = wait_for_any(ring, deadline, &waiting->signals);
     if (result == -EDEADLK)
-        say_stuck(ring, enough);
+        say_stuck(ring, waiting->min_complete);
     if (result < 0)
         return result;
     return hear(ring, true) ? 0 : refuse_head(ring);
 }
 
 /* Goes on until enough completions are shown. In order things go on until none can, whether or not it is enough. */
-static int go_on_until(struct ring *ring, const struct waiting *waiting)
+static int go_on_until(struct ring *ring, struct waiting *waiting)
 {
     int64_t deadline = waiting->limit < 0 ? -1 : add_times(ring->now, waiting->limit);
-    uint32_t enough = waiting->min_complete;
-    if (enough > ring->memory.cq_entries)
-        enough = ring->memory.cq_entries;
+    waiting->expired = ring->expired;
     for (;;) {
-        bool is_enough = policy() != IN_ORDER && count_ready(ring) >= enough;
+        bool is_enough = policy() != IN_ORDER && has_enough(ring, waiting);
         enum progress progress = is_enough && policy() == LAZY ? MAY_RETURN : go_on(ring, is_enough);
         if (progress == MAY_RETURN)
             return 0;
         if (progress == WENT_ON && hear(ring, false))
             continue;
-        int result = progress == WENT_ON ? refuse_head(ring) : wait_for_more(ring, waiting, enough, deadline);
+        int result = progress == WENT_ON ? refuse_head(ring) : wait_for_more(ring, waiting, deadline);
         if (result != 0)
             return result < 0 ? result : 0;
     }
@@ -140,15 +146,16 @@ static int submit_published(struct ring *ring, uint32_t to_submit)
     return submitted < 0 ? submitted : (int)to_submit;
 }
 
-static int enter_ring(struct ring *ring, uint32_t to_submit, uint32_t flags, const struct waiting *waiting)
+static int enter_ring(struct ring *ring, uint32_t to_submit, uint32_t flags, struct waiting *waiting)
 {
     bool is_getting = flags & IORING_ENTER_GETEVENTS;
     if (ring->is_disabled)
         return -EBADFD;
-    if (is_of_another(ring))
+    if (is_submission_of_another(ring, to_submit))
         return -EEXIST;
     ring->call_number++;
     ring->moment++;
+    pass_real_time(ring);
     if (!hear(ring, is_getting))
         return refuse_head(ring);
     int submitted = ring->flags & IORING_SETUP_SQPOLL ? submit_published(ring, to_submit) : submit(ring, to_submit);
@@ -160,18 +167,23 @@ static int enter_ring(struct ring *ring, uint32_t to_submit, uint32_t flags, con
         go_on_for_peek(ring);
     else
         result = go_on_until(ring, waiting);
+    /* As the kernel has it: with a completion in hand a limit or a signal is no error. */
+    if ((result == -ETIME || result == -EINTR) && count_ready(ring) > 0)
+        result = 0;
     hold_files(ring);
     show_readiness(ring);
     show(ring);
     return submitted != 0 ? submitted : result;
 }
 
-enum { SERVED_FLAGS = IORING_ENTER_GETEVENTS | IORING_ENTER_SQ_WAKEUP | IORING_ENTER_SQ_WAIT | IORING_ENTER_EXT_ARG };
+enum { SERVED_FLAGS = IORING_ENTER_GETEVENTS | IORING_ENTER_SQ_WAKEUP | IORING_ENTER_SQ_WAIT | IORING_ENTER_EXT_ARG | IORING_ENTER_REGISTERED_RING };
 
 int enter(int fd, uint32_t to_submit, uint32_t min_complete, uint32_t flags, const void *argument, size_t size)
 {
     if (flags & ~(uint32_t)SERVED_FLAGS)
         return -EINVAL;
+    if (flags & IORING_ENTER_REGISTERED_RING && (fd = enrolled_fd((uint32_t)fd)) < 0)
+        return fd;
     struct ring *ring = lock_ring(fd);
     if (!ring)
         return fcntl(fd, F_GETFD) < 0 ? -EBADF : -EOPNOTSUPP;

@@ -71,6 +71,8 @@ bool is_served_code(uint8_t code)
     case IORING_OP_SETXATTR:
     case IORING_OP_FGETXATTR:
     case IORING_OP_GETXATTR:
+    case IORING_OP_SEND_ZC:
+    case IORING_OP_SENDMSG_ZC:
         return true;
     default:
         return false;
@@ -121,8 +123,7 @@ static bool is_well_formed(const struct io_uring_sqe *entry)
     case IORING_OP_REMOVE_BUFFERS:
         return is_well_formed_provision(entry);
     case IORING_OP_MSG_RING:
-        /* Registered files aren't sent. */
-        return !entry->ioprio && !entry->buf_index && !entry->rw_flags && !entry->addr && !entry->addr3 && !entry->file_index;
+        return !entry->ioprio && !entry->buf_index && !(entry->msg_ring_flags & ~(uint32_t)IORING_MSG_RING_CQE_SKIP);
     case IORING_OP_SHUTDOWN:
         return !entry->ioprio && !entry->off && !entry->addr && !entry->rw_flags && !entry->buf_index && !entry->splice_fd_in;
     case IORING_OP_SOCKET:
@@ -135,6 +136,8 @@ static bool is_well_formed(const struct io_uring_sqe *entry)
     case IORING_OP_SENDMSG:
     case IORING_OP_RECVMSG:
     case IORING_OP_ACCEPT:
+    case IORING_OP_SEND_ZC:
+    case IORING_OP_SENDMSG_ZC:
         /* Their priority has flags, which are looked at with what they point to. */
         return true;
     default:
@@ -284,6 +287,8 @@ static int copy_of_token(struct request *request)
     case IORING_OP_RECVMSG:
     case IORING_OP_ACCEPT:
     case IORING_OP_CONNECT:
+    case IORING_OP_SEND_ZC:
+    case IORING_OP_SENDMSG_ZC:
         return copy_of_socket(request);
     default:
         return 0;

@@ -15,19 +15,9 @@
 #include <errno.h>
 #include <stdlib.h>
 
-struct message {
-    uint64_t user_data;
-    int32_t res;
-};
-
 bool can_post_extra(struct ring *ring)
 {
-    if (ring->staged.count > 0)
-        return false;
-    for (size_t i = 0; i < ring->requests.count; i++)
-        if (ring->requests.rows[i]->entry.flags & IOSQE_IO_DRAIN)
-            return false;
-    return reserve_all(ring, 1);
+    return ring->staged.count == 0 && ring->drains == 0 && reserve_all(ring, 1);
 }
 
 void post_extra(struct ring *ring, uint64_t user_data, int32_t res, uint32_t flags)
@@ -56,66 +46,113 @@ void post_extra(struct ring *ring, uint64_t user_data, int32_t res, uint32_t fla
 bool has_messages(struct ring *ring)
 {
     pthread_mutex_lock(&ring->inbox.lock);
-    bool is_any = ring->inbox.count > 0;
+    bool is_any = ring->inbox.first;
     pthread_mutex_unlock(&ring->inbox.lock);
     return is_any;
 }
 
-static bool take_message(struct inbox *inbox, struct message *message)
+static struct message *take_message(struct inbox *inbox)
 {
     pthread_mutex_lock(&inbox->lock);
-    bool is_any = inbox->count > 0;
-    if (is_any) {
-        *message = inbox->messages[0];
-        inbox->count--;
-        for (size_t i = 0; i < inbox->count; i++)
-            inbox->messages[i] = inbox->messages[i + 1];
+    struct message *message = inbox->first;
+    if (message) {
+        inbox->first = message->next;
+        if (!inbox->first)
+            inbox->last = &inbox->first;
     }
     pthread_mutex_unlock(&inbox->lock);
-    return is_any;
+    return message;
 }
 
 void post_messages(struct ring *ring)
 {
-    struct message message;
-    while (has_messages(ring) && can_post_extra(ring) && take_message(&ring->inbox, &message))
-        post_extra(ring, message.user_data, message.res, 0);
+    struct message *message;
+    while (has_messages(ring) && can_post_extra(ring) && (message = take_message(&ring->inbox))) {
+        post_extra(ring, message->user_data, message->res, 0);
+        free(message);
+    }
 }
 
-static int put_message(struct inbox *inbox, struct message message)
+struct message *make_message_of(uint64_t user_data, int32_t res)
+{
+    struct message *message = malloc(sizeof *message);
+    if (message)
+        *message = (struct message){NULL, user_data, res};
+    return message;
+}
+
+void put_message(struct inbox *inbox, struct message *message)
 {
     pthread_mutex_lock(&inbox->lock);
-    if (inbox->count == inbox->room) {
-        size_t room = 2 * inbox->room + 4;
-        struct message *messages = realloc(inbox->messages, room * sizeof *messages);
-        if (!messages) {
-            pthread_mutex_unlock(&inbox->lock);
-            return -ENOMEM;
-        }
-        inbox->messages = messages;
-        inbox->room = room;
-    }
-    inbox->messages[inbox->count++] = message;
+    *inbox->last = message;
+    inbox->last = &message->next;
     pthread_mutex_unlock(&inbox->lock);
+}
+
+/* A message of data: without files, it has none of what belongs to them. */
+static int32_t send_data(struct ring *target, const struct io_uring_sqe *entry)
+{
+    if (entry->addr3 || entry->file_index || entry->msg_ring_flags)
+        return -EINVAL;
+    if (target->is_disabled)
+        return -EBADFD;
+    struct message *message = make_message_of(entry->off, (int32_t)entry->len);
+    if (!message)
+        return -ENOMEM;
+    put_message(&target->inbox, message);
     return 0;
 }
 
-int send_message(struct ring *ring, int fd, uint64_t user_data, int32_t res)
+/* A registered file goes to a slot of the other ring, which is told of it unless the sender says otherwise. */
+static int32_t send_file(struct ring *ring, struct ring *target, const struct io_uring_sqe *entry)
 {
-    struct ring *target = hold_ring(fd);
+    if (target == ring)
+        return -EINVAL;
+    if (target->is_disabled)
+        return -EBADFD;
+    struct file *file = use_file(ring, (uint32_t)entry->addr3);
+    struct message *message = file ? make_message_of(entry->off, 0) : NULL;
+    int32_t slot = !file ? -EBADF : !message ? -ENOMEM : pass_file(target, file, entry->file_index);
+    release_file(file);
+    if (slot < 0 || entry->msg_ring_flags & IORING_MSG_RING_CQE_SKIP) {
+        free(message);
+        return slot;
+    }
+    message->res = slot;
+    put_message(&target->inbox, message);
+    return slot;
+}
+
+int32_t send_message(struct ring *ring, const struct io_uring_sqe *entry)
+{
+    struct ring *target = hold_ring(entry->fd);
     if (!target)
         return -EBADFD;
-    int result = target->is_disabled ? -EBADFD : put_message(&target->inbox, (struct message){user_data, res});
+    int32_t result = -EINVAL;
+    if (entry->addr == IORING_MSG_DATA)
+        result = send_data(target, entry);
+    else if (entry->addr == IORING_MSG_SEND_FD)
+        result = send_file(ring, target, entry);
     if (target == ring)
         post_messages(ring);
-    else if (result == 0)
+    else if (result >= 0)
         visit_ring(target);
     release_ring(target);
     return result;
 }
 
+void make_inbox(struct inbox *inbox)
+{
+    pthread_mutex_init(&inbox->lock, NULL);
+    inbox->first = NULL;
+    inbox->last = &inbox->first;
+}
+
 void free_inbox(struct inbox *inbox)
 {
-    free(inbox->messages);
+    for (struct message *message = inbox->first, *next; message; message = next) {
+        next = message->next;
+        free(message);
+    }
     pthread_mutex_destroy(&inbox->lock);
 }

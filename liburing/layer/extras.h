@@ -1,7 +1,10 @@
-/* Completions that belong to no end of a request: the events of one that goes on, and messages of other rings. */
+/* Completions that belong to no end of a request: the events of one that goes on, messages of other rings, and the tags of
+ * registered resources that are no longer used.
+ */
 #ifndef EXTRAS_H
 #define EXTRAS_H
 
+#include <linux/io_uring.h>
 #include <pthread.h>
 #include <stdbool.h>
 #include <stddef.h>
@@ -9,11 +12,16 @@
 
 struct ring;
 
-/* Messages that other rings have sent and that aren't posted yet. */
+struct message {
+    struct message *next;
+    uint64_t user_data;
+    int32_t res;
+};
+
+/* Messages that aren't posted yet, of other rings and of tags: the oldest first. */
 struct inbox {
     pthread_mutex_t lock;           /* the last lock that is taken */
-    struct message *messages;
-    size_t count, room;
+    struct message *first, **last;
 };
 
 /* Whether an extra completion can be posted now: no drain is outstanding, and there is memory. */
@@ -22,14 +30,21 @@ bool can_post_extra(struct ring *ring);
 /* Posts one. It can be posted. */
 void post_extra(struct ring *ring, uint64_t user_data, int32_t res, uint32_t flags);
 
-/* Sends a message to the ring of a descriptor: it is posted there at once, or by the thread that is in a call on it. Returns
- * 0 or the negative of an error number. */
-int send_message(struct ring *ring, int fd, uint64_t user_data, int32_t res);
+/* A message that is yet to be put; NULL if memory was refused. */
+struct message *make_message_of(uint64_t user_data, int32_t res);
+
+/* Puts a message: it is posted when its ring next goes on. */
+void put_message(struct inbox *inbox, struct message *message);
+
+/* Carries out a request to send a message, or a registered file, to another ring: it is posted there at once, or by the thread
+ * that is in a call on it. Returns 0, the file's slot there, or the negative of an error number. */
+int32_t send_message(struct ring *ring, const struct io_uring_sqe *entry);
 
 /* Whether messages are there, and posting those that can be. */
 bool has_messages(struct ring *ring);
 void post_messages(struct ring *ring);
 
+void make_inbox(struct inbox *inbox);
 void free_inbox(struct inbox *inbox);
 
 #endif

@@ -1,5 +1,8 @@
 /* A registered file stays open however the application closes its descriptor, so the layer has one of its own, under a
  * high number. A request that is started keeps its file, whatever becomes of the slot.
+ *
+ * Another ring's thread may put a file here: so the table is looked at and changed under a lock of its own, which isn't
+ * held while any other but an inbox's is taken.
  */
 #define _GNU_SOURCE
 #include "files.h"
@@ -15,19 +18,29 @@
 
 enum { MOST_FILES = 1 << 20, HIGH_NUMBER = 512, NO_FILE = -1, SAME_FILE = IORING_REGISTER_FILES_SKIP };
 
+void make_files(struct files *files)
+{
+    pthread_mutex_init(&files->lock, NULL);
+}
+
 void release_file(struct file *file)
 {
-    if (!file || --file->uses > 0)
+    if (!file || __atomic_sub_fetch(&file->uses, 1, __ATOMIC_ACQ_REL) > 0)
         return;
     close(file->fd);
+    if (file->tag)
+        put_message(file->told, file->tag);
     free(file);
 }
 
 struct file *use_file(struct ring *ring, uint32_t index)
 {
-    struct file *file = ring->files.slots && index < ring->files.count ? ring->files.slots[index] : NULL;
+    struct files *files = &ring->files;
+    pthread_mutex_lock(&files->lock);
+    struct file *file = files->slots && index < files->count ? files->slots[index] : NULL;
     if (file)
-        file->uses++;
+        __atomic_add_fetch(&file->uses, 1, __ATOMIC_RELAXED);
+    pthread_mutex_unlock(&files->lock);
     return file;
 }
 
@@ -50,7 +63,23 @@ static int make_file_of(struct file **made, int fd)
         close(copy);
         return -ENOMEM;
     }
-    **made = (struct file){copy, 1};
+    **made = (struct file){.fd = copy, .uses = 1};
+    return 0;
+}
+
+/* The same with a tag, which its ring is told once the file isn't used any more. 0 is none. */
+static int make_tagged_file(struct ring *ring, struct file **made, int fd, uint64_t tag)
+{
+    struct message *message = tag ? make_message_of(tag, 0) : NULL;
+    if (tag && !message)
+        return -ENOMEM;
+    int result = make_file_of(made, fd);
+    if (result < 0) {
+        free(message);
+        return result;
+    }
+    (*made)->told = &ring->inbox;
+    (*made)->tag = message;
     return 0;
 }
 
@@ -60,15 +89,61 @@ struct file *hold_file(int fd)
     return make_file_of(&file, fd) < 0 ? NULL : file;
 }
 
-static void free_slots(struct files *files)
+static void free_slots(struct file **slots, uint32_t count)
 {
-    for (uint32_t i = 0; i < files->count; i++)
-        release_file(files->slots[i]);
-    free(files->slots);
-    *files = (struct files){0};
+    for (uint32_t i = 0; i < count; i++)
+        release_file(slots[i]);
+    free(slots);
 }
 
-int register_no_files(struct ring *ring, uint32_t count)
+/* Of a table that isn't put after all, no tag is told. */
+static void drop_slots(struct file **slots, uint32_t count)
+{
+    for (uint32_t i = 0; i < count; i++) {
+        if (slots[i]) {
+            free(slots[i]->tag);
+            slots[i]->tag = NULL;
+        }
+    }
+    free_slots(slots, count);
+}
+
+/* Puts another table in the place of one. */
+static void put_table(struct files *files, struct file **slots, uint32_t count)
+{
+    pthread_mutex_lock(&files->lock);
+    struct file **before = files->slots;
+    uint32_t before_count = files->count;
+    files->slots = slots;
+    files->count = files->end = count;
+    files->from = files->next = 0;
+    pthread_mutex_unlock(&files->lock);
+    free_slots(before, before_count);
+}
+
+/* Puts a file, or none, in the place of one. */
+static void put_slot(struct files *files, uint32_t slot, struct file *file)
+{
+    pthread_mutex_lock(&files->lock);
+    struct file *before = files->slots[slot];
+    files->slots[slot] = file;
+    pthread_mutex_unlock(&files->lock);
+    release_file(before);
+}
+
+/* Reads a descriptor, and its tag, of the application's lists. A list that isn't there has no files, or no tags. */
+static int read_row(int *fd, uint64_t *tag, uint64_t fds, uint64_t tags, uint32_t index)
+{
+    *fd = NO_FILE;
+    *tag = 0;
+    if (tags && copy_in(tag, tags + index * sizeof *tag, sizeof *tag) < 0)
+        return -EFAULT;
+    if (fds && copy_in(fd, fds + index * sizeof *fd, sizeof *fd) < 0)
+        return -EFAULT;
+    return 0;
+}
+
+int register_files(struct ring *ring, uint64_t fds, uint64_t tags, uint32_t count)
 {
     struct rlimit limit;
     if (ring->files.slots)
@@ -80,28 +155,20 @@ int register_no_files(struct ring *ring, uint32_t count)
     struct file **slots = calloc(count, sizeof *slots);
     if (!slots)
         return -ENOMEM;
-    ring->files = (struct files){.slots = slots, .count = count, .end = count};
-    return 0;
-}
-
-/* Reads a descriptor of the application's list. */
-static int read_fd(int *fd, uint64_t fds, uint32_t index)
-{
-    return copy_in(fd, fds + index * sizeof *fd, sizeof *fd);
-}
-
-int register_files(struct ring *ring, uint64_t fds, uint32_t count)
-{
-    int result = register_no_files(ring, count), fd;
-    if (result < 0)
-        return result;
-    for (uint32_t i = 0; result == 0 && i < count; i++) {
-        result = read_fd(&fd, fds, i);
-        if (result == 0 && fd != NO_FILE)
-            result = make_file_of(&ring->files.slots[i], fd);
+    int result = 0;
+    for (uint32_t i = 0; result == 0 && i < count && (fds || tags); i++) {
+        int fd;
+        uint64_t tag;
+        result = read_row(&fd, &tag, fds, tags, i);
+        if (result == 0 && fd == NO_FILE)
+            result = tag ? -EINVAL : 0;
+        else if (result == 0)
+            result = make_tagged_file(ring, &slots[i], fd, tag);
     }
-    if (result < 0)
-        free_slots(&ring->files);
+    if (result == 0)
+        put_table(&ring->files, slots, count);
+    else
+        drop_slots(slots, count);
     return result;
 }
 
@@ -109,24 +176,26 @@ int unregister_files(struct ring *ring)
 {
     if (!ring->files.slots)
         return -ENXIO;
-    free_slots(&ring->files);
+    put_table(&ring->files, NULL, 0);
     return 0;
 }
 
-static int update_file(struct ring *ring, uint32_t slot, int fd)
+static int update_file(struct ring *ring, uint32_t slot, int fd, uint64_t tag)
 {
     struct file *file = NULL;
+    if (tag && (fd == SAME_FILE || fd == NO_FILE))
+        return -EINVAL;
     if (fd == SAME_FILE)
         return 0;
-    release_file(ring->files.slots[slot]);
-    ring->files.slots[slot] = NULL;
-    int result = fd == NO_FILE ? 0 : make_file_of(&file, fd);
-    ring->files.slots[slot] = file;
+    put_slot(&ring->files, slot, NULL);
+    int result = fd == NO_FILE ? 0 : make_tagged_file(ring, &file, fd, tag);
+    if (file)
+        put_slot(&ring->files, slot, file);
     return result;
 }
 
 /* Ends at the first that can't be updated: those before it stay so. */
-int update_files(struct ring *ring, uint32_t offset, uint64_t fds, uint32_t count)
+int update_files(struct ring *ring, uint32_t offset, uint64_t fds, uint64_t tags, uint32_t count)
 {
     if (!ring->files.slots)
         return -ENXIO;
@@ -135,9 +204,11 @@ int update_files(struct ring *ring, uint32_t offset, uint64_t fds, uint32_t coun
     if (offset + count > ring->files.count)
         return -EINVAL;
     for (uint32_t i = 0; i < count; i++) {
-        int fd, result = read_fd(&fd, fds, i);
+        int fd;
+        uint64_t tag;
+        int result = fds ? read_row(&fd, &tag, fds, tags, i) : -EFAULT;
         if (result == 0)
-            result = update_file(ring, offset + i, fd);
+            result = update_file(ring, offset + i, fd, tag);
         if (result < 0)
             return i > 0 ? (int)i : result;
     }
@@ -147,16 +218,19 @@ int update_files(struct ring *ring, uint32_t offset, uint64_t fds, uint32_t coun
 int register_range(struct ring *ring, uint64_t range, uint32_t count)
 {
     struct io_uring_file_index_range asked;
+    struct files *files = &ring->files;
     if (count)
         return -EINVAL;
     if (copy_in(&asked, range, sizeof asked) < 0)
         return -EFAULT;
     if (asked.off + asked.len < asked.len)
         return -EOVERFLOW;
-    if (asked.resv || asked.off + asked.len > ring->files.count)
+    if (asked.resv || asked.off + asked.len > files->count)
         return -EINVAL;
-    ring->files.from = ring->files.next = asked.off;
-    ring->files.end = asked.off + asked.len;
+    pthread_mutex_lock(&files->lock);
+    files->from = files->next = asked.off;
+    files->end = asked.off + asked.len;
+    pthread_mutex_unlock(&files->lock);
     return 0;
 }
 
@@ -172,22 +246,40 @@ static int64_t find_free(struct files *files)
     return -1;
 }
 
-static int put_file(struct ring *ring, struct file *file, uint32_t file_index)
+/* Puts a file in, and what it takes the place of into `before`. Under the table's lock. */
+static int put_file_locked(struct files *files, struct file *file, uint32_t file_index, struct file **before)
 {
-    struct files *files = &ring->files;
     bool is_any = file_index == IORING_FILE_INDEX_ALLOC;
     int64_t slot = !is_any ? (int64_t)file_index - 1 : files->slots ? find_free(files) : -1;
     if (is_any && slot < 0)
         return -ENFILE;
     if (!files->slots)
         return -ENXIO;
-    if (slot >= files->count)
+    if (slot < 0 || slot >= files->count)
         return -EINVAL;
-    release_file(files->slots[slot]);
+    *before = files->slots[slot];
     files->slots[slot] = file;
     if (is_any)
         files->next = (uint32_t)slot + 1;
     return is_any ? (int)slot : 0;
+}
+
+/* Takes a file over. If it can't be put, it is released. */
+static int put_file(struct ring *ring, struct file *file, uint32_t file_index)
+{
+    struct file *before = NULL;
+    pthread_mutex_lock(&ring->files.lock);
+    int slot = put_file_locked(&ring->files, file, file_index, &before);
+    pthread_mutex_unlock(&ring->files.lock);
+    release_file(slot < 0 ? file : before);
+    return slot;
+}
+
+int pass_file(struct ring *target, const struct file *file, uint32_t file_index)
+{
+    struct file *copy;
+    int result = make_file_of(&copy, file->fd);
+    return result < 0 ? result : put_file(target, copy, file_index);
 }
 
 int install_file(struct ring *ring, int fd, uint32_t file_index)
@@ -195,12 +287,7 @@ int install_file(struct ring *ring, int fd, uint32_t file_index)
     struct file *file;
     int result = make_file_of(&file, fd);
     close(fd);
-    if (result < 0)
-        return result;
-    result = put_file(ring, file, file_index);
-    if (result < 0)
-        release_file(file);
-    return result;
+    return result < 0 ? result : put_file(ring, file, file_index);
 }
 
 int remove_file(struct ring *ring, uint32_t slot)
@@ -209,23 +296,21 @@ int remove_file(struct ring *ring, uint32_t slot)
         return -ENXIO;
     if (slot >= ring->files.count)
         return -EINVAL;
-    return ring->files.slots[slot] ? update_file(ring, slot, NO_FILE) : -EBADF;
+    return ring->files.slots[slot] ? update_file(ring, slot, NO_FILE, 0) : -EBADF;
 }
 
 static int place_file(struct ring *ring, uint64_t fds, uint32_t index)
 {
-    int fd, result = read_fd(&fd, fds, index);
+    int fd;
+    uint64_t tag;
     struct file *file;
+    int result = fds ? read_row(&fd, &tag, fds, 0, index) : -EFAULT;
     if (result == 0)
         result = make_file_of(&file, fd);
     if (result < 0)
         return result;
     int slot = put_file(ring, file, IORING_FILE_INDEX_ALLOC);
-    if (slot < 0) {
-        release_file(file);
-        return slot;
-    }
-    return copy_out(fds + index * sizeof slot, &slot, sizeof slot);
+    return slot < 0 ? slot : copy_out(fds + index * sizeof slot, &slot, sizeof slot);
 }
 
 int place_files(struct ring *ring, uint64_t fds, uint32_t count)
@@ -238,4 +323,10 @@ int place_files(struct ring *ring, uint64_t fds, uint32_t count)
             return i > 0 ? (int)i : result;
     }
     return (int)count;
+}
+
+void free_files(struct ring *ring)
+{
+    unregister_files(ring);
+    pthread_mutex_destroy(&ring->files.lock);
 }

@@ -2,16 +2,23 @@
 #ifndef FILES_H
 #define FILES_H
 
+#include <pthread.h>
 #include <stdbool.h>
 #include <stdint.h>
+
+struct inbox;
+struct message;
 
 /* A registered file. It is closed once no slot and no request has it. */
 struct file {
     int fd;
     uint32_t uses;
+    struct inbox *told;             /* who is told its tag then, */
+    struct message *tag;            /* or NULL: it has none */
 };
 
 struct files {
+    pthread_mutex_t lock;           /* another ring may send a file here */
     struct file **slots;            /* NULL: there is no table. An empty slot is NULL */
     uint32_t count;
     uint32_t from, end;             /* the slots that are taken for a file that asks for any, */
@@ -20,11 +27,14 @@ struct files {
 
 struct ring;
 
-/* The calls of io_uring_register(2). Each returns 0 or the number of files updated, or the negative of an error number. */
-int register_files(struct ring *ring, uint64_t fds, uint32_t count);
-int register_no_files(struct ring *ring, uint32_t count);
+void make_files(struct files *files);
+void free_files(struct ring *ring);
+
+/* The calls of io_uring_register(2), with lists of descriptors and of tags: one that isn't there is 0. Each returns 0 or the
+ * number of files updated, or the negative of an error number. */
+int register_files(struct ring *ring, uint64_t fds, uint64_t tags, uint32_t count);
 int unregister_files(struct ring *ring);
-int update_files(struct ring *ring, uint32_t offset, uint64_t fds, uint32_t count);
+int update_files(struct ring *ring, uint32_t offset, uint64_t fds, uint64_t tags, uint32_t count);
 int register_range(struct ring *ring, uint64_t range, uint32_t count);
 
 /* Puts each of these descriptors into a slot that is free, and tells which ones in their place. */
@@ -34,6 +44,9 @@ int place_files(struct ring *ring, uint64_t fds, uint32_t count);
  * asked for, or the negative of an error number: then the descriptor is closed. */
 int install_file(struct ring *ring, int fd, uint32_t file_index);
 int remove_file(struct ring *ring, uint32_t slot);
+
+/* Puts a file of another ring into this one's table, likewise, also from another thread. The file stays the other's too. */
+int pass_file(struct ring *target, const struct file *file, uint32_t file_index);
 
 /* The file of an index, one use more; NULL if there is none. */
 struct file *use_file(struct ring *ring, uint32_t index);

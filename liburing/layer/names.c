@@ -52,6 +52,8 @@ const char *operation_name(uint8_t code)
         [IORING_OP_SETXATTR] = "setxattr",
         [IORING_OP_FGETXATTR] = "fgetxattr",
         [IORING_OP_GETXATTR] = "getxattr",
+        [IORING_OP_SEND_ZC] = "send_zc",
+        [IORING_OP_SENDMSG_ZC] = "sendmsg_zc",
     };
     return code < sizeof names / sizeof *names && names[code] ? names[code] : "operation";
 }

@@ -78,6 +78,7 @@ bool goes_on(const struct request *request)
     case IORING_OP_ACCEPT:
         return request->entry.ioprio & IORING_ACCEPT_MULTISHOT;
     case IORING_OP_RECV:
+    case IORING_OP_RECVMSG:
         return request->entry.ioprio & IORING_RECV_MULTISHOT;
     default:
         return false;
@@ -86,7 +87,17 @@ bool goes_on(const struct request *request)
 
 bool goes_on_behind(const struct request *request, int32_t res)
 {
-    return goes_on(request) && (request->entry.opcode == IORING_OP_ACCEPT ? res >= 0 : res > 0);
+    if (!goes_on(request))
+        return false;
+    switch (request->entry.opcode) {
+    case IORING_OP_ACCEPT:
+        return res >= 0;
+    case IORING_OP_RECVMSG:
+        /* The result counts what stands in front of the bytes too. */
+        return res > 0 && request->done > 0;
+    default:
+        return res > 0;
+    }
 }
 
 /* Whether it takes a provided buffer when it is carried out. */
@@ -180,7 +191,7 @@ static int32_t put_files(struct ring *ring, const struct request *request)
     const struct io_uring_sqe *entry = &request->entry;
     if ((uint32_t)entry->off == IORING_FILE_INDEX_ALLOC)
         return place_files(ring, entry->addr, entry->len);
-    return update_files(ring, (uint32_t)entry->off, entry->addr, entry->len);
+    return update_files(ring, (uint32_t)entry->off, entry->addr, 0, entry->len);
 }
 
 static int32_t synchronize(const struct request *request)
@@ -220,7 +231,7 @@ static int32_t call_system(struct ring *ring, struct request *request)
     case IORING_OP_PROVIDE_BUFFERS:
         return provide_buffers(ring, entry);
     case IORING_OP_MSG_RING:
-        return send_message(ring, entry->fd, entry->off, (int32_t)entry->len);
+        return send_message(ring, entry);
     case IORING_OP_FALLOCATE:
         return result_of(fallocate(request->fd, (int)entry->len, (off_t)entry->off, (off_t)entry->addr));
     case IORING_OP_CLOSE:

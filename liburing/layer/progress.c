@@ -15,6 +15,7 @@
 #include "priorities.h"
 #include "readiness.h"
 #include "rules.h"
+#include "sockets.h"
 #include "steps.h"
 #include "streams.h"
 #include "timeouts.h"
@@ -65,6 +66,20 @@ static void forget_refusals(struct ring *ring, bool is_success)
     }
 }
 
+/* Of the requests from a place on it isn't known any more that they can't be finished. */
+static void look_again(struct ring *ring, size_t place)
+{
+    if (ring->passed > place)
+        ring->passed = place;
+}
+
+/* Where an end can change which other requests can be finished, all are looked at again. */
+static void look_again_behind(struct ring *ring, const struct request *ended)
+{
+    bool is_plain = ring->counting == 0 && ring->drains == 0 && !ring->has_refusals;
+    look_again(ring, is_plain ? place_of(&ring->requests, ended->number) : 0);
+}
+
 /* A request has ended: its completion is queued, and who was refused may be ready now. */
 static void end_of(struct ring *ring, struct request *request, int32_t res, int32_t told)
 {
@@ -74,11 +89,15 @@ static void end_of(struct ring *ring, struct request *request, int32_t res, int3
         record_silent_end(ring, request);
     bool is_cancel = request->mapping == CANCEL;
     ring->posted += note_end(ring, request, res, told) && !is_timeout(request);
+    ring->expired += is_timeout(request) && request->state == RUNS && !request->is_cancelled;
     disarm_linked_timeout(ring, request);
     if (request->file)
         unwatch(ring, request->file->fd);
     ring->has_changed = true;
     ring->running -= request->state == RUNS;
+    look_again_behind(ring, request);
+    ring->drains -= (request->entry.flags & IOSQE_IO_DRAIN) != 0;
+    ring->counting -= request->enough > 0;
     end_request(&ring->requests, request);
     forget_refusals(ring, told == TOLD_SUCCESS && !is_cancel);
     ring->completions.is_behind = true;
@@ -91,7 +110,7 @@ static bool cancel_running(struct ring *ring, uint64_t target)
         struct request *request = ring->requests.rows[i];
         if (request->state == RUNS && request->entry.user_data == target) {
             if (is_cancellable(request))
-                cancel_request(request);
+                cancel_request(ring, request);
             return request->is_cancelled;
         }
     }
@@ -123,6 +142,23 @@ void end_extra(struct ring *ring, struct request *request, int32_t res)
 
 enum outcome { IS_REFUSED, IS_RUNNING, HAS_ENDED };
 
+/* Whether carrying a request out can make a descriptor ready, or unready. */
+static bool can_make_ready(const struct request *request)
+{
+    switch (request->entry.opcode) {
+    case IORING_OP_NOP:
+    case IORING_OP_POLL_ADD:
+    case IORING_OP_POLL_REMOVE:
+    case IORING_OP_TIMEOUT:
+    case IORING_OP_TIMEOUT_REMOVE:
+    case IORING_OP_LINK_TIMEOUT:
+    case IORING_OP_ASYNC_CANCEL:
+        return false;
+    default:
+        return true;
+    }
+}
+
 /* Finishes a running request. It goes on running if it would have to wait. */
 static enum outcome finish_running(struct ring *ring, struct request *request)
 {
@@ -133,7 +169,7 @@ static enum outcome finish_running(struct ring *ring, struct request *request)
             show_ends(ring);
         hear(ring, false);
         res = carry_out(ring, request, injected(ring, request));
-        if (request->entry.opcode != IORING_OP_NOP && !is_poll(request))
+        if (can_make_ready(request))
             ring->moment++;
         if (res == WOULD_WAIT) {
             note_refusal(ring, request);
@@ -146,6 +182,12 @@ static enum outcome finish_running(struct ring *ring, struct request *request)
         }
     }
     int32_t told = is_success(request, res) ? TOLD_SUCCESS : TOLD_FAILURE;
+    if (is_zero_copy(request) && !request->is_cancelled && can_post_extra(ring)) {
+        /* The request's own end is the second completion: its memory may be used again. */
+        post_extra(ring, request->entry.user_data, res, IORING_CQE_F_MORE);
+        request->flags = IORING_CQE_F_NOTIF;
+        res = request->entry.ioprio & IORING_SEND_ZC_REPORT_USAGE ? (int32_t)IORING_NOTIF_USAGE_ZC_COPIED : 0;
+    }
     finish(ring, request->number, told);
     end_of(ring, request, res, told);
     return HAS_ENDED;
@@ -163,6 +205,10 @@ static void start(struct ring *ring, struct request *request)
     if (is_poll(request) && request->started == 0)
         request->started = start_poll(request);
     arm_linked_timeout(ring, request);
+    ring->counting += request->enough > 0;
+    look_again(ring, place_of(&ring->requests, request->number));
+    if (request->is_stream)
+        look_at(ring, request);
 }
 
 /* Issues a request that waits: it starts, or ends without being carried out, or the core refuses it. */
@@ -197,14 +243,31 @@ static enum outcome go_on_with(struct ring *ring, struct request *request)
     return outcome;
 }
 
+/* The least running request that can be finished, or NULL. */
+static struct request *first_to_finish(struct ring *ring)
+{
+    const struct requests *requests = &ring->requests;
+    if (ring->running == 0)
+        return NULL;
+    if (ring->passed_at != ring->moment)
+        ring->passed = 0;
+    ring->passed_at = ring->moment;
+    for (; ring->passed < requests->count; ring->passed++) {
+        struct request *request = requests->rows[ring->passed];
+        if (request->state == RUNS && can_finish(ring, request))
+            return request;
+    }
+    return NULL;
+}
+
 /* What the policy in order goes on with: the least running request that can be finished, else what the core says is
  * next. NULL if there is neither. */
 static struct request *first_in_order(struct ring *ring)
 {
     const struct requests *requests = &ring->requests;
-    for (size_t i = 0; i < requests->count && ring->running > 0; i++)
-        if (requests->rows[i]->state == RUNS && can_finish(ring, requests->rows[i]))
-            return requests->rows[i];
+    struct request *running = first_to_finish(ring);
+    if (running)
+        return running;
     /* The least outstanding one runs or can be issued, so of one that waits the core needn't be asked. */
     if (requests->count > 0 && requests->rows[0]->state == WAITS)
         return requests->rows[0];

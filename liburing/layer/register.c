@@ -1,7 +1,8 @@
-/* io_uring_register(2): the probe of operations, registered files, buffers and an eventfd, and restrictions. */
+/* io_uring_register(2): the probe of operations, registered files, buffers, rings and an eventfd, and restrictions. */
 #include "cancels.h"
 #include "copying.h"
 #include "descriptors.h"
+#include "enrolling.h"
 #include "enter.h"
 #include "eventfds.h"
 #include "groups.h"
@@ -53,12 +54,9 @@ static int register_resources(struct ring *ring, uint64_t at, uint32_t size, boo
     if (result < 0)
         return result;
     bool is_sparse = asked.flags & IORING_RSRC_REGISTER_SPARSE;
-    /* Tags aren't served: a completion of theirs belongs to no request. */
-    if (!asked.nr || asked.resv2 || asked.tags || asked.flags & ~IORING_RSRC_REGISTER_SPARSE || (is_sparse && asked.data))
+    if (!asked.nr || asked.resv2 || asked.flags & ~IORING_RSRC_REGISTER_SPARSE || (is_sparse && asked.data))
         return -EINVAL;
-    if (is_sparse)
-        return is_of_files ? register_no_files(ring, asked.nr) : register_no_buffers(ring, asked.nr);
-    return is_of_files ? register_files(ring, asked.data, asked.nr) : register_buffers(ring, asked.data, asked.nr);
+    return is_of_files ? register_files(ring, asked.data, asked.tags, asked.nr) : register_buffers(ring, asked.data, asked.tags, asked.nr);
 }
 
 static int update_resources(struct ring *ring, uint64_t at, uint32_t size, bool is_of_files)
@@ -67,9 +65,9 @@ static int update_resources(struct ring *ring, uint64_t at, uint32_t size, bool 
     int result = read_sized(&asked, at, size, sizeof asked);
     if (result < 0)
         return result;
-    if (!asked.nr || asked.resv || asked.resv2 || asked.tags)
+    if (!asked.nr || asked.resv || asked.resv2)
         return -EINVAL;
-    return is_of_files ? update_files(ring, asked.offset, asked.data, asked.nr) : update_buffers(ring, asked.offset, asked.data, asked.nr);
+    return is_of_files ? update_files(ring, asked.offset, asked.data, asked.tags, asked.nr) : update_buffers(ring, asked.offset, asked.data, asked.tags, asked.nr);
 }
 
 static int update_files_at(struct ring *ring, uint64_t at, uint32_t count)
@@ -79,7 +77,7 @@ static int update_files_at(struct ring *ring, uint64_t at, uint32_t count)
         return -EINVAL;
     if (copy_in(&asked, at, sizeof asked) < 0)
         return -EFAULT;
-    return asked.resv ? -EINVAL : update_files(ring, asked.offset, asked.fds, count);
+    return asked.resv ? -EINVAL : update_files(ring, asked.offset, asked.fds, 0, count);
 }
 
 /* A cancel that returns once what it found has ended. */
@@ -105,7 +103,7 @@ static int call_registered(struct ring *ring, uint32_t code, uint64_t at, uint32
     case IORING_REGISTER_PROBE:
         return probe(at, count);
     case IORING_REGISTER_FILES:
-        return register_files(ring, at, count);
+        return at ? register_files(ring, at, 0, count) : -EFAULT;
     case IORING_REGISTER_FILES2:
         return register_resources(ring, at, count, true);
     case IORING_UNREGISTER_FILES:
@@ -117,7 +115,7 @@ static int call_registered(struct ring *ring, uint32_t code, uint64_t at, uint32
     case IORING_REGISTER_FILE_ALLOC_RANGE:
         return register_range(ring, at, count);
     case IORING_REGISTER_BUFFERS:
-        return register_buffers(ring, at, count);
+        return at ? register_buffers(ring, at, 0, count) : -EFAULT;
     case IORING_REGISTER_BUFFERS2:
         return register_resources(ring, at, count, false);
     case IORING_UNREGISTER_BUFFERS:
@@ -135,6 +133,10 @@ static int call_registered(struct ring *ring, uint32_t code, uint64_t at, uint32
         return unregister_buffer_ring(ring, at, count);
     case IORING_REGISTER_SYNC_CANCEL:
         return cancel_at_once(ring, at, count);
+    case IORING_REGISTER_RING_FDS:
+        return enroll_rings(at, count);
+    case IORING_UNREGISTER_RING_FDS:
+        return dismiss_rings(at, count);
     case IORING_REGISTER_RESTRICTIONS:
         return register_restrictions(ring, at, count);
     case IORING_REGISTER_ENABLE_RINGS:

@@ -1,5 +1,6 @@
 /* The side table of requests: an array of pointers, by rising number. */
 #include "requests.h"
+#include "buffers.h"
 #include "fault.h"
 #include "files.h"
 
@@ -43,7 +44,7 @@ void add_request(struct requests *requests, struct request *request)
     requests->rows[requests->count++] = request;
 }
 
-static size_t place_of(const struct requests *requests, uint64_t number)
+size_t place_of(const struct requests *requests, uint64_t number)
 {
     size_t low = 0, high = requests->count;
     while (low < high) {
@@ -81,6 +82,7 @@ static void free_parts(const struct request *request)
         close(request->epoll);
     release_file(request->file);
     release_file(request->second_file);
+    release_buffer(request->buffer);
 }
 
 void end_request(struct requests *requests, struct request *request)

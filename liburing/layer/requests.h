@@ -27,6 +27,7 @@ struct request {
     int fd;                         /* the descriptor that it is carried out on */
     struct file *second_file;       /* of a splice: where it reads */
     int second_fd;
+    struct buffer *buffer;          /* the registered buffer that it uses, or NULL */
     bool is_assigned;               /* these are known: when it is accepted, or, behind a link or a drain, when it starts */
     bool is_stream;                 /* it may have to wait for a descriptor: a transfer on what has no offset or on a device, a poll, a call of sockets */
     uint64_t wanted;                /* of one that takes a provided buffer: how many bytes at most, or 0 */
@@ -72,6 +73,9 @@ void add_request(struct requests *requests, struct request *request);
 
 /* The request of a number. There is one. */
 struct request *request_of(const struct requests *requests, uint64_t number);
+
+/* Its place among the rows. */
+size_t place_of(const struct requests *requests, uint64_t number);
 
 /* Takes the first ones out, and frees nothing. */
 void drop_requests(struct requests *requests, size_t count);

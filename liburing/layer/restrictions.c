@@ -3,6 +3,7 @@
 #include "restrictions.h"
 #include "copying.h"
 #include "ring.h"
+#include "strict.h"
 
 #include <errno.h>
 #include <unistd.h>
@@ -56,13 +57,20 @@ int register_restrictions(struct ring *ring, uint64_t list, uint32_t count)
 
 void note_issuer(struct ring *ring)
 {
-    if (ring->flags & IORING_SETUP_DEFER_TASKRUN && !ring->is_disabled)
+    bool is_one = ring->flags & IORING_SETUP_DEFER_TASKRUN || (is_strict() && ring->flags & IORING_SETUP_SINGLE_ISSUER);
+    if (is_one && !ring->is_disabled)
         ring->issuer = gettid();
 }
 
 bool is_of_another(const struct ring *ring)
 {
     return ring->issuer && ring->issuer != gettid();
+}
+
+bool is_submission_of_another(const struct ring *ring, uint32_t to_submit)
+{
+    bool is_any_call = ring->flags & IORING_SETUP_DEFER_TASKRUN, has_thread = ring->flags & IORING_SETUP_SQPOLL;
+    return is_of_another(ring) && (is_any_call || (to_submit > 0 && !has_thread));
 }
 
 int enable_ring(struct ring *ring, uint64_t argument, uint32_t count)

@@ -49,12 +49,17 @@ struct ring {
     struct requests requests;           /* accepted and not ended */
     uint64_t moment;                    /* counts what can make a descriptor ready: within one, each is looked at once */
     size_t running;                     /* how many of them were started */
+    size_t drains;                      /* how many drain, */
+    size_t counting;                    /* and how many are timeouts with a count that have started */
+    size_t passed;                      /* at moment `passed_at` none of so many first requests can be finished */
+    uint64_t passed_at;
     bool has_refusals;                  /* one of them may be remembered as refused */
     struct requests staged;             /* staged and not accepted; a word that names no slot has an empty place */
     struct request **ways;              /* room for the ways of a choice: as many as there are requests */
     size_t ways_room;
     uint32_t returns;                   /* how often in a row the choice was to return */
     uint64_t posted;                    /* how many completions a timeout with a count has counted so far */
+    uint64_t expired;                   /* how many timeouts have ended by their time or their count */
     struct files files;                 /* registered */
     struct buffers buffers;
     struct group *groups;               /* of provided buffers */
@@ -63,12 +68,14 @@ struct ring {
     int eventfd;                        /* registered: one of the layer's own; or negative */
     bool is_eventfd_async;              /* it is told only of what ends behind the call that submitted it */
     uint64_t call_number;               /* how many calls of enter were made */
-    pid_t issuer;                       /* of SINGLE_ISSUER: the one thread that may call, or 0 */
+    pid_t issuer;                       /* of SINGLE_ISSUER: the one thread that may call, or submit, or 0 */
+    bool has_skipped;                   /* where the layer is strict: an entry that skips its success was submitted */
     bool is_disabled;                   /* until it is enabled */
     struct restrictions restrictions;
     uint64_t accepted;                  /* how many requests were accepted so far */
     struct completions completions;     /* posted and not reaped */
     int64_t now;                        /* virtual time in nanoseconds */
+    int64_t origin;                     /* where time is real: when it was 0 */
     int64_t slept_until;                /* the real time up to which what was slept is in it */
     bool has_complained;                /* that the application stored a wrong head was said */
     bool has_trace;                     /* whether it is known where steps and answers go: */

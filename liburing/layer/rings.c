@@ -1,6 +1,7 @@
 /* Making rings.
  */
 #define _GNU_SOURCE
+#include "clock.h"
 #include "copying.h"
 #include "descriptors.h"
 #include "enter.h"
@@ -11,6 +12,7 @@
 #include "readiness.h"
 #include "ring.h"
 #include "server.h"
+#include "strict.h"
 #include "trace.h"
 
 #include <errno.h>
@@ -36,7 +38,7 @@ enum {
 enum {
     FEATURES = IORING_FEAT_NODROP | IORING_FEAT_SUBMIT_STABLE | IORING_FEAT_RW_CUR_POS | IORING_FEAT_CUR_PERSONALITY |
                IORING_FEAT_FAST_POLL | IORING_FEAT_EXT_ARG | IORING_FEAT_NATIVE_WORKERS | IORING_FEAT_CQE_SKIP |
-               IORING_FEAT_LINKED_FILE | IORING_FEAT_SQPOLL_NONFIXED
+               IORING_FEAT_LINKED_FILE | IORING_FEAT_SQPOLL_NONFIXED | IORING_FEAT_RSRC_TAGS
 };
 
 static uint32_t round_up(uint32_t size)
@@ -55,7 +57,7 @@ void free_ring(struct ring *ring)
     free_completions(&ring->completions);
     free_memory(&ring->memory);
     free_polled(ring);
-    unregister_files(ring);
+    free_files(ring);
     unregister_buffers(ring);
     free_groups(ring);
     free_inbox(&ring->inbox);
@@ -124,7 +126,8 @@ static int make_ring(struct ring **made, uint32_t entries, struct io_uring_param
     if (!ring)
         return -ENOMEM;
     pthread_mutex_init(&ring->lock, NULL);
-    pthread_mutex_init(&ring->inbox.lock, NULL);
+    make_inbox(&ring->inbox);
+    make_files(&ring->files);
     ring->ready_fd = -1;
     ring->eventfd = -1;
     ring->is_disabled = params->flags & IORING_SETUP_R_DISABLED;
@@ -135,6 +138,7 @@ static int make_ring(struct ring **made, uint32_t entries, struct io_uring_param
         return result;
     }
     ring->process = getpid();
+    start_clock(ring);
     ring->flags = params->flags;
     note_issuer(ring);
     params->features = FEATURES;
@@ -146,13 +150,15 @@ static int make_ring(struct ring **made, uint32_t entries, struct io_uring_param
 int setup(uint32_t entries, struct io_uring_params *params, bool is_polled)
 {
     struct io_uring_params own;
-    struct ring *ring;
+    struct ring *ring = NULL;
     serve_at_set_up();
     read_policy();
     read_injection();
     if (copy_in(&own, (uintptr_t)params, sizeof own) < 0)
         return -EFAULT;
-    int result = make_ring(&ring, entries, &own, is_polled);
+    int result = ask_set_up(entries, &own);
+    if (result == 0)
+        result = make_ring(&ring, entries, &own, is_polled);
     if (result < 0)
         return result;
     int fd = ring->fd;

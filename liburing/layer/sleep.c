@@ -4,6 +4,7 @@
  */
 #define _GNU_SOURCE
 #include "sleep.h"
+#include "clock.h"
 #include "descriptors.h"
 #include "operations.h"
 #include "times.h"
@@ -25,17 +26,14 @@ bool has_threads(void)
     return stat("/proc/self/task", &status) == 0 && status.st_nlink > 3;
 }
 
-static int64_t real_time(void)
-{
-    struct timespec now;
-    clock_gettime(CLOCK_MONOTONIC, &now);
-    return (int64_t)now.tv_sec * 1000000000 + now.tv_nsec;
-}
-
 /* Adds what has passed since `start` to virtual time. What another sleeper has added isn't added again. */
 static void add_slept(struct ring *ring, int64_t start)
 {
     int64_t end = real_time();
+    if (is_time_real()) {
+        catch_up(ring);
+        return;
+    }
     if (start < ring->slept_until)
         start = ring->slept_until;
     if (end > start) {

@@ -10,6 +10,7 @@
 
 #include <errno.h>
 #include <fcntl.h>
+#include <limits.h>
 #include <stdlib.h>
 #include <string.h>
 #include <sys/socket.h>
@@ -17,6 +18,12 @@
 
 /* The flag of the kernel's header that begins a send or a receive behind a look at the descriptor: it changes nothing. */
 enum { SERVED_FLAGS = IORING_RECVSEND_POLL_FIRST, MOST_VECTORS_OF_MESSAGE = 1024 };
+
+/* A message, with room for an address that is the layer's. */
+struct addressed {
+    struct msghdr message;
+    struct sockaddr_storage address;
+};
 
 static int32_t result_of(long result)
 {
@@ -32,15 +39,22 @@ bool is_of_sockets(uint8_t code)
     case IORING_OP_RECVMSG:
     case IORING_OP_ACCEPT:
     case IORING_OP_CONNECT:
+    case IORING_OP_SEND_ZC:
+    case IORING_OP_SENDMSG_ZC:
         return true;
     default:
         return false;
     }
 }
 
+bool is_zero_copy(const struct request *request)
+{
+    return request->entry.opcode == IORING_OP_SEND_ZC || request->entry.opcode == IORING_OP_SENDMSG_ZC;
+}
+
 static bool is_sending(const struct request *request)
 {
-    return request->entry.opcode == IORING_OP_SEND || request->entry.opcode == IORING_OP_SENDMSG;
+    return request->entry.opcode == IORING_OP_SEND || request->entry.opcode == IORING_OP_SENDMSG || is_zero_copy(request);
 }
 
 short events_of_socket(const struct request *request)
@@ -51,16 +65,29 @@ short events_of_socket(const struct request *request)
 /* One buffer becomes a message of a single vector. */
 static int make_message(struct request *request)
 {
-    struct msghdr *message = calloc(1, sizeof *message);
-    request->value = message;
+    struct addressed *addressed = request->value = calloc(1, sizeof *addressed);
+    struct msghdr *message = &addressed->message;
     request->vectors = malloc(sizeof *request->vectors);
-    if (!message || !request->vectors)
+    if (!addressed || !request->vectors)
         return -ENOMEM;
     *request->vectors = (struct iovec){(void *)(uintptr_t)request->entry.addr, request->entry.len};
     request->length = request->entry.len;
     message->msg_iov = request->vectors;
     message->msg_iovlen = request->vector_count = 1;
     return 0;
+}
+
+/* Of a receive that goes on: what stands in front of the bytes in each buffer. */
+static size_t size_in_front(const struct msghdr *message)
+{
+    return sizeof(struct io_uring_recvmsg_out) + message->msg_namelen + message->msg_controllen;
+}
+
+static int check_room(const struct msghdr *message)
+{
+    if (message->msg_namelen > INT_MAX)
+        return -EINVAL;
+    return message->msg_controllen > INT_MAX || size_in_front(message) > INT_MAX ? -EOVERFLOW : 0;
 }
 
 static int copy_message(struct request *request)
@@ -87,7 +114,8 @@ static int copy_message(struct request *request)
     for (uint32_t i = 0; i < request->vector_count; i++)
         request->length += request->vectors[i].iov_len;
     message->msg_iov = request->vectors;
-    return 0;
+    bool is_multishot = request->entry.opcode == IORING_OP_RECVMSG && request->entry.ioprio & IORING_RECV_MULTISHOT;
+    return is_multishot ? check_room(message) : 0;
 }
 
 static int copy_address(struct request *request)
@@ -99,12 +127,38 @@ static int copy_address(struct request *request)
     return request->value ? copy_in(request->value, request->entry.addr, size) : -ENOMEM;
 }
 
+/* One that goes to an address that the entry names. */
+static int make_message_to(struct request *request)
+{
+    const struct io_uring_sqe *entry = &request->entry;
+    int result = make_message(request);
+    struct addressed *addressed = request->value;
+    if (result < 0 || !entry->addr2)
+        return result;
+    if (entry->addr_len > sizeof addressed->address)
+        return -EINVAL;
+    addressed->message.msg_name = &addressed->address;
+    addressed->message.msg_namelen = entry->addr_len;
+    return copy_in(&addressed->address, entry->addr2, entry->addr_len);
+}
+
+/* The kernel refuses to skip the success of one. */
+static int copy_of_zero_copy(struct request *request)
+{
+    const struct io_uring_sqe *entry = &request->entry;
+    bool is_message = entry->opcode == IORING_OP_SENDMSG_ZC;
+    uint32_t served = SERVED_FLAGS | IORING_SEND_ZC_REPORT_USAGE | (is_message ? 0 : IORING_RECVSEND_FIXED_BUF);
+    if (entry->ioprio & ~served || entry->addr3 || entry->flags & IOSQE_CQE_SKIP_SUCCESS || (is_message && (entry->addr2 || entry->file_index)))
+        return -EINVAL;
+    return is_message ? copy_message(request) : make_message_to(request);
+}
+
 /* A receive that goes on takes a buffer each time. */
 static bool is_well_formed_multishot(const struct io_uring_sqe *entry)
 {
     if (!(entry->ioprio & IORING_RECV_MULTISHOT))
         return true;
-    return entry->flags & IOSQE_BUFFER_SELECT && !(entry->msg_flags & MSG_WAITALL) && !entry->len;
+    return entry->flags & IOSQE_BUFFER_SELECT && !(entry->msg_flags & MSG_WAITALL) && !(entry->opcode == IORING_OP_RECV && entry->len);
 }
 
 static bool is_well_formed_accept(const struct io_uring_sqe *entry)
@@ -126,8 +180,12 @@ int copy_of_socket(struct request *request)
     case IORING_OP_SEND:
         return entry->ioprio & ~SERVED_FLAGS || entry->addr2 || entry->file_index ? -EINVAL : make_message(request);
     case IORING_OP_SENDMSG:
-    case IORING_OP_RECVMSG:
         return entry->ioprio & ~SERVED_FLAGS || entry->addr2 || entry->file_index ? -EINVAL : copy_message(request);
+    case IORING_OP_RECVMSG:
+        return entry->ioprio & ~(SERVED_FLAGS | IORING_RECV_MULTISHOT) || entry->addr2 || entry->file_index || !is_well_formed_multishot(entry) ? -EINVAL : copy_message(request);
+    case IORING_OP_SEND_ZC:
+    case IORING_OP_SENDMSG_ZC:
+        return copy_of_zero_copy(request);
     case IORING_OP_CONNECT:
         return entry->ioprio || entry->len || entry->buf_index || entry->rw_flags || entry->splice_fd_in ? -EINVAL : copy_address(request);
     default:
@@ -192,6 +250,34 @@ static int32_t move_all(struct request *request)
     return is_whole && is_stream && res > 0 && request->done < request->length ? WOULD_WAIT : (int32_t)request->done;
 }
 
+/* One that goes on: sizes and flags stand in the buffer, and behind them the address, the control data and the bytes. */
+static int32_t receive_into_buffer(struct request *request)
+{
+    const struct msghdr *asked = request->value;
+    size_t in_front = size_in_front(asked);
+    char *at = request->vectors->iov_base, *name = at + sizeof(struct io_uring_recvmsg_out);
+    if (request->vectors->iov_len < in_front)
+        return -EFAULT;
+    struct iovec bytes = {at + in_front, request->vectors->iov_len - in_front};
+    struct msghdr message = {
+        .msg_name = asked->msg_namelen ? name : NULL,
+        .msg_namelen = asked->msg_namelen,
+        .msg_control = asked->msg_controllen ? name + asked->msg_namelen : NULL,
+        .msg_controllen = asked->msg_controllen,
+        .msg_iov = &bytes,
+        .msg_iovlen = 1,
+    };
+    int32_t res = result_of(recvmsg(request->fd, &message, (int)request->entry.msg_flags | MSG_DONTWAIT));
+    if (res == -EAGAIN && !(request->entry.msg_flags & MSG_DONTWAIT) && !is_not_to_wait(request))
+        return WOULD_WAIT;
+    if (res < 0)
+        return res;
+    request->done = (uint32_t)res;
+    struct io_uring_recvmsg_out told = {message.msg_namelen, (uint32_t)message.msg_controllen, (uint32_t)res, (uint32_t)message.msg_flags};
+    size_t moved = (uint32_t)res < bytes.iov_len ? (uint32_t)res : bytes.iov_len;
+    return copy_out((uintptr_t)at, &told, sizeof told) < 0 ? -EFAULT : (int32_t)(in_front + moved);
+}
+
 static int32_t accept_one_socket(struct ring *ring, const struct request *request)
 {
     const struct io_uring_sqe *entry = &request->entry;
@@ -241,7 +327,7 @@ int32_t call_socket(struct ring *ring, struct request *request)
     case IORING_OP_CONNECT:
         return connect_socket(request);
     default:
-        return move_all(request);
+        return request->entry.opcode == IORING_OP_RECVMSG && goes_on(request) ? receive_into_buffer(request) : move_all(request);
     }
 }
 

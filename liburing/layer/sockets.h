@@ -16,6 +16,9 @@ int copy_of_socket(struct request *request);
 /* Carries the operation out: its result, or WOULD_WAIT. */
 int32_t call_socket(struct ring *ring, struct request *request);
 
+/* Whether it ends with two completions: one that the bytes were taken, and one that their memory may be used again. */
+bool is_zero_copy(const struct request *request);
+
 /* Whether a result is a success, as links see it. */
 bool is_socket_success(const struct request *request, int32_t res);
 

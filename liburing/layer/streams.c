@@ -1,15 +1,19 @@
-/* Descriptors are looked at by one call for all, once between two things that can change them. */
+/* Descriptors are looked at by few calls for all, once between two things that can change them. */
 #include "streams.h"
 #include "files.h"
 #include "operations.h"
 
 #include <poll.h>
-#include <stdlib.h>
 
 static void note(const struct ring *ring, struct request *request, bool is_ready)
 {
     request->looked_at = ring->moment;
     request->is_found_ready = is_ready;
+}
+
+void look_at(const struct ring *ring, struct request *request)
+{
+    note(ring, request, is_ready(request));
 }
 
 static bool is_to_be_looked_at(const struct ring *ring, const struct request *request)
@@ -25,29 +29,41 @@ static size_t next_row(const struct ring *ring, size_t row)
     return row;
 }
 
-/* Looks at all of them. False if memory was refused. */
-static bool look_at_all(struct ring *ring)
+/* How many are looked at by one call: no more than a process may have descriptors, however few that are. */
+enum { MOST_AT_ONCE = 64 };
+
+/* Looks at these, and notes what was found. */
+static void look_at_some(const struct ring *ring, struct request **requests, struct pollfd *polled, nfds_t count)
 {
-    struct pollfd *polled = calloc(ring->running, sizeof *polled);
-    nfds_t count = 0;
-    if (!polled)
-        return false;
-    for (size_t i = next_row(ring, 0); i < ring->requests.count; i = next_row(ring, i + 1))
-        polled[count++] = poll_of(ring->requests.rows[i]);
     bool is_done = poll(polled, count, 0) >= 0;
-    count = 0;
-    for (size_t i = next_row(ring, 0); is_done && i < ring->requests.count; i = next_row(ring, i + 1)) {
-        struct request *request = ring->requests.rows[i];
-        note(ring, request, polled[count++].revents != 0 || is_impatient(request));
+    for (nfds_t i = 0; i < count; i++)
+        note(ring, requests[i], is_done ? polled[i].revents != 0 || is_impatient(requests[i]) : is_ready(requests[i]));
+}
+
+/* Looks at all of them. */
+static void look_at_all(struct ring *ring)
+{
+    struct request *requests[MOST_AT_ONCE];
+    struct pollfd polled[MOST_AT_ONCE];
+    nfds_t count = 0;
+    for (size_t i = next_row(ring, 0); i < ring->requests.count; i = next_row(ring, i + 1)) {
+        requests[count] = ring->requests.rows[i];
+        polled[count++] = poll_of(ring->requests.rows[i]);
+        if (count == MOST_AT_ONCE) {
+            look_at_some(ring, requests, polled, count);
+            count = 0;
+        }
     }
-    free(polled);
-    return is_done;
+    if (count > 0)
+        look_at_some(ring, requests, polled, count);
 }
 
 bool is_found_ready(struct ring *ring, struct request *request)
 {
-    if (request->looked_at != ring->moment && (ring->running < 2 || !look_at_all(ring)))
-        note(ring, request, is_ready(request));
+    if (request->looked_at != ring->moment && ring->running > 1)
+        look_at_all(ring);
+    if (request->looked_at != ring->moment)
+        look_at(ring, request);
     return request->is_found_ready;
 }
 

@@ -4,6 +4,9 @@
 
 #include "ring.h"
 
+/* Looks at the descriptor of a request that has just started. */
+void look_at(const struct ring *ring, struct request *request);
+
 /* Whether a running request wouldn't wait, as of this moment. */
 bool is_found_ready(struct ring *ring, struct request *request);
 

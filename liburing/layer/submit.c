@@ -3,11 +3,13 @@
  */
 #include "submit.h"
 #include "account.h"
+#include "callers.h"
 #include "fault.h"
 #include "operations.h"
 #include "outlook.h"
 #include "rules.h"
 #include "steps.h"
+#include "strict.h"
 #include "trace.h"
 
 #include <errno.h>
@@ -29,7 +31,10 @@ static struct request *read_entry(struct ring *ring, uint32_t slot)
     request->token = request->entry.user_data;
     request->call = ring->call_number;
     request->mapping = mapping_of(&request->entry, ring->staged.count > 0 ? ring->staged.rows[ring->staged.count - 1] : NULL);
-    if (!allows_entry(ring, &request->entry))
+    int32_t fault = strict_fault(ring, &request->entry);
+    if (fault < 0)
+        refuse_entry(request, fault);
+    else if (!allows_entry(ring, &request->entry))
         refuse_entry(request, -EACCES);
     else if (request->entry.flags & IOSQE_BUFFER_SELECT && is_served_code(request->entry.opcode) && !can_select(&request->entry))
         refuse_entry(request, -EOPNOTSUPP);
@@ -92,6 +97,7 @@ static void accept_one(struct ring *ring, struct request *request, const struct 
     request->chain = request->is_linked ? before->chain : request->number;
     if (!request->is_linked && !(request->entry.flags & IOSQE_IO_DRAIN))
         assign(ring, request);
+    ring->drains += (request->entry.flags & IOSQE_IO_DRAIN) != 0;
     add_request(&ring->requests, request);
 }
 
@@ -111,6 +117,7 @@ static int take_staged(struct ring *ring)
     note_accepted(ring, accepted);
     store_word(&ring->memory.sq->dropped, answer.dropped);
     store_word(&ring->memory.sq->head, answer.head - ring->own_positions);
+    trace_callers(ring);
     for (size_t i = ring->requests.count - answer.word; i < ring->requests.count; i++) {
         trace_request(ring, ring->requests.rows[i]);
         record_accepted(ring, ring->requests.rows[i]);

@@ -97,7 +97,7 @@ void fire_linked_timeout(struct ring *ring, struct request *timeout)
     for (size_t i = 0; i < ring->requests.count; i++) {
         struct request *request = ring->requests.rows[i];
         if (request->number + 1 == timeout->number && request->state == RUNS && is_cancellable(request)) {
-            cancel_request(request);
+            cancel_request(ring, request);
             timeout->has_fired = true;
         }
     }
@@ -108,6 +108,7 @@ int32_t change_timeout(struct ring *ring, struct request *timeout, const struct 
     *timeout->time = *change->time;
     timeout->entry.timeout_flags &= ~(uint32_t)(IORING_TIMEOUT_ABS | IORING_TIMEOUT_CLOCK_MASK);
     timeout->entry.timeout_flags |= change->entry.timeout_flags & (IORING_TIMEOUT_ABS | IORING_TIMEOUT_CLOCK_MASK);
+    ring->counting -= timeout->enough > 0;
     timeout->enough = 0;
     timeout->entry.off = 0;
     timeout->expiry = expiry_of(ring, timeout->time, timeout->entry.timeout_flags);

@@ -1,6 +1,8 @@
-/* Virtual time: it is moved on by timeouts, by waits that end without anything, and by what was really slept. */
+/* Time: it is moved on by timeouts, by waits that end without anything, and by what was really slept; or, where it is real, by
+ * itself. */
 #define _GNU_SOURCE
 #include "waiting.h"
+#include "clock.h"
 #include "extras.h"
 #include "progress.h"
 #include "sleep.h"
@@ -19,6 +21,12 @@ static struct request *next_timeout(const struct ring *ring)
             next = request;
     }
     return next;
+}
+
+bool has_expired(const struct ring *ring)
+{
+    const struct request *timeout = next_timeout(ring);
+    return timeout && timeout->expiry <= ring->now;
 }
 
 static void move_time(struct ring *ring, int64_t time)
@@ -57,7 +65,7 @@ static int64_t next_time(const struct ring *ring, int64_t deadline)
 int wait_for_any(struct ring *ring, int64_t deadline, const sigset_t *signals)
 {
     int64_t until = next_time(ring, deadline);
-    if (is_streaming(ring) || (!next_timeout(ring) && has_threads())) {
+    if (is_streaming(ring) || (!next_timeout(ring) && has_threads()) || (is_time_real() && until >= 0)) {
         int result = sleep_until(ring, until, signals);
         if (result < 0)
             return result;
@@ -67,9 +75,8 @@ int wait_for_any(struct ring *ring, int64_t deadline, const sigset_t *signals)
     } else {
         move_time(ring, until);
     }
-    struct request *timeout = next_timeout(ring);
-    if (timeout && timeout->expiry <= ring->now)
-        fire(ring, timeout);
+    if (has_expired(ring))
+        fire(ring, next_timeout(ring));
     else if (deadline >= 0 && deadline <= ring->now)
         return -ETIME;
     return 0;
@@ -77,11 +84,18 @@ int wait_for_any(struct ring *ring, int64_t deadline, const sigset_t *signals)
 
 bool can_pass_time(const struct ring *ring)
 {
-    return next_timeout(ring) && !is_streaming(ring);
+    return is_time_real() ? has_expired(ring) : next_timeout(ring) && !is_streaming(ring);
 }
 
 void pass_time(struct ring *ring)
 {
     if (can_pass_time(ring))
+        fire(ring, next_timeout(ring));
+}
+
+void pass_real_time(struct ring *ring)
+{
+    catch_up(ring);
+    while (is_time_real() && has_expired(ring))
         fire(ring, next_timeout(ring));
 }

@@ -1,4 +1,4 @@
-/* Waiting for what the application can't go on without, and virtual time. */
+/* Waiting for what the application can't go on without, and time. */
 #ifndef WAITING_H
 #define WAITING_H
 
@@ -12,10 +12,16 @@
  * for. */
 int wait_for_any(struct ring *ring, int64_t deadline, const sigset_t *signals);
 
+/* Whether the time of a timeout is over that hasn't ended yet. */
+bool has_expired(const struct ring *ring);
+
 /* Whether a timeout runs and no stream is waited for, so that time can pass at once. */
 bool can_pass_time(const struct ring *ring);
 
-/* Ends the timeout that ends first, unless a stream is waited for. */
+/* Ends the timeout that ends first, unless a stream is waited for. Where time is real, it is one that is over. */
 void pass_time(struct ring *ring);
+
+/* Where time is real, ends all timeouts that are over. */
+void pass_real_time(struct ring *ring);
 
 #endif

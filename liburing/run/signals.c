@@ -1,8 +1,9 @@
 /* SIGSYS stays the trap's: a program that asks to catch, ignore or block it, or all signals, is told that it is so, and
- * it isn't. What a program says of SIGSYS is kept, so that it is told the same when it asks again.
+ * it isn't. What a program says of SIGSYS is kept, so that it is told the same when it asks again. One that asks the kernel
+ * itself, as the runtime of Go does, is told that it is done, and it isn't.
  *
- * A program that calls the kernel for this by itself, and not through the C library, isn't reached: if a thread of its has
- * blocked SIGSYS when it calls io_uring, the kernel ends the program with that signal.
+ * A program that blocks it by a call of its own isn't reached: if a thread of its has blocked SIGSYS when it calls io_uring,
+ * the kernel ends the program with that signal.
  */
 #define _GNU_SOURCE
 #include "run.h"
@@ -11,6 +12,19 @@
 #include <errno.h>
 #include <pthread.h>
 #include <stddef.h>
+#include <stdint.h>
+#include <sys/syscall.h>
+#include <unistd.h>
+
+/* An action as the kernel has it. */
+struct raw_action {
+    void (*handler)(int, siginfo_t *, void *);
+    unsigned long flags;
+    void (*restorer)(void);
+    uint64_t mask;
+};
+
+enum { HAS_RESTORER = 0x04000000 };
 
 static struct sigaction asked = {.sa_handler = SIG_DFL};
 
@@ -33,6 +47,16 @@ int real_sigmask(int how, const sigset_t *set, sigset_t *before)
     if (!call)
         *(void **)&call = next("pthread_sigmask");
     return call(how, set, before);
+}
+
+/* What a handler returns to. Unwinders know it by these bytes. */
+void return_from_handler(void);
+__asm__(".text\n.type return_from_handler, @function\nreturn_from_handler:\n\tmov $15, %rax\n\tsyscall\n.size return_from_handler, .-return_from_handler\n");
+
+bool catch_for_good(void (*handler)(int, siginfo_t *, void *))
+{
+    struct raw_action action = {handler, SA_SIGINFO | SA_NODEFER | SA_RESTART | SA_ONSTACK | HAS_RESTORER, return_from_handler, 0};
+    return syscall(SYS_rt_sigaction, SIGSYS, &action, NULL, sizeof action.mask, 0, ASKS_KERNEL) == 0;
 }
 
 /* The set without SIGSYS. NULL stays NULL. */

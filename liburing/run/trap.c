@@ -47,15 +47,10 @@ static void tell_of_setup(const struct io_uring_params *params, long result)
         say("a ring with SQPOLL was asked for: its entries are taken in calls alone, and a program that only looks at memory waits for ever", "");
 }
 
-static void answer(int number, siginfo_t *info, void *context)
+/* Puts the result of a trapped call where the call would have left it. */
+static void serve(ucontext_t *at, long call)
 {
-    ucontext_t *at = context;
     greg_t *registers = at->uc_mcontext.gregs;
-    (void)number;
-    if (info->si_code != BY_FILTER)
-        return;
-    int kept = errno;
-    long call = info->si_syscall;
     long first = registers[REG_RDI], second = registers[REG_RSI];
     long result = wulgach_syscall(call, first, second, (long)registers[REG_RDX], (long)registers[REG_R10], (long)registers[REG_R8], (long)registers[REG_R9]);
     if (result == -1)
@@ -63,27 +58,65 @@ static void answer(int number, siginfo_t *info, void *context)
     if (call == SYS_io_uring_setup)
         tell_of_setup((const struct io_uring_params *)second, result);
     registers[REG_RAX] = result;
+}
+
+struct trapped {
+    ucontext_t *at;
+    long call;
+};
+
+static void serve_trapped(void *argument)
+{
+    const struct trapped *trapped = argument;
+    serve(trapped->at, trapped->call);
+}
+
+static void answer(int number, siginfo_t *info, void *context)
+{
+    struct trapped trapped = {context, info->si_syscall};
+    (void)number;
+    if (info->si_code != BY_FILTER)
+        return;
+    int kept = errno;
+    if (is_on_signal_stack(trapped.at))
+        call_on_own_stack(trapped.at, serve_trapped, &trapped);
+    else
+        serve_trapped(&trapped);
     errno = kept;
 }
 
-/* The kernel's own call: the C library's would come back here. */
 static bool catch_trap(void)
 {
-    struct sigaction action = {.sa_sigaction = answer, .sa_flags = SA_SIGINFO | SA_NODEFER | SA_RESTART};
-    return real_sigaction(SIGSYS, &action, NULL) == 0;
+    return catch_for_good(answer);
 }
 
+/* The three calls are trapped, and what would take SIGSYS away succeeds and does nothing: it can't be trapped, since a child
+ * that the C library spawns does it with all signals blocked. A call with the 6th argument that none of them uses is our own,
+ * to the kernel: SIGSYS is caught so, and a strict layer asks the kernel for set-ups and its probe. */
 static bool set_trap(void)
 {
+    const uint32_t x86_64 = 0xc000003e;
     struct sock_filter lines[] = {
-        BPF_STMT(BPF_LD | BPF_W | BPF_ABS, offsetof(struct seccomp_data, arch)),
-        BPF_JUMP(BPF_JMP | BPF_JEQ | BPF_K, 0xc000003e /* x86-64 */, 0, 5),
-        BPF_STMT(BPF_LD | BPF_W | BPF_ABS, offsetof(struct seccomp_data, nr)),
-        BPF_JUMP(BPF_JMP | BPF_JEQ | BPF_K, SYS_io_uring_setup, 2, 0),
-        BPF_JUMP(BPF_JMP | BPF_JEQ | BPF_K, SYS_io_uring_enter, 1, 0),
-        BPF_JUMP(BPF_JMP | BPF_JEQ | BPF_K, SYS_io_uring_register, 0, 1),
-        BPF_STMT(BPF_RET | BPF_K, SECCOMP_RET_TRAP),
-        BPF_STMT(BPF_RET | BPF_K, SECCOMP_RET_ALLOW),
+        /* 0 */ BPF_STMT(BPF_LD | BPF_W | BPF_ABS, offsetof(struct seccomp_data, arch)),
+        /* 1 */ BPF_JUMP(BPF_JMP | BPF_JEQ | BPF_K, x86_64, 0, 17),
+        /* 2 */ BPF_STMT(BPF_LD | BPF_W | BPF_ABS, offsetof(struct seccomp_data, nr)),
+        /* 3 */ BPF_JUMP(BPF_JMP | BPF_JEQ | BPF_K, SYS_io_uring_enter, 13, 0),
+        /* 4 */ BPF_JUMP(BPF_JMP | BPF_JEQ | BPF_K, SYS_io_uring_setup, 8, 0),
+        /* 5 */ BPF_JUMP(BPF_JMP | BPF_JEQ | BPF_K, SYS_io_uring_register, 7, 0),
+        /* 6 */ BPF_JUMP(BPF_JMP | BPF_JEQ | BPF_K, SYS_rt_sigaction, 0, 12),
+        /* 7 */ BPF_STMT(BPF_LD | BPF_W | BPF_ABS, offsetof(struct seccomp_data, args[0])),
+        /* 8 */ BPF_JUMP(BPF_JMP | BPF_JEQ | BPF_K, SIGSYS, 0, 10),
+        /* 9 */ BPF_STMT(BPF_LD | BPF_W | BPF_ABS, offsetof(struct seccomp_data, args[5])),
+        /* 10 */ BPF_JUMP(BPF_JMP | BPF_JEQ | BPF_K, (uint32_t)ASKS_KERNEL, 0, 7),
+        /* 11 */ BPF_STMT(BPF_LD | BPF_W | BPF_ABS, offsetof(struct seccomp_data, args[5]) + 4),
+        /* 12 */ BPF_JUMP(BPF_JMP | BPF_JEQ | BPF_K, (uint32_t)(ASKS_KERNEL >> 32), 6, 5),
+        /* 13 */ BPF_STMT(BPF_LD | BPF_W | BPF_ABS, offsetof(struct seccomp_data, args[5])),
+        /* 14 */ BPF_JUMP(BPF_JMP | BPF_JEQ | BPF_K, (uint32_t)ASKS_KERNEL, 0, 2),
+        /* 15 */ BPF_STMT(BPF_LD | BPF_W | BPF_ABS, offsetof(struct seccomp_data, args[5]) + 4),
+        /* 16 */ BPF_JUMP(BPF_JMP | BPF_JEQ | BPF_K, (uint32_t)(ASKS_KERNEL >> 32), 2, 0),
+        /* 17 */ BPF_STMT(BPF_RET | BPF_K, SECCOMP_RET_TRAP),
+        /* 18 */ BPF_STMT(BPF_RET | BPF_K, SECCOMP_RET_ERRNO),
+        /* 19 */ BPF_STMT(BPF_RET | BPF_K, SECCOMP_RET_ALLOW),
     };
     struct sock_fprog program = {.len = sizeof lines / sizeof *lines, .filter = lines};
     return prctl(PR_SET_NO_NEW_PRIVS, 1, 0, 0, 0) == 0 && prctl(PR_SET_SECCOMP, SECCOMP_MODE_FILTER, &program) == 0;
@@ -113,8 +146,7 @@ static void note_trap(int number, siginfo_t *info, void *context)
 
 static bool is_trapped(void)
 {
-    struct sigaction action = {.sa_sigaction = note_trap, .sa_flags = SA_SIGINFO | SA_NODEFER};
-    if (real_sigaction(SIGSYS, &action, NULL) != 0)
+    if (!catch_for_good(note_trap))
         return false;
     syscall(SYS_io_uring_enter, -1, 0, 0, 0, NULL, 0);
     return was_trapped;

@@ -55,7 +55,7 @@ static void test_calls(void)
     check(register_at(other.fd, IORING_REGISTER_PROBE, NULL, 0) == -EOPNOTSUPP);
     close(other.fd);
     check(register_at(other.fd, IORING_REGISTER_PROBE, NULL, 0) == -EBADF);
-    check(register_at(ring.fd, IORING_REGISTER_BUFFERS, NULL, 0) == -EINVAL);
+    check(register_at(ring.fd, IORING_REGISTER_BUFFERS, NULL, 0) == -EFAULT);
     struct io_uring_probe *probe = calloc(1, sizeof *probe + 256 * sizeof *probe->ops);
     check(register_at(ring.fd, IORING_REGISTER_PROBE, probe, 256) == 0);
     check(probe->ops[IORING_OP_READ].flags == IO_URING_OP_SUPPORTED && probe->ops[IORING_OP_SENDMSG].flags == IO_URING_OP_SUPPORTED && probe->ops[IORING_OP_URING_CMD].flags == 0);
@@ -422,7 +422,8 @@ static void test_timeouts(void)
     put_timeout(&ring, 0, &day);
     put_timeout(&ring, 1, &hour);
     check(enter(&ring, 2, 0, 0) == 2);
-    check(enter_for(&ring, 2, 7200 * 1000000000ll) == -ETIME);
+    /* A timeout that ends meanwhile ends the wait. */
+    check(enter_for(&ring, 2, 7200 * 1000000000ll) == 0 && count_ready(&ring) == 1);
     struct completion found = reap(&ring);
     check(found.user_data == 1 && found.res == -ETIME);
     check(enter(&ring, 0, 1, IORING_ENTER_GETEVENTS) == 0);
@@ -501,7 +502,8 @@ static void test_shared_ring(void)
     usleep(10000);
     put(&ring, IORING_OP_NOP, 0, 0);
     check(enter(&ring, 1, 0, 0) == 1);
-    check(enter_for(&ring, 2, 1000000) == -ETIME);
+    /* One is there, so that only one was waited for isn't an error. */
+    check(enter_for(&ring, 2, 1000000) == 0 && count_ready(&ring) == 1);
     put(&ring, IORING_OP_NOP, 1, 0);
     check(enter(&ring, 1, 0, 0) == 1);
     check(pthread_join(waiter, NULL) == 0);

@@ -1,5 +1,5 @@
-/* Tests of what is registered, by direct calls: files and direct descriptors, buffers, provided buffers, eventfds,
- * restrictions; and of rings with SQPOLL. All hold under every policy, which the environment says.
+/* Tests of what is registered, by direct calls: files and direct descriptors, buffers, their tags, provided buffers, eventfds,
+ * restrictions; of rings that are called by number, and of rings with SQPOLL. All hold under every policy, which the environment says.
  *
  *   resources [NAME]         with a name: that test alone
  */
@@ -103,6 +103,71 @@ static void test_buffers(void)
     close_ring(&ring);
 }
 
+/* The tag of a file is told once its slot is another's and no request has it. */
+static void test_tags_of_files(void)
+{
+    struct ring ring;
+    int ends[2], none = -1;
+    uint64_t tags[2] = {11, 12}, tag = 13;
+    char text[4];
+    check(pipe(ends) == 0);
+    int list[2] = {ends[0], ends[1]}, empty[2] = {ends[0], -1};
+    struct io_uring_rsrc_register asked = {.nr = 2, .data = (uintptr_t)empty, .tags = (uintptr_t)tags};
+    make_ring(&ring, 8, 0, 0);
+    check(ring.params.features & IORING_FEAT_RSRC_TAGS);
+    check(register_at(ring.fd, IORING_REGISTER_FILES2, &asked, sizeof asked) == -EINVAL);
+    asked.data = (uintptr_t)list;
+    asked.tags = 8;
+    check(register_at(ring.fd, IORING_REGISTER_FILES2, &asked, sizeof asked) == -EFAULT);
+    asked.tags = (uintptr_t)tags;
+    check(register_at(ring.fd, IORING_REGISTER_FILES2, &asked, sizeof asked) == 0);
+    struct io_uring_rsrc_update2 update = {.offset = 1, .data = (uintptr_t)&none, .tags = (uintptr_t)&tag, .nr = 1};
+    check(register_at(ring.fd, IORING_REGISTER_FILES_UPDATE2, &update, sizeof update) == -EINVAL);
+    update.data = (uintptr_t)&ends[1];
+    check(register_at(ring.fd, IORING_REGISTER_FILES_UPDATE2, &update, sizeof update) == 1);
+    struct seen found = next_of(&ring);
+    check(found.user_data == 12 && found.res == 0 && found.flags == 0);
+    put_transfer(&ring, IORING_OP_READ, 0, IOSQE_FIXED_FILE, 0, text, 4, 0);
+    check(enter(&ring, 1, 0, 0) == 1);
+    check(enter_for(&ring, 1, 1000) == -ETIME);
+    check(register_at(ring.fd, IORING_UNREGISTER_FILES, NULL, 0) == 0);
+    check(next_of(&ring).user_data == 13);
+    check(enter_for(&ring, 1, 1000) == -ETIME);
+    check(write(ends[1], "four", 4) == 4);
+    check(next_of(&ring).res == 4 && next_of(&ring).user_data == 11);
+    close(ends[0]);
+    close(ends[1]);
+    close_ring(&ring);
+}
+
+static void test_tags_of_buffers(void)
+{
+    struct ring ring;
+    static char memory[2][16];
+    int ends[2];
+    uint64_t tags[2] = {11, 12};
+    struct iovec vectors[2] = {{memory[0], 16}, {memory[1], 16}}, none = {0};
+    struct io_uring_rsrc_register asked = {.nr = 2, .data = (uintptr_t)vectors, .tags = (uintptr_t)tags};
+    struct io_uring_rsrc_update2 update = {.offset = 0, .data = (uintptr_t)&none, .nr = 1};
+    check(pipe(ends) == 0);
+    make_ring(&ring, 8, 0, 0);
+    check(register_at(ring.fd, IORING_REGISTER_BUFFERS2, &asked, sizeof asked) == 0);
+    put_transfer(&ring, IORING_OP_READ_FIXED, 0, 0, ends[0], memory[0], 4, 0);
+    check(enter(&ring, 1, 0, 0) == 1);
+    check(enter_for(&ring, 1, 1000) == -ETIME);
+    check(register_at(ring.fd, IORING_REGISTER_BUFFERS_UPDATE, &update, sizeof update) == 1);
+    check(enter_for(&ring, 1, 1000) == -ETIME);
+    check(write(ends[1], "four", 4) == 4);
+    check(next_of(&ring).res == 4 && next_of(&ring).user_data == 11);
+    update.tags = (uintptr_t)tags;
+    check(register_at(ring.fd, IORING_REGISTER_BUFFERS_UPDATE, &update, sizeof update) == -EINVAL);
+    check(register_at(ring.fd, IORING_UNREGISTER_BUFFERS, NULL, 0) == 0);
+    check(next_of(&ring).user_data == 12);
+    close(ends[0]);
+    close(ends[1]);
+    close_ring(&ring);
+}
+
 /* Buffers of a list and of a ring in memory: each is taken once, and its number is told. */
 static void test_provided(void)
 {
@@ -193,6 +258,41 @@ static void test_restrictions(void)
     close_ring(&ring);
 }
 
+static long enter_by_number(unsigned number, unsigned to_submit)
+{
+    long result = wulgach_syscall(SYS_io_uring_enter, number, to_submit, to_submit, IORING_ENTER_GETEVENTS | IORING_ENTER_REGISTERED_RING, NULL, (size_t)0);
+    return result < 0 ? -errno : result;
+}
+
+/* A thread calls on a ring by a number, also where its descriptor is closed. */
+static void test_rings_by_number(void)
+{
+    struct ring ring, other;
+    int file = make_file();
+    make_ring(&ring, 8, 0, 0);
+    make_ring(&other, 8, 0, 0);
+    struct io_uring_rsrc_update row = {.offset = (unsigned)-1, .data = (uint64_t)ring.fd}, bad = {.offset = 3, .data = (uint64_t)file}, past = {.offset = 16};
+    check(enter_by_number(0, 0) == -EINVAL || enter_by_number(0, 0) == -EBADF);
+    check(register_at(other.fd, IORING_REGISTER_RING_FDS, &row, 0) == -EINVAL);
+    check(register_at(other.fd, IORING_REGISTER_RING_FDS, &row, 17) == -EINVAL);
+    check(register_at(other.fd, IORING_REGISTER_RING_FDS, NULL, 1) == -EFAULT);
+    check(register_at(other.fd, IORING_REGISTER_RING_FDS, &bad, 1) == -EOPNOTSUPP);
+    check(register_at(other.fd, IORING_REGISTER_RING_FDS, &past, 1) == -EINVAL);
+    check(register_at(other.fd, IORING_REGISTER_RING_FDS, &row, 1) == 1);
+    unsigned number = row.offset;
+    check(number < 16 && register_at(other.fd, IORING_REGISTER_RING_FDS, &row, 1) == -EBUSY);
+    close(ring.fd);
+    put(&ring, IORING_OP_NOP, 7, 0);
+    check(enter_by_number(number, 1) == 1 && reap(&ring).user_data == 7);
+    check(enter_by_number(15, 0) == -EBADF && enter_by_number(16, 0) == -EINVAL);
+    check(register_at(other.fd, IORING_UNREGISTER_RING_FDS, &row, 1) == -EINVAL);
+    row.data = 0;
+    check(register_at(other.fd, IORING_UNREGISTER_RING_FDS, &row, 1) == 1);
+    check(enter_by_number(number, 0) == -EBADF);
+    close(file);
+    close_ring(&other);
+}
+
 /* A ring whose thread takes entries: it sleeps, and a call wakes it. */
 static void test_sqpoll(void)
 {
@@ -214,9 +314,12 @@ int main(int count, char **words)
         {"files", test_files},
         {"direct descriptors", test_direct_descriptors},
         {"buffers", test_buffers},
+        {"tags of files", test_tags_of_files},
+        {"tags of buffers", test_tags_of_buffers},
         {"provided", test_provided},
         {"eventfd", test_eventfd},
         {"restrictions", test_restrictions},
+        {"rings by number", test_rings_by_number},
         {"sqpoll", test_sqpoll},
     };
     return run_tests(tests, sizeof tests / sizeof *tests, count > 1 ? words[1] : NULL);

@@ -102,7 +102,9 @@ static inline void make_ring(struct ring *ring, unsigned entries, unsigned compl
     check(ring->fd >= 0);
     ring->sq_size = ring->params.sq_off.array + ring->params.sq_entries * sizeof(unsigned);
     ring->cq_size = ring->params.cq_off.cqes + ring->params.cq_entries * sizeof(struct io_uring_cqe);
+#ifndef IS_ALSO_REAL
     check(!(ring->params.features & IORING_FEAT_SINGLE_MMAP));
+#endif
     ring->sq = map(ring, ring->sq_size, IORING_OFF_SQ_RING);
     ring->cq = map(ring, ring->cq_size, IORING_OFF_CQ_RING);
     ring->entries = map(ring, ring->params.sq_entries * sizeof *ring->entries, IORING_OFF_SQES);

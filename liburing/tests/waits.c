@@ -304,6 +304,131 @@ static void test_messages(void)
     close_ring(&other);
 }
 
+/* A registered file goes to another ring's table: into a slot, or where there is room. */
+static void test_messages_of_files(void)
+{
+    struct ring ring, other;
+    struct io_uring_rsrc_register sparse = {.nr = 2, .flags = IORING_RSRC_REGISTER_SPARSE};
+    int file = make_file();
+    char text[4];
+    make_ring(&ring, 8, 0, 0);
+    make_ring(&other, 8, 0, 0);
+    check(pwrite(file, "sent", 4, 0) == 4);
+    check(register_at(ring.fd, IORING_REGISTER_FILES, &file, 1) == 0);
+    for (int i = 0; i < 6; i++) {
+        static const struct {
+            uint32_t from, slot, flags;
+            int32_t res;
+        } rows[6] = {{0, 1, 0, -ENXIO}, {0, 1, 0, 0}, {0, IORING_FILE_INDEX_ALLOC, IORING_MSG_RING_CQE_SKIP, 1}, {0, IORING_FILE_INDEX_ALLOC, 0, -ENFILE}, {1, 1, 0, -EBADF}, {0, 3, 0, -EINVAL}};
+        struct io_uring_sqe *entry = put_plain(&ring, IORING_OP_MSG_RING, 0, other.fd);
+        entry->addr = IORING_MSG_SEND_FD;
+        entry->addr3 = rows[i].from;
+        entry->file_index = rows[i].slot;
+        entry->msg_ring_flags = rows[i].flags;
+        entry->off = 5;
+        check(result_of_one(&ring, 1) == rows[i].res);
+        if (i == 0)
+            check(register_at(other.fd, IORING_REGISTER_FILES2, &sparse, sizeof sparse) == 0);
+        if (i == 1) {
+            struct seen found = next_of(&other);
+            check(found.user_data == 5 && found.res == 0 && found.flags == 0);
+        }
+    }
+    put_plain(&ring, IORING_OP_MSG_RING, 0, ring.fd)->addr = IORING_MSG_SEND_FD;
+    check(result_of_one(&ring, 1) == -EINVAL);
+    check(register_at(ring.fd, IORING_UNREGISTER_FILES, NULL, 0) == 0);
+    for (int slot = 0; slot < 2; slot++) {
+        put_transfer(&other, IORING_OP_READ, 0, IOSQE_FIXED_FILE, slot, text, 4, 0);
+        check(result_of_one(&other, 1) == 4 && memcmp(text, "sent", 4) == 0);
+    }
+    close(file);
+    close_ring(&ring);
+    close_ring(&other);
+}
+
+/* A send that needn't copy has two completions: what was sent, and that its memory is free. */
+static void test_zero_copy(void)
+{
+    struct ring ring;
+    static char memory[16] = "zero", text[16];
+    struct iovec vector = {memory, 16}, piece = {memory, 4};
+    struct msghdr message = {.msg_iov = &piece, .msg_iovlen = 1};
+    int ends[2];
+    make_pair(ends);
+    make_ring(&ring, 8, 0, 0);
+    check(register_at(ring.fd, IORING_REGISTER_BUFFERS, &vector, 1) == 0);
+    for (int i = 0; i < 3; i++) {
+        struct io_uring_sqe *entry = put_transfer(&ring, i == 2 ? IORING_OP_SENDMSG_ZC : IORING_OP_SEND_ZC, 7, IOSQE_IO_LINK, ends[0], i == 2 ? (void *)&message : (void *)memory, 4, 0);
+        entry->ioprio = (uint16_t)(i == 1 ? IORING_RECVSEND_FIXED_BUF : i == 2 ? IORING_SEND_ZC_REPORT_USAGE : 0);
+        put(&ring, IORING_OP_NOP, 8, 0);
+        check(enter(&ring, 2, 0, 0) == 2);
+        struct seen first = next_of(&ring), second = next_of(&ring), third = next_of(&ring);
+        check(first.user_data == 7 && first.res == 4 && first.flags == IORING_CQE_F_MORE);
+        check(second.user_data == 7 && second.res == (i == 2 ? (int32_t)IORING_NOTIF_USAGE_ZC_COPIED : 0) && second.flags == IORING_CQE_F_NOTIF);
+        check(third.user_data == 8 && third.res == 0);
+        check(read(ends[1], text, 16) == 4 && memcmp(text, "zero", 4) == 0);
+    }
+    put_transfer(&ring, IORING_OP_SEND_ZC, 0, IOSQE_CQE_SKIP_SUCCESS, ends[0], memory, 4, 0);
+    check(result_of_one(&ring, 1) == -EINVAL);
+    struct io_uring_sqe *outside = put_transfer(&ring, IORING_OP_SEND_ZC, 0, 0, ends[0], text, 4, 0);
+    outside->ioprio = IORING_RECVSEND_FIXED_BUF;
+    check(enter(&ring, 1, 0, 0) == 1);
+    check(next_of(&ring).res == -EFAULT && next_of(&ring).flags == IORING_CQE_F_NOTIF);
+    /* Beside a drain there is no second one. */
+    put_transfer(&ring, IORING_OP_SEND_ZC, 0, 0, ends[0], memory, 4, 0);
+    put(&ring, IORING_OP_NOP, 1, IOSQE_IO_DRAIN);
+    int32_t results[2];
+    check(enter(&ring, 2, 0, 0) == 2);
+    reap_all(&ring, 2, results);
+    check(results[0] == 4 && results[1] == 0);
+    close(ends[0]);
+    close(ends[1]);
+    close_ring(&ring);
+}
+
+/* A receive of messages that goes on: each buffer has sizes and flags, room for an address and control data, and the bytes. */
+static void test_multishot_messages(void)
+{
+    struct ring ring;
+    static char memory[3][64];
+    struct msghdr message = {.msg_namelen = 16, .msg_controllen = 8};
+    struct io_uring_recvmsg_out told;
+    enum { IN_FRONT = sizeof told + 16 + 8 };
+    int ends[2];
+    check(socketpair(AF_UNIX, SOCK_DGRAM, 0, ends) == 0);
+    make_ring(&ring, 8, 0, 0);
+    struct io_uring_sqe *provide = put_plain(&ring, IORING_OP_PROVIDE_BUFFERS, 0, 3);
+    provide->addr = (uintptr_t)memory;
+    provide->len = IN_FRONT + 4;
+    check(result_of_one(&ring, 1) == 0);
+    for (int is_selecting = 0; is_selecting < 2; is_selecting++) {
+        struct io_uring_sqe *entry = put_transfer(&ring, IORING_OP_RECVMSG, 0, is_selecting ? IOSQE_BUFFER_SELECT : 0, ends[0], &message, 1, 0);
+        entry->ioprio = IORING_RECV_MULTISHOT;
+        entry->msg_flags = MSG_TRUNC;
+        if (!is_selecting)
+            check(result_of_one(&ring, 1) == -EINVAL);
+    }
+    check(enter(&ring, 1, 0, 0) == 1);
+    for (uint32_t i = 0; i < 4; i++) {
+        check(i < 3 ? enter_for(&ring, 1, 1000) == -ETIME : true);
+        check(send(ends[1], "longer", i == 0 ? 3 : 6, 0) > 0);
+        struct seen found = next_of(&ring);
+        if (i == 3) {
+            check(found.res == -ENOBUFS && found.flags == 0);
+            break;
+        }
+        const char *at = memory[0] + i * (IN_FRONT + 4);
+        memcpy(&told, at, sizeof told);
+        check(found.res == (i == 0 ? IN_FRONT + 3 : IN_FRONT + 4));
+        check(found.flags == (IORING_CQE_F_MORE | IORING_CQE_F_BUFFER | i << IORING_CQE_BUFFER_SHIFT));
+        check(told.payloadlen == (i == 0 ? 3 : 6) && !(told.flags & MSG_TRUNC) == (i == 0));
+        check(memcmp(at + IN_FRONT, "longer", i == 0 ? 3 : 4) == 0);
+    }
+    close(ends[0]);
+    close(ends[1]);
+    close_ring(&ring);
+}
+
 /* Two threads with a ring each send messages to each other's, and wait for all of them. */
 struct side {
     struct ring ring;
@@ -362,6 +487,9 @@ int main(int count, char **words)
         {"multishot accept", test_multishot_accept},
         {"splice", test_splice},
         {"messages", test_messages},
+        {"messages of files", test_messages_of_files},
+        {"zero copy", test_zero_copy},
+        {"multishot messages", test_multishot_messages},
         {"messages of threads", test_messages_of_threads},
     };
     return run_tests(tests, sizeof tests / sizeof *tests, count > 1 ? words[1] : NULL);

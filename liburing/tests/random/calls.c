@@ -87,9 +87,10 @@ static void judge_result(struct model *model)
 {
     struct call *call = model->call;
     long wanted = call->accepted;
-    bool is_vain = has_waited(call) && call->ready < enough_of(model);
+    /* A timeout that ends meanwhile ends the wait. */
+    bool is_vain = has_waited(call) && call->ready < enough_of(model) && !call->is_fired;
     if (wanted == 0 && is_vain)
-        wanted = call->limit < 0 ? -EDEADLK : -ETIME;
+        wanted = call->limit < 0 ? -EDEADLK : call->ready > 0 ? 0 : -ETIME;
     if (call->result != wanted)
         wrong(model, "a call returns %ld, and is to return %ld", call->result, wanted);
     if (is_vain)

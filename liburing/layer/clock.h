@@ -1,0 +1,19 @@
+/* A ring's time: virtual, or real under WULGACH_TIME=real. */
+#ifndef CLOCK_H
+#define CLOCK_H
+
+#include "ring.h"
+
+/* Whether timeouts and limits last as long as they say. */
+bool is_time_real(void);
+
+/* Nanoseconds of a real clock. */
+int64_t real_time(void);
+
+/* Lets a ring's time begin. */
+void start_clock(struct ring *ring);
+
+/* Where time is real, moves a ring's on to now. */
+void catch_up(struct ring *ring);
+
+#endif

@@ -1,0 +1,88 @@
+/* A program may have its signals on a stack of its own, as the runtime of Go, whose other stacks are small. The layer wants
+ * more than these have: so it runs on one that is mapped for the thread. Meanwhile other signals come on another part of that:
+ * the program's own signal stack holds the frame that this call returns to.
+ */
+#define _GNU_SOURCE
+#include "run.h"
+
+#include <pthread.h>
+#include <stddef.h>
+#include <stdint.h>
+#include <sys/mman.h>
+#include <unistd.h>
+
+enum { STACK = 1 << 20, SIGNAL_STACK = 1 << 17 };
+
+/* Of a thread: its memory, and whether a call is on it. */
+static __thread char *own;
+static __thread bool is_in_use;
+static pthread_key_t key;
+static pthread_once_t once = PTHREAD_ONCE_INIT;
+
+static void unmap(void *memory)
+{
+    munmap(memory, STACK + SIGNAL_STACK);
+}
+
+static void make_key(void)
+{
+    pthread_key_create(&key, unmap);
+}
+
+static char *map(void)
+{
+    void *memory = mmap(NULL, STACK + SIGNAL_STACK, PROT_READ | PROT_WRITE, MAP_PRIVATE | MAP_ANONYMOUS | MAP_NORESERVE, -1, 0);
+    return memory == MAP_FAILED ? NULL : memory;
+}
+
+bool is_on_signal_stack(const ucontext_t *at)
+{
+    uintptr_t here = (uintptr_t)__builtin_frame_address(0), start = (uintptr_t)at->uc_stack.ss_sp;
+    return at->uc_stack.ss_size > 0 && here >= start && here - start < at->uc_stack.ss_size;
+}
+
+struct task {
+    void (*function)(void *);
+    void *argument;
+    stack_t signals, before;
+};
+
+static void run(void *argument)
+{
+    struct task *task = argument;
+    sigaltstack(&task->signals, NULL);
+    task->function(task->argument);
+    sigaltstack(&task->before, NULL);
+}
+
+static void call_on(char *top, void (*function)(void *), void *argument)
+{
+    __asm__ volatile("mov %%rsp, %%rbx\n\t"
+                     "mov %[top], %%rsp\n\t"
+                     "call *%[function]\n\t"
+                     "mov %%rbx, %%rsp"
+                     : "+D"(argument)
+                     : [top] "r"(top), [function] "r"(function)
+                     : "rbx", "rax", "rcx", "rdx", "rsi", "r8", "r9", "r10", "r11", "xmm0", "xmm1", "xmm2", "xmm3", "xmm4", "xmm5", "xmm6", "xmm7", "xmm8", "xmm9", "xmm10", "xmm11", "xmm12", "xmm13", "xmm14", "xmm15", "memory", "cc");
+}
+
+void call_on_own_stack(const ucontext_t *at, void (*function)(void *), void *argument)
+{
+    pthread_once(&once, make_key);
+    if (!own && (own = map()))
+        pthread_setspecific(key, own);
+    /* A signal's handler that calls while its thread is in a call has another. */
+    bool is_first = own && !is_in_use;
+    char *memory = is_first ? own : map();
+    if (!memory) {
+        say("there is no memory for a stack", "");
+        _exit(125);
+    }
+    struct task task = {function, argument, {.ss_sp = memory, .ss_size = SIGNAL_STACK}, at->uc_stack};
+    is_in_use |= is_first;
+    call_on(memory + SIGNAL_STACK + STACK, run, &task);
+    if (is_first)
+        is_in_use = false;
+    else
+        unmap(memory);
+}

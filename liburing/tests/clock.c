@@ -1,0 +1,82 @@
+/* Under WULGACH_TIME=real timeouts, linked ones and the limits of calls last as long as they say; else an hour takes no time.
+ *
+ *   clock
+ */
+#define _GNU_SOURCE
+#include "engines.h"
+
+#include <time.h>
+
+enum { MILLISECOND = 1000000 };
+
+static int64_t now(void)
+{
+    struct timespec time;
+    clock_gettime(CLOCK_MONOTONIC, &time);
+    return (int64_t)time.tv_sec * 1000000000 + time.tv_nsec;
+}
+
+/* Whether as long has passed as is said, where time is real. */
+static bool has_lasted(int64_t start, int64_t time)
+{
+    const char *word = getenv("WULGACH_TIME");
+    bool is_real = word && strcmp(word, "real") == 0;
+    return is_real ? now() - start >= time : true;
+}
+
+static void test_timeout(void)
+{
+    struct ring ring;
+    struct __kernel_timespec time = {.tv_nsec = 50 * MILLISECOND};
+    make_ring(&ring, 8, 0, 0);
+    int64_t start = now();
+    put_transfer(&ring, IORING_OP_TIMEOUT, 0, 0, -1, &time, 1, 0);
+    check(enter(&ring, 1, 1, IORING_ENTER_GETEVENTS) == 1);
+    check(reap(&ring).res == -ETIME && has_lasted(start, 50 * MILLISECOND));
+    /* A peek ends none that isn't over. */
+    put_transfer(&ring, IORING_OP_TIMEOUT, 0, 0, -1, &time, 1, 0);
+    start = now();
+    check(enter(&ring, 1, 0, IORING_ENTER_GETEVENTS) == 1);
+    for (int i = 0; count_ready(&ring) == 0; i++) {
+        usleep(1000);
+        enter(&ring, 0, 0, IORING_ENTER_GETEVENTS);
+        check(i < 100000);
+    }
+    check(reap(&ring).res == -ETIME && has_lasted(start, 50 * MILLISECOND));
+    close_ring(&ring);
+}
+
+static void test_limit(void)
+{
+    struct ring ring;
+    make_ring(&ring, 8, 0, 0);
+    int64_t start = now();
+    check(enter_for(&ring, 1, 50 * MILLISECOND) == -ETIME && has_lasted(start, 50 * MILLISECOND));
+    close_ring(&ring);
+}
+
+static void test_linked(void)
+{
+    struct ring ring;
+    int ends[2];
+    char text[4];
+    int32_t results[2];
+    struct __kernel_timespec time = {.tv_nsec = 50 * MILLISECOND};
+    check(pipe(ends) == 0);
+    make_ring(&ring, 8, 0, 0);
+    int64_t start = now();
+    put_transfer(&ring, IORING_OP_READ, 0, IOSQE_IO_LINK, ends[0], text, 4, 0);
+    put_transfer(&ring, IORING_OP_LINK_TIMEOUT, 1, 0, -1, &time, 1, 0);
+    check(enter(&ring, 2, 0, 0) == 2);
+    reap_all(&ring, 2, results);
+    check(results[0] == -ECANCELED && results[1] == -ETIME && has_lasted(start, 50 * MILLISECOND));
+    close(ends[0]);
+    close(ends[1]);
+    close_ring(&ring);
+}
+
+int main(int count, char **words)
+{
+    static const struct named tests[] = {{"timeout", test_timeout}, {"limit", test_limit}, {"linked", test_linked}};
+    return run_tests(tests, sizeof tests / sizeof *tests, count > 1 ? words[1] : NULL);
+}
