@@ -1,7 +1,10 @@
-use Rattle.std.proofs.Common.{length}
+use Rattle.std.proofs.Common.{ℕ, length, sym, subst}
+use Rattle.std.specs.Prelude.{slice_set}
 use Rattle.std.proofs.lemmas.Result.{IfOk-weaker, on_err_weaker}
-use Rattle.std.proofs.lemmas.List.{get_or-set_other}
+use Rattle.std.proofs.lemmas.List.{length-set, get_or-set_same, get_or-set_other}
 use Rattle.uring_workers.specs.WorkLanes.{results_seen}
+use Rattle.uring_workers.specs.declared.work_lanes.WorkLanes.{WorkLanes}
+use Rattle.uring_threads.specs.Collected.{NextStays}
 use Rattle.uring_threads.proofs.Carrying.{some_collected, carried_set}
 use Rattle.uring_threads.proofs.FewResults.{few_collected, own_collected}
 use Rattle.uring_threads.proofs.collect.collect_at.Goals as goal
@@ -46,6 +49,16 @@ returns-clause-idle g c = IfOk-weaker c.collect.result _ _ (λ count seen. seen.
 
 pub returns-clause-err : goal.returns-clause-err
 returns-clause-err g c = on_err_weaker c.collect.result (λ taken. (taken.0, taken.2.tally)) c.collect.ensures.err
+
+pub returns-clause-seen : goal.returns-clause-seen
+returns-clause-seen g c =
+    let new : WorkLanes = c.collect.new.lanes in
+    let many = length-set c.args.lanes.now c.args.place new in
+    IfOk-weaker c.collect.result _ _
+    (λ count seen few d.
+    subst (λ (l : WorkLanes). NextStays c.collect.new.kept (length (slice_set c.args.lanes.now c.args.place new)) c.args.place (results_seen l)) (sym (get_or-set_same c.args.lanes.now c.args.place new d c.requires.place))
+    (subst (λ (n : ℕ). NextStays c.collect.new.kept n c.args.place (results_seen new)) (sym many) (seen.rest few)))
+    c.collect.ensures.ok
 
 pub returns-clause-granted : goal.returns-clause-granted
 returns-clause-granted g c = c.collect.ensures.granted
