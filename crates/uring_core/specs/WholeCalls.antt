@@ -5,7 +5,7 @@ use Rattle.uring_entry.specs.IndexWords.{word_of}
 use Rattle.uring_entry.specs.Layout.{Sqe, Cqe}
 use Rattle.uring_entry.specs.Submission.{staged, taken, call_length}
 use Rattle.uring_core.specs.World.{World}
-use Rattle.uring_core.specs.StepAnswers.{fill_answer, index_answer, take_answer, begin_answer}
+use Rattle.uring_core.specs.StepAnswers.{fill_answer, index_answer, take_answer}
 use Rattle.uring_core.specs.Histories.{History, world}
 use Rattle.uring_core.specs.declared.step.Step.TheVariants as step
 use Rattle.uring_core.specs.declared.answer.Answer.{Answer}

@@ -1,6 +1,6 @@
 //! All completions that the ring shows, reaped at once.
 
-ghost use Rattle.std.specs.Prelude.{◌≡◌, ℕ, ◌≤◌, ◌<◌, ◌∷◌, drop, length, take, Option, None};
+ghost use Rattle.std.specs.Prelude.{◌≡◌, ◌≤◌, ◌<◌, drop, length, take, None};
 ghost use Rattle.uring_entry.specs.Completions.{next_to_reap};
 ghost use Rattle.uring_core.specs.Core.{FitsApart, HasNoLessMemory};
 ghost use Rattle.uring_core.specs.Histories.{History, world};

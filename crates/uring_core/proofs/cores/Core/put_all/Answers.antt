@@ -1,4 +1,4 @@
-use Rattle.std.proofs.Common.{◌+◌, take, ap, subst, sym, ◌∙◌, arith}
+use Rattle.std.proofs.Common.{take, subst, ◌∙◌, arith}
 use Rattle.uring_entry.specs.Setup.{Setup}
 use Rattle.uring_core.specs.Core.{FitsApart}
 use Rattle.uring_core.specs.WholeCalls.{after_index, after_fill, after_entries}

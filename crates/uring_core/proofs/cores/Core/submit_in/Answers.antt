@@ -1,4 +1,4 @@
-use Rattle.std.proofs.Common.{◌≡◌, ℕ, ◌≤◌, length, Err, sym, subst, ◌∙◌, arith}
+use Rattle.std.proofs.Common.{ℕ, ◌≤◌, length, Err, sym, subst, ◌∙◌, arith}
 use Rattle.uring_entry.specs.Setup.{Setup}
 use Rattle.uring_entry.specs.Submission.{call_length}
 use Rattle.uring_core.specs.Core.{Core, FitsApart, IsShortFor, elements_for_call}
