@@ -1,5 +1,5 @@
 -- The volume of a file of a machine: its writes and syncs as a history issued and ended them, so that what a crash leaves of a volume is what it leaves of the file. All of it is our own rule.
-use Rattle.std.specs.Prelude.{ℕ, ℤ, pos, ◌+◌, Bool, not, ◌&&◌, ◌==◌, nat_le, List, [], ◌∷◌, length, take, suc, Option, Some, None, if◌then◌else◌}
+use Rattle.std.specs.Prelude.{ℕ, ℤ, pos, ◌+◌, ◌-◌, Bool, not, ◌&&◌, ◌==◌, nat_le, List, [], ◌∷◌, length, take, suc, reverse, slice_get, Option, Some, None, if◌then◌else◌}
 use Rattle.std.specs.Ordering.{int_eq}
 use Rattle.uring_entry.specs.Setup.{Setup}
 use Rattle.uring_entry.specs.Requests.{Requests, operation_running}
@@ -39,6 +39,11 @@ empty_log unit fd = log_on unit [] fd
 abbrev pub number_of : ℕ → List ℕ → ℕ
 number_of n [] = 0
 number_of n (m ∷ older) = if m == n then suc (length older) else number_of n older
+
+-- the request that has a number on the volume, if one has
+abbrev pub request_of : ℕ → List ℕ → Option ℕ
+request_of number requests =
+    if number == 0 then None else slice_get (reverse requests) (number - 1)
 
 -- whether a write changes bytes when it is carried out: it has some, and doesn't pass the largest size of a file. Any other leaves its file as it is
 abbrev pub has_effect : ℕ → ℕ → Bool

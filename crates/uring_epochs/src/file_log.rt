@@ -4,11 +4,11 @@ ghost use Rattle.std.specs.Prelude.{◌≡◌, ◌+◌, ◌∷◌, ◌<◌, ◌�
 ghost use Rattle.uring_files.specs.Operations.{IsForFiles};
 ghost use Rattle.uring_files.specs.Contents.{max_len};
 ghost use Rattle.uring_volume.specs.Images.{IsImage};
-ghost use Rattle.uring_volume.specs.Choices.{IsLeftBy};
+ghost use Rattle.uring_volume.specs.Choices.{IsLeftBy, issued, named, has_safe};
 ghost use Rattle.uring_volume.specs.Volume.{with_write, with_sync};
 ghost use Rattle.uring_volume.specs.declared.event.SyncRange.TheVariants.{Whole};
 ghost use Rattle.uring_epochs.specs.Logs as spec;
-ghost use Rattle.uring_epochs.specs.Logs.{log_on, begun, begun_of, issued_as, finished, finished_of, finished_as, write_ended, sync_with};
+ghost use Rattle.uring_epochs.specs.Logs.{request_of, log_on, begun, begun_of, issued_as, finished, finished_of, finished_as, write_ended, sync_with};
 
 use std::alloc::{AllocError, Global};
 use std::marker::Model;
@@ -40,7 +40,10 @@ impl Model for FileLog {
 
     ghost view = { λ l. record { fd = l.fd; volume = l.volume; requests = reverse l.requests.items } };
 
-    ghost invariant = { λ l. IsShort l.volume };
+    ghost use Rattle.std.specs.Prelude.{◌≡◌};
+    ghost use Rattle.uring_volume.specs.Choices.{issued};
+
+    ghost invariant = { λ l. record { short : IsShort l.volume; written : l.writes.items ≡ issued l.volume.history } };
 }
 
 /// The number that a request has on the volume, 0 if it has none.
@@ -171,14 +174,14 @@ impl FileLog {
     {
         let shown = Vec::from_slice(self.alloc, bytes)?;
         let written = Vec::from_slice(self.alloc, bytes)?;
-        match self.volume.begin_write(off, written) {
-            Ok(number) => {
-                self.writes.push(Piece::new(number, off, shown))?;
-                self.requests.push(n)?;
-                Ok(())
-            }
-            Err(_) => Err(AllocError),
-        }
+        self.writes.reserve(1)?;
+        self.requests.reserve(1)?;
+        let Ok(number) = self.volume.begin_write(off, written) else {
+            return Err(AllocError);
+        };
+        self.writes.push_reserved(Piece::new(number, off, shown));
+        self.requests.push_reserved(n);
+        Ok(())
     }
 
     /// A sync of the whole file begins.
@@ -255,23 +258,33 @@ impl FileLog {
     }
 
     /// The writes of the file, in the order in which they began. Each has its number on the volume.
-    pub fn writes(&self) -> &[Piece] {
+    pub fn writes(&self) -> &[Piece]
+        ensures { result.now ≡ issued self.now.volume.history }
+    {
         &self.writes
     }
 
-    /// The request of a number on the volume, if it is one.
-    pub fn request(&self, number: u64) -> Option<u64> {
-        let place = number.checked_sub(1)?;
-        self.requests.get(place as usize).copied()
+    /// The request of a number on the volume, if it is one: the oldest has number 1.
+    pub fn request(&self, number: u64) -> Option<u64>
+        ensures { result ≡ request_of number self.now.requests }
+    {
+        if number == 0 {
+            return None;
+        }
+        self.requests.get((number - 1) as usize).copied()
     }
 
     /// How many writes and syncs were begun.
-    pub fn count(&self) -> u64 {
+    pub fn count(&self) -> u64
+        ensures { result ≡ length self.now.requests }
+    {
         self.requests.len() as u64
     }
 
     /// Whether the write of a number on the volume is safe.
-    pub fn is_safe(&self, number: u64) -> bool {
+    pub fn is_safe(&self, number: u64) -> bool
+        ensures { result ≡ has_safe self.now.volume.history (named number (issued self.now.volume.history)) }
+    {
         self.volume.is_safe(number)
     }
 }
