@@ -6,7 +6,7 @@ use Rattle.std.proofs.lemmas.List.{take_more, take_all, take-append-drop, get_or
 use Rattle.std.proofs.Math.Seq.{drop-cons}
 use Rattle.std.proofs.lemmas.Bool.{cases_lt}
 use Rattle.uring_entry.specs.Layout.{Sqe}
-use Rattle.uring_entry.specs.Requests.{is_issuable, is_running}
+use Rattle.uring_entry.specs.Requests.{is_issuable}
 use Rattle.uring_moves.specs.Moments.{Moment, is_finishable, moved, after_moves}
 use Rattle.uring_moves.specs.declared.move_of_calls.Move.{Move}
 use Rattle.uring_moves.specs.declared.move_of_calls.Move.TheVariants as move

@@ -1,4 +1,4 @@
-use Rattle.std.proofs.Common.{◌≡◌, Bool, true, false, Option, Some, None, if◌then◌else◌, sym, ap, ◌∙◌, rules}
+use Rattle.std.proofs.Common.{◌≡◌, Bool, true, false, Some, None, if◌then◌else◌, sym, ap, ◌∙◌, rules}
 use Rattle.std.proofs.lemmas.Bool.{not-true, not-false}
 use Rattle.uring_entry.specs.Layout.{Sqe, user_data_of}
 use Rattle.uring_entry.specs.Requests.{is_outstanding, entry_of}

@@ -1,6 +1,5 @@
-use Rattle.std.proofs.Common.{◌≡◌, true, refl, rules, subst, sym, ◌∙◌}
-use Rattle.std.proofs.lemmas.Bool.{not-true, not-false, both_ways}
-use Rattle.std.proofs.lemmas.Result.{IfOk-weaker}
+use Rattle.std.proofs.Common.{◌≡◌, true, refl, rules}
+use Rattle.std.proofs.lemmas.Bool.{not-false, both_ways}
 use Rattle.uring_outcomes.specs.Runs.{entries_of}
 use Rattle.uring_outcomes.specs.Walks.{paths_of}
 use Rattle.uring_outcomes.proofs.Walking.{both_ok, on_path, off_path, noted_end}
