@@ -26,7 +26,7 @@ use Rattle.uring_moves.specs.Outcomes.{IsOver}
 use Rattle.uring_moves.specs.Prompt.{is_named, IsPrompt, ArePrompt, NamesAll, AreNamed, PromptMovesLead}
 use Rattle.uring_moves.specs.declared.move_of_calls.Move.{Move}
 use Rattle.uring_moves.specs.declared.move_of_calls.Move.TheVariants as move
-use Rattle.uring_moves.proofs.MovesLead.{one_move_more, can_then, issuable_so, or_first, or_second, if_so, if_not}
+use Rattle.uring_moves.proofs.MovesLead.{one_move_more, can_then, issuable_so, or_second, if_so, if_not}
 use Rattle.uring_moves.proofs.SoundMoments.{IsSoundMoment, one_sound, first_moment}
 
 -- Moments that differ in which requests were started.
@@ -234,8 +234,8 @@ idle_there : (r : Requests) (s : List ℕ) (n : ℕ) → (has_started r n ≡ tr
     → is_running (with_starts r s) n ≡ false → is_running r n ≡ false
 idle_there r s n fewer idle =
     false_from_ne_true (is_running r n) (λ running.
-        (let q = and_parts (has_started r n) (not (has_ended r n)) running in
-        both_ways (is_running (with_starts r s) n) idle (both (has_started (with_starts r s) n) (not (has_ended r n)) (fewer q.0) q.1)))
+    (let q = and_parts (has_started r n) (not (has_ended r n)) running in
+    both_ways (is_running (with_starts r s) n) idle (both (has_started (with_starts r s) n) (not (has_ended r n)) (fewer q.0) q.1)))
 
 run_same : (named : ℕ → Bool) (g : Setup) (calls : List (List Sqe)) (m : Moment) (f : IsFollowed named g calls m)
     → RunSame named f.there.requests f.starts
