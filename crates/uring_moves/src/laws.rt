@@ -14,7 +14,7 @@ pub fn moves_are_histories()
     ensures { (g : Setup) → MovesAreHistories g }
 {}
 
-/// If no entry is a cancel, each outcome that moves give calls is given by prompt ones, which finish next whatever starts: only a cancel tells whether a request runs that could have ended.
+/// Each outcome that moves give calls is given by prompt ones, which finish next whatever starts and has no user data that a cancel names: only such a cancel tells whether a request runs that could have ended.
 pub fn prompt_moves_lead()
     ensures { PromptMovesLead }
 {}

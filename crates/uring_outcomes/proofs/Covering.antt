@@ -1,5 +1,5 @@
 -- That a walk covers all lists of moves: `path_taken` when a path is taken, `no_path` when it can't be made, and `all_found` when none is left.
-use Rattle.std.proofs.Common.{◌≡◌, ◌<◌, Bool, true, false, List, [], ◌∷◌, ◌++◌, length, get_or, map, Option, Some, None, refl, sym, subst, ap, ap₂, ◌∙◌, arith, ◌⊎◌, inl, inr, append_assoc, append-nil}
+use Rattle.std.proofs.Common.{◌≡◌, ℕ, ◌<◌, List, [], ◌∷◌, ◌++◌, length, get_or, map, Option, Some, None, refl, sym, subst, ap, ap₂, ◌∙◌, arith, ◌⊎◌, inl, inr, append_assoc, append-nil}
 use Rattle.std.specs.Prelude.{Contains}
 use Rattle.std.specs.Option.{option_and_then}
 use Rattle.std.proofs.Math.ListN.{get_or-map}
@@ -10,10 +10,11 @@ use Rattle.uring_entry.specs.Setup.{Setup}
 use Rattle.uring_entry.specs.Layout.{Sqe}
 use Rattle.uring_moves.specs.Moments.{Moment, starting, moved, after_moves}
 use Rattle.uring_moves.specs.Outcomes.{IsOver}
-use Rattle.uring_moves.specs.Prompt.{IsPrompt, ArePrompt, NoneCancels}
+use Rattle.uring_moves.specs.Prompt.{IsPrompt, ArePrompt, AreNamed}
 use Rattle.uring_moves.specs.declared.move_of_calls.Move.{Move}
 use Rattle.uring_moves.proofs.Prompting.{prompt_moves_lead}
 use Rattle.uring_outcomes.specs.Outcomes.{Ending, CanEnd, AreEndings, AreAllEndings, AreOnce}
+use Rattle.uring_outcomes.specs.Runs.{among}
 use Rattle.uring_outcomes.specs.Walks.{ending_of, BeginsIn, IsCovered, HasNoted, AddsOnce, IsWalk, TakesPath, HasLonger}
 
 -- Lists.
@@ -48,31 +49,32 @@ moves_behind (x ∷ path) rest m =
 same_some : (m n : Moment) → Some m ≡ Some n → m ≡ n
 same_some m n e = cc
 
--- the move behind a path is prompt where it is made
-prompt_behind : (path : List Move) (x : Move) (later : List Move) (start m : Moment)
-    → after_moves start path ≡ Some m → ArePrompt start (path ++ x ∷ later) → IsPrompt m x
-prompt_behind [] x later start m leads prompt =
-    subst (λ y. IsPrompt y x) (same_some start m leads) prompt.0
-prompt_behind (first ∷ path) x later start m leads prompt =
-    by_first (moved start first) refl leads (λ next. prompt_behind path x later next m) where
-      by_first : (next : Option Moment) → moved start first ≡ next → option_and_then (λ n. after_moves n path) next ≡ Some m → ((n : Moment) → after_moves n path ≡ Some m → ArePrompt n (path ++ x ∷ later) → IsPrompt m x) → IsPrompt m x
+-- the move behind a path is names where it is made
+prompt_behind : (names : List ℕ) (path : List Move) (x : Move) (later : List Move) (start m : Moment)
+    → after_moves start path ≡ Some m → ArePrompt (among names) start (path ++ x ∷ later)
+    → IsPrompt (among names) m x
+prompt_behind names [] x later start m leads prompt =
+    subst (λ y. IsPrompt (among names) y x) (same_some start m leads) prompt.0
+prompt_behind names (first ∷ path) x later start m leads prompt =
+    by_first (moved start first) refl leads (λ next. prompt_behind names path x later next m) where
+      by_first : (next : Option Moment) → moved start first ≡ next → option_and_then (λ n. after_moves n path) next ≡ Some m → ((n : Moment) → after_moves n path ≡ Some m → ArePrompt (among names) n (path ++ x ∷ later) → IsPrompt (among names) m x) → IsPrompt (among names) m x
       by_first None is e go_on = absurd cc
       by_first (Some next) is e go_on = go_on next e (prompt.1 next is)
 
 -- A path is taken.
 
 -- what begins with the path goes on from it, by a move that can be made
-goes_on : (g : Setup) (calls : List (List Sqe)) (prompt : Bool) (path : List Move) (m last : Moment) (todo after : List (List Move)) (found : List Ending) (rest : List Move)
+goes_on : (g : Setup) (calls : List (List Sqe)) (names : List ℕ) (path : List Move) (m last : Moment) (todo after : List (List Move)) (found : List Ending) (rest : List Move)
     → after_moves (starting g calls) path ≡ Some m
-    → HasLonger prompt m path todo after
+    → HasLonger names m path todo after
     → (IsOver m → Contains found (ending_of m))
-    → (prompt ≡ true → ArePrompt (starting g calls) (path ++ rest))
+    → ArePrompt (among names) (starting g calls) (path ++ rest)
     → after_moves (starting g calls) (path ++ rest) ≡ Some last → IsOver last
     → Contains found (ending_of last) ⊎ BeginsIn after (path ++ rest)
-goes_on g calls prompt path m last todo after found [] leads longer noted wanted ends over =
+goes_on g calls names path m last todo after found [] leads longer noted wanted ends over =
     let here : m ≡ last = same_some m last (sym leads ∙ (sym (ap (after_moves (starting g calls)) (append-nil path)) ∙ ends)) in
     inl (subst (λ y. Contains found (ending_of y)) here (noted (subst IsOver (sym here) over)))
-goes_on g calls prompt path m last todo after found (x ∷ later) leads longer noted wanted ends over =
+goes_on g calls names path m last todo after found (x ∷ later) leads longer noted wanted ends over =
     by_next (moved m x) refl behind_path where
       behind_path : option_and_then (λ n. after_moves n later) (moved m x) ≡ Some last
       behind_path = sym (ap (option_and_then (λ y. after_moves y (x ∷ later))) leads) ∙ (sym (moves_behind path (x ∷ later) (starting g calls)) ∙ ends)
@@ -80,7 +82,7 @@ goes_on g calls prompt path m last todo after found (x ∷ later) leads longer n
       by_next : (next : Option Moment) → moved m x ≡ next → option_and_then (λ n. after_moves n later) next ≡ Some last → Contains found (ending_of last) ⊎ BeginsIn after (path ++ x ∷ later)
       by_next None is e = absurd cc
       by_next (Some next) is e =
-          let among : Contains longer.moves x = longer.next x next is (λ p. prompt_behind path x later (starting g calls) m leads (wanted p)) in
+          let among : Contains longer.moves x = longer.next x next is (prompt_behind names path x later (starting g calls) m leads wanted) in
           let added : Contains (map (λ y. path ++ y ∷ []) longer.moves) (path ++ x ∷ []) = contains_map (λ y. path ++ y ∷ []) longer.moves x among in
           inr (record {
             path = path ++ x ∷ [];
@@ -94,11 +96,11 @@ stays_todo : (todo after : List (List Move)) (path : List Move) (moves : List (L
 stays_todo todo after path moves is there =
     subst (λ ps. Contains ps path) (sym is) (Contains-append_left todo moves path there)
 
-covered_on : (g : Setup) (calls : List (List Sqe)) (prompt : Bool) (path : List Move) (m : Moment) (todo after : List (List Move)) (found noted : List Ending)
+covered_on : (g : Setup) (calls : List (List Sqe)) (names : List ℕ) (path : List Move) (m : Moment) (todo after : List (List Move)) (found noted : List Ending)
     → after_moves (starting g calls) path ≡ Some m
-    → HasLonger prompt m path todo after → HasNoted m found noted
-    → IsCovered g calls prompt (todo ++ path ∷ []) found → IsCovered g calls prompt after noted
-covered_on g calls prompt path m todo after found noted leads longer n covered moves last wanted ends over =
+    → HasLonger names m path todo after → HasNoted m found noted
+    → IsCovered g calls names (todo ++ path ∷ []) found → IsCovered g calls names after noted
+covered_on g calls names path m todo after found noted leads longer n covered moves last wanted ends over =
     elim (covered moves last wanted ends over) [
       | inl there ↦ inl (n.kept (ending_of last) there)
       | inr b ↦ elim (Contains-push_cases todo path b.path b.there) [
@@ -111,7 +113,7 @@ covered_on g calls prompt path m todo after found noted leads longer n covered m
         | inr this ↦
             let is : moves ≡ path ++ b.rest = b.is ∙ ap (λ p. p ++ b.rest) (sym this) in
             subst (λ xs. Contains noted (ending_of last) ⊎ BeginsIn after xs) (sym is)
-            (goes_on g calls prompt path m last todo after noted b.rest leads longer n.noted (λ p. subst (ArePrompt (starting g calls)) is (wanted p)) (sym (ap (after_moves (starting g calls)) is) ∙ ends) over)
+            (goes_on g calls names path m last todo after noted b.rest leads longer n.noted (subst (ArePrompt (among names) (starting g calls)) is wanted) (sym (ap (after_moves (starting g calls)) is) ∙ ends) over)
       ]
     ]
 
@@ -131,21 +133,21 @@ right_on g calls path m found noted leads n right e there =
       })
     ]
 
-pub path_taken : (g : Setup) (calls : List (List Sqe)) (prompt : Bool) (path : List Move) (m : Moment) (todo after : List (List Move)) (found noted : List Ending)
+pub path_taken : (g : Setup) (calls : List (List Sqe)) (names : List ℕ) (path : List Move) (m : Moment) (todo after : List (List Move)) (found noted : List Ending)
     → after_moves (starting g calls) path ≡ Some m
-    → HasLonger prompt m path todo after → HasNoted m found noted
-    → TakesPath g calls prompt path todo found after noted
-path_taken g calls prompt path m todo after found noted leads longer n walk = record {
-  covered = covered_on g calls prompt path m todo after found noted leads longer n walk.covered;
+    → HasLonger names m path todo after → HasNoted m found noted
+    → TakesPath g calls names path todo found after noted
+path_taken g calls names path m todo after found noted leads longer n walk = record {
+  covered = covered_on g calls names path m todo after found noted leads longer n walk.covered;
   right = right_on g calls path m found noted leads n walk.right;
   once = n.once walk.once;
 }
 
 -- nothing begins with a path that can't be made
-pub no_path : (g : Setup) (calls : List (List Sqe)) (prompt : Bool) (path : List Move) (todo : List (List Move)) (found : List Ending)
+pub no_path : (g : Setup) (calls : List (List Sqe)) (names : List ℕ) (path : List Move) (todo : List (List Move)) (found : List Ending)
     → after_moves (starting g calls) path ≡ None
-    → TakesPath g calls prompt path todo found todo found
-no_path g calls prompt path todo found none walk = record {
+    → TakesPath g calls names path todo found todo found
+no_path g calls names path todo found none walk = record {
   covered = λ moves last wanted ends over. elim (walk.covered moves last wanted ends over) [
     | inl there ↦ inl there
     | inr b ↦ elim (Contains-push_cases todo path b.path b.there) [
@@ -162,8 +164,8 @@ no_path g calls prompt path todo found none walk = record {
 
 -- The beginning, and the end.
 
-pub at_first : (g : Setup) (calls : List (List Sqe)) (prompt : Bool) → IsWalk g calls prompt ([] ∷ []) []
-at_first g calls prompt = record {
+pub at_first : (g : Setup) (calls : List (List Sqe)) (names : List ℕ) → IsWalk g calls names ([] ∷ []) []
+at_first g calls names = record {
   covered = λ moves last wanted ends over. inr (record {
     path = [];
     rest = moves;
@@ -174,27 +176,25 @@ at_first g calls prompt = record {
   once = λ i j d first low. absurd (omega (arith, first, low));
 }
 
--- what some moves lead to, and prompt ones if no entry is a cancel, is among those found
-found_by : (g : Setup) (calls : List (List Sqe)) (prompt : Bool) (found : List Ending) (e : Ending) (to : CanEnd g calls e)
-    → IsCovered g calls prompt [] found → (prompt ≡ true → ArePrompt (starting g calls) to.moves)
+-- what names moves lead to is among those found
+found_by : (g : Setup) (calls : List (List Sqe)) (names : List ℕ) (found : List Ending) (e : Ending) (to : CanEnd g calls e)
+    → IsCovered g calls names [] found → ArePrompt (among names) (starting g calls) to.moves
     → Contains found e
-found_by g calls prompt found e to covered prompted =
+found_by g calls names found e to covered prompted =
     let same : ending_of to.last ≡ e = ap₂ (λ posted files. record { posted = posted; files = files }) to.posts to.leaves in
     elim (covered to.moves to.last prompted to.leads to.over) [
       | inl there ↦ subst (Contains found) same there
       | inr b ↦ absurd (none_there b.path b.there)
     ]
 
-pub all_found : (g : Setup) (calls : List (List Sqe)) (prompt : Bool) (found : List Ending)
-    → (prompt ≡ true → NoneCancels calls) → IsWalk g calls prompt [] found
+pub all_found : (g : Setup) (calls : List (List Sqe)) (names : List ℕ) (found : List Ending)
+    → AreNamed (among names) calls → IsWalk g calls names [] found
     → AreAllEndings g calls found
-all_found g calls prompt found none walk e = (walk.right e, λ to. by_prompt prompt refl to) where
-  by_prompt : (p : Bool) → prompt ≡ p → CanEnd g calls e → Contains found e
-  by_prompt true is to =
-      let q = prompt_moves_lead g calls e.posted e.files (none is) to in
-      found_by g calls prompt found e q.0 walk.covered (λ p. q.1)
-  by_prompt false is to =
-      found_by g calls prompt found e to walk.covered (λ p. absurd (let f : false ≡ true = sym is ∙ p in cc))
+all_found g calls names found named walk e = (walk.right e, λ to. there to) where
+  there : CanEnd g calls e → Contains found e
+  there to =
+      let q = prompt_moves_lead g calls (among names) e.posted e.files named to in
+      found_by g calls names found e q.0 walk.covered q.1
 
 -- An ending is noted.
 

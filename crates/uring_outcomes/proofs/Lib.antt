@@ -10,6 +10,8 @@ pub mod Covering
 pub mod Walking
 -- Endings that are the same:
 pub mod SameEndings
+-- Places that are noted for marks:
+pub mod Indexing
 -- How many files there are:
 pub mod FileCounts
 -- The law:

@@ -6,12 +6,12 @@ use Rattle.std.proofs.lemmas.List.{take_more, take_all, take-append-drop, get_or
 use Rattle.std.proofs.Math.Seq.{drop-cons}
 use Rattle.std.proofs.lemmas.Bool.{cases_lt}
 use Rattle.uring_entry.specs.Layout.{Sqe}
-use Rattle.uring_entry.specs.Requests.{is_issuable, is_running}
+use Rattle.uring_entry.specs.Requests.{is_issuable}
 use Rattle.uring_moves.specs.Moments.{Moment, is_finishable, moved, after_moves}
 use Rattle.uring_moves.specs.declared.move_of_calls.Move.{Move}
 use Rattle.uring_moves.specs.declared.move_of_calls.Move.TheVariants as move
 use Rattle.uring_moves.proofs.MovesLead.{one_move_more}
-use Rattle.uring_outcomes.specs.Runs.{StandsAt, Stands, MadeAs, LedTo, HasNext, HasBelow}
+use Rattle.uring_outcomes.specs.Runs.{StandsAt, Stands, MadeAs, LedTo, HasNext, IsQuiet, HasBelow}
 use Rattle.uring_outcomes.specs.declared.run.Run.{Run}
 use Rattle.uring_outcomes.proofs.Covering.{moves_behind}
 use Rattle.uring_outcomes.proofs.Moving.{made_so, not_made, issue_can, finish_can, issuable_accepted, finishable_tells}
@@ -137,13 +137,13 @@ has_all m count xs all accepts below (move.Finish n) next is =
     below.finishes n (omega arith) can
 
 -- every move that can be made is among these, and so each prompt one
-pub next_any : (prompt : Bool) (m : Moment) (xs : List Move)
-    → ((x : Move) (next : Moment) → moved m x ≡ Some next → Contains xs x) → HasNext prompt m xs
-next_any prompt m xs all x next is wanted = all x next is
+pub next_any : (names : List ℕ) (m : Moment) (xs : List Move)
+    → ((x : Move) (next : Moment) → moved m x ≡ Some next → Contains xs x) → HasNext names m xs
+next_any names m xs all x next is wanted = all x next is
 
--- while a request runs, only its finish is prompt
-pub next_finish : (prompt : Bool) (m : Moment) (n : ℕ) (xs : List Move) → prompt ≡ true
-    → is_running m.requests n ≡ true → xs ≡ move.Finish n ∷ [] → HasNext prompt m xs
-next_finish prompt m n xs asked running is x next made wanted =
-    let finishes : x ≡ move.Finish n = wanted asked n running in
+-- while a request runs that isn't named, only its finish is prompt
+pub next_finish : (names : List ℕ) (m : Moment) (n : ℕ) (xs : List Move) → IsQuiet names m n
+    → xs ≡ move.Finish n ∷ [] → HasNext names m xs
+next_finish names m n xs quiet is x next made wanted =
+    let finishes : x ≡ move.Finish n = wanted n quiet.runs quiet.unnamed in
     subst (λ ys. Contains ys x) (sym is) (0, omega arith, sym finishes)

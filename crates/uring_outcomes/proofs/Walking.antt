@@ -1,31 +1,38 @@
 -- The walk's functions: lists of paths as they are pushed and popped, and what is so once no path is left.
-use Rattle.std.proofs.Common.{◌≡◌, ℕ, ◌+◌, ◌<◌, Bool, true, false, List, [], ◌∷◌, ◌++◌, length, take, get_or, map, Result, Ok, Err, sym, subst, ap, ◌∙◌, append_assoc}
-use Rattle.std.specs.Prelude.{All, IfOk}
+use Rattle.std.proofs.Common.{◌≡◌, ℕ, ◌+◌, ◌<◌, Bool, true, false, not, ◌&&◌, ◌||◌, List, [], ◌∷◌, ◌++◌, length, take, get_or, map, Option, Some, None, Result, Ok, Err, if◌then◌else◌, refl, sym, subst, ap, ap₂, ◌∙◌, append_assoc, append-nil, arith}
+use Rattle.std.specs.Prelude.{IfOk, nat_eq}
+use Rattle.std.proofs.lemmas.List.Folds.{list_any-append}
 use Rattle.std.specs.declared.vec.Vec.{Vec}
 use Rattle.std.specs.declared.alloc.Global.{Global}
+use Rattle.std.proofs.lemmas.Bool.{and_parts, both_ways, lt-ltb, eq-eqb}
 use Rattle.std.proofs.lemmas.List.{take_more, map-append}
-use Rattle.std.proofs.lemmas.List.Elements.{All-push}
+use Rattle.std.proofs.lemmas.List.Elements.{All-push, All-more}
 use Rattle.uring_entry.specs.Setup.{Setup}
-use Rattle.uring_entry.specs.Layout.{Sqe}
+use Rattle.uring_entry.specs.Layout.{Sqe, addr_of}
+use Rattle.uring_entry.proofs.RequestLemmas.{list_any-push}
+use Rattle.uring_moves.proofs.MovesLead.{or_first, or_second}
 use Rattle.uring_entry.specs.Preparation.{is_cancel}
-use Rattle.uring_moves.specs.Prompt.{NoneCancels}
+use Rattle.uring_entry.specs.Requests.{has_started, has_ended, is_outstanding, is_running, is_doomed, is_ready, is_issuable, outstanding_in}
+use Rattle.uring_dispatch.proofs.Counting.{count_below-some}
+use Rattle.uring_moves.specs.Moments.{Moment, starting, moved, after_moves}
+use Rattle.uring_moves.specs.Outcomes.{IsOver}
+use Rattle.uring_moves.specs.Prompt.{NamesAll, AreNamed}
 use Rattle.uring_moves.specs.declared.move_of_calls.Move.{Move}
+use Rattle.uring_moves.specs.declared.move_of_calls.Move.TheVariants as move
 use Rattle.uring_outcomes.specs.Outcomes.{Ending, AreAllEndings}
-use Rattle.uring_outcomes.specs.Runs.{entries_of}
-use Rattle.uring_outcomes.specs.Walks.{paths_of, IsWalk}
-use Rattle.uring_outcomes.proofs.Covering.{at_first, all_found}
+use Rattle.uring_outcomes.specs.Index.{IsIndexed}
+use Rattle.uring_outcomes.specs.Runs.{among, entries_of, StandsAt, MadeAs, LedTo}
+use Rattle.uring_outcomes.specs.Walks.{paths_of, waiting, IsWalk, HasNoted, Goes}
+use Rattle.uring_outcomes.specs.declared.walk.Walk.{Walk}
+use Rattle.uring_outcomes.proofs.Moving.{none_accepted, issue_can, finish_can, issuable_accepted, finishable_tells}
+use Rattle.uring_outcomes.proofs.Replaying.{made_tells, not_made_tells, led_first}
+use Rattle.uring_outcomes.proofs.Covering.{at_first, all_found, path_taken, no_path}
 
 -- two facts of a value that is there
 pub both_ok : {T E : Type 0} (r : Result T E) (P Q R : T → Type 0) → ((x : T) → P x → Q x → R x)
     → IfOk r P → IfOk r Q → IfOk r R
 both_ok (Ok x) P Q R f p q = f x p q
 both_ok (Err e) P Q R f p q = tt
-
-pub begins : (g : Setup) (calls : List (List Sqe)) (prompt : Bool) (todo : List (Vec Move Global)) (path : Vec Move Global) (found : List Ending)
-    → todo ≡ path ∷ [] → path.items ≡ [] → found ≡ [] → IsWalk g calls prompt (paths_of todo) found
-begins g calls prompt todo path found is empty none =
-    let paths : [] ∷ [] ≡ paths_of todo = ap (λ (p : List Move). p ∷ []) (sym empty) ∙ ap paths_of (sym is) in
-    subst (IsWalk g calls prompt (paths_of todo)) (sym none) (subst (λ ps. IsWalk g calls prompt ps []) paths (at_first g calls prompt))
 
 pub path_pushed : (old new : List (Vec Move Global)) (v : Vec Move Global) (path : List Move)
     → new ≡ old ++ v ∷ [] → v.items ≡ path → paths_of new ≡ paths_of old ++ path ∷ []
@@ -40,18 +47,139 @@ longer_more before mid after f moves k x low is so more =
     more ∙ ap (λ ps. ps ++ f x ∷ []) so ∙ append_assoc before (map f (take k moves)) (f x ∷ [])
     ∙ ap (λ ps. before ++ ps) (sym (ap (map f) taken ∙ map-append f (take k moves) (x ∷ [])))
 
--- no entry of one call more is a cancel
-pub none_more : (calls : List (Vec Sqe Global)) (k : ℕ) (call : Vec Sqe Global) → k < length calls
-    → call ≡ get_or calls k call → All (λ e. is_cancel e ≡ false) call.items
-    → NoneCancels (entries_of (take k calls)) → NoneCancels (entries_of (take (k + 1) calls))
-none_more calls k call low is here before =
+-- The user data that cancels name.
+
+pub among_kept : (names more : List ℕ) (u : ℕ) → among names u ≡ true → among (names ++ more) u ≡ true
+among_kept names more u there =
+    list_any-append (λ name. nat_eq name u) names more ∙ or_first (among names u) (among more u) there
+
+pub among_pushed : (names : List ℕ) (u : ℕ) → among (names ++ u ∷ []) u ≡ true
+among_pushed names u =
+    list_any-push (λ name. nat_eq name u) names u ∙ or_second (among names u) (nat_eq u u) (eq-eqb u u refl)
+
+pub names_kept : (old new : List ℕ) (entries : List Sqe)
+    → ((u : ℕ) → among old u ≡ true → among new u ≡ true)
+    → NamesAll (among old) entries → NamesAll (among new) entries
+names_kept old new entries kept names k d low cancels = kept _ (names k d low cancels)
+
+pub named_kept : (old new : List ℕ) (calls : List (List Sqe))
+    → ((u : ℕ) → among old u ≡ true → among new u ≡ true)
+    → AreNamed (among old) calls → AreNamed (among new) calls
+named_kept old new calls kept named k d low = names_kept old new (get_or calls k d) kept (named k d low)
+
+-- those of one entry more
+pub names_more : (names : List ℕ) (entries : List Sqe) (k : ℕ) (e : Sqe) → k < length entries
+    → e ≡ get_or entries k e → (is_cancel e ≡ true → among names (addr_of e) ≡ true)
+    → NamesAll (among names) (take k entries) → NamesAll (among names) (take (k + 1) entries)
+names_more names entries k e low is here before =
+    All-more (λ x. is_cancel x ≡ true → among names (addr_of x) ≡ true) entries k e low before (subst (λ x. is_cancel x ≡ true → among names (addr_of x) ≡ true) is here)
+
+-- those of one call more
+pub named_more : (names : List ℕ) (calls : List (Vec Sqe Global)) (k : ℕ) (call : Vec Sqe Global) → k < length calls
+    → call ≡ get_or calls k call → NamesAll (among names) call.items
+    → AreNamed (among names) (entries_of (take k calls)) → AreNamed (among names) (entries_of (take (k + 1) calls))
+named_more names calls k call low is here before =
     let taken : take (k + 1) calls ≡ take k calls ++ call ∷ [] = take_more calls k call low ∙ ap (λ y. take k calls ++ y ∷ []) (sym is) in
-    subst NoneCancels (sym (ap entries_of taken ∙ map-append (λ (c : Vec Sqe Global). c.items) (take k calls) (call ∷ [])))
-    (All-push (All (λ e. is_cancel e ≡ false)) (entries_of (take k calls)) call.items before here)
+    subst (AreNamed (among names)) (sym (ap entries_of taken ∙ map-append (λ (c : Vec Sqe Global). c.items) (take k calls) (call ∷ [])))
+    (All-push (NamesAll (among names)) (entries_of (take k calls)) call.items before here)
+
+-- How a walk stands.
+
+-- at the beginning it is on the path of no move
+pub goes_first : (g : Setup) (calls : List (List Sqe)) (names : List ℕ) (w : Walk) → w.todo.items ≡ []
+    → w.path.items ≡ [] → w.is_on_path ≡ true → w.found.list.items ≡ [] → IsIndexed w.found
+    → StandsAt calls w.run (starting g calls) → Goes g calls names w
+goes_first g calls names w none empty on nothing indexed at =
+    let paths : waiting w ≡ [] ∷ [] = ap₂ (λ ps qs. ps ++ qs) (ap paths_of none) (ap (λ b. if b then w.path.items ∷ [] else []) on) ∙ ap (λ (p : List Move). p ∷ []) empty in record {
+      walk = subst (λ ps. IsWalk g calls names ps w.found.list.items) (sym paths) (subst (IsWalk g calls names ([] ∷ [])) (sym nothing) (at_first g calls names));
+      indexed = indexed;
+      there = λ so. subst (λ p. LedTo calls (starting g calls) p w.run) (sym empty) (led_first calls (starting g calls) w.run at);
+    }
+
+-- once the moves of a path were made, or could not be
+pub gone : (g : Setup) (calls : List (List Sqe)) (names : List ℕ) (todo : List (List Move)) (path : List Move) (w : Walk)
+    → paths_of w.todo.items ≡ todo → w.path.items ≡ path
+    → IsWalk g calls names (todo ++ path ∷ []) w.found.list.items → IsIndexed w.found
+    → MadeAs w.is_on_path (after_moves (starting g calls) path) (StandsAt calls w.run)
+    → Goes g calls names w
+gone g calls names todo path w same is walk indexed made = by_made w.is_on_path refl where
+  by_made : (on : Bool) → w.is_on_path ≡ on → Goes g calls names w
+  by_made true on =
+      let t = made_tells (StandsAt calls w.run) (after_moves (starting g calls) path) (subst (λ b. MadeAs b (after_moves (starting g calls) path) (StandsAt calls w.run)) on made) in
+      let paths : waiting w ≡ todo ++ path ∷ [] = ap₂ (λ ps qs. ps ++ qs) same (ap (λ b. if b then w.path.items ∷ [] else []) on ∙ ap (λ (p : List Move). p ∷ []) is) in record {
+        walk = subst (λ ps. IsWalk g calls names ps w.found.list.items) (sym paths) walk;
+        indexed = indexed;
+        there = λ so. subst (λ p. LedTo calls (starting g calls) p w.run) (sym is) (record { last = t.next; leads = t.is; at = t.so });
+      }
+  by_made false off =
+      let none = not_made_tells (StandsAt calls w.run) (after_moves (starting g calls) path) (subst (λ b. MadeAs b (after_moves (starting g calls) path) (StandsAt calls w.run)) off made) in
+      let paths : waiting w ≡ todo = ap₂ (λ ps qs. ps ++ qs) same (ap (λ b. if b then w.path.items ∷ [] else []) off) ∙ append-nil todo in record {
+        walk = subst (λ ps. IsWalk g calls names ps w.found.list.items) (sym paths) (no_path g calls names path todo w.found.list.items none walk);
+        indexed = indexed;
+        there = λ so. absurd (both_ways w.is_on_path off so);
+      }
+
+-- one that is on no path
+pub off_path : (g : Setup) (calls : List (List Sqe)) (names : List ℕ) (w : Walk) → w.is_on_path ≡ false
+    → IsWalk g calls names (paths_of w.todo.items) w.found.list.items → IsIndexed w.found
+    → Goes g calls names w
+off_path g calls names w off walk indexed =
+    let paths : waiting w ≡ paths_of w.todo.items = ap (λ b. paths_of w.todo.items ++ (if b then w.path.items ∷ [] else [])) off ∙ append-nil (paths_of w.todo.items) in record {
+      walk = subst (λ ps. IsWalk g calls names ps w.found.list.items) (sym paths) walk;
+      indexed = indexed;
+      there = λ so. absurd (both_ways w.is_on_path off so);
+    }
+
+-- one that is on no path has those that are to be taken alone
+pub off_walk : (g : Setup) (calls : List (List Sqe)) (names : List ℕ) (w : Walk) → w.is_on_path ≡ false
+    → Goes g calls names w → IsWalk g calls names (paths_of w.todo.items) w.found.list.items
+off_walk g calls names w off goes =
+    subst (λ ps. IsWalk g calls names ps w.found.list.items) (ap (λ b. paths_of w.todo.items ++ (if b then w.path.items ∷ [] else [])) off ∙ append-nil (paths_of w.todo.items)) goes.walk
+
+-- one that is on a path has it among those to be taken
+pub on_path : (g : Setup) (calls : List (List Sqe)) (names : List ℕ) (w : Walk) → w.is_on_path ≡ true
+    → Goes g calls names w → IsWalk g calls names (paths_of w.todo.items ++ w.path.items ∷ []) w.found.list.items
+on_path g calls names w on goes =
+    subst (λ b. IsWalk g calls names (paths_of w.todo.items ++ (if b then w.path.items ∷ [] else [])) w.found.list.items) on goes.walk
+
+none_outstanding : (m : Moment) (n : ℕ) → n < length m.requests.accepted → IsOver m
+    → is_outstanding m.requests n ≡ true → ⊥
+none_outstanding m n low over out =
+    let some : 0 < outstanding_in m.requests = count_below-some (is_outstanding m.requests) (length m.requests.accepted) n low out in
+    let none : outstanding_in m.requests ≡ 0 = over.none_outstanding in
+    omega (arith, some, none)
+
+-- an over moment has no moves
+pub over_stays : (m next : Moment) (x : Move) → IsOver m → moved m x ≡ Some next → ⊥
+over_stays m next move.Accept over is =
+    let none : ◌≡◌ {A = Option Moment} None (Some next) = sym (none_accepted m over.none_left) ∙ is in cc
+over_stays m next (move.Issue n) over is =
+    let can : is_issuable m.requests n ≡ true = issue_can m next n is in
+    let p = and_parts (is_outstanding m.requests n && not (is_running m.requests n)) (is_doomed m.requests n || is_ready m.requests n) can in
+    let q = and_parts (is_outstanding m.requests n) (not (is_running m.requests n)) p.0 in
+    none_outstanding m n (issuable_accepted m.requests n can) over q.0
+over_stays m next (move.Finish n) over is =
+    let f = finishable_tells m.requests n (finish_can m next n is) in
+    let q = and_parts (has_started m.requests n) (not (has_ended m.requests n)) f.1 in
+    none_outstanding m n f.0 over (ap (λ b. b && not (has_ended m.requests n)) (lt-ltb n (length m.requests.accepted) f.0) ∙ q.1)
+
+-- an end is noted, and nothing goes on from there
+pub noted_end : (g : Setup) (calls : List (List Sqe)) (names : List ℕ) (path : List Move) (m : Moment) (todo : List (List Move)) (found noted : List Ending)
+    → after_moves (starting g calls) path ≡ Some m → IsOver m → HasNoted m found noted
+    → IsWalk g calls names (todo ++ path ∷ []) found → IsWalk g calls names todo noted
+noted_end g calls names path m todo found noted leads over n walk =
+    path_taken g calls names path m todo todo found noted leads
+    (record { moves = []; next = λ x next is wanted. absurd (over_stays m next x over is); is = sym (append-nil todo) }) n walk
+
+-- the paths after one was popped
+pub popped : (old new : List (Vec Move Global)) (path : Vec Move Global)
+    → old ≡ new ++ path ∷ [] → paths_of old ≡ paths_of new ++ path.items ∷ []
+popped old new path is =
+    ap paths_of is ∙ map-append (λ (p : Vec Move Global). p.items) new (path ∷ [])
 
 -- none is left: all is found
-pub over : (g : Setup) (calls : List (List Sqe)) (prompt : Bool) (todo : List (Vec Move Global)) (found : List Ending)
-    → (prompt ≡ true → NoneCancels calls) → IsWalk g calls prompt (paths_of todo) found → todo ≡ []
-    → AreAllEndings g calls found
-over g calls prompt todo found none walk is =
-    all_found g calls prompt found none (subst (λ ps. IsWalk g calls prompt ps found) (ap paths_of is) walk)
+pub over : (g : Setup) (calls : List (List Sqe)) (names : List ℕ) (w : Walk)
+    → AreNamed (among names) calls → Goes g calls names w → waiting w ≡ []
+    → AreAllEndings g calls w.found.list.items
+over g calls names w named goes is =
+    all_found g calls names w.found.list.items named (subst (λ ps. IsWalk g calls names ps w.found.list.items) is goes.walk)

@@ -1,4 +1,5 @@
 pub mod Outcomes
 pub mod Laws
 pub mod Runs
+pub mod Index
 pub mod Walks

@@ -1,13 +1,14 @@
 -- Glue. A run of calls, and the moments that it may stand at.
-use Rattle.std.specs.Prelude.{◌≡◌, ℕ, Bool, true, false, List, drop, map, Option, Some, None, Contains, ◌<◌, ◌≤◌}
+use Rattle.std.specs.Prelude.{◌≡◌, ℕ, Bool, true, false, List, drop, map, Option, Some, None, Contains, ◌<◌, ◌≤◌, nat_eq}
+use Rattle.std.specs.List.{list_any}
 use Rattle.std.specs.declared.vec.Vec.{Vec}
 use Rattle.std.specs.declared.alloc.Global.{Global}
 use Rattle.uring_entry.specs.Setup.{Setup}
 use Rattle.uring_entry.specs.Layout.{Sqe}
-use Rattle.uring_entry.specs.Requests.{is_issuable}
+use Rattle.uring_entry.specs.Requests.{is_issuable, is_running}
 use Rattle.uring_dispatch.specs.Dispatch.{ShowsRequests}
 use Rattle.uring_moves.specs.Moments.{Moment, starting, is_finishable, moved, after_moves}
-use Rattle.uring_moves.specs.Prompt.{IsPrompt}
+use Rattle.uring_moves.specs.Prompt.{IsPrompt, is_named}
 use Rattle.uring_moves.specs.declared.move_of_calls.Move.{Move}
 use Rattle.uring_moves.specs.declared.move_of_calls.Move.TheVariants as move
 use Rattle.uring_outcomes.specs.declared.run.Run.{Run}
@@ -48,10 +49,19 @@ pub record LedTo (calls : List (List Sqe)) (from : Moment) (moves : List Move) (
   pub leads : after_moves from moves ≡ Some last
   pub at : StandsAt calls run last
 
--- each move that can be made next is among these; if only prompt ones are asked for, each that is prompt
-abbrev pub HasNext : Bool → Moment → List Move → Type 0
-HasNext prompt m xs = (x : Move) (next : Moment) → moved m x ≡ Some next
-    → (prompt ≡ true → IsPrompt m x) → Contains xs x
+-- whether a user data is among these
+abbrev pub among : List ℕ → ℕ → Bool
+among names u = list_any (λ name. nat_eq name u) names
+
+-- each prompt move that can be made next is among these, if cancels name these user data
+abbrev pub HasNext : List ℕ → Moment → List Move → Type 0
+HasNext names m xs = (x : Move) (next : Moment) → moved m x ≡ Some next
+    → IsPrompt (among names) m x → Contains xs x
+
+-- a request that runs, and has none of these user data
+pub record IsQuiet (names : List ℕ) (m : Moment) (n : ℕ) : Type 0 where
+  pub runs : is_running m.requests n ≡ true
+  pub unnamed : is_named (among names) m.requests n ≡ false
 
 -- each issue and each finish of a request below this number that can be made is among these
 pub record HasBelow (m : Moment) (below : ℕ) (xs : List Move) : Type 0 where

@@ -1,5 +1,6 @@
 -- Glue. A walk over all lists of moves: the paths that are still to be taken, and what was found.
-use Rattle.std.specs.Prelude.{◌≡◌, ◌⊎◌, Bool, true, List, [], ◌∷◌, ◌++◌, map, Some, Contains}
+use Rattle.std.specs.Prelude.{◌≡◌, ◌⊎◌, ℕ, true, List, [], ◌∷◌, ◌++◌, map, Option, Some, Contains, if◌then◌else◌}
+use Rattle.std.specs.Option.{option_to_list}
 use Rattle.std.specs.declared.vec.Vec.{Vec}
 use Rattle.std.specs.declared.alloc.Global.{Global}
 use Rattle.uring_entry.specs.Setup.{Setup}
@@ -9,7 +10,9 @@ use Rattle.uring_moves.specs.Outcomes.{IsOver}
 use Rattle.uring_moves.specs.Prompt.{ArePrompt}
 use Rattle.uring_moves.specs.declared.move_of_calls.Move.{Move}
 use Rattle.uring_outcomes.specs.Outcomes.{Ending, AreEndings, AreOnce}
-use Rattle.uring_outcomes.specs.Runs.{HasNext}
+use Rattle.uring_outcomes.specs.Runs.{among, HasNext, LedTo}
+use Rattle.uring_outcomes.specs.Index.{IsIndexed}
+use Rattle.uring_outcomes.specs.declared.walk.Walk.{Walk}
 
 -- the lists of moves that vectors hold
 abbrev pub paths_of : List (Vec Move Global) → List (List Move)
@@ -26,10 +29,10 @@ pub record BeginsIn (todo : List (List Move)) (moves : List Move) : Type 0 where
   pub there : Contains todo path
   pub is : moves ≡ path ++ rest
 
--- Each list of moves that leads to an end has its ending among those found, or begins with a path that is still to be taken. If only prompt ones are asked for, each of these.
-abbrev pub IsCovered : Setup → List (List Sqe) → Bool → List (List Move) → List Ending → Type 0
-IsCovered g calls prompt todo found = (moves : List Move) (last : Moment)
-    → (prompt ≡ true → ArePrompt (starting g calls) moves)
+-- Each list of moves that leads to an end has its ending among those found, or begins with a path that is still to be taken. Only prompt ones are asked for, where cancels name these user data.
+abbrev pub IsCovered : Setup → List (List Sqe) → List ℕ → List (List Move) → List Ending → Type 0
+IsCovered g calls names todo found = (moves : List Move) (last : Moment)
+    → ArePrompt (among names) (starting g calls) moves
     → after_moves (starting g calls) moves ≡ Some last → IsOver last
     → Contains found (ending_of last) ⊎ BeginsIn todo moves
 
@@ -45,19 +48,52 @@ abbrev pub AddsOnce : Ending → List Ending → List Ending → Type 0
 AddsOnce e old new = ((new ≡ old) × Contains old e) ⊎ ((new ≡ old ++ e ∷ []) × (Contains old e → ⊥))
 
 -- how the walk stands: all lists of moves are covered, each ending found is one, and none is there twice
-pub record IsWalk (g : Setup) (calls : List (List Sqe)) (prompt : Bool) (todo : List (List Move)) (found : List Ending) : Type 0 where
-  pub covered : IsCovered g calls prompt todo found
+pub record IsWalk (g : Setup) (calls : List (List Sqe)) (names : List ℕ) (todo : List (List Move)) (found : List Ending) : Type 0 where
+  pub covered : IsCovered g calls names todo found
   pub right : AreEndings g calls found
   pub once : AreOnce found
 
+-- this path with this move behind it, if there is one
+abbrev pub longer_by : List Move → Option Move → List (List Move)
+longer_by path next = map (λ x. path ++ x ∷ []) (option_to_list next)
+
 -- A path was taken: with it the walk stood, and stands without it.
-abbrev pub TakesPath : Setup → List (List Sqe) → Bool → List Move → List (List Move) → List Ending
+abbrev pub TakesPath : Setup → List (List Sqe) → List ℕ → List Move → List (List Move) → List Ending
     → List (List Move) → List Ending → Type 0
-TakesPath g calls prompt path todo found todo_after found_after =
-    IsWalk g calls prompt (todo ++ path ∷ []) found → IsWalk g calls prompt todo_after found_after
+TakesPath g calls names path todo found todo_after found_after =
+    IsWalk g calls names (todo ++ path ∷ []) found → IsWalk g calls names todo_after found_after
 
 -- paths were put behind those that are still to be taken: among them this one with each move behind it that can be made next
-pub record HasLonger (prompt : Bool) (m : Moment) (path : List Move) (old new : List (List Move)) : Type 0 where
+pub record HasLonger (names : List ℕ) (m : Moment) (path : List Move) (old new : List (List Move)) : Type 0 where
   pub moves : List Move
-  pub next : HasNext prompt m moves
+  pub next : HasNext names m moves
   pub is : new ≡ old ++ map (λ x. path ++ x ∷ []) moves
+
+-- How the walk's function stands.
+
+-- the paths that are still to be taken, with that which the walk is on
+abbrev pub waiting : Walk → List (List Move)
+waiting w = paths_of w.todo.items ++ (if w.is_on_path then w.path.items ∷ [] else [])
+
+-- between two paths: if it is on one, its run has made the moves
+pub record Goes (g : Setup) (calls : List (List Sqe)) (names : List ℕ) (w : Walk) : Type 0 where
+  pub walk : IsWalk g calls names (waiting w) w.found.list.items
+  pub indexed : IsIndexed w.found
+  pub there : w.is_on_path ≡ true → LedTo calls (starting g calls) w.path.items w.run
+
+-- its path was taken out of those that are still to be taken, and no move of it was made
+pub record IsOff (g : Setup) (calls : List (List Sqe)) (names : List ℕ) (w : Walk) : Type 0 where
+  pub walk : IsWalk g calls names (paths_of w.todo.items ++ w.path.items ∷ []) w.found.list.items
+  pub indexed : IsIndexed w.found
+
+-- its run has made the moves of its path, and not all is over
+pub record IsAmid (g : Setup) (calls : List (List Sqe)) (names : List ℕ) (w : Walk) : Type 0 where
+  pub off : IsOff g calls names w
+  pub there : LedTo calls (starting g calls) w.path.items w.run
+  pub more : IsOver there.last → ⊥
+
+-- its run has made the moves of its path, and this move is to be taken behind them, if there is one
+pub record IsBefore (g : Setup) (calls : List (List Sqe)) (names : List ℕ) (next : Option Move) (w : Walk) : Type 0 where
+  pub walk : IsWalk g calls names (paths_of w.todo.items ++ longer_by w.path.items next) w.found.list.items
+  pub indexed : IsIndexed w.found
+  pub there : LedTo calls (starting g calls) w.path.items w.run

@@ -1,17 +1,21 @@
 //! What calls came to.
 
-ghost use Rattle.std.specs.Prelude.{◌≡◌, ◌↔◌, ◌<◌, ◌≤◌, ℕ, IsTrue, Contains, OnOk, length};
+ghost use Rattle.std.specs.Prelude.{◌≡◌, ◌↔◌, ◌<◌, ◌≤◌, ℕ, List, IsTrue, OnOk, length};
+ghost use Rattle.uring_entry.specs.Layout.{Sqe};
 ghost use Rattle.uring_moves.specs.Moments.{Moment};
+ghost use Rattle.uring_moves.specs.Outcomes.{IsOver};
 ghost use Rattle.uring_files.specs.Operations.{file_of, byte_of};
-ghost use Rattle.uring_outcomes.specs.Runs.{entries_of, StandsAt, Stands};
-ghost use Rattle.uring_outcomes.specs.Walks.{HasNoted, AddsOnce};
+ghost use Rattle.uring_outcomes.specs.Runs.{StandsAt, Stands};
+ghost use Rattle.uring_outcomes.specs.Index.{IsIndexed};
+ghost use Rattle.uring_outcomes.specs.Walks.{HasNoted};
 
+use crate::endings::Endings;
 use crate::fault::WalkFault;
 use crate::run::Run;
 use std::alloc::Global;
 use std::marker::Model;
 use std::mem;
-use uring_entry::{Cqe, Setup, Sqe};
+use uring_entry::{Cqe, Setup};
 use uring_files::Files;
 
 /// What calls came to: the completions posted, in order, and the files that are left.
@@ -48,52 +52,22 @@ impl Ending {
     }
 }
 
-/// Notes what the calls came to, if all is over and it isn't there yet. The run is used up.
-pub(crate) fn note(
-    alloc: Global,
-    run: &mut Run,
-    calls: &[Vec<Sqe>],
-    found: &mut Vec<Ending>,
-) -> Result<(), WalkFault>
-    requires { Stands (entries_of calls.now) run.old }
-    ensures { (m : Moment) → StandsAt (entries_of calls.now) run.old m
-        → OnOk result (HasNoted m found.old.items found.new.items) }
+/// Notes what the calls came to, which is over, if it isn't there yet. The run is used up.
+pub(crate) fn note(alloc: Global, run: &mut Run, found: &mut Endings) -> Result<(), WalkFault>
+    requires stands { (calls : List (List Sqe)) × Stands calls run.old }
+    requires indexed { IsIndexed found.old }
+    ensures noted { (calls : List (List Sqe)) (m : Moment) → StandsAt calls run.old m → IsOver m
+        → OnOk result (HasNoted m found.old.list.items found.new.list.items) }
+    ensures indexed { OnOk result (IsIndexed found.new) }
 {
-    if run.next_call < calls.len() || run.dispatch.outstanding() > 0 {
-        return Ok(());
-    }
     let none = Files::new(alloc, 0)?;
     let posted = mem::replace(&mut run.posted, Vec::new(alloc));
     let files = mem::replace(&mut run.files, none);
-    add_once(found, Ending { posted, files })
-}
-
-/// Adds an ending, unless it is there.
-fn add_once(found: &mut Vec<Ending>, ending: Ending) -> Result<(), WalkFault>
-    ensures { OnOk result (AddsOnce ending found.old.items found.new.items) }
-{
-    if contains(found.as_slice(), &ending) {
-        drop(ending);
-        return Ok(());
-    }
-    found.push(ending)?;
-    Ok(())
-}
-
-/// Whether an ending is among these.
-fn contains(found: &[Ending], ending: &Ending) -> bool
-    ensures { IsTrue result ↔ Contains found.now ending.now }
-{
-    for one in found {
-        if is_same(one, ending) {
-            return true;
-        }
-    }
-    false
+    found.add_once(alloc, Ending { posted, files })
 }
 
 /// Whether two endings are the same.
-fn is_same(one: &Ending, other: &Ending) -> bool
+pub(crate) fn is_same(one: &Ending, other: &Ending) -> bool
     ensures { IsTrue result ↔ (one.now ≡ other.now) }
 {
     one.posted.as_slice() == other.posted.as_slice() && same_files(&one.files, &other.files)

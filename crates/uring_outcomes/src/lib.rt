@@ -2,6 +2,7 @@
 #![tactic(auto)]
 
 mod ending;
+mod endings;
 mod fault;
 pub mod laws;
 mod next;

@@ -6,7 +6,7 @@ ghost use Rattle.uring_entry.specs.Requests.{is_issuable, is_running};
 ghost use Rattle.uring_moves.specs.Moments.{Moment, moved, is_finishable};
 ghost use Rattle.uring_moves.specs.declared.move_of_calls.Move.TheVariants as move;
 ghost use Rattle.uring_moves.specs.declared.move_of_calls.Move.{Move};
-ghost use Rattle.uring_outcomes.specs.Runs.{entries_of, Stands, StandsAt, HasNext, HasBelow};
+ghost use Rattle.uring_outcomes.specs.Runs.{entries_of, Stands, StandsAt, HasNext, IsQuiet, HasBelow};
 
 use crate::fault::WalkFault;
 use crate::run::Run;
@@ -14,19 +14,19 @@ use std::alloc::Global;
 use uring_entry::Sqe;
 use uring_moves::Move;
 
-/// The moves that can be made next, with others that can't. If only prompt ones are asked for, and some request runs, its finish alone.
+/// The prompt moves that can be made next, with others, if cancels name these user data: while a request runs that none names, its finish alone.
 pub(crate) fn next_moves(
     alloc: Global,
     run: &Run,
     calls: &[Vec<Sqe>],
-    prompt: bool,
+    names: &[u64],
 ) -> Result<Vec<Move>, WalkFault>
     requires { Stands (entries_of calls.now) run.now }
     ensures { (m : Moment) → StandsAt (entries_of calls.now) run.now m
-        → IfOk result (λ moves. HasNext prompt m moves.items) }
+        → IfOk result (λ moves. HasNext names.now m moves.items) }
 {
     let mut moves = Vec::new(alloc);
-    match add_next(run, calls, prompt, &mut moves) {
+    match add_next(run, calls, names, &mut moves) {
         Ok(()) => Ok(moves),
         Err(fault) => {
             drop(moves);
@@ -35,40 +35,52 @@ pub(crate) fn next_moves(
     }
 }
 
-/// Adds the moves that can be made next to none.
+/// Adds the prompt moves that can be made next to none.
 fn add_next(
     run: &Run,
     calls: &[Vec<Sqe>],
-    prompt: bool,
+    names: &[u64],
     moves: &mut Vec<Move>,
 ) -> Result<(), WalkFault>
     requires stands { Stands (entries_of calls.now) run.now }
     requires none { moves.old.items ≡ [] }
     ensures { (m : Moment) → StandsAt (entries_of calls.now) run.now m
-        → OnOk result (HasNext prompt m moves.new.items) }
+        → OnOk result (HasNext names.now m moves.new.items) }
 {
-    let Some(number) = first_running(run, prompt) else {
+    let Some(number) = first_quiet(run, names) else {
         return add_all(run, calls, moves);
     };
     moves.push(Move::Finish { number })?;
     Ok(())
 }
 
-/// A request that runs, if only prompt moves are asked for and there is one.
-fn first_running(run: &Run, prompt: bool) -> Option<u64>
+/// A request that runs and has none of these user data, if there is one.
+fn first_quiet(run: &Run, names: &[u64]) -> Option<u64>
     requires { (calls : List (List Sqe)) × Stands calls run.now }
     ensures { (calls : List (List Sqe)) (m : Moment) → StandsAt calls run.now m
-        → MatchOption result (Unit {0}) (λ n. (prompt ≡ true) × (is_running m.requests n ≡ true)) }
+        → MatchOption result (Unit {0}) (IsQuiet names.now m) }
 {
-    if !prompt {
-        return None;
-    }
     for number in 0..run.dispatch.accepted() {
-        if runs(run, number) {
+        if is_quiet(run, names, number) {
             return Some(number);
         }
     }
     None
+}
+
+/// Whether a request runs and has none of these user data.
+fn is_quiet(run: &Run, names: &[u64], number: u64) -> bool
+    requires { (calls : List (List Sqe)) × Stands calls run.now }
+    ensures { (calls : List (List Sqe)) (m : Moment) → StandsAt calls run.now m
+        → result ≡ true → IsQuiet names.now m number }
+{
+    if !runs(run, number) {
+        return false;
+    }
+    match run.dispatch.entry(number) {
+        Some(entry) => !names.contains(&entry.user_data()),
+        None => false,
+    }
 }
 
 /// Adds every move that can be made next.

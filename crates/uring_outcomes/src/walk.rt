@@ -1,14 +1,17 @@
 //! The walk over all lists of moves.
 
-ghost use Rattle.std.specs.Prelude.{◌≡◌, ◌++◌, ◌∷◌, [], true, false, map, All, IfOk, OnOk};
-ghost use Rattle.uring_entry.specs.Preparation.{is_cancel};
-ghost use Rattle.uring_moves.specs.Moments.{Moment, starting};
-ghost use Rattle.uring_moves.specs.Prompt.{NoneCancels};
+ghost use Rattle.std.specs.Prelude.{◌≡◌, ◌↔◌, ◌≤◌, ◌++◌, ◌∷◌, [], ℕ, List, Some, true, false, map, IfOk, OnOk, IsTrue};
+ghost use Rattle.uring_entry.specs.Setup.{Setup};
+ghost use Rattle.uring_entry.specs.Layout.{Sqe};
+ghost use Rattle.uring_moves.specs.Moments.{Moment};
+ghost use Rattle.uring_moves.specs.Outcomes.{IsOver};
+ghost use Rattle.uring_moves.specs.Prompt.{NamesAll, AreNamed};
 ghost use Rattle.uring_outcomes.specs.Outcomes.{AreAllEndings, AreEndings, AreOnce};
-ghost use Rattle.uring_outcomes.specs.Runs.{entries_of, Stands, StandsAt};
-ghost use Rattle.uring_outcomes.specs.Walks.{paths_of, HasLonger, IsWalk, TakesPath};
+ghost use Rattle.uring_outcomes.specs.Runs.{among, entries_of, Stands, StandsAt};
+ghost use Rattle.uring_outcomes.specs.Walks.{paths_of, longer_by, waiting, HasLonger, Goes};
 
 use crate::ending::{Ending, note};
+use crate::endings::Endings;
 use crate::fault::WalkFault;
 use crate::next::next_moves;
 use crate::run::Run;
@@ -57,146 +60,267 @@ pub fn outcomes_within(
         (λ found. found.is_all ≡ true → AreAllEndings setup.now (entries_of calls.now) found.endings.items) }
     ensures once { IfOk result (λ found. AreOnce found.endings.items) }
 {
-    let mut endings = Vec::new(alloc);
-    match walk(alloc, setup, calls, most, &mut endings) {
-        Ok(is_all) => Ok(Found { endings, is_all }),
+    let mut walk = Walk::new(alloc, setup.files())?;
+    match take_all(alloc, setup, calls, most, &mut walk) {
+        Ok(is_all) => Ok(Found {
+            endings: walk.into_endings(),
+            is_all,
+        }),
         Err(fault) => {
-            drop(endings);
+            drop(walk);
             Err(fault)
         }
     }
 }
 
-/// Takes at most so many paths, from that of no move on, and tells whether none is left. Nothing was found yet.
-fn walk(
-    alloc: Global,
-    setup: &Setup,
-    calls: &[Vec<Sqe>],
-    most: u64,
-    found: &mut Vec<Ending>,
-) -> Result<bool, WalkFault>
-    requires { found.old.items ≡ [] }
-    ensures right { OnOk result (AreEndings setup.now (entries_of calls.now) found.new.items) }
-    ensures all { IfOk result
-        (λ is_all. is_all ≡ true → AreAllEndings setup.now (entries_of calls.now) found.new.items) }
-    ensures once { OnOk result (AreOnce found.new.items) }
-{
-    let prompt = none_cancels(calls);
-    let mut todo = Vec::new(alloc);
-    let done = take_all(alloc, setup, calls, prompt, most, &mut todo, found);
-    drop(todo);
-    done
+/// How a walk stands: the path that it is on, if it is on one, the paths that are still to be taken, and what it has found.
+#[derive(Drop)]
+pub(crate) struct Walk {
+    pub run: Run,
+
+    /// The moves that the run has made, if the walk is on a path.
+    pub path: Vec<Move>,
+    pub is_on_path: bool,
+
+    /// The paths that are still to be taken.
+    pub todo: Vec<Vec<Move>>,
+    pub found: Endings,
 }
 
-/// Takes at most so many paths, from that of no move on, and tells whether none is left.
+impl Walk {
+    ghost use Rattle.uring_outcomes.specs.Walks.{Goes, IsOff, IsAmid, IsBefore, waiting};
+
+    /// At the beginning: on the path of no move, with nothing found.
+    fn new(alloc: Global, files: u32) -> Result<Walk, WalkFault>
+        ensures { IfOk result
+            (λ walk. (g : Setup) (calls : List (List Sqe)) (names : List ℕ) → g.files ≡ files → files ≤ 64 → Goes g calls names walk) }
+    {
+        Ok(Walk {
+            run: Run::new(alloc, files)?,
+            path: Vec::new(alloc),
+            is_on_path: true,
+            todo: Vec::new(alloc),
+            found: Endings::new(alloc),
+        })
+    }
+
+    /// What was found.
+    fn into_endings(self) -> Vec<Ending>
+        ensures { result.items ≡ self.found.list.items }
+    {
+        let Walk {
+            run,
+            path,
+            todo,
+            found,
+            ..
+        } = self;
+        drop(run);
+        drop(path);
+        drop(todo);
+        found.into_list()
+    }
+
+    /// Takes a path: the one that it is on, or one of those that are still to be taken. Tells whether there was one.
+    fn turn(
+        &mut self,
+        alloc: Global,
+        setup: &Setup,
+        calls: &[Vec<Sqe>],
+        names: &[u64],
+    ) -> Result<bool, WalkFault>
+        requires { Goes setup.now (entries_of calls.now) names.now self.old }
+        ensures goes { OnOk result (Goes setup.now (entries_of calls.now) names.now self.new) }
+        ensures over { IfOk result (λ taken. taken ≡ false → waiting self.new ≡ []) }
+    {
+        if !self.resume(alloc, setup, calls)? {
+            return Ok(false);
+        }
+        self.go_on(alloc, calls, names)?;
+        Ok(true)
+    }
+
+    /// Goes back to a path that is still to be taken, unless it is on one. Tells whether there was one.
+    fn resume(
+        &mut self,
+        alloc: Global,
+        setup: &Setup,
+        calls: &[Vec<Sqe>],
+    ) -> Result<bool, WalkFault>
+        ensures goes { (names : List ℕ) → Goes setup.now (entries_of calls.now) names self.old
+            → OnOk result (Goes setup.now (entries_of calls.now) names self.new) }
+        ensures over { IfOk result (λ taken. taken ≡ false → waiting self.new ≡ []) }
+    {
+        if self.is_on_path {
+            return Ok(true);
+        }
+        let Some(path) = self.todo.pop() else {
+            return Ok(false);
+        };
+        self.path = path;
+        self.go_back(alloc, setup, calls)?;
+        Ok(true)
+    }
+
+    /// Makes the moves of its path on a new run, and is on it if all can be made.
+    fn go_back(&mut self, alloc: Global, setup: &Setup, calls: &[Vec<Sqe>]) -> Result<(), WalkFault>
+        ensures { (names : List ℕ) → IsOff setup.now (entries_of calls.now) names self.old
+            → OnOk result (Goes setup.now (entries_of calls.now) names self.new) }
+    {
+        self.run = Run::new(alloc, setup.files())?;
+        self.is_on_path = self.run.replay(calls, self.path.as_slice())?;
+        Ok(())
+    }
+
+    /// Goes on from where it is, if it is on a path: notes what the calls came to if all is over, and else takes one of the next moves and leaves the others to be taken.
+    fn go_on(&mut self, alloc: Global, calls: &[Vec<Sqe>], names: &[u64]) -> Result<(), WalkFault>
+        requires { (g : Setup) × Goes g (entries_of calls.now) names.now self.old }
+        ensures { (g : Setup) → Goes g (entries_of calls.now) names.now self.old
+            → OnOk result (Goes g (entries_of calls.now) names.now self.new) }
+    {
+        if !self.is_on_path {
+            return Ok(());
+        }
+        if is_over(&self.run, calls) {
+            self.is_on_path = false;
+            return note(alloc, &mut self.run, &mut self.found);
+        }
+        self.move_on(alloc, calls, names)
+    }
+
+    /// Takes one of the next moves, if there is one, and leaves the others to be taken. Not all is over.
+    fn move_on(&mut self, alloc: Global, calls: &[Vec<Sqe>], names: &[u64]) -> Result<(), WalkFault>
+        requires { Stands (entries_of calls.now) self.old.run }
+        ensures { (g : Setup) → IsAmid g (entries_of calls.now) names.now self.old
+            → OnOk result (Goes g (entries_of calls.now) names.now self.new) }
+    {
+        let path = self.path.as_slice();
+        let next = fork(alloc, &self.run, calls, path, names, &mut self.todo)?;
+        self.take(calls, next)
+    }
+
+    /// Takes this move, if there is one and it can be made.
+    fn take(&mut self, calls: &[Vec<Sqe>], next: Option<Move>) -> Result<(), WalkFault>
+        requires { Stands (entries_of calls.now) self.old.run }
+        ensures { (g : Setup) (names : List ℕ) → IsBefore g (entries_of calls.now) names next self.old
+            → OnOk result (Goes g (entries_of calls.now) names self.new) }
+    {
+        match next {
+            Some(next) => self.step(calls, next),
+            None => {
+                self.is_on_path = false;
+                Ok(())
+            }
+        }
+    }
+
+    /// Takes this move, if it can be made.
+    fn step(&mut self, calls: &[Vec<Sqe>], next: Move) -> Result<(), WalkFault>
+        requires { Stands (entries_of calls.now) self.old.run }
+        ensures { (g : Setup) (names : List ℕ) → IsBefore g (entries_of calls.now) names (Some next) self.old
+            → OnOk result (Goes g (entries_of calls.now) names self.new) }
+    {
+        self.is_on_path = self.run.make(calls, next)?;
+        self.path.push(next)?;
+        Ok(())
+    }
+}
+
+/// Takes at most so many paths, and tells whether none is left.
 fn take_all(
     alloc: Global,
     setup: &Setup,
     calls: &[Vec<Sqe>],
-    prompt: bool,
     most: u64,
-    todo: &mut Vec<Vec<Move>>,
-    found: &mut Vec<Ending>,
+    walk: &mut Walk,
 ) -> Result<bool, WalkFault>
-    requires none { todo.old.items ≡ [] }
-    requires none_found { found.old.items ≡ [] }
-    ensures walk { OnOk result
-        (IsWalk setup.now (entries_of calls.now) prompt (paths_of todo.new.items) found.new.items) }
-    ensures over { IfOk result (λ is_all. is_all ≡ true → todo.new.items ≡ []) }
+    requires { (names : List ℕ) → Goes setup.now (entries_of calls.now) names walk.old }
+    ensures right { OnOk result
+        (AreEndings setup.now (entries_of calls.now) walk.new.found.list.items) }
+    ensures all { IfOk result
+        (λ is_all. is_all ≡ true → AreAllEndings setup.now (entries_of calls.now) walk.new.found.list.items) }
+    ensures once { OnOk result (AreOnce walk.new.found.list.items) }
 {
-    todo.push(Vec::new(alloc))?;
-    'paths: for _ in 0..most {
-        if !take_one(alloc, setup, calls, prompt, todo, found)? {
-            return Ok(true);
-        }
-    }
-    Ok(todo.is_empty())
-}
-
-/// Takes the last path, if there is one, and tells whether there was.
-fn take_one(
-    alloc: Global,
-    setup: &Setup,
-    calls: &[Vec<Sqe>],
-    prompt: bool,
-    todo: &mut Vec<Vec<Move>>,
-    found: &mut Vec<Ending>,
-) -> Result<bool, WalkFault>
-    requires { IsWalk setup.now (entries_of calls.now) prompt (paths_of todo.old.items) found.old.items }
-    ensures walk { OnOk result
-        (IsWalk setup.now (entries_of calls.now) prompt (paths_of todo.new.items) found.new.items) }
-    ensures over { IfOk result (λ taken. taken ≡ false → todo.new.items ≡ []) }
-{
-    let Some(path) = todo.pop() else {
-        return Ok(false);
-    };
-    let taken = follow(alloc, setup, calls, path.as_slice(), prompt, todo, found);
-    drop(path);
-    match taken {
-        Ok(()) => Ok(true),
-        Err(fault) => Err(fault),
-    }
-}
-
-/// Takes a path on a new run.
-fn follow(
-    alloc: Global,
-    setup: &Setup,
-    calls: &[Vec<Sqe>],
-    path: &[Move],
-    prompt: bool,
-    todo: &mut Vec<Vec<Move>>,
-    found: &mut Vec<Ending>,
-) -> Result<(), WalkFault>
-    ensures { OnOk result
-        (TakesPath setup.now (entries_of calls.now) prompt path.now (paths_of todo.old.items) found.old.items (paths_of todo.new.items) found.new.items) }
-{
-    let mut run = Run::new(alloc, setup.files())?;
-    let done = visit(alloc, setup, &mut run, calls, path, prompt, todo, found);
-    drop(run);
+    let mut names = Vec::new(alloc);
+    let done = take_named(alloc, setup, calls, most, &mut names, walk);
+    drop(names);
     done
 }
 
-/// Makes the moves of a path on a run at its start, puts each path that is one move longer among those to be taken, and notes what the calls came to if all is over.
-fn visit(
+/// Takes at most so many paths, and tells whether none is left. No name is known yet.
+fn take_named(
     alloc: Global,
     setup: &Setup,
-    run: &mut Run,
     calls: &[Vec<Sqe>],
-    path: &[Move],
-    prompt: bool,
-    todo: &mut Vec<Vec<Move>>,
-    found: &mut Vec<Ending>,
-) -> Result<(), WalkFault>
-    requires { StandsAt (entries_of calls.now) run.old (starting setup.now (entries_of calls.now)) }
-    ensures { OnOk result
-        (TakesPath setup.now (entries_of calls.now) prompt path.now (paths_of todo.old.items) found.old.items (paths_of todo.new.items) found.new.items) }
+    most: u64,
+    names: &mut Vec<u64>,
+    walk: &mut Walk,
+) -> Result<bool, WalkFault>
+    requires { (names : List ℕ) → Goes setup.now (entries_of calls.now) names walk.old }
+    ensures right { OnOk result
+        (AreEndings setup.now (entries_of calls.now) walk.new.found.list.items) }
+    ensures all { IfOk result
+        (λ is_all. is_all ≡ true → AreAllEndings setup.now (entries_of calls.now) walk.new.found.list.items) }
+    ensures once { OnOk result (AreOnce walk.new.found.list.items) }
 {
-    if !run.replay(calls, path)? {
-        return Ok(());
-    }
-    add_longer(alloc, run, calls, path, prompt, todo)?;
-    note(alloc, run, calls, found)
+    add_names(calls, names)?;
+    take_turns(alloc, setup, calls, names.as_slice(), most, walk)
 }
 
-/// Puts each path that is one move longer among those to be taken.
-fn add_longer(
+/// Takes at most so many paths, and tells whether none is left.
+fn take_turns(
+    alloc: Global,
+    setup: &Setup,
+    calls: &[Vec<Sqe>],
+    names: &[u64],
+    most: u64,
+    walk: &mut Walk,
+) -> Result<bool, WalkFault>
+    requires { Goes setup.now (entries_of calls.now) names.now walk.old }
+    ensures goes { OnOk result (Goes setup.now (entries_of calls.now) names.now walk.new) }
+    ensures over { IfOk result (λ is_all. is_all ≡ true → waiting walk.new ≡ []) }
+{
+    'turns: for _ in 0..most {
+        if !walk.turn(alloc, setup, calls, names)? {
+            return Ok(true);
+        }
+    }
+    Ok(!walk.is_on_path && walk.todo.is_empty())
+}
+
+/// Whether each call was accepted and no request is outstanding.
+fn is_over(run: &Run, calls: &[Vec<Sqe>]) -> bool
+    requires { Stands (entries_of calls.now) run.now }
+    ensures { (m : Moment) → StandsAt (entries_of calls.now) run.now m → IsTrue result ↔ IsOver m }
+{
+    if run.next_call < calls.len() {
+        return false;
+    }
+    run.dispatch.outstanding() == 0
+}
+
+/// Returns one of the moves that can be made next, if there is any, and puts this path with each of the others behind it among those to be taken.
+fn fork(
     alloc: Global,
     run: &Run,
     calls: &[Vec<Sqe>],
     path: &[Move],
-    prompt: bool,
+    names: &[u64],
     todo: &mut Vec<Vec<Move>>,
-) -> Result<(), WalkFault>
+) -> Result<Option<Move>, WalkFault>
     requires { Stands (entries_of calls.now) run.now }
     ensures { (m : Moment) → StandsAt (entries_of calls.now) run.now m
-        → OnOk result
-        (HasLonger prompt m path.now (paths_of todo.old.items) (paths_of todo.new.items)) }
+        → IfOk result
+        (λ next. HasLonger names.now m path.now (paths_of todo.old.items) (paths_of todo.new.items ++ longer_by path.now next)) }
 {
-    let moves = next_moves(alloc, run, calls, prompt)?;
+    let mut moves = next_moves(alloc, run, calls, names)?;
+    let next = moves.pop();
     let done = push_longer(alloc, path, moves.as_slice(), todo);
     drop(moves);
-    done
+    match done {
+        Ok(()) => Ok(next),
+        Err(fault) => Err(fault),
+    }
 }
 
 /// Puts this path with each of these moves behind it among those to be taken.
@@ -231,26 +355,26 @@ fn push_one(
     Ok(())
 }
 
-/// Whether no entry of these calls is a cancel.
-fn none_cancels(calls: &[Vec<Sqe>]) -> bool
-    ensures { result ≡ true → NoneCancels (entries_of calls.now) }
+/// Adds the user data that the cancels of these calls name.
+fn add_names(calls: &[Vec<Sqe>], names: &mut Vec<u64>) -> Result<(), WalkFault>
+    ensures { OnOk result (AreNamed (among names.new.items) (entries_of calls.now)) }
 {
     for call in calls {
-        if has_cancel(call.as_slice()) {
-            return false;
-        }
+        add_named(call.as_slice(), names)?;
     }
-    true
+    Ok(())
 }
 
-/// Whether some of these entries is a cancel.
-fn has_cancel(entries: &[Sqe]) -> bool
-    ensures { result ≡ false → All (λ e. is_cancel e ≡ false) entries.now }
+/// Adds the user data that the cancels among these entries name.
+fn add_named(entries: &[Sqe], names: &mut Vec<u64>) -> Result<(), WalkFault>
+    ensures named { OnOk result (NamesAll (among names.new.items) entries.now) }
+    ensures kept { OnOk result
+        ((u : ℕ) → among names.old.items u ≡ true → among names.new.items u ≡ true) }
 {
     for entry in entries {
         if entry.opcode() == opcode::ASYNC_CANCEL {
-            return true;
+            names.push(entry.addr())?;
         }
     }
-    false
+    Ok(())
 }

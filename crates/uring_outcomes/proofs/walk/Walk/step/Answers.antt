@@ -1,0 +1,15 @@
+use Rattle.std.proofs.Common.{[], ◌∷◌, ◌++◌, refl, sym, subst, ap, ◌∙◌}
+use Rattle.std.specs.Option.{option_and_then}
+use Rattle.uring_moves.specs.Moments.{starting, moved}
+use Rattle.uring_moves.proofs.MovesLead.{one_move_more}
+use Rattle.uring_outcomes.specs.Runs.{entries_of, StandsAt, MadeAs}
+use Rattle.uring_outcomes.specs.Walks.{paths_of}
+use Rattle.uring_outcomes.proofs.Walking.{gone}
+use Rattle.uring_outcomes.proofs.walk.Walk.step.Goals as goal
+
+pub returns : goal.returns
+returns c = λ g names before.
+    let calls = entries_of c.args.calls.now in
+    let path = c.args.self.now.path.items in
+    gone g calls names (paths_of c.args.self.now.todo.items) (path ++ c.args.next ∷ []) _ refl c.in_ok-push.ensures.items before.walk before.indexed
+    (subst (λ o. MadeAs c.in_ok-self.field-0 o (StandsAt calls c.make.new.self)) (sym (one_move_more path (starting g calls) c.args.next ∙ ap (option_and_then (λ z. moved z c.args.next)) before.there.leads)) (c.in_ok-self.ensures before.there.last before.there.at))

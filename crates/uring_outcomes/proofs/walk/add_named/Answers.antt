@@ -1,0 +1,40 @@
+use Rattle.std.proofs.Common.{◌≡◌, ℕ, false, true, [], ◌∷◌, ◌++◌, take, sym, subst, ap, ◌∙◌, arith}
+use Rattle.std.specs.declared.vec.Vec.{Vec}
+use Rattle.std.specs.declared.alloc.Global.{Global}
+use Rattle.std.proofs.lemmas.Bool.{ne_eqb, both_ways}
+use Rattle.std.proofs.lemmas.List.{take_all}
+use Rattle.uring_entry.specs.Layout.{addr_of}
+use Rattle.uring_entry.specs.Preparation.{is_cancel}
+use Rattle.uring_moves.specs.Prompt.{NamesAll}
+use Rattle.uring_outcomes.specs.Runs.{among}
+use Rattle.uring_outcomes.proofs.Walking.{among_kept, among_pushed, names_kept, names_more}
+use Rattle.uring_outcomes.proofs.walk.add_named.Goals as goal
+use Rattle.uring_outcomes.proofs.walk.add_named.Goals.{then-opcode-eq-ASYNC_CANCEL+in_ok-push, else-opcode-eq-ASYNC_CANCEL}
+
+pub loop-entry-preserved : goal.loop-entry-preserved
+loop-entry-preserved c =
+    let names = c.loop-entry.names.items in
+    let new = c.if-opcode-eq-ASYNC_CANCEL.names.items in
+    let at = c.loop-entry.entry-index in
+    let e = c.entry-item.result in
+    elim c.if-opcode-eq-ASYNC_CANCEL.branch [
+      | then-opcode-eq-ASYNC_CANCEL+in_ok-push w ↦
+          let is : new ≡ names ++ w.addr.result ∷ [] = ap (λ (v : Vec ℕ Global). v.items) w.names-is ∙ w.in_ok-push.ensures.items in
+          let kept : (u : ℕ) → among names u ≡ true → among new u ≡ true = λ u there. subst (λ xs. among xs u ≡ true) (sym is) (among_kept names (w.addr.result ∷ []) u there) in
+          let here : among new (addr_of e) ≡ true = subst (λ xs. among xs (addr_of e) ≡ true) (sym is) (subst (λ u. among (names ++ w.addr.result ∷ []) u ≡ true) w.addr.ensures (among_pushed names w.addr.result)) in
+          record {
+            named = names_more new c.args.entries.now at e (omega arith) c.entry-item.is (λ cancels. here) (names_kept names new (take at c.args.entries.now) kept c.loop-entry.invariant.named);
+            kept = λ u there. kept u (c.loop-entry.invariant.kept u there);
+          }
+      | else-opcode-eq-ASYNC_CANCEL w ↦
+          let is : new ≡ names = ap (λ (v : Vec ℕ Global). v.items) w.names-is in
+          let no : is_cancel e ≡ false = ne_eqb _ _ (λ so. w.if-opcode-eq-ASYNC_CANCEL.false (c.opcode.ensures ∙ so)) in
+          let kept : (u : ℕ) → among names u ≡ true → among new u ≡ true = λ u there. subst (λ xs. among xs u ≡ true) (sym is) there in
+          record {
+            named = names_more new c.args.entries.now at e (omega arith) c.entry-item.is (λ cancels. absurd (both_ways (is_cancel e) no cancels)) (names_kept names new (take at c.args.entries.now) kept c.loop-entry.invariant.named);
+            kept = λ u there. kept u (c.loop-entry.invariant.kept u there);
+          }
+    ]
+
+pub returns-clause-named : goal.returns-clause-named
+returns-clause-named c = subst (NamesAll (among c.loop-entry.names.items)) (take_all c.loop-entry.entry-index c.args.entries.now (omega arith)) c.loop-entry.invariant.named

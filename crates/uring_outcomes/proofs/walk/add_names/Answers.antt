@@ -1,0 +1,12 @@
+use Rattle.std.proofs.Common.{subst, arith, take}
+use Rattle.uring_moves.specs.Prompt.{NamesAll}
+use Rattle.uring_outcomes.specs.Runs.{among, entries_of}
+use Rattle.uring_outcomes.proofs.Walking.{named_kept, named_more}
+use Rattle.uring_outcomes.proofs.walk.add_names.Goals as goal
+
+pub loop-call-preserved : goal.loop-call-preserved
+loop-call-preserved c =
+    let new = c.add_named.new.names.items in
+    let at = c.loop-call.call-index in
+    named_more new c.args.calls.now at c.call-item.result (omega arith) c.call-item.is (subst (NamesAll (among new)) c.as_slice.ensures.value c.in_ok-add_named.ensures.named)
+    (named_kept c.loop-call.names.items new (entries_of (take at c.args.calls.now)) c.in_ok-add_named.ensures.kept c.loop-call.invariant)

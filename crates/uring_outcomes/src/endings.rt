@@ -1,0 +1,164 @@
+//! The endings that a walk has found, each once.
+
+ghost use Rattle.std.specs.Prelude.{◌≡◌, ◌↔◌, ◌++◌, ◌∷◌, ℕ, [], true, false, Some, IsTrue, IfOk, OnOk, Contains, slice_get, nat_eq};
+ghost use Rattle.std.specs.HashMap.{get};
+ghost use Rattle.uring_outcomes.specs.Index.{mixed, mark_of, HasPlace, IsIndexed, NotesPlace};
+ghost use Rattle.uring_outcomes.specs.Walks.{AddsOnce};
+
+use crate::ending::{Ending, is_same};
+use crate::fault::WalkFault;
+use std::alloc::Global;
+use std::collections::HashMap;
+use uring_entry::Cqe;
+
+/// Endings, none of them twice, and where in their list those of a mark are.
+#[derive(Drop)]
+pub(crate) struct Endings {
+    pub list: Vec<Ending>,
+    pub places: HashMap<u64, Vec<usize>>,
+}
+
+impl Endings {
+    /// No ending.
+    pub(crate) fn new(alloc: Global) -> Endings
+        ensures none { result.list.items ≡ [] }
+        ensures indexed { IsIndexed result }
+    {
+        Endings {
+            list: Vec::new(alloc),
+            places: HashMap::new(alloc),
+        }
+    }
+
+    /// The endings as a list.
+    pub(crate) fn into_list(self) -> Vec<Ending>
+        ensures { result.items ≡ self.list.items }
+    {
+        let Endings { list, places } = self;
+        drop(places);
+        list
+    }
+
+    /// Adds an ending, unless it is there.
+    pub(crate) fn add_once(&mut self, alloc: Global, ending: Ending) -> Result<(), WalkFault>
+        requires { IsIndexed self.old }
+        ensures adds { OnOk result (AddsOnce ending self.old.list.items self.new.list.items) }
+        ensures indexed { OnOk result (IsIndexed self.new) }
+    {
+        let mark = mark(ending.posted());
+        if self.contains(mark, &ending) {
+            drop(ending);
+            return Ok(());
+        }
+        self.push(alloc, mark, ending)
+    }
+
+    /// Whether an ending of this mark is there.
+    fn contains(&self, mark: u64, ending: &Ending) -> bool
+        requires indexed { IsIndexed self.now }
+        requires mark { mark ≡ mark_of ending.now.posted }
+        ensures { IsTrue result ↔ Contains self.now.list.items ending.now }
+    {
+        match self.places.get(&mark) {
+            Some(known) => is_at(self.list.as_slice(), known.as_slice(), ending),
+            None => false,
+        }
+    }
+
+    /// Adds an ending of this mark.
+    fn push(&mut self, alloc: Global, mark: u64, ending: Ending) -> Result<(), WalkFault>
+        requires indexed { IsIndexed self.old }
+        requires mark { mark ≡ mark_of ending.posted }
+        ensures is { OnOk result (self.new.list.items ≡ self.old.list.items ++ ending ∷ []) }
+        ensures indexed { OnOk result (IsIndexed self.new) }
+    {
+        let noted = note_place(alloc, &mut self.places, mark, self.list.len());
+        if let Err(fault) = noted {
+            drop(ending);
+            return Err(fault);
+        }
+        self.list.push(ending)?;
+        Ok(())
+    }
+}
+
+/// Whether an ending is at one of these places of a list.
+fn is_at(list: &[Ending], places: &[usize], ending: &Ending) -> bool
+    ensures there { result ≡ true → Contains list.now ending.now }
+    ensures nowhere { result ≡ false → (k : ℕ) → Contains places.now k
+        → slice_get list.now k ≡ Some ending.now → ⊥ }
+{
+    for place in places {
+        if is_one(list, *place, ending) {
+            return true;
+        }
+    }
+    false
+}
+
+/// Whether an ending is at this place of a list.
+fn is_one(list: &[Ending], place: usize, ending: &Ending) -> bool
+    ensures { IsTrue result ↔ (slice_get list.now place ≡ Some ending.now) }
+{
+    match list.get(place) {
+        Some(one) => is_same(one, ending),
+        None => false,
+    }
+}
+
+/// Notes one more place for a mark.
+fn note_place(
+    alloc: Global,
+    places: &mut HashMap<u64, Vec<usize>>,
+    mark: u64,
+    place: usize,
+) -> Result<(), WalkFault>
+    ensures { OnOk result (NotesPlace places.old places.new mark place) }
+{
+    let known = take_known(alloc, places, mark);
+    let more = with_place(known, place)?;
+    places.insert(mark, more)?;
+    Ok(())
+}
+
+/// Takes the places that are noted for a mark out.
+fn take_known(alloc: Global, places: &mut HashMap<u64, Vec<usize>>, mark: u64) -> Vec<usize>
+    ensures known { (k : ℕ) → HasPlace places.old mark k → Contains result.items k }
+    ensures others { (m : ℕ) → (m ≡ mark → ⊥)
+        → get nat_eq places.new m ≡ get nat_eq places.old m }
+{
+    match places.remove(&mark) {
+        Some(known) => known,
+        None => Vec::new(alloc),
+    }
+}
+
+/// These places and one more.
+fn with_place(mut known: Vec<usize>, place: usize) -> Result<Vec<usize>, WalkFault>
+    ensures { IfOk result (λ more. more.items ≡ known.items ++ place ∷ []) }
+{
+    known.push(place)?;
+    Ok(known)
+}
+
+/// A number by which most endings differ: of the completions posted, by user data and results.
+fn mark(posted: &[Cqe]) -> u64
+    ensures { result ≡ mark_of posted.now }
+{
+    let mut mark = 0;
+    for completion in posted {
+        mark = mix(mark, completion);
+    }
+    mark
+}
+
+/// The mark with one completion more.
+fn mix(mark: u64, completion: &Cqe) -> u64
+    ensures { result ≡ mixed mark completion.now }
+{
+    let res = u64::from(completion.res().cast_unsigned());
+    mark.wrapping_mul(31)
+        .wrapping_add(completion.user_data())
+        .wrapping_mul(31)
+        .wrapping_add(res)
+}
