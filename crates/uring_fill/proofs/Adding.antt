@@ -1,0 +1,347 @@
+-- Events that are added to those that may come next.
+use Rattle.std.proofs.Common.{◌≡◌, ℕ, zero, suc, ◌+◌, ◌-◌, ◌<◌, ◌≤◌, ℤ, pos, Bool, true, false, not, if◌then◌else◌, slice_get, nat_lt, None, List, [], ◌∷◌, ◌++◌, length, drop, Option, Some, refl, sym, ap, subst, ◌∙◌, ◌⊎◌, inl, inr, arith}
+use Rattle.std.specs.Prelude.{Contains}
+use Rattle.std.proofs.lemmas.Bool.{cases_lt, and_parts, lt-ltb}
+use Rattle.std.proofs.lemmas.Option.{same_Some, none-some}
+use Rattle.std.proofs.lemmas.List.Elements.{Contains-append_left, Contains-push, Contains-push_cases}
+use Rattle.uring_entry.specs.Setup.{Setup}
+use Rattle.uring_entry.specs.Layout.{Cqe, Sqe}
+use Rattle.uring_entry.specs.Success.{posts_completion}
+use Rattle.uring_entry.specs.Completions.{put_by_flush, completion_for}
+use Rattle.uring_entry.specs.Requests.{Requests, is_issuable, is_outstanding, is_running, has_started, has_ended, entry_of, entry_outstanding, no_bytes, count_result}
+use Rattle.uring_entry.specs.Preparation.{is_cancel_all}
+use Rattle.uring_core.specs.Core.{Core}
+use Rattle.uring_core.specs.StepAnswers.{CalledForApart, FinishesApart}
+use Rattle.uring_core.specs.Histories.{Event, History, world, IsLawfulApart}
+use Rattle.uring_core.specs.declared.step.Step.TheVariants as step
+use Rattle.uring_core.specs.declared.answer.Answer.{Answer}
+use Rattle.uring_core.specs.declared.answer.Answer.TheVariants as answer
+use Rattle.uring_fill.specs.Filling.{is_hidden, seen_in, IsPart}
+use Rattle.uring_fill.specs.Parts.{is_asked, is_stale, StandsAt, Adds, HasEndsOf, IsIdle, AreNext, AreAllNext, FinishFits, TellsNext}
+use Rattle.uring_fill.specs.Results.{may_end}
+use Rattle.uring_fill.proofs.Events.{HiddenEvent, idle_one, start, issue_end, finish_end, flush, hidden_event, flush_idle, few_moved, issued_end, part_issue, part_finish, QuietEnd, with_none, with_count, quiet_end, seen_part, part_seen}
+use Rattle.uring_fill.proofs.Issuing.{both_so, outstanding_accepted}
+use Rattle.uring_core.proofs.Sound.{sound_of}
+
+pub adds_none : (core : Core) (wanted : Option Cqe) (next : List Event) → Adds core wanted next next
+adds_none core wanted next = record { kept = λ x there. there; right = λ seen h at are. are }
+
+pub adds_then : (core : Core) (wanted : Option Cqe) (old mid new : List Event)
+    → Adds core wanted old mid → Adds core wanted mid new → Adds core wanted old new
+adds_then core wanted old mid new a b = record {
+  kept = λ x there. b.kept x (a.kept x there);
+  right = λ seen h at are. b.right seen h at (a.right seen h at are);
+}
+
+pub adds_one : (core : Core) (wanted : Option Cqe) (old new : List Event) (x : Event)
+    → new ≡ old ++ x ∷ []
+    → ((seen : List Event) (h : History) → StandsAt core seen wanted h → IsLawfulApart core.setup (x ∷ h) → IsPart core.setup seen (x ∷ h))
+    → Adds core wanted old new
+adds_one core wanted old new x is part = record {
+  kept = λ y there. subst (λ xs. Contains xs y) (sym is) (Contains-append_left old (x ∷ []) y there);
+  right = λ seen h at are y there lawful. elim (Contains-push_cases old x y (subst (λ xs. Contains xs y) is there)) [
+    | inl before ↦ are y before lawful
+    | inr same ↦ subst (λ z. IsPart core.setup seen (z ∷ h)) same (part seen h at (subst (λ z. IsLawfulApart core.setup (z ∷ h)) (sym same) lawful))
+  ];
+}
+
+pub last_there : (old new : List Event) (x : Event) → new ≡ old ++ x ∷ [] → Contains new x
+last_there old new x is = subst (λ xs. Contains xs x) (sym is) (Contains-push old x)
+
+-- All events that go on from a part.
+
+of_hidden : (core : Core) (seen : List Event) (h : History) (next : List Event) (x : Event)
+    → IsLawfulApart core.setup h
+    → ((n : ℕ) → is_issuable (world core.setup h).requests n ≡ true → Contains next (step.Issue n, answer.Run))
+    → ((n : ℕ) → HasEndsOf core.setup seen h n next)
+    → ((a : Answer) → is_stale h ≡ true → CalledForApart core.setup (world core.setup h) step.Flush a → Contains next (step.Flush, a))
+    → IsPart core.setup seen (x ∷ h) → HiddenEvent core.setup h x
+    → IsIdle core.setup h x ⊎ Contains next x
+of_hidden core seen h next x lawful starts ends flushes p (idle_one _ idle) = inl idle
+of_hidden core seen h next x lawful starts ends flushes p (start n can) = inr (starts n can)
+of_hidden core seen h next x lawful starts ends flushes p (issue_end n res bytes) = inr ((ends n).issued res bytes p)
+of_hidden core seen h next x lawful starts ends flushes p (finish_end n res bytes) = inr ((ends n).finished res bytes p)
+of_hidden core seen h next x lawful starts ends flushes p (flush a) = by_stale (is_stale h) refl where
+  by_stale : (b : Bool) → is_stale h ≡ b → IsIdle core.setup h (step.Flush, a) ⊎ Contains next (step.Flush, a)
+  by_stale true e = inr (flushes a e p.lawful.0)
+  by_stale false e = inl (flush_idle core.setup h a lawful e)
+
+pub all_next : (core : Core) (seen : List Event) (wanted : Option Cqe) (h : History) (next : List Event)
+    → IsLawfulApart core.setup h
+    → ((n : ℕ) (asked : Bool) → is_issuable (world core.setup h).requests n ≡ true → is_asked (entry_outstanding (world core.setup h).requests n) wanted ≡ asked → Contains next (step.Issue n, answer.Run))
+    → ((n : ℕ) → HasEndsOf core.setup seen h n next)
+    → ((a : Answer) → is_stale h ≡ true → CalledForApart core.setup (world core.setup h) step.Flush a → Contains next (step.Flush, a))
+    → ((x : Event) → is_hidden x.0 ≡ false → IsPart core.setup seen (x ∷ h) → Contains next x)
+    → AreAllNext core.setup seen h next
+all_next core seen wanted h next lawful starts ends flushes shown x p = by_hidden (is_hidden x.0) refl where
+  by_hidden : (b : Bool) → is_hidden x.0 ≡ b → IsIdle core.setup h x ⊎ Contains next x
+  by_hidden false e = inr (shown x e p)
+  by_hidden true e =
+      of_hidden core seen h next x lawful (λ n can. starts n (is_asked (entry_outstanding (world core.setup h).requests n) wanted) can refl) ends flushes p (hidden_event core.setup h x p.lawful e)
+
+-- Flushes.
+
+pub flush_next : (old new : List Event) (m : ℕ) → new ≡ old ++ (step.Flush, answer.Moved m) ∷ []
+    → ((k : ℕ) → k < m → Contains old (step.Flush, answer.Moved k))
+    → (k : ℕ) → k < m + 1 → Contains new (step.Flush, answer.Moved k)
+flush_next old new m is before k low =
+    elim (cases_lt k m) [
+      | inl less ↦ subst (λ xs. Contains xs (step.Flush, answer.Moved k)) (sym is) (Contains-append_left old ((step.Flush, answer.Moved m) ∷ []) (step.Flush, answer.Moved k) (before k less))
+      | inr past ↦
+          let same : m ≡ k = omega (arith, past, low) in
+          subst (λ j. Contains new (step.Flush, answer.Moved j)) same (last_there old new (step.Flush, answer.Moved m) is)
+    ]
+
+pub flush_there : (old new : List Event) (waiting last m : ℕ) → waiting ≤ last
+    → new ≡ old ++ (step.Flush, answer.Moved waiting) ∷ []
+    → ((k : ℕ) → k < last → Contains old (step.Flush, answer.Moved k)) → m ≤ waiting
+    → Contains new (step.Flush, answer.Moved m)
+flush_there old new waiting last m past is before few =
+    flush_next old new waiting is (λ k low. before k (omega arith)) m (omega arith)
+
+-- the answer to a flush that is called for, by how many wait
+pub flush_called : (core : Core) (h : History) (a : Answer) (waiting : ℕ) (next : List Event)
+    → CalledForApart core.setup (world core.setup h) step.Flush a
+    → waiting ≡ length (drop (world core.setup h).completions.put (world core.setup h).completions.posted)
+    → ((m : ℕ) → m ≤ waiting → Contains next (step.Flush, answer.Moved m))
+    → Contains next (step.Flush, a)
+flush_called core h a waiting next called waits there =
+    let few = few_moved core.setup.cq (world core.setup h).completions in
+    subst (λ b. Contains next (step.Flush, b)) (sym called)
+    (there (put_by_flush core.setup.cq (world core.setup h).completions - (world core.setup h).completions.put) (omega (arith, few, waits)))
+
+-- An end that fits.
+
+pub fits_told : (e : Sqe) (wanted : Option Cqe) (res : ℤ) (bytes : List ℕ) → may_end e res ≡ true
+    → posts_completion e res ≡ true → wanted ≡ Some (completion_for e res bytes)
+    → FinishFits e wanted res bytes
+fits_told e wanted res bytes may posts is = record {
+  may = record { result = may; untold = λ quiet. absurd (let f : true ≡ false = sym posts ∙ quiet in cc) };
+  tells = λ told. is;
+}
+
+pub fits_quiet : (e : Sqe) (wanted : Option Cqe) (res : ℤ) (bytes : List ℕ) → may_end e res ≡ true
+    → posts_completion e res ≡ false → bytes ≡ no_bytes → FinishFits e wanted res bytes
+fits_quiet e wanted res bytes may quiet none = record {
+  may = record { result = may; untold = λ q. none };
+  tells = λ told. absurd (let f : true ≡ false = sym told ∙ quiet in cc);
+}
+
+-- Ends of a request as it is issued.
+
+quiet_tells : (e : Sqe) (wanted : Option Cqe) (res : ℤ) (bytes : List ℕ)
+    → posts_completion e res ≡ false → TellsNext e wanted res bytes
+quiet_tells e wanted res bytes quiet told = absurd (let f : true ≡ false = sym told ∙ quiet in cc)
+
+pub counts_next : (e : Sqe) (wanted : Option Cqe) (n : ℕ) (old new : List Event) (below : ℕ) (res : ℤ)
+    → res ≡ count_result (below + 1) → ((x : Event) → Contains old x → Contains new x)
+    → ((j : ℕ) → j < below → TellsNext e wanted (count_result (j + 1)) no_bytes → Contains old (step.Issue n, answer.Ended (count_result (j + 1)) no_bytes))
+    → (TellsNext e wanted res no_bytes → Contains new (step.Issue n, answer.Ended res no_bytes))
+    → (j : ℕ) → j < below + 1 → TellsNext e wanted (count_result (j + 1)) no_bytes
+    → Contains new (step.Issue n, answer.Ended (count_result (j + 1)) no_bytes)
+counts_next e wanted n old new below res is kept before here j low tells =
+    elim (cases_lt j below) [
+      | inl less ↦ kept (step.Issue n, answer.Ended (count_result (j + 1)) no_bytes) (before j less tells)
+      | inr past ↦
+          let same : below ≡ j = omega (arith, past, low) in
+          let result : res ≡ count_result (j + 1) = is ∙ ap (λ k. count_result (k + 1)) same in
+          subst (λ r. Contains new (step.Issue n, answer.Ended r no_bytes)) result (here (subst (λ r. TellsNext e wanted r no_bytes) (sym result) tells))
+    ]
+
+pub counts_all : (e : Sqe) (wanted : Option Cqe) (n : ℕ) (old new : List Event) (accepted : ℕ)
+    → ((x : Event) → Contains old x → Contains new x)
+    → ((j : ℕ) → j < accepted → TellsNext e wanted (count_result (j + 1)) no_bytes → Contains old (step.Issue n, answer.Ended (count_result (j + 1)) no_bytes))
+    → (TellsNext e wanted (pos 0) no_bytes → Contains new (step.Issue n, answer.Ended (pos 0) no_bytes))
+    → (count : ℕ) → count ≤ accepted → posts_completion e (count_result count) ≡ false
+    → Contains new (step.Issue n, answer.Ended (count_result count) no_bytes)
+counts_all e wanted n old new accepted kept some none zero few quiet = none (quiet_tells e wanted (pos 0) no_bytes quiet)
+counts_all e wanted n old new accepted kept some none (suc k) few quiet =
+    let same : k + 1 ≡ suc k = omega arith in
+    subst (λ j. Contains new (step.Issue n, answer.Ended (count_result j) no_bytes)) same
+    (kept (step.Issue n, answer.Ended (count_result (k + 1)) no_bytes) (some k (omega arith) (quiet_tells e wanted (count_result (k + 1)) no_bytes (subst (λ j. posts_completion e (count_result j) ≡ false) (sym same) quiet))))
+
+-- each end of a request of this entry as it is issued that goes on from the part is there
+quiet_there : (n : ℕ) (e : Sqe) (accepted : ℕ) (res : ℤ) (quiet : List Event)
+    → (posts_completion e (pos 0) ≡ false → Contains quiet (step.Issue n, answer.Ended (pos 0) no_bytes))
+    → (is_cancel_all e ≡ true → (count : ℕ) → count ≤ accepted → posts_completion e (count_result count) ≡ false → Contains quiet (step.Issue n, answer.Ended (count_result count) no_bytes))
+    → posts_completion e res ≡ false → QuietEnd e accepted res
+    → Contains quiet (step.Issue n, answer.Ended res no_bytes)
+quiet_there n e accepted res quiet none some silent (with_none is) =
+    subst (λ r. Contains quiet (step.Issue n, answer.Ended r no_bytes)) (sym is) (none (subst (λ r. posts_completion e r ≡ false) is silent))
+quiet_there n e accepted res quiet none some silent (with_count count all few is) =
+    subst (λ r. Contains quiet (step.Issue n, answer.Ended r no_bytes)) (sym is) (some all count few (subst (λ r. posts_completion e r ≡ false) is silent))
+
+issued_here : (core : Core) (seen : List Event) (wanted : Option Cqe) (h : History) (n : ℕ) (res : ℤ) (bytes : List ℕ) (quiet new : List Event)
+    → StandsAt core seen wanted h → ((x : Event) → Contains quiet x → Contains new x)
+    → (posts_completion (entry_of (world core.setup h).requests n) (pos 0) ≡ false → Contains quiet (step.Issue n, answer.Ended (pos 0) no_bytes))
+    → (is_cancel_all (entry_of (world core.setup h).requests n) ≡ true → (count : ℕ) → count ≤ length (world core.setup h).requests.accepted → posts_completion (entry_of (world core.setup h).requests n) (count_result count) ≡ false → Contains quiet (step.Issue n, answer.Ended (count_result count) no_bytes))
+    → ((r : ℤ) → posts_completion (entry_of (world core.setup h).requests n) r ≡ true → TellsNext (entry_of (world core.setup h).requests n) wanted r no_bytes → Contains new (step.Issue n, answer.Ended r no_bytes))
+    → IsPart core.setup seen ((step.Issue n, answer.Ended res bytes) ∷ h)
+    → (told : Bool) → posts_completion (entry_of (world core.setup h).requests n) res ≡ told
+    → Contains new (step.Issue n, answer.Ended res no_bytes)
+issued_here core seen wanted h n res bytes quiet new at kept none some told p true posts =
+    told res posts (part_issue core seen wanted h n res bytes at p)
+issued_here core seen wanted h n res bytes quiet new at kept none some told p false posts =
+    kept (step.Issue n, answer.Ended res no_bytes)
+    (quiet_there n (entry_of (world core.setup h).requests n) (length (world core.setup h).requests.accepted) res quiet none some posts
+    (quiet_end (world core.setup h).requests n res bytes (issued_end core.setup (world core.setup h) n res bytes p.lawful.0) posts))
+
+pub issued_there : (core : Core) (seen : List Event) (wanted : Option Cqe) (h : History) (n : ℕ) (res : ℤ) (bytes : List ℕ) (e : Sqe) (accepted : ℕ) (quiet new : List Event)
+    → StandsAt core seen wanted h → e ≡ entry_of (world core.setup h).requests n
+    → accepted ≡ length (world core.setup h).requests.accepted
+    → ((x : Event) → Contains quiet x → Contains new x)
+    → (posts_completion e (pos 0) ≡ false → Contains quiet (step.Issue n, answer.Ended (pos 0) no_bytes))
+    → (is_cancel_all e ≡ true → (count : ℕ) → count ≤ accepted → posts_completion e (count_result count) ≡ false → Contains quiet (step.Issue n, answer.Ended (count_result count) no_bytes))
+    → ((r : ℤ) → posts_completion e r ≡ true → TellsNext e wanted r no_bytes → Contains new (step.Issue n, answer.Ended r no_bytes))
+    → IsPart core.setup seen ((step.Issue n, answer.Ended res bytes) ∷ h)
+    → Contains new (step.Issue n, answer.Ended res bytes)
+issued_there core seen wanted h n res bytes e accepted quiet new at is many kept none some told p =
+    let o = entry_of (world core.setup h).requests n in
+    let ended = issued_end core.setup (world core.setup h) n res bytes p.lawful.0 in
+    subst (λ b. Contains new (step.Issue n, answer.Ended res b)) (sym ended.none)
+    (issued_here core seen wanted h n res bytes quiet new at kept
+    (subst (λ f. posts_completion f (pos 0) ≡ false → Contains quiet (step.Issue n, answer.Ended (pos 0) no_bytes)) is none)
+    (λ all count few. subst (λ f. is_cancel_all f ≡ true → (c : ℕ) → c ≤ accepted → posts_completion f (count_result c) ≡ false → Contains quiet (step.Issue n, answer.Ended (count_result c) no_bytes)) is some all count (subst (λ m. count ≤ m) (sym many) few))
+    (subst (λ f. (r : ℤ) → posts_completion f r ≡ true → TellsNext f wanted r no_bytes → Contains new (step.Issue n, answer.Ended r no_bytes)) is told)
+    p (posts_completion o res) refl)
+
+-- Ends of running requests.
+
+finish_by : (e : Sqe) (wanted : Option Cqe) (n : ℕ) (res : ℤ) (bytes : List ℕ) (quiet new : List Event)
+    → ((x : Event) → Contains quiet x → Contains new x)
+    → (posts_completion e res ≡ false → FinishFits e wanted res bytes → Contains quiet (step.Finish n, answer.Ended res bytes))
+    → (posts_completion e res ≡ true → FinishFits e wanted res bytes → Contains new (step.Finish n, answer.Ended res bytes))
+    → FinishFits e wanted res bytes → (told : Bool) → posts_completion e res ≡ told
+    → Contains new (step.Finish n, answer.Ended res bytes)
+finish_by e wanted n res bytes quiet new kept silent loud fits true posts = loud posts fits
+finish_by e wanted n res bytes quiet new kept silent loud fits false posts =
+    kept (step.Finish n, answer.Ended res bytes) (silent posts fits)
+
+pub finish_there : (e : Sqe) (wanted : Option Cqe) (n : ℕ) (res : ℤ) (bytes : List ℕ) (quiet new : List Event)
+    → ((x : Event) → Contains quiet x → Contains new x)
+    → (posts_completion e res ≡ false → FinishFits e wanted res bytes → Contains quiet (step.Finish n, answer.Ended res bytes))
+    → (posts_completion e res ≡ true → FinishFits e wanted res bytes → Contains new (step.Finish n, answer.Ended res bytes))
+    → FinishFits e wanted res bytes → Contains new (step.Finish n, answer.Ended res bytes)
+finish_there e wanted n res bytes quiet new kept silent loud fits =
+    finish_by e wanted n res bytes quiet new kept silent loud fits (posts_completion e res) refl
+
+-- All ends of one request.
+
+pub ends_kept : (g : Setup) (seen : List Event) (h : History) (n : ℕ) (old new : List Event)
+    → ((x : Event) → Contains old x → Contains new x) → HasEndsOf g seen h n old
+    → HasEndsOf g seen h n new
+ends_kept g seen h n old new kept ends = record {
+  issued = λ res bytes p. kept (step.Issue n, answer.Ended res bytes) (ends.issued res bytes p);
+  finished = λ res bytes p. kept (step.Finish n, answer.Ended res bytes) (ends.finished res bytes p);
+}
+
+pub running_ends : (core : Core) (seen : List Event) (wanted : Option Cqe) (h : History) (n : ℕ) (e : Sqe) (next : List Event)
+    → StandsAt core seen wanted h → is_running (world core.setup h).requests n ≡ true
+    → e ≡ entry_of (world core.setup h).requests n
+    → ((res : ℤ) (bytes : List ℕ) → FinishFits e wanted res bytes → Contains next (step.Finish n, answer.Ended res bytes))
+    → HasEndsOf core.setup seen h n next
+running_ends core seen wanted h n e next at running is there = record {
+  issued = λ res bytes p. absurd (let f : true ≡ false = sym running ∙ (issued_end core.setup (world core.setup h) n res bytes p.lawful.0).idle in cc);
+  finished = λ res bytes p. there res bytes (subst (λ f. FinishFits f wanted res bytes) (sym is) (part_finish core seen wanted h n res bytes at p));
+}
+
+finish_runs : (running : Bool) (res : ℤ) (bytes : List ℕ) → FinishesApart running (answer.Ended res bytes)
+    → running ≡ true
+finish_runs true res bytes called = refl
+finish_runs false res bytes called = absurd (let e : answer.Ended res bytes ≡ answer.NotRunning = called in cc)
+
+pub idle_ends : (core : Core) (seen : List Event) (wanted : Option Cqe) (h : History) (n : ℕ) (next : List Event)
+    → StandsAt core seen wanted h → is_running (world core.setup h).requests n ≡ false
+    → ((res : ℤ) (bytes : List ℕ) → IsPart core.setup seen ((step.Issue n, answer.Ended res bytes) ∷ h) → Contains next (step.Issue n, answer.Ended res bytes))
+    → HasEndsOf core.setup seen h n next
+idle_ends core seen wanted h n next at idle there = record {
+  issued = there;
+  finished = λ res bytes p. absurd (let f : true ≡ false = sym (finish_runs (is_running (world core.setup h).requests n) res bytes p.lawful.0) ∙ idle in cc);
+}
+
+running_outstanding : (g : Setup) (h : History) (n : ℕ) → IsLawfulApart g h
+    → is_running (world g h).requests n ≡ true → is_outstanding (world g h).requests n ≡ true
+running_outstanding g h n lawful running =
+    let r = (world g h).requests in
+    let parts = and_parts (has_started r n) (not (has_ended r n)) running in
+    let low : n < length r.accepted = (sound_of g h lawful).requests.started_accepted n parts.0 in
+    both_so (nat_lt n (length r.accepted)) (not (has_ended r n)) (lt-ltb n (length r.accepted) low) parts.1
+
+-- what may end is outstanding
+ends_outstanding : (g : Setup) (seen : List Event) (h : History) (n : ℕ) (next : List Event)
+    → IsLawfulApart g h
+    → (is_outstanding (world g h).requests n ≡ true → HasEndsOf g seen h n next)
+    → HasEndsOf g seen h n next
+ends_outstanding g seen h n next lawful there = record {
+  issued = λ res bytes p. (there (issued_end g (world g h) n res bytes p.lawful.0).outstanding).issued res bytes p;
+  finished = λ res bytes p. (there (running_outstanding g h n lawful (finish_runs (is_running (world g h).requests n) res bytes p.lawful.0))).finished res bytes p;
+}
+
+none_outstanding : (outstanding : Bool) (e : Sqe) → None ≡ (if outstanding then Some e else None)
+    → outstanding ≡ true → ⊥
+none_outstanding true e none is = cc
+none_outstanding false e none is = cc
+
+pub no_ends : (g : Setup) (seen : List Event) (h : History) (n : ℕ) (next : List Event)
+    → IsLawfulApart g h → None ≡ entry_outstanding (world g h).requests n → HasEndsOf g seen h n next
+no_ends g seen h n next lawful none =
+    ends_outstanding g seen h n next lawful (λ is. absurd (none_outstanding (is_outstanding (world g h).requests n) (entry_of (world g h).requests n) none is))
+
+pub accepted_ends : (g : Setup) (seen : List Event) (h : History) (n : ℕ) (next : List Event)
+    → IsLawfulApart g h
+    → (n < length (world g h).requests.accepted → HasEndsOf g seen h n next)
+    → HasEndsOf g seen h n next
+accepted_ends g seen h n next lawful there =
+    ends_outstanding g seen h n next lawful (λ is. there (outstanding_accepted (world g h).requests n is))
+
+entry_by : (outstanding : Bool) (e told : Sqe) → Some told ≡ (if outstanding then Some e else None) → told ≡ e
+entry_by true e told is = cc
+entry_by false e told is = absurd cc
+
+pub entry_told : (r : Requests) (n : ℕ) (told : Sqe) → Some told ≡ entry_outstanding r n
+    → told ≡ entry_of r n
+entry_told r n told is = entry_by (is_outstanding r n) (entry_of r n) told is
+
+-- The step that was seen next.
+
+pub seen_right : (g : Setup) (seen : List Event) (h : History) (old new : List Event) (x : Event)
+    → new ≡ old ++ x ∷ [] → is_hidden x.0 ≡ false → slice_get seen (length (seen_in h)) ≡ Some x
+    → IsPart g seen h → AreNext g seen h old → AreNext g seen h new
+seen_right g seen h old new x is shown next p are y there lawful =
+    elim (Contains-push_cases old x y (subst (λ xs. Contains xs y) is there)) [
+      | inl before ↦ are y before lawful
+      | inr same ↦ subst (λ z. IsPart g seen (z ∷ h)) same (seen_part g seen h x p shown next (subst (λ z. IsLawfulApart g (z ∷ h)) (sym same) lawful))
+    ]
+
+same_event : (seen : List Event) (place : ℕ) (x y : Event) → slice_get seen place ≡ Some x
+    → slice_get seen place ≡ Some y → x ≡ y
+same_event seen place x y a b = same_Some x y (sym a ∙ b)
+
+pub seen_added : (g : Setup) (seen : List Event) (h : History) (new : List Event) (x y : Event)
+    → Contains new x → slice_get seen (length (seen_in h)) ≡ Some x → is_hidden y.0 ≡ false
+    → IsPart g seen (y ∷ h) → Contains new y
+seen_added g seen h new x y there next shown p =
+    subst (λ z. Contains new z) (same_event seen (length (seen_in h)) x y next (part_seen g seen h y p shown)) there
+
+pub hidden_never : (g : Setup) (seen : List Event) (h : History) (x y : Event)
+    → is_hidden x.0 ≡ true → slice_get seen (length (seen_in h)) ≡ Some x → is_hidden y.0 ≡ false
+    → IsPart g seen (y ∷ h) → ⊥
+hidden_never g seen h x y hidden next shown p =
+    let same : x ≡ y = same_event seen (length (seen_in h)) x y next (part_seen g seen h y p shown) in
+    let f : true ≡ false = sym hidden ∙ (ap (λ (z : Event). is_hidden z.0) same ∙ shown) in
+    cc
+
+pub none_next : (g : Setup) (seen : List Event) (h : History) (y : Event)
+    → None ≡ slice_get seen (length (seen_in h)) → is_hidden y.0 ≡ false → IsPart g seen (y ∷ h) → ⊥
+none_next g seen h y none shown p = none-some y (none ∙ part_seen g seen h y p shown)
+
+pub none_right : (g : Setup) (seen : List Event) (h : History) (next : List Event) → next ≡ []
+    → AreNext g seen h next
+none_right g seen h next is x there lawful =
+    let t : Contains [] x = subst (λ xs. Contains xs x) is there in
+    let low : t.0 < 0 = t.1 in
+    absurd (omega (arith, low))
+
+pub by_asked : (b : Bool) (P : Bool → Type 0) → P false → P true → P b
+by_asked true P otherwise given = given
+by_asked false P otherwise given = otherwise

@@ -1,0 +1,356 @@
+-- Which events go on from a part, and what is so of those that do.
+use Rattle.std.proofs.Common.{◌≡◌, ℕ, ◌+◌, ◌-◌, ◌≤◌, ℤ, pos, Bool, true, false, not, ◌&&◌, ◌||◌, cond, List, [], ◌∷◌, ◌++◌, length, Option, Some, None, if◌then◌else◌, refl, sym, ap, ap₂, subst, ◌∙◌, inl, inr, arith}
+use Rattle.std.specs.Prelude.{slice_get, drop}
+use Rattle.std.proofs.lemmas.Bool.{cases_lt}
+use Rattle.std.proofs.lemmas.Bool.Decides.{Decides-int_eq}
+use Rattle.std.proofs.lemmas.List.{length-drop}
+use Rattle.uring_entry.specs.Setup.{Setup}
+use Rattle.uring_entry.specs.Layout.{Sqe, Cqe, has}
+use Rattle.uring_entry.specs.Flags.{skip_success}
+use Rattle.uring_entry.specs.Preparation.{is_cancel, is_cancel_all}
+use Rattle.uring_entry.specs.Success.{is_success, posts_completion}
+use Rattle.uring_entry.specs.Requests.{Requests, Ending, entry_of, is_outstanding, is_running, is_issuable, is_doomed, is_ready, doomed_result, cancel_result, count_result, result_for, target_of, targets_of, is_target, no_bytes}
+use Rattle.uring_entry.specs.Completions.{Completions, with_posted, with_flushed, put_by_flush, completion_for}
+use Rattle.uring_entry.proofs.RequestLemmas.{one_success}
+use Rattle.uring_entry.specs.Below.{count_below}
+use Rattle.uring_dispatch.proofs.Counting.{length-all_below, count_below-within}
+use Rattle.uring_core.specs.Core.{Core}
+use Rattle.uring_core.specs.World.{World}
+use Rattle.uring_core.specs.StepAnswers.{CalledForApart}
+use Rattle.uring_core.specs.Events.{started_by, end_told_by, is_flush, is_store_cq_head}
+use Rattle.uring_core.specs.Histories.{Event, History, world, IsLawfulApart}
+use Rattle.uring_core.specs.declared.step.Step.{Step}
+use Rattle.uring_core.specs.declared.step.Step.TheVariants as step
+use Rattle.uring_core.specs.declared.answer.Answer.{Answer}
+use Rattle.uring_core.specs.declared.answer.Answer.TheVariants as answer
+use Rattle.uring_core.proofs.Changes.{Change, refuses, runs, dooms, cancels, finishes, change_of}
+use Rattle.uring_core.proofs.CompletionMoves.{CompletionMove, stays, ends, flushes, sees_tail, reaps, stores_head, completion_move}
+use Rattle.uring_core.proofs.RequestEnds.{doomed_fails}
+use Rattle.uring_core.proofs.Sound.{sound_of}
+use Rattle.uring_core.proofs.SoundRings.{IsSoundCompletions}
+use Rattle.uring_fill.specs.Filling.{is_hidden, seen_in, completions_in, GivesAllowed, Begins, IsPart}
+use Rattle.uring_fill.specs.Parts.{is_stale, StandsAt, TellsNext, FinishFits, IsIdle}
+use Rattle.uring_fill.proofs.Begun.{begins_next, behind_begun}
+
+-- What an end posts.
+
+posts_on : (told : Bool) (size : ℕ) (l : Completions) (c : Cqe) (all : List Cqe) → Begins l.posted all
+    → (told ≡ true → slice_get all (length l.posted) ≡ Some c)
+    → Begins (cond told (with_posted size l c) l).posted all
+posts_on true size l c all b next = begins_next l.posted c all b (next refl)
+posts_on false size l c all b next = b
+
+posts_next : (told : Bool) (size : ℕ) (l : Completions) (c : Cqe) (all : List Cqe)
+    → Begins (cond told (with_posted size l c) l).posted all → told ≡ true
+    → slice_get all (length l.posted) ≡ Some c
+posts_next true size l c all b e = behind_begun l.posted c all b
+posts_next false size l c all b e = absurd cc
+
+-- Starts and flushes.
+
+pub start_part : (g : Setup) (seen : List Event) (h : History) (n : ℕ) → IsPart g seen h
+    → IsLawfulApart g ((step.Issue n, answer.Run) ∷ h)
+    → IsPart g seen ((step.Issue n, answer.Run) ∷ h)
+start_part g seen h n p lawful = record {
+  lawful = lawful;
+  results = (tt, p.results);
+  shows = p.shows;
+  posts = p.posts;
+}
+
+pub flush_part : (g : Setup) (seen : List Event) (h : History) (a : Answer) → IsPart g seen h
+    → IsLawfulApart g ((step.Flush, a) ∷ h) → IsPart g seen ((step.Flush, a) ∷ h)
+flush_part g seen h a p lawful = record {
+  lawful = lawful;
+  results = (tt, p.results);
+  shows = p.shows;
+  posts = p.posts;
+}
+
+-- Ends of running requests.
+
+pub finish_part : (core : Core) (seen : List Event) (wanted : Option Cqe) (h : History) (n : ℕ) (res : ℤ) (bytes : List ℕ)
+    → StandsAt core seen wanted h
+    → FinishFits (entry_of (world core.setup h).requests n) wanted res bytes
+    → IsLawfulApart core.setup ((step.Finish n, answer.Ended res bytes) ∷ h)
+    → IsPart core.setup seen ((step.Finish n, answer.Ended res bytes) ∷ h)
+finish_part core seen wanted h n res bytes at fits lawful =
+    let e = entry_of (world core.setup h).requests n in
+    record {
+      lawful = lawful;
+      results = (fits.may, at.part.results);
+      shows = at.part.shows;
+      posts = posts_on (posts_completion e res) core.setup.cq (world core.setup h).completions (completion_for e res bytes) (completions_in seen) at.part.posts (λ told. sym at.is_next ∙ fits.tells told);
+    }
+
+pub part_finish : (core : Core) (seen : List Event) (wanted : Option Cqe) (h : History) (n : ℕ) (res : ℤ) (bytes : List ℕ)
+    → StandsAt core seen wanted h
+    → IsPart core.setup seen ((step.Finish n, answer.Ended res bytes) ∷ h)
+    → FinishFits (entry_of (world core.setup h).requests n) wanted res bytes
+part_finish core seen wanted h n res bytes at p =
+    let e = entry_of (world core.setup h).requests n in
+    record {
+      may = p.results.0;
+      tells = λ told. at.is_next ∙ posts_next (posts_completion e res) core.setup.cq (world core.setup h).completions (completion_for e res bytes) (completions_in seen) p.posts told;
+    }
+
+-- Ends of requests as they are issued.
+
+pub issue_part : (core : Core) (seen : List Event) (wanted : Option Cqe) (h : History) (n : ℕ) (res : ℤ)
+    → StandsAt core seen wanted h
+    → TellsNext (entry_of (world core.setup h).requests n) wanted res no_bytes
+    → IsLawfulApart core.setup ((step.Issue n, answer.Ended res no_bytes) ∷ h)
+    → IsPart core.setup seen ((step.Issue n, answer.Ended res no_bytes) ∷ h)
+issue_part core seen wanted h n res at tells lawful =
+    let e = entry_of (world core.setup h).requests n in
+    record {
+      lawful = lawful;
+      results = (tt, at.part.results);
+      shows = at.part.shows;
+      posts = posts_on (posts_completion e res) core.setup.cq (world core.setup h).completions (completion_for e res no_bytes) (completions_in seen) at.part.posts (λ told. sym at.is_next ∙ tells told);
+    }
+
+pub part_issue : (core : Core) (seen : List Event) (wanted : Option Cqe) (h : History) (n : ℕ) (res : ℤ) (bytes : List ℕ)
+    → StandsAt core seen wanted h
+    → IsPart core.setup seen ((step.Issue n, answer.Ended res bytes) ∷ h)
+    → TellsNext (entry_of (world core.setup h).requests n) wanted res no_bytes
+part_issue core seen wanted h n res bytes at p =
+    let e = entry_of (world core.setup h).requests n in
+    λ told. at.is_next ∙ posts_next (posts_completion e res) core.setup.cq (world core.setup h).completions (completion_for e res no_bytes) (completions_in seen) p.posts told
+
+-- how a request ends as it is issued: as a doomed one, or as a cancel that is carried out, and with no bytes
+pub data IssueEnd (r : Requests) (n : ℕ) (res : ℤ) : Type 0 where
+  doomed_end : res ≡ doomed_result r n → IssueEnd r n res
+  cancel_end : res ≡ cancel_result r n → is_cancel (entry_of r n) ≡ true → IssueEnd r n res
+
+pub record EndsIssued (r : Requests) (n : ℕ) (res : ℤ) (bytes : List ℕ) : Type 0 where
+  pub outstanding : is_outstanding r n ≡ true
+  pub idle : is_running r n ≡ false
+  pub none : bytes ≡ no_bytes
+  pub by : IssueEnd r n res
+
+both : (s : Step) (a : Answer) (n : ℕ) (res : ℤ) (bytes : List ℕ) → s ≡ step.Issue n
+    → a ≡ answer.Ended res bytes
+    → ◌≡◌ {A = Event} (s, a) (step.Issue n, answer.Ended res bytes)
+both s a n res bytes is told = ap₂ (λ (x : Step) (y : Answer). (x, y)) is told
+
+ends_by : (g : Setup) (w : World) (n : ℕ) (res : ℤ) (bytes : List ℕ) (s : Step) (a : Answer) → Change g w s a
+    → s ≡ step.Issue n → a ≡ answer.Ended res bytes → EndsIssued w.requests n res bytes
+ends_by g w n res bytes s a (dooms m outstanding idle doomed) is told =
+    let same : m ≡ n = cc in
+    let result : doomed_result w.requests m ≡ res = cc in
+    let none : no_bytes ≡ bytes = cc in
+    record {
+      outstanding = subst (λ k. is_outstanding w.requests k ≡ true) same outstanding;
+      idle = subst (λ k. is_running w.requests k ≡ false) same idle;
+      none = sym none;
+      by = doomed_end (sym result ∙ ap (doomed_result w.requests) same);
+    }
+ends_by g w n res bytes s a (cancels m outstanding idle spared ready cancel) is told =
+    let same : m ≡ n = cc in
+    let result : cancel_result w.requests m ≡ res = cc in
+    let none : no_bytes ≡ bytes = cc in
+    record {
+      outstanding = subst (λ k. is_outstanding w.requests k ≡ true) same outstanding;
+      idle = subst (λ k. is_running w.requests k ≡ false) same idle;
+      none = sym none;
+      by = cancel_end (sym result ∙ ap (cancel_result w.requests) same) (subst (λ k. is_cancel (entry_of w.requests k) ≡ true) same cancel);
+    }
+ends_by g w n res bytes s a (runs m outstanding idle spared ready cancel) is told = absurd cc
+ends_by g w n res bytes s a (finishes m got given running) is told = absurd cc
+ends_by g w n res bytes s a (refuses _ _ same silent) is told =
+    let e : ◌≡◌ {A = Option Ending} (Some (record { number = n; res = res; bytes = bytes })) None = sym (ap (λ (x : Event). end_told_by x) (both s a n res bytes is told)) ∙ silent.ends in
+    absurd cc
+ends_by g w n res bytes s a _ is told = absurd cc
+
+pub issued_end : (g : Setup) (w : World) (n : ℕ) (res : ℤ) (bytes : List ℕ)
+    → CalledForApart g w (step.Issue n) (answer.Ended res bytes) → EndsIssued w.requests n res bytes
+issued_end g w n res bytes called =
+    ends_by g w n res bytes (step.Issue n) (answer.Ended res bytes) (change_of g w (step.Issue n) (answer.Ended res bytes) called) refl refl
+
+-- what is issued and ends without a completion was a cancel with 0, or one of all
+
+pub data QuietEnd (e : Sqe) (accepted : ℕ) (res : ℤ) : Type 0 where
+  with_none : res ≡ pos 0 → QuietEnd e accepted res
+  with_count : (count : ℕ) → is_cancel_all e ≡ true → count ≤ accepted → res ≡ count_result count → QuietEnd e accepted res
+
+quiet_success : (skips success : Bool) → not (skips && success) ≡ false → success ≡ true
+quiet_success true true e = refl
+quiet_success true false e = absurd cc
+quiet_success false success e = absurd cc
+
+few_targets : (r : Requests) (n : ℕ) → length (targets_of r n) ≤ length r.accepted
+unfolding targets_of
+few_targets r n =
+    let same : length (targets_of r n) ≡ count_below (is_target r n) (length r.accepted) = length-all_below (is_target r n) (length r.accepted) in
+    let few = count_below-within (is_target r n) (length r.accepted) in
+    omega (arith, same, few)
+
+quiet_cancel : (r : Requests) (n : ℕ) (res : ℤ) (all : Bool) → is_cancel (entry_of r n) ≡ true
+    → is_cancel_all (entry_of r n) ≡ all → is_success (entry_of r n) res ≡ true
+    → res ≡ cancel_result r n → QuietEnd (entry_of r n) (length r.accepted) res
+quiet_cancel r n res true cancel is success same =
+    with_count (length (targets_of r n)) is (few_targets r n)
+    (same ∙ ap (λ b. if b then count_result (length (targets_of r n)) else result_for r (target_of r n)) is)
+quiet_cancel r n res false cancel is success same =
+    with_none ((Decides-int_eq res (pos 0)).0 (sym (one_success (entry_of r n) res cancel is) ∙ success))
+
+quiet_by : (r : Requests) (n : ℕ) (res : ℤ) → is_success (entry_of r n) res ≡ true → IssueEnd r n res
+    → QuietEnd (entry_of r n) (length r.accepted) res
+quiet_by r n res success (doomed_end same) =
+    absurd (let f : true ≡ false = sym success ∙ (ap (is_success (entry_of r n)) same ∙ doomed_fails r n) in cc)
+quiet_by r n res success (cancel_end same cancel) =
+    quiet_cancel r n res (is_cancel_all (entry_of r n)) cancel refl success same
+
+pub quiet_end : (r : Requests) (n : ℕ) (res : ℤ) (bytes : List ℕ) → EndsIssued r n res bytes
+    → posts_completion (entry_of r n) res ≡ false
+    → QuietEnd (entry_of r n) (length r.accepted) res
+quiet_end r n res bytes ended quiet =
+    quiet_by r n res (quiet_success (has skip_success (entry_of r n)) (is_success (entry_of r n) res) quiet) ended.by
+
+-- A flush that changes nothing.
+
+record HeadsKept (w v : World) : Type 0 where
+  head : v.completions.head ≡ w.completions.head
+  seen_head : v.completions.seen_head ≡ w.completions.seen_head
+
+end_heads : (told : Bool) (size : ℕ) (l : Completions) (c : Cqe)
+    → ((cond told (with_posted size l c) l).head ≡ l.head) × ((cond told (with_posted size l c) l).seen_head ≡ l.seen_head)
+end_heads true size l c = (refl, refl)
+end_heads false size l c = (refl, refl)
+
+heads_by : (g : Setup) (w : World) (s : Step) (a : Answer) (v : World) → CompletionMove g w s a v
+    → is_flush (s, a) ≡ false → is_store_cq_head (s, a) ≡ false → HeadsKept w v
+heads_by g w s a v (stays _ _ l r is_closed off none leaves) f k = record { head = refl; seen_head = refl }
+heads_by g w s a v (ends _ _ n res bytes r off tells accepted ended) f k =
+    let e = end_heads (posts_completion (entry_of w.requests n) res) g.cq w.completions (completion_for (entry_of w.requests n) res bytes) in
+    record { head = e.0; seen_head = e.1 }
+heads_by g w s a v (flushes moved) f k = absurd cc
+heads_by g w s a v (sees_tail tail) f k = record { head = refl; seen_head = refl }
+heads_by g w s a v (reaps completion next) f k = record { head = refl; seen_head = refl }
+heads_by g w s a v (stores_head head) f k = absurd cc
+
+settled_then : (g : Setup) (s : Step) (a : Answer) (h : History) → IsLawfulApart g ((s, a) ∷ h)
+    → (world g h).completions.seen_head ≡ (world g h).completions.head
+    → is_flush (s, a) ≡ false → is_store_cq_head (s, a) ≡ false
+    → (world g ((s, a) ∷ h)).completions.seen_head ≡ (world g ((s, a) ∷ h)).completions.head
+settled_then g s a h lawful before f k =
+    let kept = heads_by g (world g h) s a (world g ((s, a) ∷ h)) (completion_move g s a h lawful) f k in
+    kept.seen_head ∙ (before ∙ sym kept.head)
+
+-- the head that was loaded last is the one that was stored last
+settled : (g : Setup) (h : History) → IsLawfulApart g h → is_stale h ≡ false
+    → (world g h).completions.seen_head ≡ (world g h).completions.head
+settled g [] lawful e = refl
+settled g ((step.Flush, a) ∷ h) lawful e = refl
+settled g ((step.StoreCqHead, a) ∷ h) lawful e = absurd (let f : true ≡ false = e in cc)
+settled g ((s, a) ∷ h) lawful e = settled_then g s a h lawful (settled g h lawful.1 e) refl refl
+
+nothing_put : (size : ℕ) (l : Completions) → IsSoundCompletions size l → l.seen_head ≡ l.head
+    → put_by_flush size l ≡ l.put
+nothing_put size l s same =
+    let within = s.put_posted in
+    let fits = s.fits in
+    elim (cases_lt l.put (length l.posted)) [
+      | inl low ↦ (let full : l.put ≡ l.seen_head + size = s.full_ring low in omega (arith, full, same))
+      | inr past ↦ omega (arith, past, within, fits, same)
+    ]
+
+flushed_same : (size : ℕ) (l : Completions) → IsSoundCompletions size l → l.seen_head ≡ l.head
+    → with_flushed size l ≡ l
+flushed_same size l s same =
+    ap (λ put. record l { put = put; seen_head = l.head }) (nothing_put size l s same)
+    ∙ ap (λ head. record l { seen_head = head }) (sym same)
+
+pub flush_idle : (g : Setup) (h : History) (a : Answer) → IsLawfulApart g h → is_stale h ≡ false
+    → IsIdle g h (step.Flush, a)
+flush_idle g h a lawful settles = record {
+  hidden = refl;
+  same = ap (λ (l : Completions). record (world g h) { completions = l }) (flushed_same g.cq (world g h).completions (sound_of g h lawful).completions (settled g h lawful settles));
+}
+
+-- how many move at most
+pub few_moved : (size : ℕ) (l : Completions) → put_by_flush size l - l.put ≤ length (drop l.put l.posted)
+few_moved size l = simp length-drop (omega arith)
+
+-- Hidden events.
+
+-- a hidden event that is lawful
+pub data HiddenEvent (g : Setup) (h : History) : Event → Type 0 where
+  idle_one : (x : Event) → IsIdle g h x → HiddenEvent g h x
+  start : (n : ℕ) → is_issuable (world g h).requests n ≡ true → HiddenEvent g h (step.Issue n, answer.Run)
+  issue_end : (n : ℕ) (res : ℤ) (bytes : List ℕ) → HiddenEvent g h (step.Issue n, answer.Ended res bytes)
+  finish_end : (n : ℕ) (res : ℤ) (bytes : List ℕ) → HiddenEvent g h (step.Finish n, answer.Ended res bytes)
+  flush : (a : Answer) → HiddenEvent g h (step.Flush, a)
+
+issuable_by : (outstanding running doomed ready : Bool) → outstanding ≡ true → running ≡ false → ready ≡ true
+    → (outstanding && not running && (doomed || ready)) ≡ true
+issuable_by true false true true o r y = refl
+issuable_by true false false true o r y = refl
+issuable_by outstanding running doomed false o r y = absurd cc
+issuable_by false running doomed ready o r y = absurd cc
+issuable_by true true doomed ready o r y = absurd cc
+
+both_run : (s : Step) (a : Answer) (n : ℕ) → s ≡ step.Issue n → a ≡ answer.Run
+    → ◌≡◌ {A = Event} (s, a) (step.Issue n, answer.Run)
+both_run s a n is told = ap₂ (λ (x : Step) (y : Answer). (x, y)) is told
+
+starts_by : (g : Setup) (w : World) (n : ℕ) (s : Step) (a : Answer) → Change g w s a → s ≡ step.Issue n
+    → a ≡ answer.Run → is_issuable w.requests n ≡ true
+starts_by g w n s a (runs m outstanding idle spared ready cancel) is told =
+    let same : m ≡ n = cc in
+    subst (λ k. is_issuable w.requests k ≡ true) same (issuable_by (is_outstanding w.requests m) (is_running w.requests m) (is_doomed w.requests m) (is_ready w.requests m) outstanding idle ready)
+starts_by g w n s a (refuses _ _ same silent) is told =
+    let e : Some n ≡ None = sym (ap (λ (x : Event). started_by x) (both_run s a n is told)) ∙ silent.starts in
+    absurd cc
+starts_by g w n s a _ is told = absurd cc
+
+pub hidden_event : (g : Setup) (h : History) (x : Event) → IsLawfulApart g (x ∷ h) → is_hidden x.0 ≡ true
+    → HiddenEvent g h x
+hidden_event g h (step.Issue n, answer.Run) lawful hidden =
+    start n (starts_by g (world g h) n (step.Issue n) answer.Run (change_of g (world g h) (step.Issue n) answer.Run lawful.0) refl refl)
+hidden_event g h (step.Issue n, answer.Ended res bytes) lawful hidden = issue_end n res bytes
+hidden_event g h (step.Issue n, a) lawful hidden = idle_one _ (record { hidden = refl; same = refl })
+hidden_event g h (step.Finish n, answer.Ended res bytes) lawful hidden = finish_end n res bytes
+hidden_event g h (step.Finish n, a) lawful hidden = idle_one _ (record { hidden = refl; same = refl })
+hidden_event g h (step.Flush, a) lawful hidden = flush a
+hidden_event g h (s, a) lawful hidden = absurd (let f : false ≡ true = hidden in cc)
+
+-- Steps that are seen.
+
+no_end : (s : Step) (r : Requests) (a : Answer) → is_hidden s ≡ false → GivesAllowed r (s, a)
+no_end (step.Issue n) r a e = absurd (let f : true ≡ false = e in cc)
+no_end (step.Finish n) r a e = absurd (let f : true ≡ false = e in cc)
+no_end s r a e = tt
+
+ends_hidden : (s : Step) (a : Answer) (n : ℕ) (res : ℤ) (bytes : List ℕ)
+    → end_told_by (s, a) ≡ Some (record { number = n; res = res; bytes = bytes })
+    → is_hidden s ≡ false → ⊥
+ends_hidden (step.Issue m) a n res bytes tells e = let f : true ≡ false = e in cc
+ends_hidden (step.Finish m) a n res bytes tells e = let f : true ≡ false = e in cc
+ends_hidden step.Flush a n res bytes tells e = let f : true ≡ false = e in cc
+ends_hidden s a n res bytes tells e =
+    let f : ◌≡◌ {A = Option Ending} None (Some (record { number = n; res = res; bytes = bytes })) = tells in cc
+
+posted_kept : (g : Setup) (w : World) (s : Step) (a : Answer) (v : World) → CompletionMove g w s a v
+    → is_hidden s ≡ false → v.completions.posted ≡ w.completions.posted
+posted_kept g w s a v (stays _ _ l r is_closed off none leaves) e = refl
+posted_kept g w s a v (ends _ _ n res bytes r off tells accepted ended) e = absurd (ends_hidden s a n res bytes tells e)
+posted_kept g w s a v _ e = refl
+
+pub seen_part : (g : Setup) (seen : List Event) (h : History) (x : Event) → IsPart g seen h
+    → is_hidden x.0 ≡ false → slice_get seen (length (seen_in h)) ≡ Some x
+    → IsLawfulApart g (x ∷ h) → IsPart g seen (x ∷ h)
+seen_part g seen h x p shown next lawful =
+    let kept = posted_kept g (world g h) x.0 x.1 (world g (x ∷ h)) (completion_move g x.0 x.1 h lawful) shown in
+    record {
+      lawful = lawful;
+      results = (no_end x.0 (world g h).requests x.1 shown, p.results);
+      shows = subst (λ b. Begins (if b then seen_in h else seen_in h ++ x ∷ []) seen) (sym shown) (begins_next (seen_in h) x seen p.shows next);
+      posts = subst (λ xs. Begins xs (completions_in seen)) (sym kept) p.posts;
+    }
+
+pub part_seen : (g : Setup) (seen : List Event) (h : History) (x : Event) → IsPart g seen (x ∷ h)
+    → is_hidden x.0 ≡ false → slice_get seen (length (seen_in h)) ≡ Some x
+part_seen g seen h x p shown =
+    behind_begun (seen_in h) x seen (subst (λ b. Begins (if b then seen_in h else seen_in h ++ x ∷ []) seen) shown p.shows)

@@ -1,0 +1,78 @@
+-- Events one after the other.
+use Rattle.std.proofs.Common.{◌≡◌, ℕ, suc, ◌+◌, ◌-◌, ◌<◌, ◌≤◌, Bool, true, false, List, [], ◌∷◌, ◌++◌, length, take, drop, get_or, if◌then◌else◌, refl, sym, ap, subst, ◌∙◌, inl, inr, arith, append_assoc, append-nil, Option, Some, None}
+use Rattle.std.proofs.lemmas.List.{take_more, take-append-drop}
+use Rattle.std.specs.List.{cons_option}
+use Rattle.std.specs.Option.{option_to_list}
+use Rattle.std.proofs.lemmas.List.Elements.{filter_map-append}
+use Rattle.std.proofs.Math.Seq.{drop-cons}
+use Rattle.std.proofs.lemmas.Bool.{cases_lt}
+use Rattle.uring_entry.specs.Setup.{Setup}
+use Rattle.uring_entry.specs.Layout.{Cqe}
+use Rattle.uring_core.specs.Events.{reaped_by}
+use Rattle.uring_fill.specs.Filling.{completions_in}
+use Rattle.uring_core.specs.StepAnswers.{CalledForApart}
+use Rattle.uring_core.specs.Histories.{Event, History, world, history_of, IsLawfulApart}
+use Rattle.uring_core.proofs.Following.{history_of-snoc}
+use Rattle.uring_fill.specs.Parts.{onto}
+use Rattle.uring_fill.proofs.Going.{lawful_onto, onto_is}
+
+pub at_most_one : (b : Bool) → (if b then 0 else 1) ≤ 1
+at_most_one true = omega arith
+at_most_one false = omega arith
+
+-- one event more
+pub taken_next : (events : List Event) (k : ℕ) (e : Event) → k < length events → e ≡ get_or events k e
+    → history_of (take (k + 1) events) ≡ e ∷ history_of (take k events)
+taken_next events k e low is =
+    ap history_of (take_more events k e low ∙ ap (λ y. take k events ++ y ∷ []) (sym is)) ∙ history_of-snoc (take k events) e
+
+onto_append : (earlier later : List Event) (h : History)
+    → onto h (earlier ++ later) ≡ onto (onto h earlier) later
+onto_append [] later h = refl
+onto_append (e ∷ earlier) later h = onto_append earlier later (e ∷ h)
+
+history_onto : (events : List Event) → onto [] events ≡ history_of events
+history_onto events = onto_is events [] ∙ append-nil (history_of events)
+
+-- what goes wrong somewhere isn't lawful
+pub wrong_at : (g : Setup) (events : List Event) (k : ℕ) (e : Event) → k < length events
+    → e ≡ get_or events k e
+    → (CalledForApart g (world g (history_of (take k events))) e.0 e.1 → ⊥)
+    → IsLawfulApart g (history_of events) → ⊥
+wrong_at g events k e low is wrong lawful =
+    let rest : drop k events ≡ e ∷ drop (suc k) events = drop-cons events k e low ∙ ap (λ y. y ∷ drop (suc k) events) (sym is) in
+    let split : events ≡ take k events ++ (e ∷ drop (suc k) events) = sym (take-append-drop k events) ∙ ap (λ ys. take k events ++ ys) rest in
+    let turned : history_of events ≡ onto (history_of (take k events)) (e ∷ drop (suc k) events) =
+    sym (history_onto events) ∙ ap (onto []) split ∙ onto_append (take k events) (e ∷ drop (suc k) events) [] ∙ ap (λ h. onto h (e ∷ drop (suc k) events)) (history_onto (take k events)) in
+    wrong (lawful_onto g (drop (suc k) events) (e ∷ history_of (take k events)) (subst (IsLawfulApart g) turned lawful)).0
+
+-- the same for a set-up that is another's
+pub wrong_from : (g o : Setup) (events : List Event) (k : ℕ) (e : Event) → k < length events
+    → e ≡ get_or events k e → o ≡ g
+    → (CalledForApart o (world o (history_of (take k events))) e.0 e.1 → ⊥)
+    → IsLawfulApart g (history_of events) → ⊥
+wrong_from g o events k e low is same wrong =
+    wrong_at g events k e low is (subst (λ s. CalledForApart s (world s (history_of (take k events))) e.0 e.1 → ⊥) same wrong)
+
+-- numbers from the greatest down: what is so of those before, and of the next one
+pub descend : (P : ℕ → Type 0) (count place n : ℕ) → count ≤ n + (place + 1)
+    → (count ≤ n + place → P n) → P (count - 1 - place) → P n
+descend P count place n high before here =
+    elim (cases_lt (n + place) count) [
+      | inl next ↦ (let same : count - 1 - place ≡ n = omega (arith, next, high) in subst P same here)
+      | inr past ↦ before past
+    ]
+
+-- one event more, with the completion that it reaps
+added_none : (o : Option Cqe) → cons_option o [] ≡ option_to_list o
+added_none None = refl
+added_none (Some c) = refl
+
+pub completions_next : (seen : List Event) (k : ℕ) (e : Event) (old mid new : List Cqe) → k < length seen
+    → e ≡ get_or seen k e → mid ≡ old ++ completions_in (take k seen)
+    → new ≡ mid ++ option_to_list (reaped_by e) → new ≡ old ++ completions_in (take (k + 1) seen)
+completions_next seen k e old mid new low is before more =
+    let taken : take (k + 1) seen ≡ take k seen ++ e ∷ [] = take_more seen k e low ∙ ap (λ y. take k seen ++ y ∷ []) (sym is) in
+    let all : completions_in (take (k + 1) seen) ≡ completions_in (take k seen) ++ option_to_list (reaped_by e) =
+    ap completions_in taken ∙ filter_map-append reaped_by (take k seen) (e ∷ []) ∙ ap (λ xs. completions_in (take k seen) ++ xs) (added_none (reaped_by e)) in
+    more ∙ ap (λ xs. xs ++ option_to_list (reaped_by e)) before ∙ append_assoc old (completions_in (take k seen)) (option_to_list (reaped_by e)) ∙ ap (λ xs. old ++ xs) (sym all)

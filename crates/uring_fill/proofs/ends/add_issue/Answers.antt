@@ -1,0 +1,20 @@
+use Rattle.std.proofs.Common.{◌≡◌, ℤ, [], ◌∷◌, ◌++◌, ap, subst, ◌∙◌, rules}
+use Rattle.std.specs.Int.{w32}
+use Rattle.std.proofs.lemmas.Int.{to_z-of_z}
+use Rattle.uring_entry.specs.Requests.{no_bytes}
+use Rattle.uring_core.specs.declared.step.Step.TheVariants as step
+use Rattle.uring_core.specs.declared.answer.Answer.TheVariants as answer
+use Rattle.uring_core.specs.declared.answer.Answer.{Answer}
+use Rattle.uring_fill.specs.Parts.{TellsNext}
+use Rattle.uring_fill.proofs.Events.{issue_part}
+use Rattle.uring_fill.proofs.Adding.{adds_one}
+use Rattle.uring_fill.proofs.ends.add_issue.Goals as goal
+
+pub returns-in_ok-push-clause-adds : goal.returns-in_ok-push-clause-adds
+returns-in_ok-push-clause-adds c =
+    let same = to_z-of_z w32 c.args.res (search rules) in
+    let is : c.push.new.self.items ≡ c.args.next.now.items ++ (step.Issue c.args.number, answer.Ended c.args.res no_bytes) ∷ [] =
+    c.in_ok-push.ensures.items ∙ ap (λ (a : Answer). c.args.next.now.items ++ (step.Issue c.args.number, a) ∷ []) (c.ended.ensures ∙ ap (λ (r : ℤ). answer.Ended r no_bytes) same) in
+    adds_one c.args.core.now c.args.wanted.now c.args.next.now.items c.push.new.self.items (step.Issue c.args.number, answer.Ended c.args.res no_bytes) is
+    (λ seen h at lawful. issue_part c.args.core.now seen c.args.wanted.now h c.args.number c.args.res at
+    (subst (λ e. TellsNext e c.args.wanted.now c.args.res no_bytes) (c.requires h at.fits) (subst (λ r. TellsNext c.args.entry.now c.args.wanted.now r no_bytes) same (c.tells_next.ensures.0 c.if-tells_next.true))) lawful)

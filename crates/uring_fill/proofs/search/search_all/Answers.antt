@@ -1,0 +1,18 @@
+use Rattle.std.proofs.Common.{◌≡◌, true, rules}
+use Rattle.std.proofs.lemmas.Bool.{not-false}
+use Rattle.uring_fill.specs.Parts.{paths_of}
+use Rattle.uring_fill.proofs.Covering.{begins, fate_found, open_search}
+use Rattle.uring_fill.proofs.search.search_all.Goals as goal
+
+pub paths-init : goal.paths-init
+paths-init c =
+    begins c.args.setup.now c.args.seen.now c.args.todo.now.items c.push.new.self.items c.new.result c.args.reach.now.events.items c.args.reach.now.place c.requires.no_path c.in_ok-push.ensures.items c.new.ensures.items c.requires.none c.requires.nowhere
+
+pub paths-preserved : goal.paths-preserved
+paths-preserved c =
+    let open_so : c.is_open.result ≡ true = search (rules, not-false) in
+    open_search c.args.setup.now c.args.seen.now _ (paths_of c.search_one.new.todo.items) c.search_one.new.reach (c.is_open.ensures open_so) c.in_ok-fate.ensures
+
+pub returns-then-not-is_open : goal.returns-then-not-is_open
+returns-then-not-is_open c =
+    fate_found c.args.setup.now c.args.seen.now _ (paths_of c.search_one.new.todo.items) c.search_one.new.reach c.in_ok-fate.ensures

@@ -1,0 +1,8 @@
+use Rattle.std.proofs.Common.{ap, ◌∙◌, arith}
+use Rattle.std.proofs.lemmas.List.{take_all}
+use Rattle.uring_core.specs.Histories.{history_of}
+use Rattle.uring_fill.specs.Parts as parts
+use Rattle.uring_fill.proofs.seen.is_stale.Goals as goal
+
+pub returns : goal.returns
+returns c = c.loop-event.invariant ∙ ap (λ xs. parts.is_stale (history_of xs)) (take_all c.loop-event.event-index c.args.events.now (omega arith))

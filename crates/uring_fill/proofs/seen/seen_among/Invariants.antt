@@ -1,0 +1,10 @@
+use Rattle.std.proofs.Common.{◌≡◌, ◌≤◌, length, take}
+use Rattle.uring_core.specs.Histories.{history_of}
+use Rattle.uring_fill.specs.Filling.{seen_in}
+use Rattle.uring_fill.proofs.seen.seen_among.Given as goal
+
+abbrev pub invariant-loop-event : goal.invariant-loop-event
+invariant-loop-event l = record {
+  counted : l.count ≡ length (seen_in (history_of (take l.event-index l.events)));
+  few : l.count ≤ l.event-index;
+}

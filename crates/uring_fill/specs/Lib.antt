@@ -1,0 +1,4 @@
+pub mod Results
+pub mod Filling
+pub mod Parts
+pub mod Found

@@ -1,0 +1,369 @@
+//! The ends of requests that may come next.
+
+ghost use Rattle.std.specs.Prelude.{◌≡◌, ◌↔◌, ◌<◌, ◌≤◌, ◌+◌, ◌∷◌, ℕ, ℤ, pos, true, false, List, IsTrue, OnOk, Some, Contains, length};
+ghost use Rattle.uring_entry.specs.Success as success;
+ghost use Rattle.uring_entry.specs.Layout.{Sqe};
+ghost use Rattle.uring_entry.specs.Preparation.{is_cancel_all};
+ghost use Rattle.uring_entry.specs.Requests.{entry_of, is_running, no_bytes, count_result};
+ghost use Rattle.uring_core.specs.Core.{FitsApart};
+ghost use Rattle.uring_core.specs.Histories.{Event, History, world};
+ghost use Rattle.uring_core.specs.declared.step.Step.TheVariants as step;
+ghost use Rattle.uring_core.specs.declared.answer.Answer.TheVariants as answer;
+ghost use Rattle.uring_fill.specs.Filling.{IsPart};
+ghost use Rattle.uring_fill.specs.Parts.{StandsAt, Adds, HasEndsOf, TellsNext, FinishFits};
+ghost use Rattle.uring_fill.specs.Results as results;
+
+use crate::results::{may_end, most_of};
+use crate::seen::accepted_of;
+use std::alloc::AllocError;
+use uring_core::{Answer, Core, Cqe, Sqe, SqeFlags, Step};
+use uring_entry::{posts_completion, succeeded};
+
+/// The bytes of an end that gives none.
+const NO_BYTES: [u8; 64] = [0; 64];
+
+/// Adds the ends of all requests that may come next.
+pub(crate) fn add_ends(
+    core: &Core,
+    wanted: &Option<Cqe>,
+    next: &mut Vec<(Step, Answer)>,
+) -> Result<(), AllocError>
+    ensures adds { OnOk result (Adds core.now wanted.now next.old.items next.new.items) }
+    ensures all { OnOk result
+        ((seen : List Event) (h : History) (n : ℕ) → StandsAt core.now seen wanted.now h
+        → HasEndsOf core.now.setup seen h n next.new.items) }
+{
+    let accepted = accepted_of(core);
+    for place in 0..accepted {
+        add_ends_of(core, wanted, accepted, accepted - 1 - place, next)?;
+    }
+    Ok(())
+}
+
+/// Adds the ends of a request that may come next.
+fn add_ends_of(
+    core: &Core,
+    wanted: &Option<Cqe>,
+    accepted: u64,
+    number: u64,
+    next: &mut Vec<(Step, Answer)>,
+) -> Result<(), AllocError>
+    requires { (h : History) → FitsApart core.now h
+        → accepted ≡ length (world core.now.setup h).requests.accepted }
+    ensures adds { OnOk result (Adds core.now wanted.now next.old.items next.new.items) }
+    ensures all { OnOk result
+        ((seen : List Event) (h : History) → StandsAt core.now seen wanted.now h
+        → HasEndsOf core.now.setup seen h number next.new.items) }
+{
+    match core.entry(number) {
+        Some(entry) => add_ends_with(core, &entry, wanted, accepted, number, next),
+        None => Ok(()),
+    }
+}
+
+/// Adds the ends of an outstanding request of this entry that may come next.
+fn add_ends_with(
+    core: &Core,
+    entry: &Sqe,
+    wanted: &Option<Cqe>,
+    accepted: u64,
+    number: u64,
+    next: &mut Vec<(Step, Answer)>,
+) -> Result<(), AllocError>
+    requires entry { (h : History) → FitsApart core.now h
+        → entry.now ≡ entry_of (world core.now.setup h).requests number }
+    requires accepted { (h : History) → FitsApart core.now h
+        → accepted ≡ length (world core.now.setup h).requests.accepted }
+    ensures adds { OnOk result (Adds core.now wanted.now next.old.items next.new.items) }
+    ensures all { OnOk result
+        ((seen : List Event) (h : History) → StandsAt core.now seen wanted.now h
+        → HasEndsOf core.now.setup seen h number next.new.items) }
+{
+    if runs(core, number) {
+        add_finishes(core, entry, wanted, number, next)
+    } else {
+        add_issues(core, entry, wanted, accepted, number, next)
+    }
+}
+
+/// Whether a request runs.
+fn runs(core: &Core, number: u64) -> bool
+    ensures { (h : History) → FitsApart core.now h
+        → result ≡ is_running (world core.now.setup h).requests number }
+{
+    core.running_op(number).is_some()
+}
+
+/// Adds the finishes of a request of this entry that may come next: one that posts nothing, and one that posts the completion to be posted next.
+fn add_finishes(
+    core: &Core,
+    entry: &Sqe,
+    wanted: &Option<Cqe>,
+    number: u64,
+    next: &mut Vec<(Step, Answer)>,
+) -> Result<(), AllocError>
+    requires { (h : History) → FitsApart core.now h
+        → entry.now ≡ entry_of (world core.now.setup h).requests number }
+    ensures adds { OnOk result (Adds core.now wanted.now next.old.items next.new.items) }
+    ensures all { OnOk result
+        ((res : ℤ) (bytes : List ℕ) → FinishFits entry.now wanted.now res bytes
+        → Contains next.new.items (step.Finish number, answer.Ended res bytes)) }
+{
+    add_quiet_finish(core, entry, wanted, number, next)?;
+    add_told_finish(core, entry, wanted, number, next)?;
+    Ok(())
+}
+
+/// Adds the finish of a request of this entry that posts nothing, if there is one.
+fn add_quiet_finish(
+    core: &Core,
+    entry: &Sqe,
+    wanted: &Option<Cqe>,
+    number: u64,
+    next: &mut Vec<(Step, Answer)>,
+) -> Result<(), AllocError>
+    requires { (h : History) → FitsApart core.now h
+        → entry.now ≡ entry_of (world core.now.setup h).requests number }
+    ensures adds { OnOk result (Adds core.now wanted.now next.old.items next.new.items) }
+    ensures all { OnOk result
+        ((res : ℤ) (bytes : List ℕ) → success.posts_completion entry.now res ≡ false
+        → FinishFits entry.now wanted.now res bytes
+        → Contains next.new.items (step.Finish number, answer.Ended res bytes)) }
+{
+    let Some(res) = quiet_result(entry) else {
+        return Ok(());
+    };
+    add_finish(core, entry, wanted, number, res, NO_BYTES, next)?;
+    Ok(())
+}
+
+/// Adds the finish of a request of this entry with the completion that is to be posted next, if there is one.
+fn add_told_finish(
+    core: &Core,
+    entry: &Sqe,
+    wanted: &Option<Cqe>,
+    number: u64,
+    next: &mut Vec<(Step, Answer)>,
+) -> Result<(), AllocError>
+    requires { (h : History) → FitsApart core.now h
+        → entry.now ≡ entry_of (world core.now.setup h).requests number }
+    ensures adds { OnOk result (Adds core.now wanted.now next.old.items next.new.items) }
+    ensures all { OnOk result
+        ((res : ℤ) (bytes : List ℕ) → success.posts_completion entry.now res ≡ true
+        → FinishFits entry.now wanted.now res bytes
+        → Contains next.new.items (step.Finish number, answer.Ended res bytes)) }
+{
+    let Some(completion) = wanted else {
+        return Ok(());
+    };
+    let res = completion.res();
+    let bytes = completion.payload();
+    add_finish(core, entry, wanted, number, res, bytes, next)?;
+    Ok(())
+}
+
+/// The result of a running request of this entry that ends and posts nothing, if it may: the greatest that it may give.
+fn quiet_result(entry: &Sqe) -> Option<i32>
+    ensures { (res : ℤ) → success.posts_completion entry.now res ≡ false
+        → results.may_end entry.now res ≡ true → result ≡ Some res }
+{
+    if entry.has(SqeFlags::CQE_SKIP_SUCCESS) {
+        Some(most_of(entry))
+    } else {
+        None
+    }
+}
+
+/// Adds a finish, if it fits.
+fn add_finish(
+    core: &Core,
+    entry: &Sqe,
+    wanted: &Option<Cqe>,
+    number: u64,
+    res: i32,
+    bytes: [u8; 64],
+    next: &mut Vec<(Step, Answer)>,
+) -> Result<(), AllocError>
+    requires { (h : History) → FitsApart core.now h
+        → entry.now ≡ entry_of (world core.now.setup h).requests number }
+    ensures adds { OnOk result (Adds core.now wanted.now next.old.items next.new.items) }
+    ensures added { OnOk result
+        (FinishFits entry.now wanted.now res bytes
+        → Contains next.new.items (step.Finish number, answer.Ended res bytes)) }
+{
+    if finish_fits(entry, wanted, res, bytes) {
+        next.push((Step::Finish { number }, Answer::ended(res, bytes)))?;
+    }
+    Ok(())
+}
+
+/// Whether a running request of this entry may end so.
+fn finish_fits(entry: &Sqe, wanted: &Option<Cqe>, res: i32, bytes: [u8; 64]) -> bool
+    ensures { IsTrue result ↔ FinishFits entry.now wanted.now res bytes }
+{
+    if !may_end(entry, res) {
+        return false;
+    }
+    if posts_completion(entry, succeeded(entry, res)) {
+        is_wanted(wanted, &Cqe::new(entry.user_data(), res, bytes))
+    } else {
+        has_none(&bytes)
+    }
+}
+
+/// Adds the ends of a request of this entry as it is issued that may come next: those that post nothing, and one that posts the completion to be posted next.
+fn add_issues(
+    core: &Core,
+    entry: &Sqe,
+    wanted: &Option<Cqe>,
+    accepted: u64,
+    number: u64,
+    next: &mut Vec<(Step, Answer)>,
+) -> Result<(), AllocError>
+    requires entry { (h : History) → FitsApart core.now h
+        → entry.now ≡ entry_of (world core.now.setup h).requests number }
+    requires accepted { (h : History) → FitsApart core.now h
+        → accepted ≡ length (world core.now.setup h).requests.accepted }
+    ensures adds { OnOk result (Adds core.now wanted.now next.old.items next.new.items) }
+    ensures all { OnOk result
+        ((seen : List Event) (h : History) (res : ℤ) (bytes : List ℕ) → StandsAt core.now seen wanted.now h
+        → IsPart core.now.setup seen ((step.Issue number, answer.Ended res bytes) ∷ h)
+        → Contains next.new.items (step.Issue number, answer.Ended res bytes)) }
+{
+    add_quiet_issues(core, entry, wanted, accepted, number, next)?;
+    add_told_issue(core, entry, wanted, number, next)?;
+    Ok(())
+}
+
+/// Adds the end of a request of this entry as it is issued with the completion that is to be posted next, if there is one.
+fn add_told_issue(
+    core: &Core,
+    entry: &Sqe,
+    wanted: &Option<Cqe>,
+    number: u64,
+    next: &mut Vec<(Step, Answer)>,
+) -> Result<(), AllocError>
+    requires { (h : History) → FitsApart core.now h
+        → entry.now ≡ entry_of (world core.now.setup h).requests number }
+    ensures adds { OnOk result (Adds core.now wanted.now next.old.items next.new.items) }
+    ensures all { OnOk result
+        ((res : ℤ) → success.posts_completion entry.now res ≡ true
+        → TellsNext entry.now wanted.now res no_bytes
+        → Contains next.new.items (step.Issue number, answer.Ended res no_bytes)) }
+{
+    let Some(completion) = wanted else {
+        return Ok(());
+    };
+    add_issue(core, entry, wanted, number, completion.res(), next)?;
+    Ok(())
+}
+
+/// Adds the ends of a cancel of this entry that post nothing, if it may: with 0, and if it is one of all with each number of requests.
+fn add_quiet_issues(
+    core: &Core,
+    entry: &Sqe,
+    wanted: &Option<Cqe>,
+    accepted: u64,
+    number: u64,
+    next: &mut Vec<(Step, Answer)>,
+) -> Result<(), AllocError>
+    requires { (h : History) → FitsApart core.now h
+        → entry.now ≡ entry_of (world core.now.setup h).requests number }
+    ensures adds { OnOk result (Adds core.now wanted.now next.old.items next.new.items) }
+    ensures none { OnOk result
+        (success.posts_completion entry.now (pos 0) ≡ false
+        → Contains next.new.items (step.Issue number, answer.Ended (pos 0) no_bytes)) }
+    ensures some { OnOk result
+        (is_cancel_all entry.now ≡ true → (count : ℕ) → count ≤ accepted
+        → success.posts_completion entry.now (count_result count) ≡ false
+        → Contains next.new.items (step.Issue number, answer.Ended (count_result count) no_bytes)) }
+{
+    if !entry.has(SqeFlags::CQE_SKIP_SUCCESS) {
+        return Ok(());
+    }
+    add_counts(core, entry, wanted, accepted, number, next)?;
+    add_issue(core, entry, wanted, number, 0, next)?;
+    Ok(())
+}
+
+/// Adds the ends of a cancel of all with each number of requests from 1 to those accepted. Of another request it adds none.
+fn add_counts(
+    core: &Core,
+    entry: &Sqe,
+    wanted: &Option<Cqe>,
+    accepted: u64,
+    number: u64,
+    next: &mut Vec<(Step, Answer)>,
+) -> Result<(), AllocError>
+    requires { (h : History) → FitsApart core.now h
+        → entry.now ≡ entry_of (world core.now.setup h).requests number }
+    ensures adds { OnOk result (Adds core.now wanted.now next.old.items next.new.items) }
+    ensures some { OnOk result
+        (is_cancel_all entry.now ≡ true → (below : ℕ) → below < accepted
+        → TellsNext entry.now wanted.now (count_result (below + 1)) no_bytes
+        → Contains next.new.items (step.Issue number, answer.Ended (count_result (below + 1)) no_bytes)) }
+{
+    if !entry.is_cancel_all() {
+        return Ok(());
+    }
+    for below in 0..accepted {
+        add_issue(core, entry, wanted, number, count_of(below + 1), next)?;
+    }
+    Ok(())
+}
+
+/// What a cancel of all with so many targets ends with.
+fn count_of(count: u64) -> i32
+    ensures { result ≡ count_result count }
+{
+    i32::try_from(count).unwrap_or(i32::MAX)
+}
+
+/// Adds an end of a request as it is issued, if it posts what is to be posted next or nothing.
+fn add_issue(
+    core: &Core,
+    entry: &Sqe,
+    wanted: &Option<Cqe>,
+    number: u64,
+    res: i32,
+    next: &mut Vec<(Step, Answer)>,
+) -> Result<(), AllocError>
+    requires { (h : History) → FitsApart core.now h
+        → entry.now ≡ entry_of (world core.now.setup h).requests number }
+    ensures adds { OnOk result (Adds core.now wanted.now next.old.items next.new.items) }
+    ensures added { OnOk result
+        (TellsNext entry.now wanted.now res no_bytes
+        → Contains next.new.items (step.Issue number, answer.Ended res no_bytes)) }
+{
+    if tells_next(entry, wanted, res) {
+        next.push((Step::Issue { number }, Answer::ended(res, NO_BYTES)))?;
+    }
+    Ok(())
+}
+
+/// Whether the end of a request of this entry with this result and no bytes posts what is to be posted next, or nothing.
+fn tells_next(entry: &Sqe, wanted: &Option<Cqe>, res: i32) -> bool
+    ensures { IsTrue result ↔ TellsNext entry.now wanted.now res no_bytes }
+{
+    if !posts_completion(entry, succeeded(entry, res)) {
+        return true;
+    }
+    is_wanted(wanted, &Cqe::new(entry.user_data(), res, NO_BYTES))
+}
+
+/// Whether these are the bytes of an end that gives none.
+fn has_none(bytes: &[u8; 64]) -> bool
+    ensures { IsTrue result ↔ (bytes.now ≡ no_bytes) }
+{
+    *bytes == NO_BYTES
+}
+
+/// Whether this completion is the one that is to be posted next.
+fn is_wanted(wanted: &Option<Cqe>, completion: &Cqe) -> bool
+    ensures { IsTrue result ↔ (wanted.now ≡ Some completion.now) }
+{
+    match wanted {
+        Some(next) => next == completion,
+        None => false,
+    }
+}

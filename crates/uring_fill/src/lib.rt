@@ -1,0 +1,14 @@
+//! A search for a history that shows what was seen of a ring: the hidden steps are put in, and each history that it finds is lawful.
+#![tactic(auto)]
+
+mod ends;
+mod next;
+mod replay;
+mod results;
+mod search;
+mod seen;
+mod starts;
+
+pub use results::may_end;
+pub use search::{Filled, Reach, fill};
+pub use uring_core::{Answer, Cqe, Setup, Sqe, Step};
