@@ -8,3 +8,4 @@ pub mod Readings
 pub mod SameTexts
 pub mod RuleLaws
 pub mod LawfulTexts
+pub mod GrantedAnswers

@@ -36,7 +36,7 @@ as_apart false g w (step.Begin count) a h p = absurd h
 as_apart false g w (step.Finish n) a h p = absurd h
 as_apart false g w _ a h p = p
 
-one_answer : (g : Rules) (h : History) (s : Step) (a b : Answer) → HasOneAnswer s → IsCalled g h s a
+pub one_answer : (g : Rules) (h : History) (s : Step) (a b : Answer) → HasOneAnswer s → IsCalled g h s a
     → IsCalled g h s b → a ≡ b
 one_answer g h s a b one p q =
     let w : World = world g.setup h in

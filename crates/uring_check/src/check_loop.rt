@@ -1,6 +1,6 @@
 //! The check of a recorded trace over two streams.
 
-ghost use Rattle.std.specs.Prelude.{[], Bool};
+ghost use Rattle.std.specs.Prelude.{◌≢◌, ℕ, [], Bool, Err};
 ghost use Rattle.uring_check.specs.Checking.{Has};
 ghost use Rattle.uring_check.specs.Checks.{IsChecked};
 ghost use Rattle.uring_check.specs.Rules.{Rules};
@@ -10,7 +10,7 @@ use crate::verdict::Verdict;
 use std::alloc::Global;
 use std::io::{Read, Write};
 use uring_machine::Setup;
-use uring_text::{Calls, TraceFault, write_all};
+use uring_text::{Calls, TextMemory, TraceFault, write_all};
 
 /// Reads all of `reader`, a recorded trace with a line `STEP = ANSWER` for each step, and writes to `writer` whether it is the text of a history that can happen on a new machine of this set-up: `lawful: N steps`, or the first line that isn't lawful with its number, from 1 on. Steps and answers are written as in a trace, and the form of the lines is our own rule.
 ///
@@ -37,24 +37,45 @@ pub fn check<R: Read, W: Write>(
         (R.remaining reader.old) (R.remaining reader.new) (W.contents writer.old)
         (W.contents writer.new) }
 {
-    let mut reading = Reading::new(alloc, setup, is_all, is_apart)?;
-    let checked = check_all(&mut reading, reader, writer);
+    check_in(&alloc, alloc, reader, writer, setup, is_all, is_apart)
+}
+
+/// As `check`, by this memory. If it grants whatever is asked for, it never ends with `Memory`.
+pub fn check_in<M: TextMemory, R: Read, W: Write>(
+    memory: &M,
+    alloc: Global,
+    reader: &mut R,
+    writer: &mut W,
+    setup: &Setup,
+    is_all: bool,
+    is_apart: bool,
+) -> Result<Verdict, TraceFault>
+    ensures checked { IsChecked (record { setup = setup.now; is_apart = is_apart }) is_all result
+        (R.remaining reader.old) (R.remaining reader.new) (W.contents writer.old)
+        (W.contents writer.new) }
+    ensures granted { ((n : ℕ) → M.grants memory.now n) → result ≢ Err TraceFault.Memory }
+{
+    let mut reading = Reading::new(memory, alloc, setup, is_all, is_apart)?;
+    let checked = check_all(memory, &mut reading, reader, writer);
     drop(reading);
     checked
 }
 
 /// Takes in all that the reader has, and writes the report.
-fn check_all<R: Read, W: Write>(
+fn check_all<M: TextMemory, R: Read, W: Write>(
+    memory: &M,
     reading: &mut Reading,
     reader: &mut R,
     writer: &mut W,
 ) -> Result<Verdict, TraceFault>
-    ensures { (g : Rules) (all : Bool) → Has g all reading.old []
+    ensures checked { (g : Rules) (all : Bool) → Has g all reading.old []
         → IsChecked g all result (R.remaining reader.old) (R.remaining reader.new)
         (W.contents writer.old) (W.contents writer.new) }
+    ensures granted { ((n : ℕ) → M.grants memory.now n) → (g : Rules) (all : Bool)
+        → Has g all reading.old [] → result ≢ Err TraceFault.Memory }
 {
-    read_all(reader, reading, &mut Calls::new())?;
-    let verdict = reading.end()?;
+    read_all(memory, reader, reading, &mut Calls::new())?;
+    let verdict = reading.end(memory)?;
     write_all(writer, reading.report(), &mut Calls::new())?;
     Ok(verdict)
 }

@@ -1,6 +1,6 @@
 //! What a check makes of lines, one by one.
 
-ghost use Rattle.std.specs.Prelude.{◌≡◌, ◌∷◌, ◌++◌, [], true, false, not, ℕ, List, Bool, IfOk, OnOk, codes};
+ghost use Rattle.std.specs.Prelude.{◌≡◌, ◌∷◌, ◌++◌, [], true, false, not, ℕ, List, Bool, IfOk, IsOk, OnOk, codes};
 ghost use Rattle.uring_core.specs.Histories.{History};
 ghost use Rattle.uring_text.specs.KeptLine.{kept_of};
 ghost use Rattle.uring_text.specs.Lines.{ended};
@@ -16,14 +16,14 @@ use crate::answer_text::AnswerText;
 use crate::follower::Follower;
 use crate::judging::{Told, judge_told};
 use crate::record_line::split_record;
-use crate::setup_line::{Said, said_by};
+use crate::setup_line::{Said, said_by_in};
 use crate::standing::{Standing, note_poster};
 use crate::telling::{tell_bad, tell_end, tell_wrong};
 use crate::verdict::Verdict;
 use std::alloc::{AllocError, Global};
 use uring_machine::{Setup, Step};
-use uring_text::KeptLine;
-use uring_trace::read_step;
+use uring_text::{KeptLine, TextMemory, push_bytes};
+use uring_trace::read_step_in;
 
 /// What is told of a first line that is to say a set-up and says none.
 const MISSED: &str =
@@ -52,21 +52,23 @@ pub(crate) struct Checker {
 }
 
 impl Checker {
-    /// A new machine, before the first line.
-    pub(crate) fn new(
+    /// A new machine, before the first line. Here and below: if the memory grants whatever is asked for, there is no error.
+    pub(crate) fn new<M: TextMemory>(
+        memory: &M,
         alloc: Global,
         setup: &Setup,
         is_all: bool,
         is_apart: bool,
     ) -> Result<Checker, AllocError>
-        ensures { IfOk result
+        ensures looks { IfOk result
             (Looks (record { setup = setup.now; is_apart = is_apart }) is_all []) }
+        ensures granted { ((n : ℕ) → M.grants memory.now n) → IsOk result }
     {
         Ok(Checker {
             alloc,
             awaits: true,
             is_all,
-            machine: Follower::new(alloc, setup, is_apart)?,
+            machine: Follower::new(memory, alloc, setup, is_apart)?,
             posters: Vec::new(alloc),
             number: 1,
             steps: 0,
@@ -78,53 +80,62 @@ impl Checker {
     }
 
     /// Takes in the next line.
-    pub(crate) fn take_line(&mut self, line: &KeptLine) -> Result<(), AllocError>
-        ensures { OnOk result
+    pub(crate) fn take_line<M: TextMemory>(
+        &mut self,
+        memory: &M,
+        line: &KeptLine,
+    ) -> Result<(), AllocError>
+        ensures looks { OnOk result
             ((g : Rules) (all : Bool) (lines : List (List ℕ)) (text : List ℕ)
             → line.now ≡ kept_of text → Looks g all lines self.old
             → Looks g all (text ∷ lines) self.new) }
+        ensures granted { ((n : ℕ) → M.grants memory.now n) → (g : Rules) (all : Bool)
+            (lines : List (List ℕ)) → Looks g all lines self.old → IsOk result }
     {
         if self.awaits {
-            self.take_first(line)
+            self.take_first(memory, line)
         } else {
-            self.take_next(line)
+            self.take_next(memory, line)
         }
     }
 
     /// Takes in the first line, which may say a set-up.
-    fn take_first(&mut self, line: &KeptLine) -> Result<(), AllocError>
+    fn take_first<M: TextMemory>(&mut self, memory: &M, line: &KeptLine) -> Result<(), AllocError>
         requires { self.old.awaits ≡ true }
-        ensures { OnOk result
+        ensures looks { OnOk result
             ((g : Rules) (all : Bool) (lines : List (List ℕ)) (text : List ℕ)
             → line.now ≡ kept_of text → Looks g all lines self.old
             → Looks g all (text ∷ lines) self.new) }
+        ensures granted { ((n : ℕ) → M.grants memory.now n) → (g : Rules) (all : Bool)
+            (lines : List (List ℕ)) → Looks g all lines self.old → IsOk result }
     {
-        let said = said_by(self.alloc, line)?;
+        let said = said_by_in(memory, self.alloc, line)?;
         self.awaits = false;
         match said {
-            Said::Nothing => self.take_next(line),
+            Said::Nothing => self.take_next(memory, line),
             Said::Says(setup) => {
-                self.machine = Follower::new(self.alloc, &setup, self.machine.is_apart())?;
-                self.take_next(line)
+                self.machine = Follower::new(memory, self.alloc, &setup, self.machine.is_apart())?;
+                self.take_next(memory, line)
             }
-            Said::Misses => self.miss(),
+            Said::Misses => self.miss(memory),
         }
     }
 
     /// Finds that the first line says no set-up, though it begins so: it is bad, and no line behind it is looked at.
-    fn miss(&mut self) -> Result<(), AllocError>
+    fn miss<M: TextMemory>(&mut self, memory: &M) -> Result<(), AllocError>
         ensures told { OnOk result (self.new.report.items ≡ self.old.report.items ++ missed_text) }
         ensures kept { OnOk result
             (self.new
             ≡ record self.old { verdict = Verdict.Bad; is_over = true; report = self.new.report }) }
+        ensures granted { ((n : ℕ) → M.grants memory.now n) → IsOk result }
     {
         self.verdict = Verdict::Bad;
         self.is_over = true;
-        self.report.extend_from_slice(MISSED.as_bytes())
+        push_bytes(memory, &mut self.report, MISSED.as_bytes())
     }
 
     /// Takes in a line behind which no set-up is said.
-    fn take_next(&mut self, line: &KeptLine) -> Result<(), AllocError>
+    fn take_next<M: TextMemory>(&mut self, memory: &M, line: &KeptLine) -> Result<(), AllocError>
         ensures looks { OnOk result
             ((g : Rules) (all : Bool) (lines : List (List ℕ)) (text : List ℕ)
             → line.now ≡ kept_of text → LooksBy g all lines self.old
@@ -132,21 +143,30 @@ impl Checker {
         ensures over { OnOk result
             (self.old.is_over ≡ true
             → (self.new.is_over ≡ true) × (self.new.verdict ≡ self.old.verdict) × (self.new.report ≡ self.old.report) × (self.new.awaits ≡ self.old.awaits)) }
+        ensures granted { ((n : ℕ) → M.grants memory.now n)
+            → (self.old.is_over ≡ false → (h : History) × FitsBy self.old.machine h) → IsOk result }
     {
         if !self.is_over {
-            self.look(line)?;
+            self.look(memory, line)?;
         }
         self.number = self.number.saturating_add(1);
         Ok(())
     }
 
     /// Ends the report, and returns the verdict on all lines.
-    pub(crate) fn end(&mut self) -> Result<Verdict, AllocError>
-        ensures { IfOk result
+    pub(crate) fn end<M: TextMemory>(&mut self, memory: &M) -> Result<Verdict, AllocError>
+        ensures told { IfOk result
             (λ verdict. (g : Rules) (all : Bool) (lines : List (List ℕ))
             → Looks g all lines self.old → IsTold g all lines verdict self.new.report.items) }
+        ensures granted { ((n : ℕ) → M.grants memory.now n) → IsOk result }
     {
-        tell_end(self.alloc, &mut self.report, self.verdict, self.steps)?;
+        tell_end(
+            memory,
+            self.alloc,
+            &mut self.report,
+            self.verdict,
+            self.steps,
+        )?;
         Ok(self.verdict)
     }
 
@@ -159,47 +179,72 @@ impl Checker {
 
     /// Looks at a line.
     #[tactic(auto, using(std::proofs::lemmas::Result::on_ok_weaker, crate::proofs::Splitting::long_none, crate::proofs::Splitting::unsplit_none, crate::proofs::Splitting::recorded))]
-    fn look(&mut self, line: &KeptLine) -> Result<(), AllocError>
+    fn look<M: TextMemory>(&mut self, memory: &M, line: &KeptLine) -> Result<(), AllocError>
         requires { self.old.is_over ≡ false }
-        ensures { OnOk result
+        ensures looks { OnOk result
             ((text : List ℕ) → line.now ≡ kept_of text → LooksAt self.old self.new text) }
+        ensures granted { ((n : ℕ) → M.grants memory.now n) → (h : History)
+            → FitsBy self.old.machine h → IsOk result }
     {
         let Some(bytes) = line.whole() else {
-            return self.find_none(line);
+            return self.find_none(memory, line);
         };
         let Some((before, text)) = split_record(bytes) else {
-            return self.find_none(line);
+            return self.find_none(memory, line);
         };
-        match read_step(self.alloc, before)? {
-            Some(step) => self.find_record(&step, text, bytes),
-            None => self.find_none(line),
+        match read_step_in(memory, self.alloc, before)? {
+            Some(step) => self.find_record(memory, &step, text, bytes),
+            None => self.find_none(memory, line),
         }
     }
 
     /// Finds a line that is no step with an answer: it is passed over, or bad.
-    fn find_none(&mut self, line: &KeptLine) -> Result<(), AllocError>
+    fn find_none<M: TextMemory>(&mut self, memory: &M, line: &KeptLine) -> Result<(), AllocError>
         requires { self.old.is_over ≡ false }
-        ensures { OnOk result
+        ensures looks { OnOk result
             ((text : List ℕ) → line.now ≡ kept_of text → IsNoRecord text
             → LooksAt self.old self.new text) }
+        ensures granted { ((n : ℕ) → M.grants memory.now n) → IsOk result }
     {
         if line.is_remark() {
             return Ok(());
         }
         self.fault(Verdict::Bad);
         self.is_over = true;
-        tell_bad(self.alloc, &mut self.report, self.number, line)
+        tell_bad(memory, self.alloc, &mut self.report, self.number, line)
     }
 
     /// Finds a line that is this step with this text for its answer.
-    fn find_record(&mut self, step: &Step, text: &[u8], line: &[u8]) -> Result<(), AllocError>
+    fn find_record<M: TextMemory>(
+        &mut self,
+        memory: &M,
+        step: &Step,
+        text: &[u8],
+        line: &[u8],
+    ) -> Result<(), AllocError>
         requires { self.old.is_over ≡ false }
-        ensures { OnOk result
+        ensures looks { OnOk result
             (IsRecord line.now step.now text.now → LooksAt self.old self.new line.now) }
+        ensures granted { ((n : ℕ) → M.grants memory.now n) → (h : History)
+            → FitsBy self.old.machine h → IsOk result }
     {
-        let standing = stand(self.alloc, &self.machine, self.posters.as_slice(), step)?;
-        let judged = judge_told(self.alloc, &mut self.told, &mut self.machine, step, text)?;
+        let standing = stand(
+            memory,
+            self.alloc,
+            &self.machine,
+            self.posters.as_slice(),
+            step,
+        )?;
+        let judged = judge_told(
+            memory,
+            self.alloc,
+            &mut self.told,
+            &mut self.machine,
+            step,
+            text,
+        )?;
         note_poster(
+            memory,
             &mut self.posters,
             step,
             standing.posted(),
@@ -210,13 +255,14 @@ impl Checker {
                 self.steps = self.steps.saturating_add(1);
                 Ok(())
             }
-            Some(told) => self.find_wrong(line, &told, &standing),
+            Some(told) => self.find_wrong(memory, line, &told, &standing),
         }
     }
 
     /// Finds a line whose answer isn't called for.
-    fn find_wrong(
+    fn find_wrong<M: TextMemory>(
         &mut self,
+        memory: &M,
         line: &[u8],
         told: &Told,
         standing: &Standing,
@@ -227,10 +273,12 @@ impl Checker {
         ensures told { OnOk result
             (self.new.report.items
             ≡ self.old.report.items ++ line_text self.old.number ++ ended (visible_line line.now) ++ codes "wanted: " ++ ended told.now.text.items ++ reasons_by standing.now told.now.completion) }
+        ensures granted { ((n : ℕ) → M.grants memory.now n) → IsOk result }
     {
         self.fault(Verdict::Wrong);
         self.is_over = !self.is_all;
         tell_wrong(
+            memory,
             self.alloc,
             &mut self.report,
             self.number,
@@ -251,16 +299,18 @@ impl Checker {
 }
 
 /// What is asked of a follower before a step. These are the numbers of the requests whose completions were posted.
-fn stand(
+fn stand<M: TextMemory>(
+    memory: &M,
     alloc: Global,
     machine: &Follower,
     numbers: &[u64],
     step: &Step,
 ) -> Result<Standing, AllocError>
-    ensures { IfOk result
+    ensures standing { IfOk result
         (λ standing. (h : History) → FitsBy machine.now h
         → numbers.now ≡ posters (rules_of machine.now).setup h
         → IsStanding (rules_of machine.now).setup h step.now standing) }
+    ensures granted { ((n : ℕ) → M.grants memory.now n) → IsOk result }
 {
-    Standing::before(alloc, machine.core(), numbers, step)
+    Standing::before(memory, alloc, machine.core(), numbers, step)
 }

@@ -1,6 +1,6 @@
 //! What goes along with a recorded trace: a machine, or a core without files.
 
-ghost use Rattle.std.specs.Prelude.{◌≡◌, ◌∷◌, [], length, IfErr, IfOk, OnOk};
+ghost use Rattle.std.specs.Prelude.{◌≡◌, ◌∷◌, ℕ, [], length, IfErr, IfOk, IsErrOf, IsOk, OnOk};
 ghost use Rattle.uring_core.specs.Core.{FitsApart};
 ghost use Rattle.uring_core.specs.Histories.{History, world};
 ghost use Rattle.uring_core.specs.Recorded.{IsRefused, resumed};
@@ -9,6 +9,7 @@ ghost use Rattle.uring_check.specs.Rules.{IsCalled};
 
 use std::alloc::{AllocError, Global};
 use uring_machine::{Answer, Core, Machine, Refusal, Setup, Step};
+use uring_memory::Memory;
 
 /// Follows recorded answers.
 #[derive(Drop)]
@@ -21,16 +22,22 @@ pub(crate) enum Follower {
 }
 
 impl Follower {
-    /// A follower on which nothing has happened.
-    pub(crate) fn new(alloc: Global, setup: &Setup, is_apart: bool) -> Result<Follower, AllocError>
+    /// A follower on which nothing has happened. If the memory grants whatever is asked for, there is no error.
+    pub(crate) fn new<M: Memory>(
+        memory: &M,
+        alloc: Global,
+        setup: &Setup,
+        is_apart: bool,
+    ) -> Result<Follower, AllocError>
         ensures rules { IfOk result
             (λ follower. rules_of follower ≡ record { setup = setup.now; is_apart = is_apart }) }
         ensures fits { IfOk result (λ follower. FitsBy follower []) }
+        ensures granted { ((n : ℕ) → M.grants memory.now n) → IsOk result }
     {
         if is_apart {
-            Ok(Follower::Apart(Core::new(alloc, setup)?))
+            Ok(Follower::Apart(Core::new_in(memory, alloc, setup)?))
         } else {
-            Ok(Follower::Whole(Machine::new(alloc, setup)?))
+            Ok(Follower::Whole(Machine::new_in(memory, alloc, setup)?))
         }
     }
 
@@ -46,20 +53,25 @@ impl Follower {
 
     /// Makes a step to which one answer alone is called for.
     #[tactic(auto, using(crate::proofs::WantedAnswers::no_finish))]
-    pub(crate) fn step(&mut self, step: &Step) -> Answer
+    pub(crate) fn step<M: Memory>(&mut self, memory: &M, step: &Step) -> Answer
         requires { HasOneAnswer step.now }
         ensures rules { rules_of self.new ≡ rules_of self.old }
         ensures fits { (h : History) → FitsBy self.old h
             → FitsBy self.new ((step.now, result) ∷ h) }
     {
         match self {
-            Follower::Whole(machine) => machine.step(*step),
-            Follower::Apart(core) => core.step(*step),
+            Follower::Whole(machine) => machine.step_in(memory, *step),
+            Follower::Apart(core) => core.step_in(memory, *step),
         }
     }
 
-    /// Follows a step with an answer, any.
-    pub(crate) fn follow(&mut self, step: &Step, given: &Answer) -> Result<(), Refusal>
+    /// Follows a step with an answer, any. If the memory grants whatever is asked for, the refusal is never `NoMemory`.
+    pub(crate) fn follow<M: Memory>(
+        &mut self,
+        memory: &M,
+        step: &Step,
+        given: &Answer,
+    ) -> Result<(), Refusal>
         ensures rules { rules_of self.new ≡ rules_of self.old }
         ensures ok { OnOk result
             ((h : History) → FitsBy self.old h → FitsBy self.new ((step.now, given.now) ∷ h)) }
@@ -69,10 +81,12 @@ impl Follower {
         ensures resumed { IfErr result
             (λ refusal. (h : History) → FitsBy self.old h
             → FitsBy self.new (resumed step.now refusal h)) }
+        ensures granted { ((n : ℕ) → M.grants memory.now n) → (h : History) → FitsBy self.old h
+            → IsErrOf result Refusal.NoMemory → ⊥ }
     {
         match self {
-            Follower::Whole(machine) => machine.follow(*step, *given),
-            Follower::Apart(core) => core.follow(*step, *given),
+            Follower::Whole(machine) => machine.follow_in(memory, *step, *given),
+            Follower::Apart(core) => core.follow_in(memory, *step, *given),
         }
     }
 

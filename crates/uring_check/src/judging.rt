@@ -1,12 +1,12 @@
 //! Whether the text of an answer is that of one that is called for.
 
-ghost use Rattle.std.specs.Prelude.{◌≡◌, ◌∷◌, ℤ, IfOk, MatchOption, OnOk};
+ghost use Rattle.std.specs.Prelude.{◌≡◌, ◌∷◌, ℕ, ℤ, IfOk, IsOk, MatchOption, OnOk};
 ghost use Rattle.uring_entry.specs.Requests.{no_bytes};
 ghost use Rattle.uring_core.specs.Histories.{History};
 ghost use Rattle.uring_core.specs.declared.answer.Answer.TheVariants as answer;
 ghost use Rattle.uring_text.specs.Spelling.{IsFile};
 ghost use Rattle.uring_trace.specs.Text.{text_of};
-ghost use Rattle.uring_check.specs.Rules.{IsPlain};
+ghost use Rattle.uring_check.specs.Rules.{IsCalled, IsPlain};
 ghost use Rattle.uring_check.specs.Reports.{completion_wanted, wanted_text};
 ghost use Rattle.uring_check.specs.Checking.{FitsBy, rules_of, Judges, JudgesTold, IsJudged, IsOneJudged, HasOneAnswer, IsWanted, IsEither};
 
@@ -16,7 +16,7 @@ use crate::telling::push_wanted;
 use std::alloc::{AllocError, Global};
 use uring_entry::errno;
 use uring_machine::{Answer, Refusal, Step, Wanted};
-use uring_text::spelled_signed;
+use uring_text::{TextMemory, push_bytes, spelled_signed};
 
 /// What is told of the answers that are called for.
 #[derive(Drop)]
@@ -27,8 +27,9 @@ pub(crate) struct Told {
     pub(crate) completion: Option<u64>,
 }
 
-/// Makes a step with an answer of this text, if one is called for: `None`. Else it tells which answers are; if that is one alone, the machine goes on as though it had been given, and else as though the step hadn't been made. `AllocError`: memory was refused, to the step or to a text.
-fn judge(
+/// Makes a step with an answer of this text, if one is called for: `None`. Else it tells which answers are; if that is one alone, the machine goes on as though it had been given, and else as though the step hadn't been made. `AllocError`: memory was refused, to the step or to a text. Here and below: on a machine that fits a history there is no error if the memory grants whatever is asked for.
+fn judge<M: TextMemory>(
+    memory: &M,
     told: &mut AnswerText,
     machine: &mut Follower,
     step: &Step,
@@ -36,15 +37,18 @@ fn judge(
 ) -> Result<Option<Wanted>, AllocError>
     ensures rules { rules_of machine.new ≡ rules_of machine.old }
     ensures judges { IfOk result (Judges machine.old machine.new step.now text.now) }
+    ensures granted { ((n : ℕ) → M.grants memory.now n) → (h : History) → FitsBy machine.old h
+        → IsOk result }
 {
     match step {
-        Step::Begin { .. } | Step::Finish { .. } => judge_open(told, machine, step, text),
-        _ => judge_sure(told, machine, step, text),
+        Step::Begin { .. } | Step::Finish { .. } => judge_open(memory, told, machine, step, text),
+        _ => judge_sure(memory, told, machine, step, text),
     }
 }
 
 /// Judges a step, and gives what is told of the answers that are called for if the text isn't that of one.
-pub(crate) fn judge_told(
+pub(crate) fn judge_told<M: TextMemory>(
+    memory: &M,
     alloc: Global,
     told: &mut AnswerText,
     machine: &mut Follower,
@@ -53,21 +57,24 @@ pub(crate) fn judge_told(
 ) -> Result<Option<Told>, AllocError>
     ensures rules { rules_of machine.new ≡ rules_of machine.old }
     ensures judges { IfOk result (JudgesTold machine.old machine.new step.now text.now) }
+    ensures granted { ((n : ℕ) → M.grants memory.now n) → (h : History) → FitsBy machine.old h
+        → IsOk result }
 {
-    match judge(told, machine, step, text) {
+    match judge(memory, told, machine, step, text) {
         Ok(None) => Ok(None),
-        Ok(Some(wanted)) => Ok(Some(told_of(alloc, &wanted)?)),
+        Ok(Some(wanted)) => Ok(Some(told_of(memory, alloc, &wanted)?)),
         Err(error) => Err(error),
     }
 }
 
 /// What is told of the answers that are called for.
-fn told_of(alloc: Global, wanted: &Wanted) -> Result<Told, AllocError>
+fn told_of<M: TextMemory>(memory: &M, alloc: Global, wanted: &Wanted) -> Result<Told, AllocError>
     ensures text { IfOk result (λ told. told.text.items ≡ wanted_text wanted.now) }
     ensures completion { IfOk result (λ told. told.completion ≡ completion_wanted wanted.now) }
+    ensures granted { ((n : ℕ) → M.grants memory.now n) → IsOk result }
 {
     Ok(Told {
-        text: wanted_bytes(alloc, wanted)?,
+        text: wanted_bytes(memory, alloc, wanted)?,
         completion: completion_in(wanted),
     })
 }
@@ -83,18 +90,24 @@ fn completion_in(wanted: &Wanted) -> Option<u64>
 }
 
 /// The text of the answers that are called for.
-fn wanted_bytes(alloc: Global, wanted: &Wanted) -> Result<Vec<u8>, AllocError>
-    ensures { IfOk result (λ told. told.items ≡ wanted_text wanted.now) }
+fn wanted_bytes<M: TextMemory>(
+    memory: &M,
+    alloc: Global,
+    wanted: &Wanted,
+) -> Result<Vec<u8>, AllocError>
+    ensures text { IfOk result (λ told. told.items ≡ wanted_text wanted.now) }
+    ensures granted { ((n : ℕ) → M.grants memory.now n) → IsOk result }
 {
     let mut text = String::new(alloc);
-    push_wanted(alloc, &mut text, wanted)?;
+    push_wanted(memory, &mut text, wanted)?;
     let mut bytes = Vec::new(alloc);
-    bytes.extend_from_slice(text.as_bytes())?;
+    push_bytes(memory, &mut bytes, text.as_bytes())?;
     Ok(bytes)
 }
 
 /// Judges a step to which one answer alone is called for, and makes it with that.
-fn judge_sure(
+fn judge_sure<M: TextMemory>(
+    memory: &M,
     told: &mut AnswerText,
     machine: &mut Follower,
     step: &Step,
@@ -103,30 +116,37 @@ fn judge_sure(
     requires { HasOneAnswer step.now }
     ensures rules { rules_of machine.new ≡ rules_of machine.old }
     ensures judges { IfOk result (Judges machine.old machine.new step.now text.now) }
+    ensures granted { ((n : ℕ) → M.grants memory.now n) → IsOk result }
 {
-    let answer = machine.step(step);
-    judge_one(told, answer, text)
+    let answer = machine.step(memory, step);
+    judge_one(memory, told, answer, text)
 }
 
 /// Judges a Begin or a Finish, to which two answers may be called for. It follows an answer that neither is ever given, and so is told those that are.
-fn judge_open(
+fn judge_open<M: TextMemory>(
+    memory: &M,
     told: &mut AnswerText,
     machine: &mut Follower,
     step: &Step,
     text: &[u8],
 ) -> Result<Option<Wanted>, AllocError>
+    requires { HasOneAnswer step.now → ⊥ }
     ensures rules { rules_of machine.new ≡ rules_of machine.old }
     ensures judges { IfOk result (Judges machine.old machine.new step.now text.now) }
+    ensures granted { ((n : ℕ) → M.grants memory.now n) → (h : History) → FitsBy machine.old h
+        → IsOk result }
 {
-    match machine.follow(step, &Answer::Filled) {
-        Err(Refusal::Wrong(wanted)) => judge_wanted(told, machine, step, wanted, text),
-        _ => Err(AllocError),
+    match machine.follow(memory, step, &Answer::Filled) {
+        Err(Refusal::Wrong(wanted)) => judge_wanted(memory, told, machine, step, wanted, text),
+        Err(Refusal::NoMemory) => Err(AllocError),
+        Ok(()) => Err(AllocError),
     }
 }
 
 /// Judges a step to which these answers are called for.
 #[tactic(auto, using(crate::proofs::WantedAnswers::either_call, crate::proofs::WantedAnswers::either_end))]
-fn judge_wanted(
+fn judge_wanted<M: TextMemory>(
+    memory: &M,
     told: &mut AnswerText,
     machine: &mut Follower,
     step: &Step,
@@ -137,10 +157,13 @@ fn judge_wanted(
     ensures judges { IfOk result
         (λ found. (h : History) → IsWanted h machine.old step.now wanted
         → IsJudged (rules_of machine.old) h machine.new step.now text.now found) }
+    ensures granted { ((n : ℕ) → M.grants memory.now n) → (h : History)
+        → IsWanted h machine.old step.now wanted → IsOk result }
 {
     match wanted {
-        Wanted::Only(answer) => judge_one(told, answer, text),
+        Wanted::Only(answer) => judge_one(memory, told, answer, text),
         Wanted::CallOrAgain(length) => judge_either(
+            memory,
             told,
             machine,
             step,
@@ -149,9 +172,8 @@ fn judge_wanted(
             &Answer::Again,
             text,
         ),
-        // A follower without files knows no file's length.
-        Wanted::EndOrNoMemory(_) if machine.is_apart() => Err(AllocError),
         Wanted::EndOrNoMemory(res) => judge_either(
+            memory,
             told,
             machine,
             step,
@@ -160,19 +182,21 @@ fn judge_wanted(
             &ended(-errno::ENOMEM),
             text,
         ),
-        Wanted::AnyEnd => judge_end(machine, step, text),
+        Wanted::AnyEnd => judge_end(memory, machine, step, text),
     }
 }
 
 /// Whether the one answer that is called for has this text.
-fn judge_one(
+fn judge_one<M: TextMemory>(
+    memory: &M,
     told: &mut AnswerText,
     answer: Answer,
     text: &[u8],
 ) -> Result<Option<Wanted>, AllocError>
-    ensures { IfOk result (λ found. IsOneJudged answer text.now found) }
+    ensures judged { IfOk result (λ found. IsOneJudged answer text.now found) }
+    ensures granted { ((n : ℕ) → M.grants memory.now n) → IsOk result }
 {
-    if told.is(&answer, text)? {
+    if told.is(memory, &answer, text)? {
         Ok(None)
     } else {
         Ok(Some(Wanted::Only(answer)))
@@ -180,7 +204,8 @@ fn judge_one(
 }
 
 /// Judges a step to which either of two answers is called for.
-fn judge_either(
+fn judge_either<M: TextMemory>(
+    memory: &M,
     told: &mut AnswerText,
     machine: &mut Follower,
     step: &Step,
@@ -196,24 +221,33 @@ fn judge_either(
     ensures judges { IfOk result
         (λ found. (h : History) → IsWanted h machine.old step.now wanted
         → IsJudged (rules_of machine.old) h machine.new step.now text.now found) }
+    ensures granted { ((n : ℕ) → M.grants memory.now n) → (h : History)
+        → IsWanted h machine.old step.now wanted → IsOk result }
 {
-    if told.is(one, text)? {
-        make(machine, step, one)?;
+    if told.is(memory, one, text)? {
+        make(memory, machine, step, one)?;
         return Ok(None);
     }
-    if told.is(other, text)? {
-        make(machine, step, other)?;
+    if told.is(memory, other, text)? {
+        make(memory, machine, step, other)?;
         return Ok(None);
     }
     Ok(Some(wanted))
 }
 
 /// Judges a Finish of a running request, which may end with any result. A follower with files knows each end, and never comes here.
-fn judge_end(machine: &mut Follower, step: &Step, text: &[u8]) -> Result<Option<Wanted>, AllocError>
+fn judge_end<M: TextMemory>(
+    memory: &M,
+    machine: &mut Follower,
+    step: &Step,
+    text: &[u8],
+) -> Result<Option<Wanted>, AllocError>
     ensures rules { rules_of machine.new ≡ rules_of machine.old }
     ensures judges { IfOk result
         (λ found. (h : History) → IsWanted h machine.old step.now Wanted.AnyEnd
         → IsJudged (rules_of machine.old) h machine.new step.now text.now found) }
+    ensures granted { ((n : ℕ) → M.grants memory.now n) → (h : History)
+        → IsWanted h machine.old step.now Wanted.AnyEnd → IsOk result }
 {
     let Step::Finish { number } = step else {
         return Err(AllocError);
@@ -224,7 +258,12 @@ fn judge_end(machine: &mut Follower, step: &Step, text: &[u8]) -> Result<Option<
     let Some(res) = end_of(text) else {
         return Ok(Some(Wanted::AnyEnd));
     };
-    make(machine, &Step::Finish { number: *number }, &ended(res))?;
+    make(
+        memory,
+        machine,
+        &Step::Finish { number: *number },
+        &ended(res),
+    )?;
     Ok(None)
 }
 
@@ -238,12 +277,19 @@ fn end_of(text: &[u8]) -> Option<i32>
 }
 
 /// Makes a step with an answer that is called for.
-fn make(machine: &mut Follower, step: &Step, answer: &Answer) -> Result<(), AllocError>
+fn make<M: TextMemory>(
+    memory: &M,
+    machine: &mut Follower,
+    step: &Step,
+    answer: &Answer,
+) -> Result<(), AllocError>
     ensures rules { rules_of machine.new ≡ rules_of machine.old }
     ensures made { OnOk result
         ((h : History) → FitsBy machine.old h → FitsBy machine.new ((step.now, answer.now) ∷ h)) }
+    ensures granted { ((n : ℕ) → M.grants memory.now n) → (h : History) → FitsBy machine.old h
+        → IsCalled (rules_of machine.old) h step.now answer.now → IsOk result }
 {
-    match machine.follow(step, answer) {
+    match machine.follow(memory, step, answer) {
         Ok(()) => Ok(()),
         Err(_) => Err(AllocError),
     }

@@ -14,8 +14,8 @@ mod standing;
 mod telling;
 mod verdict;
 
-pub use check_loop::check;
-pub use setup_line::{Said, said_by};
+pub use check_loop::{check, check_in};
+pub use setup_line::{Said, said_by, said_by_in};
 pub use uring_entry::Setup;
 pub use uring_text::TraceFault;
 pub use verdict::Verdict;

@@ -1,6 +1,6 @@
 //! The lines of bytes, given to a checker one by one.
 
-ghost use Rattle.std.specs.Prelude.{◌≡◌, ◌≢◌, ℕ, List, [], ◌∷◌, ◌++◌, Bool, Err, IfErr, IfOk, OnOk};
+ghost use Rattle.std.specs.Prelude.{◌≡◌, ◌≢◌, ℕ, List, [], ◌∷◌, ◌++◌, Bool, Err, IfErr, IfOk, IsOk, OnOk};
 ghost use Rattle.uring_text.specs.Streams.{AreOver};
 ghost use Rattle.uring_check.specs.Checking.{Has, ReadsIn};
 ghost use Rattle.uring_check.specs.Checks.{IsVerdict};
@@ -11,13 +11,14 @@ use crate::verdict::Verdict;
 use std::alloc::{AllocError, Global};
 use std::io::Read;
 use uring_machine::Setup;
-use uring_text::{Calls, KeptLine, TraceFault, read_once};
+use uring_text::{Calls, KeptLine, TextMemory, TraceFault, read_once};
 
 /// Most bytes that are read at once.
 const CHUNK: usize = 512;
 
 /// Takes in all that a reader has.
-pub(crate) fn read_all<R: Read>(
+pub(crate) fn read_all<M: TextMemory, R: Read>(
+    memory: &M,
     reader: &mut R,
     reading: &mut Reading,
     reads: &mut Calls,
@@ -27,12 +28,14 @@ pub(crate) fn read_all<R: Read>(
 
     // The reader is blamed only if it gave up.
     ensures read { result ≡ Err TraceFault.Read → AreOver reads.new }
+    ensures granted { ((n : ℕ) → M.grants memory.now n) → (g : Rules) (all : Bool)
+        → Has g all reading.old [] → result ≢ Err TraceFault.Memory }
 {
     let mut chunk = [0; CHUNK];
     while !reads.are_over() {
         match read_once(reader, &mut chunk, reads) {
             Ok(0) => return Ok(()),
-            Ok(count) => reading.feed(&chunk[..count])?,
+            Ok(count) => reading.feed(memory, &chunk[..count])?,
             Err(_) => {}
         }
     }
@@ -49,45 +52,52 @@ pub(crate) struct Reading {
 
 impl Reading {
     /// No byte yet.
-    pub(crate) fn new(
+    pub(crate) fn new<M: TextMemory>(
+        memory: &M,
         alloc: Global,
         setup: &Setup,
         is_all: bool,
         is_apart: bool,
     ) -> Result<Reading, AllocError>
-        ensures { IfOk result
+        ensures has { IfOk result
             (λ r. Has (record { setup = setup.now; is_apart = is_apart }) is_all r []) }
+        ensures granted { ((n : ℕ) → M.grants memory.now n) → IsOk result }
     {
+        let line = KeptLine::new_in(memory, alloc)?;
         Ok(Reading {
-            line: KeptLine::new(alloc)?,
-            checker: Checker::new(alloc, setup, is_all, is_apart)?,
+            line,
+            checker: Checker::new(memory, alloc, setup, is_all, is_apart)?,
         })
     }
 
     /// Takes in the next bytes.
-    fn feed(&mut self, bytes: &[u8]) -> Result<(), TraceFault>
+    fn feed<M: TextMemory>(&mut self, memory: &M, bytes: &[u8]) -> Result<(), TraceFault>
         ensures ok { OnOk result
             ((g : Rules) (all : Bool) (before : List ℕ) → Has g all self.old before
             → Has g all self.new (before ++ bytes.now)) }
         ensures err { IfErr result (λ e. e ≡ TraceFault.Memory) }
+        ensures granted { ((n : ℕ) → M.grants memory.now n) → (g : Rules) (all : Bool)
+            (before : List ℕ) → Has g all self.old before → IsOk result }
     {
         for byte in bytes {
-            self.take(*byte)?;
+            self.take(memory, *byte)?;
         }
         Ok(())
     }
 
     /// Ends the input, and returns the verdict on it. A last line without an end counts if it has some byte.
-    pub(crate) fn end(&mut self) -> Result<Verdict, AllocError>
-        ensures { IfOk result
+    pub(crate) fn end<M: TextMemory>(&mut self, memory: &M) -> Result<Verdict, AllocError>
+        ensures verdict { IfOk result
             (λ verdict. (g : Rules) (all : Bool) (bytes : List ℕ) → Has g all self.old bytes
             → IsVerdict g all bytes self.new.checker.report.items verdict) }
+        ensures granted { ((n : ℕ) → M.grants memory.now n) → (g : Rules) (all : Bool)
+            (before : List ℕ) → Has g all self.old before → IsOk result }
     {
         if self.line.is_empty() {
-            return self.checker.end();
+            return self.checker.end(memory);
         }
-        self.checker.take_line(&self.line)?;
-        self.checker.end()
+        self.checker.take_line(memory, &self.line)?;
+        self.checker.end(memory)
     }
 
     /// The report so far.
@@ -98,14 +108,16 @@ impl Reading {
     }
 
     /// Takes in one byte.
-    fn take(&mut self, byte: u8) -> Result<(), TraceFault>
+    fn take<M: TextMemory>(&mut self, memory: &M, byte: u8) -> Result<(), TraceFault>
         ensures ok { OnOk result
             ((g : Rules) (all : Bool) (before : List ℕ) → Has g all self.old before
             → Has g all self.new (before ++ byte ∷ [])) }
         ensures err { IfErr result (λ e. e ≡ TraceFault.Memory) }
+        ensures granted { ((n : ℕ) → M.grants memory.now n) → (g : Rules) (all : Bool)
+            (before : List ℕ) → Has g all self.old before → IsOk result }
     {
         if byte == b'\n' {
-            self.end_line()?;
+            self.end_line(memory)?;
         } else {
             self.keep(byte);
         }
@@ -122,12 +134,14 @@ impl Reading {
     }
 
     /// Gives the line to the checker, and begins the next line.
-    fn end_line(&mut self) -> Result<(), AllocError>
-        ensures { OnOk result
+    fn end_line<M: TextMemory>(&mut self, memory: &M) -> Result<(), AllocError>
+        ensures ends { OnOk result
             ((g : Rules) (all : Bool) (before : List ℕ) → Has g all self.old before
             → Has g all self.new (before ++ 10 ∷ [])) }
+        ensures granted { ((n : ℕ) → M.grants memory.now n) → (g : Rules) (all : Bool)
+            (before : List ℕ) → Has g all self.old before → IsOk result }
     {
-        self.checker.take_line(&self.line)?;
+        self.checker.take_line(memory, &self.line)?;
         self.line.clear();
         Ok(())
     }

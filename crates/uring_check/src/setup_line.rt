@@ -1,12 +1,13 @@
 //! The set-up that the first line of a recorded trace says.
 
-ghost use Rattle.std.specs.Prelude.{◌≡◌, ◌≤◌, ℕ, List, IfOk, false, length, map};
+ghost use Rattle.std.specs.Prelude.{◌≡◌, ◌≤◌, ℕ, List, IfOk, IsOk, false, length, map};
 ghost use Rattle.uring_text.specs.KeptLine.{kept_of};
 ghost use Rattle.uring_check.specs.SetupLines.{IsSaid, IsSaidBy, IsSaidOf, named_number, plain_said, sizes_of, sizes_said, stopping_said};
 
 use std::alloc::{AllocError, Global};
 use uring_machine::Setup;
-use uring_text::{KeptLine, is_name, spelled_number, split_tokens};
+use uring_memory::Memory;
+use uring_text::{KeptLine, is_name, spelled_number, split_tokens_in};
 
 /// What a line says of a set-up.
 #[derive(Clone, Copy, Debug, PartialEq, Eq)]
@@ -35,18 +36,28 @@ pub(crate) struct Sizes {
 pub fn said_by(alloc: Global, line: &KeptLine) -> Result<Said, AllocError>
     ensures { IfOk result (λ said. (bytes : List ℕ) → line.now ≡ kept_of bytes → IsSaid bytes said) }
 {
+    said_by_in(&alloc, alloc, line)
+}
+
+/// As `said_by`, by this memory. If it grants whatever is asked for, there is no error.
+pub fn said_by_in<M: Memory>(memory: &M, alloc: Global, line: &KeptLine) -> Result<Said, AllocError>
+    ensures said { IfOk result
+        (λ said. (bytes : List ℕ) → line.now ≡ kept_of bytes → IsSaid bytes said) }
+    ensures granted { ((n : ℕ) → M.grants memory.now n) → IsOk result }
+{
     match line.whole() {
-        Some(bytes) => said_in(alloc, bytes),
+        Some(bytes) => said_short(memory, alloc, bytes),
         None => Ok(Said::Nothing),
     }
 }
 
 /// What a line of at most 300 bytes says of a set-up.
-fn said_in(alloc: Global, line: &[u8]) -> Result<Said, AllocError>
+fn said_short<M: Memory>(memory: &M, alloc: Global, line: &[u8]) -> Result<Said, AllocError>
     requires { length line.now ≤ 300 }
-    ensures { IfOk result (λ said. IsSaid line.now said) }
+    ensures said { IfOk result (λ said. IsSaid line.now said) }
+    ensures granted { ((n : ℕ) → M.grants memory.now n) → IsOk result }
 {
-    let tokens = split_tokens(alloc, line)?;
+    let tokens = split_tokens_in(memory, alloc, line)?;
     Ok(said_of(tokens.as_slice()))
 }
 

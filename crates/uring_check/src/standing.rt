@@ -1,6 +1,6 @@
 //! What is asked before a step, so that it can be told if the recorded answer is wrong.
 
-ghost use Rattle.std.specs.Prelude.{◌≡◌, ◌++◌, IfOk, OnOk, option_map, string_bytes};
+ghost use Rattle.std.specs.Prelude.{◌≡◌, ◌++◌, ◌∷◌, [], ℕ, IfOk, IsOk, OnOk, option_map, string_bytes};
 ghost use Rattle.uring_core.specs.Core.{FitsApart};
 ghost use Rattle.uring_core.specs.Histories.{History, world};
 ghost use Rattle.uring_trace.specs.Reasons.{found_text};
@@ -12,9 +12,10 @@ ghost use Rattle.uring_check.specs.Posters.{posters};
 ghost use Rattle.uring_check.specs.Reports.{why_asked, why_told, whom_told, whose_told};
 
 use std::alloc::{AllocError, Global};
-use std::fmt::Write;
 use uring_machine::{Core, Found, Step, Why};
-use uring_trace::{chosen_text, push_found, push_why};
+use uring_memory::Memory;
+use uring_text::{TextMemory, push_number, push_text};
+use uring_trace::{chosen_text, push_found_in, push_why_in};
 
 /// What is asked before a step.
 #[derive(Drop)]
@@ -32,21 +33,23 @@ pub(crate) struct Standing {
 }
 
 impl Standing {
-    /// Asks a core. These are the numbers of the requests whose completions were posted.
-    pub(crate) fn before(
+    /// Asks a core. These are the numbers of the requests whose completions were posted. Here and below: if the memory grants whatever is asked for, there is no error.
+    pub(crate) fn before<M: TextMemory>(
+        memory: &M,
         alloc: Global,
         core: &Core,
         numbers: &[u64],
         step: &Step,
     ) -> Result<Standing, AllocError>
-        ensures { IfOk result
+        ensures standing { IfOk result
             (λ standing. (h : History) → FitsApart core.now h → numbers.now ≡ posters core.now.setup h
             → IsStanding core.now.setup h step.now standing) }
+        ensures granted { ((n : ℕ) → M.grants memory.now n) → IsOk result }
     {
         let counts = core.counts();
         Ok(Standing {
             why: why(core, step),
-            chosen: chosen_text(&alloc, alloc, core, step)?,
+            chosen: chosen_text(memory, alloc, core, step)?,
             found: found(core, step),
             poster: numbers.get(counts.reaped as usize).copied(),
             posted: counts.posted,
@@ -61,19 +64,21 @@ impl Standing {
     }
 
     /// Appends all that is told of a wrong answer, where a completion of this user data is wanted, or none.
-    pub(crate) fn push_reasons(
+    pub(crate) fn push_reasons<M: TextMemory>(
         &self,
+        memory: &M,
         text: &mut String,
         completion: Option<u64>,
     ) -> Result<(), AllocError>
-        ensures { OnOk result
+        ensures told { OnOk result
             (string_bytes text.new
             ≡ string_bytes text.old ++ reasons_by self.now completion) }
+        ensures granted { ((n : ℕ) → M.grants memory.now n) → IsOk result }
     {
-        push_reason(text, self.why)?;
-        push_chosen(text, &self.chosen)?;
-        push_finding(text, self.found)?;
-        push_whose(text, completion, self.poster)
+        push_reason(memory, text, self.why)?;
+        push_chosen(memory, text, &self.chosen)?;
+        push_finding(memory, text, self.found)?;
+        push_whose(memory, text, completion, self.poster)
     }
 }
 
@@ -112,82 +117,116 @@ fn found_by(core: &Core, number: u64) -> Option<Found>
 }
 
 /// Appends why a request stands as it does, if it was asked.
-fn push_reason(text: &mut String, why: Option<(u64, Why)>) -> Result<(), AllocError>
-    ensures { OnOk result (string_bytes text.new ≡ string_bytes text.old ++ why_told why) }
+fn push_reason<M: TextMemory>(
+    memory: &M,
+    text: &mut String,
+    why: Option<(u64, Why)>,
+) -> Result<(), AllocError>
+    ensures told { OnOk result (string_bytes text.new ≡ string_bytes text.old ++ why_told why) }
+    ensures granted { ((n : ℕ) → M.grants memory.now n) → IsOk result }
 {
     let Some((number, why)) = why else {
         return Ok(());
     };
-    write!(text, "why: {number} ")?;
-    push_why(text, why)?;
-    text.push_str("\n")
+    push_text(memory, text, "why: ")?;
+    push_number(memory, text, number)?;
+    push_text(memory, text, " ")?;
+    push_why_in(memory, text, why)?;
+    push_text(memory, text, "\n")
 }
 
 /// Appends whom a cancel of all chooses, if it was asked.
-fn push_chosen(text: &mut String, chosen: &Option<String>) -> Result<(), AllocError>
-    ensures { OnOk result
+fn push_chosen<M: TextMemory>(
+    memory: &M,
+    text: &mut String,
+    chosen: &Option<String>,
+) -> Result<(), AllocError>
+    ensures told { OnOk result
         (string_bytes text.new
         ≡ string_bytes text.old ++ whom_told (option_map (λ t. string_bytes t) chosen.now)) }
+    ensures granted { ((n : ℕ) → M.grants memory.now n) → IsOk result }
 {
     match chosen {
         Some(chosen) => {
-            text.push_str("whom: ")?;
-            text.push_str(chosen.as_str())?;
-            text.push_str("\n")
+            push_text(memory, text, "whom: ")?;
+            push_text(memory, text, chosen.as_str())?;
+            push_text(memory, text, "\n")
         }
         None => Ok(()),
     }
 }
 
 /// Appends what a cancel of one request finds, if it was asked.
-fn push_finding(text: &mut String, found: Option<Found>) -> Result<(), AllocError>
-    ensures { OnOk result
+fn push_finding<M: TextMemory>(
+    memory: &M,
+    text: &mut String,
+    found: Option<Found>,
+) -> Result<(), AllocError>
+    ensures told { OnOk result
         (string_bytes text.new ≡ string_bytes text.old ++ whom_told (option_map found_text found)) }
+    ensures granted { ((n : ℕ) → M.grants memory.now n) → IsOk result }
 {
     match found {
         Some(found) => {
-            text.push_str("whom: ")?;
-            push_found(text, found)?;
-            text.push_str("\n")
+            push_text(memory, text, "whom: ")?;
+            push_found_in(memory, text, found)?;
+            push_text(memory, text, "\n")
         }
         None => Ok(()),
     }
 }
 
 /// Appends which request the completion of this user data is of, if one is wanted.
-fn push_whose(
+fn push_whose<M: TextMemory>(
+    memory: &M,
     text: &mut String,
     completion: Option<u64>,
     poster: Option<u64>,
 ) -> Result<(), AllocError>
-    ensures { OnOk result
+    ensures told { OnOk result
         (string_bytes text.new ≡ string_bytes text.old ++ whose_told completion poster) }
+    ensures granted { ((n : ℕ) → M.grants memory.now n) → IsOk result }
 {
     match (completion, poster) {
         (Some(user_data), Some(number)) => {
-            write!(text, "whose: {number}, user data {user_data}\n")
+            push_text(memory, text, "whose: ")?;
+            push_number(memory, text, number)?;
+            push_text(memory, text, ", user data ")?;
+            push_number(memory, text, user_data)?;
+            push_text(memory, text, "\n")
         }
         _ => Ok(()),
     }
 }
 
 /// Notes the request of a step, if the step posted a completion: there were `before` before it, and `after` behind it.
-pub(crate) fn note_poster(
+pub(crate) fn note_poster<M: Memory>(
+    memory: &M,
     posters: &mut Vec<u64>,
     step: &Step,
     before: u64,
     after: u64,
 ) -> Result<(), AllocError>
-    ensures { OnOk result
+    ensures noted { OnOk result
         (posters.new.items ≡ posters.old.items ++ noted_poster step.now before after) }
+    ensures granted { ((n : ℕ) → M.grants memory.now n) → IsOk result }
 {
     if after <= before {
         return Ok(());
     }
     match step {
-        Step::Issue { number } => posters.push(*number)?,
-        Step::Finish { number } => posters.push(*number)?,
-        _ => {}
+        Step::Issue { number } => push_poster(memory, posters, *number),
+        Step::Finish { number } => push_poster(memory, posters, *number),
+        _ => Ok(()),
     }
+}
+
+/// Appends the number of a request whose completion was posted.
+fn push_poster<M: Memory>(memory: &M, posters: &mut Vec<u64>, number: u64) -> Result<(), AllocError>
+    ensures items { OnOk result (posters.new.items ≡ posters.old.items ++ number ∷ []) }
+    ensures granted { ((n : ℕ) → M.grants memory.now n) → IsOk result }
+{
+    memory.reserve(posters, 1)?;
+    posters.push_reserved(number);
     Ok(())
 }

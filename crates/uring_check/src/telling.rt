@@ -1,6 +1,6 @@
 //! The lines of a report.
 
-ghost use Rattle.std.specs.Prelude.{◌≡◌, ℕ, List, [], ◌++◌, OnOk, string_bytes, codes};
+ghost use Rattle.std.specs.Prelude.{◌≡◌, ℕ, List, [], ◌++◌, OnOk, IsOk, string_bytes, codes};
 ghost use Rattle.uring_text.specs.Lines.{ended};
 ghost use Rattle.uring_check.specs.Reports.{closing, line_text, wanted_text, why_bad};
 ghost use Rattle.uring_check.specs.Checking.{reasons_by};
@@ -12,13 +12,15 @@ use crate::judging::Told;
 use crate::standing::Standing;
 use crate::verdict::Verdict;
 use std::alloc::{AllocError, Global};
-use std::fmt::Write;
 use uring_machine::Wanted;
-use uring_text::{KeptLine, push_visible_line};
-use uring_trace::{Language, push_answer, push_line_flaw};
+use uring_text::{
+    KeptLine, TextMemory, push_bytes, push_number, push_signed, push_text, push_visible_line_in,
+};
+use uring_trace::{Language, push_answer_in, push_line_flaw_in};
 
-/// Appends a wrong line with its number, in which no byte is invisible, the answers that are called for, and why.
-pub(crate) fn tell_wrong(
+/// Appends a wrong line with its number, in which no byte is invisible, the answers that are called for, and why. Here and below: if the memory grants whatever is asked for, there is no error.
+pub(crate) fn tell_wrong<M: TextMemory>(
+    memory: &M,
     alloc: Global,
     report: &mut Vec<u8>,
     number: u64,
@@ -26,129 +28,201 @@ pub(crate) fn tell_wrong(
     told: &Told,
     standing: &Standing,
 ) -> Result<(), AllocError>
-    ensures { OnOk result
+    ensures told { OnOk result
         (report.new.items
         ≡ report.old.items ++ line_text number ++ ended (visible_line line.now) ++ codes "wanted: " ++ ended told.now.text.items ++ reasons_by standing.now told.now.completion) }
+    ensures granted { ((n : ℕ) → M.grants memory.now n) → IsOk result }
 {
-    tell_line(alloc, report, number)?;
-    tell_visible(alloc, report, line)?;
-    tell_reasons(alloc, report, told, standing)
+    tell_line(memory, alloc, report, number)?;
+    tell_visible(memory, alloc, report, line)?;
+    tell_reasons(memory, alloc, report, told, standing)
 }
 
 /// Appends that the line with this number is bad, and what is wrong with it.
-pub(crate) fn tell_bad(
+pub(crate) fn tell_bad<M: TextMemory>(
+    memory: &M,
     alloc: Global,
     report: &mut Vec<u8>,
     number: u64,
     line: &KeptLine,
 ) -> Result<(), AllocError>
-    ensures { OnOk result
+    ensures told { OnOk result
         ((bytes : List ℕ) → line.now ≡ kept_of bytes
         → report.new.items
         ≡ report.old.items ++ line_text number ++ ended (codes "bad line") ++ why_bad bytes) }
+    ensures granted { ((n : ℕ) → M.grants memory.now n) → IsOk result }
 {
-    tell_line(alloc, report, number)?;
-    report.extend_from_slice(b"bad line\n")?;
-    tell_flaw(alloc, report, line)
+    tell_line(memory, alloc, report, number)?;
+    push_bytes(memory, report, b"bad line\n")?;
+    tell_flaw(memory, alloc, report, line)
 }
 
 /// Appends what is wrong with a bad line.
-fn tell_flaw(alloc: Global, report: &mut Vec<u8>, line: &KeptLine) -> Result<(), AllocError>
-    ensures { OnOk result
+fn tell_flaw<M: TextMemory>(
+    memory: &M,
+    alloc: Global,
+    report: &mut Vec<u8>,
+    line: &KeptLine,
+) -> Result<(), AllocError>
+    ensures told { OnOk result
         ((bytes : List ℕ) → line.now ≡ kept_of bytes
         → report.new.items ≡ report.old.items ++ why_bad bytes) }
+    ensures granted { ((n : ℕ) → M.grants memory.now n) → IsOk result }
 {
     let mut text = String::new(alloc);
-    push_flaw(alloc, &mut text, line)?;
-    report.extend_from_slice(b"why: ")?;
-    report.extend_from_slice(text.as_bytes())
+    push_flaw(memory, alloc, &mut text, line)?;
+    push_bytes(memory, report, b"why: ")?;
+    push_bytes(memory, report, text.as_bytes())
 }
 
 /// Appends what is wrong with a bad line, as the end of a line of text.
-fn push_flaw(alloc: Global, text: &mut String, line: &KeptLine) -> Result<(), AllocError>
-    ensures { OnOk result
+fn push_flaw<M: TextMemory>(
+    memory: &M,
+    alloc: Global,
+    text: &mut String,
+    line: &KeptLine,
+) -> Result<(), AllocError>
+    ensures told { OnOk result
         ((bytes : List ℕ) → line.now ≡ kept_of bytes
         → string_bytes text.new
         ≡ string_bytes text.old ++ ended (line_flaw Language.Records bytes)) }
+    ensures granted { ((n : ℕ) → M.grants memory.now n) → IsOk result }
 {
-    push_line_flaw(alloc, text, line, Language::Records)?;
-    text.push_str("\n")
+    push_line_flaw_in(memory, alloc, text, line, Language::Records)?;
+    push_text(memory, text, "\n")
 }
 
 /// Appends how many steps there were, if all is lawful.
-pub(crate) fn tell_end(
+pub(crate) fn tell_end<M: TextMemory>(
+    memory: &M,
     alloc: Global,
     report: &mut Vec<u8>,
     verdict: Verdict,
     steps: u64,
 ) -> Result<(), AllocError>
-    ensures { OnOk result (report.new.items ≡ report.old.items ++ closing verdict steps) }
+    ensures told { OnOk result (report.new.items ≡ report.old.items ++ closing verdict steps) }
+    ensures granted { ((n : ℕ) → M.grants memory.now n) → IsOk result }
 {
     match verdict {
-        Verdict::Lawful => tell_steps(alloc, report, steps),
+        Verdict::Lawful => tell_steps(memory, alloc, report, steps),
         Verdict::Wrong | Verdict::Bad => Ok(()),
     }
 }
 
 /// Appends how many steps there were.
-fn tell_steps(alloc: Global, report: &mut Vec<u8>, steps: u64) -> Result<(), AllocError>
-    ensures { OnOk result (report.new.items ≡ report.old.items ++ closing Verdict.Lawful steps) }
+fn tell_steps<M: TextMemory>(
+    memory: &M,
+    alloc: Global,
+    report: &mut Vec<u8>,
+    steps: u64,
+) -> Result<(), AllocError>
+    ensures told { OnOk result (report.new.items ≡ report.old.items ++ closing Verdict.Lawful steps) }
+    ensures granted { ((n : ℕ) → M.grants memory.now n) → IsOk result }
 {
     let mut text = String::new(alloc);
-    write!(text, "lawful: {steps} steps\n")?;
-    report.extend_from_slice(text.as_bytes())
+    push_text(memory, &mut text, "lawful: ")?;
+    push_number(memory, &mut text, steps)?;
+    push_text(memory, &mut text, " steps\n")?;
+    push_bytes(memory, report, text.as_bytes())
 }
 
 /// Appends the number of a line.
-fn tell_line(alloc: Global, report: &mut Vec<u8>, number: u64) -> Result<(), AllocError>
-    ensures { OnOk result (report.new.items ≡ report.old.items ++ line_text number) }
+fn tell_line<M: TextMemory>(
+    memory: &M,
+    alloc: Global,
+    report: &mut Vec<u8>,
+    number: u64,
+) -> Result<(), AllocError>
+    ensures told { OnOk result (report.new.items ≡ report.old.items ++ line_text number) }
+    ensures granted { ((n : ℕ) → M.grants memory.now n) → IsOk result }
 {
     let mut text = String::new(alloc);
-    write!(text, "line {number}: ")?;
-    report.extend_from_slice(text.as_bytes())
+    push_text(memory, &mut text, "line ")?;
+    push_number(memory, &mut text, number)?;
+    push_text(memory, &mut text, ": ")?;
+    push_bytes(memory, report, text.as_bytes())
 }
 
 /// Appends a line in which no byte is invisible.
-fn tell_visible(alloc: Global, report: &mut Vec<u8>, line: &[u8]) -> Result<(), AllocError>
-    ensures { OnOk result (report.new.items ≡ report.old.items ++ visible_line line.now) }
+fn tell_visible<M: TextMemory>(
+    memory: &M,
+    alloc: Global,
+    report: &mut Vec<u8>,
+    line: &[u8],
+) -> Result<(), AllocError>
+    ensures told { OnOk result (report.new.items ≡ report.old.items ++ visible_line line.now) }
+    ensures granted { ((n : ℕ) → M.grants memory.now n) → IsOk result }
 {
     let mut text = String::new(alloc);
-    push_visible_line(alloc, &mut text, line)?;
-    report.extend_from_slice(text.as_bytes())
+    push_visible_line_in(memory, &mut text, line)?;
+    push_bytes(memory, report, text.as_bytes())
 }
 
 /// Appends the end of a wrong line, the answers that are called for, and why.
-fn tell_reasons(
+fn tell_reasons<M: TextMemory>(
+    memory: &M,
     alloc: Global,
     report: &mut Vec<u8>,
     told: &Told,
     standing: &Standing,
 ) -> Result<(), AllocError>
-    ensures { OnOk result
+    ensures told { OnOk result
         (report.new.items
         ≡ report.old.items ++ ended [] ++ codes "wanted: " ++ ended told.now.text.items ++ reasons_by standing.now told.now.completion) }
+    ensures granted { ((n : ℕ) → M.grants memory.now n) → IsOk result }
 {
-    report.extend_from_slice(b"\nwanted: ")?;
-    report.extend_from_slice(told.text.as_slice())?;
+    push_bytes(memory, report, b"\nwanted: ")?;
+    push_bytes(memory, report, told.text.as_slice())?;
     let mut text = String::new(alloc);
-    text.push_str("\n")?;
-    standing.push_reasons(&mut text, told.completion)?;
-    report.extend_from_slice(text.as_bytes())
+    push_text(memory, &mut text, "\n")?;
+    standing.push_reasons(memory, &mut text, told.completion)?;
+    push_bytes(memory, report, text.as_bytes())
 }
 
 /// Appends the answers that are called for.
-pub(crate) fn push_wanted(
-    alloc: Global,
+pub(crate) fn push_wanted<M: TextMemory>(
+    memory: &M,
     text: &mut String,
     wanted: &Wanted,
 ) -> Result<(), AllocError>
-    ensures { OnOk result
+    ensures told { OnOk result
         (string_bytes text.new ≡ string_bytes text.old ++ wanted_text wanted.now) }
+    ensures granted { ((n : ℕ) → M.grants memory.now n) → IsOk result }
 {
     match wanted {
-        Wanted::Only(answer) => push_answer(alloc, text, answer),
-        Wanted::CallOrAgain(length) => write!(text, "call {length} or again"),
-        Wanted::AnyEnd => text.push_str("an end"),
-        Wanted::EndOrNoMemory(res) => write!(text, "ended {res} or ended -12"),
+        Wanted::Only(answer) => push_answer_in(memory, text, answer),
+        Wanted::CallOrAgain(length) => push_call_or_again(memory, text, *length),
+        Wanted::AnyEnd => push_text(memory, text, "an end"),
+        Wanted::EndOrNoMemory(res) => push_end_or_no_memory(memory, text, *res),
     }
+}
+
+/// Appends a call of this length, or `again`.
+fn push_call_or_again<M: TextMemory>(
+    memory: &M,
+    text: &mut String,
+    length: u32,
+) -> Result<(), AllocError>
+    ensures told { OnOk result
+        (string_bytes text.new ≡ string_bytes text.old ++ wanted_text (Wanted.CallOrAgain length)) }
+    ensures granted { ((n : ℕ) → M.grants memory.now n) → IsOk result }
+{
+    push_text(memory, text, "call ")?;
+    push_number(memory, text, length as u64)?;
+    push_text(memory, text, " or again")
+}
+
+/// Appends an end with this result, or one for want of memory.
+fn push_end_or_no_memory<M: TextMemory>(
+    memory: &M,
+    text: &mut String,
+    res: i32,
+) -> Result<(), AllocError>
+    ensures told { OnOk result
+        (string_bytes text.new ≡ string_bytes text.old ++ wanted_text (Wanted.EndOrNoMemory res)) }
+    ensures granted { ((n : ℕ) → M.grants memory.now n) → IsOk result }
+{
+    push_text(memory, text, "ended ")?;
+    push_signed(memory, text, res)?;
+    push_text(memory, text, " or ended -12")
 }

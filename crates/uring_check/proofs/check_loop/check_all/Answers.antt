@@ -1,19 +1,38 @@
-use Rattle.std.proofs.Common.{rules}
+use Rattle.std.proofs.Common.{◌≡◌, Result, Ok, Err, sym, ap, ◌∙◌, rules}
+use Rattle.std.proofs.lemmas.Bool.{false≢true}
 use Rattle.uring_check.proofs.Readings.{part_checked, unsaid_checked, cut_checked, whole_checked}
+use Rattle.uring_text.specs.declared.trace_fault.TraceFault.{TraceFault}
+use Rattle.uring_text.specs.declared.trace_fault.TraceFault.TheVariants as fault
+use Rattle.uring_check.specs.declared.verdict.Verdict.{Verdict}
 use Rattle.uring_check.proofs.check_loop.check_all.Goals as goal
 
-pub returns-in_err-read_all : goal.returns-in_err-read_all
-returns-in_err-read_all g c = λ r all h. part_checked r all c.from_residual.result c.in_err-read_all.field-0.0 _ _ _ c.read_all.new.reading (search (rules, c.from_residual.ensures)) (c.in_err-read_all.ensures.bytes r all h)
+-- the fault, if there is one
+abbrev fault_of : Result Verdict TraceFault → TraceFault
+fault_of (Ok v) = fault.Read
+fault_of (Err e) = e
 
-pub returns-in_err-verdict : goal.returns-in_err-verdict
-returns-in_err-verdict g c = λ r all h. unsaid_checked r all c.from_residual-in_err-verdict.result _ _ _ c.read_all.new.reading (search rules) (c.in_ok-read_all.ensures.bytes r all h)
+pub returns-in_err-read_all-clause-checked : goal.returns-in_err-read_all-clause-checked
+returns-in_err-read_all-clause-checked g c = λ r all h. part_checked r all c.from_residual.result c.in_err-read_all.field-0.0 _ _ _ c.read_all.new.reading (search (rules, c.from_residual.ensures)) (c.in_err-read_all.ensures.bytes r all h)
 
-pub returns-in_err-write_all : goal.returns-in_err-write_all
-returns-in_err-write_all g c =
+pub returns-in_err-verdict-clause-checked : goal.returns-in_err-verdict-clause-checked
+returns-in_err-verdict-clause-checked g c = λ r all h. unsaid_checked r all c.from_residual-in_err-verdict.result _ _ _ c.read_all.new.reading (search rules) (c.in_ok-read_all.ensures.bytes r all h)
+
+pub returns-in_err-write_all-clause-checked : goal.returns-in_err-write_all-clause-checked
+returns-in_err-write_all-clause-checked g c =
     λ r all h. cut_checked r all c.from_residual-in_err-write_all.result c.in_err-write_all.field-0.0 _ _ _ _ c.read_all.new.reading c.in_ok-verdict.verdict c.end.new.self.checker.report.items (search rules)
-    (c.in_ok-read_all.ensures.bytes r all h) c.in_ok-verdict.ensures (rw c.report.ensures at c.in_err-write_all.ensures.text)
+    (c.in_ok-read_all.ensures.bytes r all h) c.in_ok-verdict.ensures.verdict (rw c.report.ensures at c.in_err-write_all.ensures.text)
 
-pub returns : goal.returns
-returns g c =
+pub returns-clause-checked : goal.returns-clause-checked
+returns-clause-checked g c =
     λ r all h. whole_checked r all _ _ _ _ c.read_all.new.reading c.in_ok-verdict.verdict c.end.new.self.checker.report.items
-    (c.in_ok-read_all.ensures.bytes r all h) c.in_ok-verdict.ensures (rw c.report.ensures at c.in_ok-write_all.ensures.text)
+    (c.in_ok-read_all.ensures.bytes r all h) c.in_ok-verdict.ensures.verdict (rw c.report.ensures at c.in_ok-write_all.ensures.text)
+
+pub returns-in_err-read_all-clause-granted : goal.returns-in_err-read_all-clause-granted
+returns-in_err-read_all-clause-granted g c = λ sure r all h e.
+    let same : c.from_residual.result ≡ Err c.in_err-read_all.field-0.0 = search (rules, c.from_residual.ensures) in
+    c.in_err-read_all.ensures.granted sure r all h (ap (λ (f : TraceFault). Err f) (ap fault_of (sym same ∙ e)))
+
+pub returns-in_err-verdict-clause-granted : goal.returns-in_err-verdict-clause-granted
+returns-in_err-verdict-clause-granted g c = λ sure r all h.
+    let read = c.in_ok-read_all.ensures.bytes r all h in
+    absurd (false≢true (c.in_err-verdict.ensures.granted sure r all read.0 read.2.0))

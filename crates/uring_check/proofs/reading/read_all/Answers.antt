@@ -1,6 +1,7 @@
 use Rattle.std.proofs.Common.{◌≡◌, [], ℕ, take, subst, rules}
 use Rattle.std.specs.Io.KnownBytes.{Consumes}
 use Rattle.uring_check.proofs.Readings.{at_start, all_read, goes_on, not_taken, tried_again, read_alone}
+use Rattle.std.proofs.lemmas.Bool.{false≢true}
 use Rattle.uring_check.proofs.reading.read_all.Goals as goal
 
 pub loop-chunk-init : goal.loop-chunk-init
@@ -25,3 +26,8 @@ loop-chunk-preserved g c = λ setup all h. tried_again setup all _ _ _ c.loop-ch
 pub returns-clause-bytes : goal.returns-clause-bytes
 returns-clause-bytes g c =
     λ setup all h. let so = c.loop-chunk.invariant setup all h in (so.0, so.1, read_alone)
+
+pub returns-in_err-feed-in-Ok-clause-granted : goal.returns-in_err-feed-in-Ok-clause-granted
+returns-in_err-feed-in-Ok-clause-granted g c = λ sure r all h.
+    let so = c.loop-chunk.invariant r all h in
+    absurd (false≢true (c.in_err-feed-in-Ok.ensures.granted sure r all so.0 so.2))

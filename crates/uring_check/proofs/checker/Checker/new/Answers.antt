@@ -2,8 +2,8 @@ use Rattle.std.proofs.Common.{[], Some, refl}
 use Rattle.uring_check.specs.Rules.{Rules}
 use Rattle.uring_check.proofs.checker.Checker.new.Goals as goal
 
-pub returns : goal.returns
-returns c = record {
+pub returns-clause-looks : goal.returns-clause-looks
+returns-clause-looks g c = record {
   rules = let g : Rules = record { setup = c.args.setup.now; is_apart = c.args.is_apart } in Some g;
   ruled = refl;
   looked = record {

@@ -1,0 +1,135 @@
+-- What a machine that fits a history never wants, so that the judge of an end refuses for want of memory alone.
+use Rattle.std.proofs.Common.{◌≡◌, ◌≤◌, ℕ, ℤ, ◌∷◌, ◌⊎◌, pos, neg_ℤ, Bool, true, false, List, [], refl, sym, ap, subst, ◌∙◌, inl, inr, arith}
+use Rattle.std.specs.Prelude.{negsuc, if◌then◌else◌, is_some}
+use Rattle.std.proofs.lemmas.Bool.{true≢false}
+use Rattle.uring_entry.specs.Requests.{Requests, is_running}
+use Rattle.uring_entry.specs.Setup.{Setup}
+use Rattle.uring_entry.specs.Submission.{call_length}
+use Rattle.uring_entry.specs.declared.errno.TheConstants.{ENOMEM}
+use Rattle.uring_entry.specs.declared.operation.Outcome.{Outcome}
+use Rattle.uring_files.specs.Contents.{FileContents}
+use Rattle.uring_core.specs.CalledFor.{EndsOn, files_of}
+use Rattle.uring_core.specs.Histories.{History, world}
+use Rattle.uring_core.specs.StepAnswers.{IsEnded, OrAgain, is_spent}
+use Rattle.uring_core.specs.World.{World}
+use Rattle.uring_core.specs.declared.answer.Answer.{Answer}
+use Rattle.uring_core.specs.declared.answer.Answer.TheVariants as answer
+use Rattle.uring_core.specs.declared.step.Step.{Step}
+use Rattle.uring_core.specs.declared.step.Step.TheVariants as step
+use Rattle.uring_core.specs.declared.wanted.Wanted.TheVariants.{AnyEnd}
+use Rattle.uring_check.specs.Checking.{HasOneAnswer, IsWanted, rules_of}
+use Rattle.uring_check.specs.Rules.{Rules, CalledIn, IsCalled}
+use Rattle.uring_check.specs.declared.follower.Follower.{Follower}
+use Rattle.uring_check.proofs.WantedAnswers.{one_answer}
+
+-- answers that no Begin is given
+abbrev IsNoBegin : Answer → Type 0
+IsNoBegin (answer.Ended res bytes) = Unit {0}
+IsNoBegin _ = ⊥
+
+no_begin : (closed opened spent : Bool) (length : ℕ) (a : Answer) → IsNoBegin a
+    → OrAgain (if closed then answer.Closed else if opened then answer.InCall else if spent then answer.Spent else answer.Call length) a
+    → ⊥
+no_begin true opened spent length a is e = subst IsNoBegin e is
+no_begin false true spent length a is e = subst IsNoBegin e is
+no_begin false false true length a is e = subst IsNoBegin e is
+no_begin false false false length a is (inl e) = subst IsNoBegin e is
+no_begin false false false length a is (inr e) = subst IsNoBegin e.0 is
+
+begin_called : (apart : Bool) (g : Setup) (w : World) (count : ℕ) (a : Answer) → IsNoBegin a
+    → CalledIn apart g w (step.Begin count) a → ⊥
+begin_called true g w count a is called = no_begin w.is_closed (is_some w.submission.call) (is_spent w (call_length w.submission count)) (call_length w.submission count) a is called
+begin_called false g w count a is called = no_begin w.is_closed (is_some w.submission.call) (is_spent w (call_length w.submission count)) (call_length w.submission count) a is called
+
+-- ---- any end
+
+abbrev end_with : List ℕ → Answer
+end_with bytes = answer.Ended (pos 0) bytes
+
+abbrev IsNoByte : List ℕ → Type 0
+IsNoByte [] = Unit {0}
+IsNoByte (byte ∷ bytes) = ⊥
+
+abbrev IsSuccess : ℤ → Type 0
+IsSuccess (pos n) = Unit {0}
+IsSuccess (negsuc n) = ⊥
+
+abbrev GivesNoByte : Answer → Type 0
+GivesNoByte (answer.Ended res bytes) = IsNoByte bytes
+GivesNoByte _ = ⊥
+
+two_ends : end_with [] ≡ end_with (0 ∷ []) → ⊥
+two_ends e = subst GivesNoByte e tt
+
+no_memory : pos 0 ≡ neg_ℤ ENOMEM → ⊥
+no_memory e = subst IsSuccess e tt
+
+two_on_files : (files : List FileContents) (r : Requests) (n : ℕ) (running : Bool)
+    → EndsOn files r n running (end_with []) → EndsOn files r n running (end_with (0 ∷ [])) → ⊥
+two_on_files files r n true (inl p) (inl q) =
+    subst (λ (o : Outcome). IsNoByte o.bytes) (p ∙ sym q) tt
+two_on_files files r n true (inr p) q = no_memory (ap (λ (o : Outcome). o.res) p.1)
+two_on_files files r n true (inl p) (inr q) = no_memory (ap (λ (o : Outcome). o.res) q.1)
+two_on_files files r n false p q = subst GivesNoByte p tt
+
+-- such a step is the Finish of a request without files
+abbrev IsAnyhow : Bool → Step → Type 0
+IsAnyhow true (step.Finish n) = Unit {0}
+IsAnyhow _ _ = ⊥
+
+-- every end is called for, behind this history
+abbrev AnyCalled : Rules → History → Step → Type 0
+AnyCalled g h s = (a : Answer) → IsEnded a → IsCalled g h s a
+
+not_one : (g : Rules) (h : History) (s : Step) → AnyCalled g h s → HasOneAnswer s → ⊥
+not_one g h s any one =
+    two_ends (one_answer g h s (end_with []) (end_with (0 ∷ [])) one (any (end_with []) tt) (any (end_with (0 ∷ [])) tt))
+
+-- more than one answer may be called for to these two
+abbrev IsOpen : Step → Type 0
+IsOpen (step.Begin count) = Unit {0}
+IsOpen (step.Finish n) = Unit {0}
+IsOpen _ = ⊥
+
+one_or_open : (s : Step) → HasOneAnswer s ⊎ IsOpen s
+one_or_open (step.Begin count) = inr tt
+one_or_open (step.Finish n) = inr tt
+one_or_open _ = inl tt
+
+open_called : (apart : Bool) (g : Setup) (h : History) (s : Step) → IsOpen s
+    → AnyCalled (record { setup = g; is_apart = apart }) h s → IsAnyhow apart s
+open_called true g h (step.Finish n) is any = tt
+open_called false g h (step.Finish n) is any = absurd (two_on_files (files_of g (world g h)) (world g h).requests n (is_running (world g h).requests n) (any (end_with []) tt) (any (end_with (0 ∷ [])) tt))
+open_called apart g h (step.Begin count) is any =
+    absurd (begin_called apart g (world g h) count (end_with []) tt (any (end_with []) tt))
+open_called apart g h _ is any = absurd is
+
+any_called : (apart : Bool) (g : Setup) (h : History) (s : Step)
+    → AnyCalled (record { setup = g; is_apart = apart }) h s → IsAnyhow apart s
+any_called apart g h s any = elim (one_or_open s) [
+  | inl one ↦ absurd (not_one (record { setup = g; is_apart = apart }) h s any one)
+  | inr is ↦ open_called apart g h s is any
+]
+
+-- any end is wanted of a Finish alone
+pub any_finishes : (m : Follower) (s : Step) (h : History) → IsWanted h m s AnyEnd
+    → ((n : ℕ) → s ≡ step.Finish n → ⊥) → ⊥
+any_finishes m s h is none = go (rules_of m).is_apart s (any_called (rules_of m).is_apart (rules_of m).setup h s is.0.only) none
+  where
+    go : (apart : Bool) (t : Step) → IsAnyhow apart t → ((n : ℕ) → t ≡ step.Finish n → ⊥) → ⊥
+    go true (step.Finish n) any none = none n refl
+    go true _ any none = any
+    go false t any none = any
+
+-- and without files
+pub any_apart : (m : Follower) (s : Step) (h : History) → IsWanted h m s AnyEnd
+    → (rules_of m).is_apart ≡ false → ⊥
+any_apart m s h is off = go (rules_of m).is_apart s (any_called (rules_of m).is_apart (rules_of m).setup h s is.0.only) off
+  where
+    go : (apart : Bool) (t : Step) → IsAnyhow apart t → apart ≡ false → ⊥
+    go true t any off = absurd (true≢false off)
+    go false t any off = any
+
+-- so many elements suffice
+pub at_most : (n : ℕ) → n ≤ n
+at_most n = omega arith
