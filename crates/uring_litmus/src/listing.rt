@@ -1,0 +1,106 @@
+//! The list of all that calls may come to.
+
+ghost use Rattle.std.specs.Prelude.{◌≡◌, ◌++◌, IfOk, OnOk};
+
+use crate::calls::entries_in;
+use crate::form::Form;
+use crate::lines::lines_of;
+use crate::orders::noted;
+use std::alloc::{AllocError, Global};
+use std::io::{Read, Write};
+use uring_entry::{Setup, Sqe};
+use uring_outcomes::{Ending, Found, WalkFault, outcomes_within};
+use uring_play_text::{PlayFault, read_calls};
+use uring_text::{Calls, push_number, push_text, write_all};
+
+/// Reads calls, as `uring play` does, and writes what they may come to on empty files of this set-up, a line an outcome, sorted by bytes, and then how many lines these are. The walk stops after so many paths.
+pub fn list<R: Read, W: Write>(
+    alloc: Global,
+    reader: &mut R,
+    writer: &mut W,
+    setup: &Setup,
+    form: Form,
+    most: u64,
+) -> Result<bool, PlayFault> {
+    let Found { endings, is_all } = endings_in(alloc, reader, setup, most)?;
+    let text = text_of(alloc, endings.as_slice(), form, is_all, most);
+    drop(endings);
+    let text = text?;
+    match write_all(writer, text.as_bytes(), &mut Calls::new()) {
+        Ok(()) => Ok(is_all),
+        Err(_) => Err(PlayFault::Write),
+    }
+}
+
+/// Reads calls, and finds what they may come to.
+pub(crate) fn endings_in<R: Read>(
+    alloc: Global,
+    reader: &mut R,
+    setup: &Setup,
+    most: u64,
+) -> Result<Found, PlayFault> {
+    let items = read_calls(alloc, reader, setup)?;
+    let calls = entries_in(alloc, items.as_slice());
+    drop(items);
+    let calls = calls?;
+    let found = found_in(alloc, setup, calls.as_slice(), most);
+    drop(calls);
+    found
+}
+
+/// What these calls may come to.
+fn found_in(
+    alloc: Global,
+    setup: &Setup,
+    calls: &[Vec<Sqe>],
+    most: u64,
+) -> Result<Found, PlayFault> {
+    match outcomes_within(alloc, setup, calls, most) {
+        Ok(found) => Ok(found),
+        Err(WalkFault::Memory | WalkFault::Spent | WalkFault::Paths) => Err(PlayFault::Memory),
+    }
+}
+
+/// The lines of these outcomes, and how many they are.
+fn text_of(
+    alloc: Global,
+    endings: &[Ending],
+    form: Form,
+    is_all: bool,
+    most: u64,
+) -> Result<String, AllocError> {
+    let lines = lines_of(alloc, endings, form)?;
+    let shown = noted(alloc, lines, endings, form)?;
+    let mut text = String::new(alloc);
+    push_lines(alloc, &mut text, shown.as_slice())?;
+    push_count(alloc, &mut text, shown.len(), is_all, most)?;
+    drop(shown);
+    Ok(text)
+}
+
+/// Appends the lines, each with its end.
+fn push_lines(alloc: Global, text: &mut String, lines: &[String]) -> Result<(), AllocError> {
+    for line in lines {
+        push_text(&alloc, text, line.as_str())?;
+        push_text(&alloc, text, "\n")?;
+    }
+    Ok(())
+}
+
+/// Appends how many outcomes there are; if the walk stopped before its end, how many at least.
+pub(crate) fn push_count(
+    alloc: Global,
+    text: &mut String,
+    count: usize,
+    is_all: bool,
+    most: u64,
+) -> Result<(), AllocError> {
+    push_text(&alloc, text, "outcomes ")?;
+    push_number(&alloc, text, count as u64)?;
+    if is_all {
+        return push_text(&alloc, text, "\n");
+    }
+    push_text(&alloc, text, " or more: stopped after ")?;
+    push_number(&alloc, text, most)?;
+    push_text(&alloc, text, " paths\n")
+}
