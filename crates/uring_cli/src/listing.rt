@@ -4,8 +4,11 @@ use crate::fault::Fault;
 use crate::outlet::Outlet;
 use crate::unless_closed;
 use std::alloc::Global;
-use std::io::{ErrorKind, Read};
-use uring_litmus::{Claim, Form, Judged, PlayFault, explain, judge, list, parts_of_line};
+use std::io::{ErrorKind, Read, Write};
+use uring_histories::write_history;
+use uring_litmus::{
+    Chosen, Claim, Ending, Form, Judged, PlayFault, choose, judge, list, parts_of_line,
+};
 use uring_options::Setup;
 
 /// The exit status if all went well.
@@ -79,30 +82,65 @@ fn run_claim(
 ) -> Result<u8, Fault> {
     let alloc = rt.alloc();
     let lines = all_parts(alloc, lines)?;
-    let judged = match read_calls(alloc, &mut rt.stdin()) {
-        Ok(input) => judge_to_output(rt, input.as_slice(), setup, claim, lines.as_slice(), most),
+    let ended = match read_calls(alloc, &mut rt.stdin()) {
+        Ok(input) => judge_input(rt, input.as_slice(), setup, claim, lines.as_slice(), most),
         Err(fault) => Err(Fault::Play(fault)),
     };
     drop(lines);
-    Ok(match judged? {
-        Judged::Holds => DONE,
-        Judged::Fails => NOT_SO,
-        Judged::Unknown => UNKNOWN,
-    })
+    ended
 }
 
-/// What became of a claim of lines of these calls.
-fn judge_to_output(
+/// A claim of lines of these calls.
+fn judge_input(
     rt: &HostRuntime,
     input: &[u8],
     setup: &Setup,
     claim: Claim,
     lines: &[Vec<&str>],
     most: u64,
-) -> Result<Judged, Fault> {
+) -> Result<u8, Fault> {
+    let alloc = rt.alloc();
+    let mut reader = input;
+    match judge(alloc, &mut reader, setup, claim, lines, most)? {
+        Judged::Holds { count } => {
+            tell(rt, &format!(in alloc; "so of outcomes {count}\n").map_err(PlayFault::from)?)?;
+            Ok(DONE)
+        }
+        Judged::Unknown { count } => {
+            tell(
+                rt,
+                &format!(in alloc; "not known, so of outcomes {count} or more: stopped after {most} paths\n").map_err(PlayFault::from)?,
+            )?;
+            Ok(UNKNOWN)
+        }
+        Judged::Fails { ending } => {
+            write_shown(rt, input, setup, ending)?;
+            Ok(NOT_SO)
+        }
+    }
+}
+
+/// Writes a text to standard output.
+fn tell(rt: &HostRuntime, text: &str) -> Result<(), Fault> {
     let mut output = Outlet::new(rt.stdout());
-    let judged = judge(rt.alloc(), input, &mut output, setup, claim, lines, most);
-    unless_closed(&output, judged)
+    let written = match output.write_all(text.as_bytes()) {
+        Ok(()) => Ok(()),
+        Err(_) => Err(PlayFault::Write),
+    };
+    unless_closed(&output, written)
+}
+
+/// Writes the history of an outcome of these calls.
+fn write_shown(
+    rt: &HostRuntime,
+    input: &[u8],
+    setup: &Setup,
+    ending: Ending,
+) -> Result<(), Fault> {
+    let mut output = Outlet::new(rt.stdout());
+    let written = write_history(rt.alloc(), &mut output, setup, input, &ending);
+    drop(ending);
+    unless_closed(&output, written)
 }
 
 /// The parts of each of these lines.
@@ -136,20 +174,13 @@ fn run_explained(
     number: u32,
 ) -> Result<u8, Fault> {
     let input = read_calls(rt.alloc(), &mut rt.stdin())?;
-    let mut output = Outlet::new(rt.stdout());
-    let explained = explain(
-        rt.alloc(),
-        input.as_slice(),
-        &mut output,
-        setup,
-        form,
-        most,
-        number,
-    );
-    drop(input);
-    match unless_closed(&output, explained)? {
-        None => Ok(DONE),
-        Some(count) => Err(Fault::NoOutcome(number, count as u64)),
+    let mut reader = input.as_slice();
+    match choose(rt.alloc(), &mut reader, setup, form, most, number)? {
+        Chosen::Outcome { ending } => {
+            write_shown(rt, input.as_slice(), setup, ending)?;
+            Ok(DONE)
+        }
+        Chosen::Missing { count } => Err(Fault::NoOutcome(number, count as u64)),
     }
 }
 

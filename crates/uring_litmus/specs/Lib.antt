@@ -1,3 +1,5 @@
 pub mod Items
 pub mod Parts
 pub mod Lines
+pub mod Listings
+pub mod Claims

@@ -2,6 +2,7 @@
 use Rattle.std.specs.Prelude.{◌≡◌, ℕ, List, [], ◌∷◌, ◌++◌, flat_map, Contains, codes}
 use Rattle.std.specs.Ordering.{nat_cmp}
 use Rattle.std.specs.Cmp.Lexicographic.{slice_cmp}
+use Rattle.std.specs.List.{AllZip}
 use Rattle.std.specs.List.Sorted.{IsStrictlySortedBy}
 use Rattle.uring_outcomes.specs.Outcomes.{Ending}
 use Rattle.uring_litmus.specs.declared.form.Form.{Form}
@@ -24,10 +25,7 @@ pub record IsLineOf (form : Form) (e : Ending) (line : List ℕ) : Type 0 where
 
 -- the lines show these outcomes, one each, in order
 abbrev pub AreLinesOf : Form → List Ending → List (List ℕ) → Type 0
-AreLinesOf form [] [] = Unit {0}
-AreLinesOf form [] (line ∷ lines) = ⊥
-AreLinesOf form (e ∷ endings) [] = ⊥
-AreLinesOf form (e ∷ endings) (line ∷ lines) = IsLineOf form e line × AreLinesOf form endings lines
+AreLinesOf form endings lines = AllZip (IsLineOf form) endings lines
 
 -- the same lines in the order of their bytes, each once
 pub record IsSortedOnce (old new : List (List ℕ)) : Type 0 where

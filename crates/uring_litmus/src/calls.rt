@@ -1,6 +1,6 @@
 //! The entries of calls.
 
-ghost use Rattle.std.specs.Prelude.{◌≡◌, ◌++◌, IfOk, OnOk, map};
+ghost use Rattle.std.specs.Prelude.{◌≡◌, ◌++◌, ◌∷◌, [], IfOk, OnOk, map};
 ghost use Rattle.uring_outcomes.specs.Runs.{entries_of};
 ghost use Rattle.uring_play_text.specs.Inputs.{lists_of};
 ghost use Rattle.uring_litmus.specs.Items.{accepted_of, entry_of};

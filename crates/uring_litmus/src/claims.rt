@@ -1,12 +1,13 @@
 //! Claims of what calls may come to.
 
-ghost use Rattle.std.specs.Prelude.{◌≡◌, ◌++◌, ◌<◌, ◌↔◌, IfOk, OnOk, IsTrue, length, map};
+ghost use Rattle.std.specs.Prelude.{◌≡◌, ◌↔◌, ◌<◌, IfOk, IsTrue, MatchOption, All, length};
+ghost use Rattle.uring_litmus.specs.Parts.{texts_of};
+ghost use Rattle.uring_litmus.specs.Claims.{wanted_of, parts_wanted, IsWithin, ShowsSome, IsSo, IsFirstAgainst, without_first as wanted_without};
 
 use crate::form::Form;
 use crate::parts::parts_of;
 use std::alloc::{AllocError, Global};
 use uring_outcomes::Ending;
-use uring_text::{spelled_long, spelled_number, spelled_signed, split_tokens};
 
 /// What is claimed of lines.
 #[derive(Clone, Copy, Debug, PartialEq, Eq)]
@@ -18,19 +19,16 @@ pub enum Claim {
     Always,
 }
 
-/// What is shown of an outcome of which something is claimed: the completions in their order, and the files.
-pub(crate) const WHOLE: Form = Form {
-    is_sorted: false,
-    has_files: true,
-};
-
 /// The first of these outcomes of which the claim isn't so, if there is one.
 pub(crate) fn first_against(
     alloc: Global,
     endings: &[Ending],
     claim: Claim,
     lines: &[Vec<&str>],
-) -> Result<Option<usize>, AllocError> {
+) -> Result<Option<usize>, AllocError>
+    ensures { IfOk result
+        (λ found. IsFirstAgainst claim (wanted_of lines.now) endings.now found) }
+{
     for (at, ending) in endings.iter().enumerate() {
         if !is_so_of(alloc, ending, claim, lines)? {
             return Ok(Some(at));
@@ -45,8 +43,15 @@ fn is_so_of(
     ending: &Ending,
     claim: Claim,
     lines: &[Vec<&str>],
-) -> Result<bool, AllocError> {
-    let parts = parts_of(alloc, ending, WHOLE)?;
+) -> Result<bool, AllocError>
+    ensures { IfOk result
+        (λ so. IsTrue so ↔ IsSo claim (wanted_of lines.now) ending.now) }
+{
+    let whole = Form {
+        is_sorted: false,
+        has_files: true,
+    };
+    let parts = parts_of(alloc, ending, whole)?;
     let is_shown = shows_some(parts.as_slice(), lines);
     drop(parts);
     Ok(match claim {
@@ -56,7 +61,9 @@ fn is_so_of(
 }
 
 /// Whether these parts of an outcome show some of these lines.
-fn shows_some(parts: &[String], lines: &[Vec<&str>]) -> bool {
+fn shows_some(parts: &[String], lines: &[Vec<&str>]) -> bool
+    ensures { IsTrue result ↔ ShowsSome (wanted_of lines.now) (texts_of parts.now) }
+{
     for line in lines {
         if shows(parts, line.as_slice()) {
             return true;
@@ -66,7 +73,9 @@ fn shows_some(parts: &[String], lines: &[Vec<&str>]) -> bool {
 }
 
 /// Whether the parts of a line are among these parts of an outcome, in this order.
-fn shows(parts: &[String], line: &[&str]) -> bool {
+fn shows(parts: &[String], line: &[&str]) -> bool
+    ensures { IsTrue result ↔ IsWithin (parts_wanted line.now) (texts_of parts.now) }
+{
     let mut wanted = line;
     for part in parts {
         wanted = without_first(wanted, part.as_str());
@@ -75,72 +84,11 @@ fn shows(parts: &[String], line: &[&str]) -> bool {
 }
 
 /// The parts that are still wanted behind this part of an outcome.
-fn without_first<'a, 'b>(wanted: &'b [&'a str], part: &str) -> &'b [&'a str] {
+fn without_first<'a, 'b>(wanted: &'b [&'a str], part: &str) -> &'b [&'a str]
+    ensures { parts_wanted result.now ≡ wanted_without (parts_wanted wanted.entry.now) part.now }
+{
     match wanted {
         [first, rest @ ..] if *first == part => rest,
         _ => wanted,
     }
-}
-
-/// The parts of a line, if each is one that an outcome may have: a completion, a file, or `none`.
-pub fn parts_of_line<'a>(
-    alloc: Global,
-    line: &'a str,
-) -> Result<Option<Vec<&'a str>>, AllocError> {
-    let mut parts = Vec::new(alloc);
-    for part in line.split(", ") {
-        if !is_part(alloc, part)? {
-            drop(parts);
-            return Ok(None);
-        }
-        parts.push(part)?;
-    }
-    Ok(Some(parts))
-}
-
-/// Whether an outcome may have this part.
-fn is_part(alloc: Global, part: &str) -> Result<bool, AllocError> {
-    let tokens = split_tokens(alloc, part.as_bytes())?;
-    Ok(match tokens.as_slice() {
-        [b"none"] => true,
-        [b"cqe", user_data, result, bytes] => {
-            spelled_long(user_data).is_some()
-                && spelled_signed(result).is_some()
-                && is_data(bytes)
-        }
-        [
-            b"file",
-            fd,
-            b"len",
-            len,
-            b"writes",
-            writes,
-            b"synced",
-            synced,
-            b"data",
-            bytes,
-        ] => {
-            spelled_number(fd).is_some()
-                && spelled_number(len).is_some()
-                && spelled_long(writes).is_some()
-                && spelled_long(synced).is_some()
-                && is_data(bytes)
-        }
-        _ => false,
-    })
-}
-
-/// Whether this is `-`, or two lower case hexadecimal digits for each byte of some.
-fn is_data(token: &[u8]) -> bool {
-    token == b"-".as_slice() || !token.is_empty() && token.len() % 2 == 0 && are_digits(token)
-}
-
-/// Whether these are lower case hexadecimal digits.
-fn are_digits(token: &[u8]) -> bool {
-    for byte in token {
-        if !matches!(byte, b'0'..=b'9' | b'a'..=b'f') {
-            return false;
-        }
-    }
-    true
 }

@@ -1,135 +1,154 @@
-//! Claims that are judged, and outcomes that are explained.
+//! Claims that are judged, and outcomes that are chosen.
+
+ghost use Rattle.std.specs.Prelude.{◌<◌, IfOk, IfSome, Contains, length};
+ghost use Rattle.uring_litmus.specs.Claims.{wanted_of, Judges, IsVerdictOn, Chooses, IsOneOf};
 
 use crate::claims::{Claim, first_against};
 use crate::form::Form;
-use crate::history::write_history;
 use crate::lines::{line_of, lines_of};
-use crate::listing::{endings_in, push_count};
+use crate::listing::endings_in;
 use std::alloc::{AllocError, Global};
-use std::io::Write;
+use std::io::Read;
 use uring_entry::Setup;
 use uring_outcomes::{Ending, Found};
 use uring_play_text::PlayFault;
-use uring_text::{Calls, push_text, write_all};
 
 /// What became of a claim.
-#[derive(Clone, Copy, Debug, PartialEq, Eq)]
+#[derive(Drop)]
 pub enum Judged {
-    /// It is so of each outcome.
-    Holds,
+    /// It is so of each outcome; with their files these are so many.
+    Holds { count: usize },
 
-    /// It isn't so of some outcome.
-    Fails,
+    /// It isn't so of this outcome.
+    Fails { ending: Ending },
 
-    /// It is so of each outcome that was found, but the walk stopped before its end.
-    Unknown,
+    /// It is so of these, but the walk stopped before its end.
+    Unknown { count: usize },
 }
 
-/// Tells whether a claim of lines, each as its parts, is so of all that the calls of `input` may come to on empty files of this set-up. If it isn't, a history is written that comes to an outcome of which it isn't so; else a line that says so.
-pub fn judge<W: Write>(
+/// The outcome of a line of the list.
+#[derive(Drop)]
+pub enum Chosen {
+    /// It is this one.
+    Outcome { ending: Ending },
+
+    /// There is none, but so many lines.
+    Missing { count: usize },
+}
+
+/// Reads calls, as `list` does, and tells whether a claim of lines, each as its parts, is so of all that they may come to on empty files of this set-up. The walk stops after so many paths.
+///
+/// The faults are those of `read_calls`; `Memory` too if the walk is refused memory.
+pub fn judge<R: Read>(
     alloc: Global,
-    input: &[u8],
-    writer: &mut W,
+    reader: &mut R,
     setup: &Setup,
     claim: Claim,
     lines: &[Vec<&str>],
     most: u64,
-) -> Result<Judged, PlayFault> {
-    let Found { endings, is_all } = endings_in(alloc, &mut input_of(input), setup, most)?;
-    let judged = judge_in(
-        alloc,
-        input,
-        writer,
-        setup,
-        claim,
-        lines,
-        endings.as_slice(),
-        is_all,
-        most,
-    );
-    drop(endings);
-    judged
+) -> Result<Judged, PlayFault>
+    ensures { IfOk result
+        (λ verdict. Judges setup.now claim (wanted_of lines.now) verdict (R.remaining reader.old) (R.remaining reader.new)) }
+{
+    let Found { endings, is_all } = endings_in(alloc, reader, setup, most)?;
+    Ok(verdict_on(alloc, endings, is_all, claim, lines)?)
 }
 
-/// These bytes, to be read.
-fn input_of(input: &[u8]) -> &[u8] {
-    input
-}
-
-/// The same of these outcomes.
-fn judge_in<W: Write>(
+/// The verdict on a claim of these outcomes, which are all or not.
+fn verdict_on(
     alloc: Global,
-    input: &[u8],
-    writer: &mut W,
-    setup: &Setup,
-    claim: Claim,
-    lines: &[Vec<&str>],
-    endings: &[Ending],
+    endings: Vec<Ending>,
     is_all: bool,
-    most: u64,
-) -> Result<Judged, PlayFault> {
-    let against = first_against(alloc, endings, claim, lines)?;
-    if let Some(at) = against {
-        if let Some(ending) = endings.get(at) {
-            write_history(alloc, writer, setup, input, ending)?;
+    claim: Claim,
+    lines: &[Vec<&str>],
+) -> Result<Judged, AllocError>
+    ensures { IfOk result
+        (λ verdict. IsVerdictOn claim (wanted_of lines.now) is_all endings.items verdict) }
+{
+    let against = first_against(alloc, endings.as_slice(), claim, lines);
+    let count = endings.len();
+    match against {
+        Ok(Some(at)) => Ok(Judged::Fails {
+            ending: taken(endings, at),
+        }),
+        Ok(None) => {
+            drop(endings);
+            Ok(if is_all {
+                Judged::Holds { count }
+            } else {
+                Judged::Unknown { count }
+            })
         }
-        return Ok(Judged::Fails);
-    }
-    write_held(alloc, writer, endings.len(), is_all, most)?;
-    Ok(if is_all { Judged::Holds } else { Judged::Unknown })
-}
-
-/// Writes of how many outcomes a claim is so.
-fn write_held<W: Write>(
-    alloc: Global,
-    writer: &mut W,
-    count: usize,
-    is_all: bool,
-    most: u64,
-) -> Result<(), PlayFault> {
-    let mut text = String::new(alloc);
-    push_text(&alloc, &mut text, if is_all { "so of " } else { "not known, so of " })?;
-    push_count(alloc, &mut text, count, is_all, most)?;
-    match write_all(writer, text.as_bytes(), &mut Calls::new()) {
-        Ok(()) => Ok(()),
-        Err(_) => Err(PlayFault::Write),
+        Err(error) => {
+            drop(endings);
+            Err(error)
+        }
     }
 }
 
-/// Writes a history of the calls of `input` that comes to the outcome of this line of their list in this form, counted from 1. If the list has fewer, nothing is written, and how many it has is returned.
-pub fn explain<W: Write>(
+/// The outcome at this place; the others are dropped.
+fn taken(endings: Vec<Ending>, at: usize) -> Ending
+    requires { at < length endings.items }
+    ensures { Contains endings.items result }
+{
+    let mut rest = endings;
+    let ending = rest.swap_remove(at);
+    drop(rest);
+    ending
+}
+
+/// Reads calls, as `list` does, and returns an outcome that the line of this number shows, counted from 1, of their list in this form.
+///
+/// The faults are those of `judge`.
+pub fn choose<R: Read>(
     alloc: Global,
-    input: &[u8],
-    writer: &mut W,
+    reader: &mut R,
     setup: &Setup,
     form: Form,
     most: u64,
     number: u32,
-) -> Result<Option<usize>, PlayFault> {
-    let Found { endings, .. } = endings_in(alloc, &mut input_of(input), setup, most)?;
-    let explained = explain_in(
-        alloc,
-        input,
-        writer,
-        setup,
-        form,
-        number,
-        endings.as_slice(),
-    );
-    drop(endings);
-    explained
+) -> Result<Chosen, PlayFault>
+    ensures { IfOk result
+        (λ choice. Chooses setup.now choice (R.remaining reader.old) (R.remaining reader.new)) }
+{
+    let Found { endings, .. } = endings_in(alloc, reader, setup, most)?;
+    Ok(choice_of(alloc, endings, form, number)?)
 }
 
-/// The same of these outcomes.
-fn explain_in<W: Write>(
+/// The outcome of the line of this number.
+fn choice_of(
     alloc: Global,
-    input: &[u8],
-    writer: &mut W,
-    setup: &Setup,
+    endings: Vec<Ending>,
     form: Form,
     number: u32,
+) -> Result<Chosen, AllocError>
+    ensures { IfOk result (λ choice. IsOneOf endings.items choice) }
+{
+    let found = place_of(alloc, endings.as_slice(), form, number);
+    match found {
+        Ok(Ok(at)) => Ok(Chosen::Outcome {
+            ending: taken(endings, at),
+        }),
+        Ok(Err(count)) => {
+            drop(endings);
+            Ok(Chosen::Missing { count })
+        }
+        Err(error) => {
+            drop(endings);
+            Err(error)
+        }
+    }
+}
+
+/// The place of an outcome that the line of this number shows, or how many lines there are.
+fn place_of(
+    alloc: Global,
     endings: &[Ending],
-) -> Result<Option<usize>, PlayFault> {
+    form: Form,
+    number: u32,
+) -> Result<Result<usize, usize>, AllocError>
+    ensures { IfOk result (λ found. IfOk found (λ at. at < length endings.now)) }
+{
     let lines = lines_of(alloc, endings, form)?;
     let count = lines.len();
     let at = match lines.get((number as usize).saturating_sub(1)) {
@@ -137,13 +156,7 @@ fn explain_in<W: Write>(
         None => Ok(None),
     };
     drop(lines);
-    let Some(at) = at? else {
-        return Ok(Some(count));
-    };
-    if let Some(ending) = endings.get(at) {
-        write_history(alloc, writer, setup, input, ending)?;
-    }
-    Ok(None)
+    Ok(at?.ok_or(count))
 }
 
 /// The first of these outcomes that this line shows in this form.
@@ -152,7 +165,9 @@ fn first_of_line(
     endings: &[Ending],
     form: Form,
     line: &str,
-) -> Result<Option<usize>, AllocError> {
+) -> Result<Option<usize>, AllocError>
+    ensures { IfOk result (λ found. IfSome found (λ at. at < length endings.now)) }
+{
     for (at, ending) in endings.iter().enumerate() {
         let shown = line_of(alloc, ending, form)?;
         let is_same = shown.as_str() == line;

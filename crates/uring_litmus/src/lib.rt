@@ -1,21 +1,21 @@
-//! Everything that calls may come to, as text: the outcomes line by line, claims about them, and the histories that show them.
+//! Everything that calls may come to, as text: the outcomes line by line, and claims about them.
 #![tactic(auto)]
 
-mod attempt;
 mod calls;
 mod claims;
 mod form;
-mod history;
 mod judging;
 mod lines;
 mod listing;
 mod orders;
 mod parts;
-mod scripts;
-mod search;
+mod wanted;
 
-pub use claims::{Claim, parts_of_line};
+pub use claims::Claim;
 pub use form::Form;
-pub use judging::{Judged, explain, judge};
+pub use judging::{Chosen, Judged, choose, judge};
+pub use lines::line_of;
 pub use listing::list;
+pub use uring_outcomes::Ending;
 pub use uring_play_text::PlayFault;
+pub use wanted::parts_of_line;

@@ -64,7 +64,7 @@ fn push_line(
 }
 
 /// The line of an outcome.
-pub(crate) fn line_of(alloc: Global, ending: &Ending, form: Form) -> Result<String, AllocError>
+pub fn line_of(alloc: Global, ending: &Ending, form: Form) -> Result<String, AllocError>
     ensures { IfOk result (λ line. IsLineOf form ending.now (string_bytes line)) }
 {
     let parts = parts_of(alloc, ending, form)?;

@@ -1,6 +1,10 @@
 //! The list of all that calls may come to.
 
-ghost use Rattle.std.specs.Prelude.{◌≡◌, ◌++◌, IfOk, OnOk};
+ghost use Rattle.std.specs.Prelude.{◌≡◌, ◌++◌, IfOk, OnOk, true, string_bytes};
+ghost use Rattle.uring_litmus.specs.Parts.{texts_of};
+ghost use Rattle.uring_litmus.specs.Listings.{IsListOf, Finds, Lists, lines_text, count_text};
+ghost use Rattle.uring_outcomes.specs.Outcomes.{AreAllEndings, AreEndings};
+ghost use Rattle.uring_outcomes.specs.Runs.{entries_of};
 
 use crate::calls::entries_in;
 use crate::form::Form;
@@ -13,7 +17,11 @@ use uring_outcomes::{Ending, Found, WalkFault, outcomes_within};
 use uring_play_text::{PlayFault, read_calls};
 use uring_text::{Calls, push_number, push_text, write_all};
 
-/// Reads calls, as `uring play` does, and writes what they may come to on empty files of this set-up, a line an outcome, sorted by bytes, and then how many lines these are. The walk stops after so many paths.
+/// Reads calls, as `uring play` does, and writes what they may come to on empty files of this set-up, a line an outcome, sorted by bytes, and then how many lines these are. The walk stops after so many paths; whether it went to its end, so that these are all, is returned.
+///
+/// - `Line`, `Long`, `Read`: as of `read_calls`. Nothing is written.
+/// - `Write`: a write failed or took no byte, or 2^64 - 1 writes were made. What is written is cut short.
+/// - `Memory`: memory was refused. Nothing is written.
 pub fn list<R: Read, W: Write>(
     alloc: Global,
     reader: &mut R,
@@ -21,7 +29,10 @@ pub fn list<R: Read, W: Write>(
     setup: &Setup,
     form: Form,
     most: u64,
-) -> Result<bool, PlayFault> {
+) -> Result<bool, PlayFault>
+    ensures { IfOk result
+        (λ is_all. Lists form setup.now most is_all (R.remaining reader.old) (R.remaining reader.new) (W.contents writer.old) (W.contents writer.new)) }
+{
     let Found { endings, is_all } = endings_in(alloc, reader, setup, most)?;
     let text = text_of(alloc, endings.as_slice(), form, is_all, most);
     drop(endings);
@@ -38,7 +49,10 @@ pub(crate) fn endings_in<R: Read>(
     reader: &mut R,
     setup: &Setup,
     most: u64,
-) -> Result<Found, PlayFault> {
+) -> Result<Found, PlayFault>
+    ensures { IfOk result
+        (λ found. Finds setup.now found.endings.items found.is_all (R.remaining reader.old) (R.remaining reader.new)) }
+{
     let items = read_calls(alloc, reader, setup)?;
     let calls = entries_in(alloc, items.as_slice());
     drop(items);
@@ -54,7 +68,12 @@ fn found_in(
     setup: &Setup,
     calls: &[Vec<Sqe>],
     most: u64,
-) -> Result<Found, PlayFault> {
+) -> Result<Found, PlayFault>
+    ensures right { IfOk result
+        (λ found. AreEndings setup.now (entries_of calls.now) found.endings.items) }
+    ensures all { IfOk result
+        (λ found. found.is_all ≡ true → AreAllEndings setup.now (entries_of calls.now) found.endings.items) }
+{
     match outcomes_within(alloc, setup, calls, most) {
         Ok(found) => Ok(found),
         Err(WalkFault::Memory | WalkFault::Spent | WalkFault::Paths) => Err(PlayFault::Memory),
@@ -68,7 +87,9 @@ fn text_of(
     form: Form,
     is_all: bool,
     most: u64,
-) -> Result<String, AllocError> {
+) -> Result<String, AllocError>
+    ensures { IfOk result (λ text. IsListOf form endings.now is_all most (string_bytes text)) }
+{
     let lines = lines_of(alloc, endings, form)?;
     let shown = noted(alloc, lines, endings, form)?;
     let mut text = String::new(alloc);
@@ -79,7 +100,10 @@ fn text_of(
 }
 
 /// Appends the lines, each with its end.
-fn push_lines(alloc: Global, text: &mut String, lines: &[String]) -> Result<(), AllocError> {
+fn push_lines(alloc: Global, text: &mut String, lines: &[String]) -> Result<(), AllocError>
+    ensures { OnOk result
+        (string_bytes text.new ≡ string_bytes text.old ++ lines_text (texts_of lines.now)) }
+{
     for line in lines {
         push_text(&alloc, text, line.as_str())?;
         push_text(&alloc, text, "\n")?;
@@ -94,7 +118,10 @@ pub(crate) fn push_count(
     count: usize,
     is_all: bool,
     most: u64,
-) -> Result<(), AllocError> {
+) -> Result<(), AllocError>
+    ensures { OnOk result
+        (string_bytes text.new ≡ string_bytes text.old ++ count_text count is_all most) }
+{
     push_text(&alloc, text, "outcomes ")?;
     push_number(&alloc, text, count as u64)?;
     if is_all {

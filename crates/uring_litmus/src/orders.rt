@@ -1,5 +1,11 @@
 //! How many orders the sorted completions of a line have.
 
+ghost use Rattle.std.specs.Prelude.{◌≡◌, ◌++◌, ◌∷◌, [], List, ℕ, IfOk, OnOk, codes, true, string_bytes};
+ghost use Rattle.std.specs.Fmt.{decimal};
+ghost use Rattle.std.specs.List.{AllZip};
+ghost use Rattle.uring_litmus.specs.Parts.{texts_of};
+ghost use Rattle.uring_litmus.specs.Listings.{IsNoted};
+
 use crate::form::Form;
 use crate::lines::{line_of, sort_once};
 use std::alloc::{AllocError, Global};
@@ -18,17 +24,31 @@ pub(crate) fn noted(
     lines: Vec<String>,
     endings: &[Ending],
     form: Form,
-) -> Result<Vec<String>, AllocError> {
+) -> Result<Vec<String>, AllocError>
+    ensures { IfOk result
+        (λ shown. AllZip (IsNoted form.is_sorted) (texts_of lines.items) (texts_of shown.items)) }
+{
     if !form.is_sorted {
         return Ok(lines);
     }
-    let pairs = pairs_of(alloc, endings, form);
-    let shown = match &pairs {
-        Ok(pairs) => note_all(alloc, lines.as_slice(), pairs.as_slice()),
-        Err(error) => Err(*error),
-    };
-    drop(pairs);
+    let shown = noted_by(alloc, lines.as_slice(), endings, form);
     drop(lines);
+    shown
+}
+
+/// Each line with its note.
+fn noted_by(
+    alloc: Global,
+    lines: &[String],
+    endings: &[Ending],
+    form: Form,
+) -> Result<Vec<String>, AllocError>
+    ensures { IfOk result
+        (λ shown. AllZip (IsNoted true) (texts_of lines.now) (texts_of shown.items)) }
+{
+    let pairs = pairs_of(alloc, endings, form)?;
+    let shown = note_all(alloc, lines, pairs.as_slice());
+    drop(pairs);
     shown
 }
 
@@ -51,12 +71,15 @@ fn push_order(alloc: Global, pair: &mut String, ending: &Ending) -> Result<(), A
     push_text(&alloc, pair, order.as_str())
 }
 
-/// Each line with its note.
+/// Each line with its note, by these pairs.
 fn note_all(
     alloc: Global,
     lines: &[String],
     pairs: &[String],
-) -> Result<Vec<String>, AllocError> {
+) -> Result<Vec<String>, AllocError>
+    ensures { IfOk result
+        (λ shown. AllZip (IsNoted true) (texts_of lines.now) (texts_of shown.items)) }
+{
     let mut shown = Vec::new(alloc);
     for line in lines {
         let noted = with_note(alloc, line.as_str(), pairs)?;
@@ -66,16 +89,23 @@ fn note_all(
 }
 
 /// A line with its note.
-fn with_note(alloc: Global, line: &str, pairs: &[String]) -> Result<String, AllocError> {
+fn with_note(alloc: Global, line: &str, pairs: &[String]) -> Result<String, AllocError>
+    ensures { IfOk result (λ text. IsNoted true line.now (string_bytes text)) }
+{
+    let count = count_of(alloc, line, pairs)?;
     let mut text = String::new(alloc);
-    push_text(&alloc, &mut text, line)?;
-    push_text(&alloc, &mut text, "\n")?;
-    let count = count_with(pairs, text.as_bytes());
-    text.clear();
     push_text(&alloc, &mut text, line)?;
     push_text(&alloc, &mut text, "  # orders ")?;
     push_number(&alloc, &mut text, count)?;
     Ok(text)
+}
+
+/// How many of these are of this line.
+fn count_of(alloc: Global, line: &str, pairs: &[String]) -> Result<u64, AllocError> {
+    let mut beginning = String::new(alloc);
+    push_text(&alloc, &mut beginning, line)?;
+    push_text(&alloc, &mut beginning, "\n")?;
+    Ok(count_with(pairs, beginning.as_bytes()))
 }
 
 /// How many of these begin so.

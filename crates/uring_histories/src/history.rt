@@ -1,21 +1,28 @@
 //! The history of an outcome, as a recorded trace.
 
-use crate::lines::line_of;
-use crate::claims::WHOLE;
 use crate::scripts::{push_times, scripts_of, steps_of};
 use crate::search::moves_to;
 use std::alloc::{AllocError, Global};
 use std::cmp::min;
 use std::io::Write;
 use uring_entry::Setup;
+use uring_litmus::{Form, PlayFault, line_of};
 use uring_moves::Move;
 use uring_outcomes::Ending;
-use uring_play_text::PlayFault;
 use uring_text::{Calls, TraceFault, push_number, push_text, write_all};
 use uring_trace::trace;
 
-/// Writes a history of these calls that comes to this outcome, as `uring check` reads it: the set-up, the outcome, and each step with its answer.
-pub(crate) fn write_history<W: Write>(
+/// What the remark on an outcome shows: its completions in their order, and its files.
+const WHOLE: Form = Form {
+    is_sorted: false,
+    has_files: true,
+};
+
+/// Writes a history of these calls that comes to this outcome, as `uring check` reads it: the set-up, the outcome, and each step with its answer. `input` has the calls, in the language of plays. If the search finds no moves that come to the outcome, no step of a call is written.
+///
+/// - `Write`: a write failed or took no byte, or 2^64 - 1 writes were made. What is written is cut short.
+/// - `Memory`: memory was refused.
+pub fn write_history<W: Write>(
     alloc: Global,
     writer: &mut W,
     setup: &Setup,
