@@ -103,13 +103,18 @@ fn judge_input(
     let mut reader = input;
     match judge(alloc, &mut reader, setup, claim, lines, most)? {
         Judged::Holds { count } => {
-            tell(rt, &format!(in alloc; "so of outcomes {count}\n").map_err(PlayFault::from)?)?;
+            tell(
+                rt,
+                &format!(in alloc; "so of outcomes {count}\n").map_err(PlayFault::from)?,
+            )?;
             Ok(DONE)
         }
         Judged::Unknown { count } => {
             tell(
                 rt,
-                &format!(in alloc; "not known, so of outcomes {count} or more: stopped after {most} paths\n").map_err(PlayFault::from)?,
+                &format!(in alloc;
+                    "not known, so of outcomes {count} or more: stopped after {most} paths\n"
+                ).map_err(PlayFault::from)?,
             )?;
             Ok(UNKNOWN)
         }
@@ -131,12 +136,7 @@ fn tell(rt: &HostRuntime, text: &str) -> Result<(), Fault> {
 }
 
 /// Writes the history of an outcome of these calls.
-fn write_shown(
-    rt: &HostRuntime,
-    input: &[u8],
-    setup: &Setup,
-    ending: Ending,
-) -> Result<(), Fault> {
+fn write_shown(rt: &HostRuntime, input: &[u8], setup: &Setup, ending: Ending) -> Result<(), Fault> {
     let mut output = Outlet::new(rt.stdout());
     let written = write_history(rt.alloc(), &mut output, setup, input, &ending);
     drop(ending);

@@ -9,8 +9,8 @@ mod strict;
 mod telling;
 
 use crate::fault::Fault;
-use crate::outlet::Outlet;
 use crate::listing::{Wanted, claim_of, run_outcomes};
+use crate::outlet::Outlet;
 use crate::paged::{run_page, run_recorded_page};
 use crate::strict::StrictReader;
 use crate::telling::tell;

@@ -46,7 +46,9 @@ fn text_of(alloc: Global, fault: &Fault) -> Result<String, AllocError> {
             format!(in alloc; "uring: no file {file}: there are {files}, from 0 on\n")
         }
         Fault::NoLine(0) => format!(in alloc; "uring: no line to look for behind --\n"),
-        Fault::NoLine(at) => format!(in alloc; "uring: line {at} behind -- is none of an outcome\n"),
+        Fault::NoLine(at) => format!(in alloc;
+            "uring: line {at} behind -- is none of an outcome\n"
+        ),
         Fault::NoOutcome(number, count) => {
             format!(in alloc; "uring: no outcome {number}: there are {count}, from 1 on\n")
         }

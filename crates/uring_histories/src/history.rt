@@ -81,7 +81,12 @@ fn history_of(
         drop(moves);
     }
     drop(scripts);
-    push_reaps(alloc, &mut text, ending.posted().len() as u64, u64::from(setup.cq()))?;
+    push_reaps(
+        alloc,
+        &mut text,
+        ending.posted().len() as u64,
+        u64::from(setup.cq()),
+    )?;
     Ok(text)
 }
 

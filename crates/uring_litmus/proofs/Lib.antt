@@ -4,3 +4,4 @@ pub mod FileTexts
 pub mod SortedOnce
 pub mod Listed
 pub mod Within
+pub mod CallEntries

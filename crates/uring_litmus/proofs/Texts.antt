@@ -1,5 +1,5 @@
 -- Texts in lists, one more at a time.
-use Rattle.std.proofs.Common.{◌≡◌, ℕ, ◌+◌, ◌<◌, List, [], ◌∷◌, ◌++◌, length, map, take, get_or, refl, sym, ap, ◌∙◌, append_assoc, rules}
+use Rattle.std.proofs.Common.{◌≡◌, ℕ, ◌+◌, ◌<◌, List, [], ◌∷◌, ◌++◌, length, map, take, get_or, refl, sym, ap, subst, ◌∙◌, append_assoc}
 use Rattle.std.specs.Prelude.{flat_map, string_bytes}
 use Rattle.std.specs.List.{AllZip}
 use Rattle.std.proofs.lemmas.List.{take_more, map-append, append-nil}
@@ -42,3 +42,23 @@ zip_push R [] [] x y all one = (one, tt)
 zip_push R [] (z ∷ ys) x y all one = absurd all
 zip_push R (z ∷ xs) [] x y all one = absurd all
 zip_push R (z ∷ xs) (u ∷ ys) x y all one = (all.0, zip_push R xs ys x y all.1 one)
+
+-- one more text on both sides
+pub zip_texts : (R : List ℕ → List ℕ → Type 0) (lines ys : List (String Global)) (i : ℕ) (line noted : String Global)
+    → i < length lines → line ≡ get_or lines i line → AllZip R (texts_of (take i lines)) (texts_of ys)
+    → R (string_bytes line) (string_bytes noted)
+    → AllZip R (texts_of (take (i + 1) lines)) (texts_of (ys ++ noted ∷ []))
+zip_texts R lines ys i line noted low is all one =
+    let both = zip_push R (texts_of (take i lines)) (texts_of ys) (string_bytes line) (string_bytes noted) all one in
+    let left : texts_of (take (i + 1) lines) ≡ texts_of (take i lines) ++ string_bytes line ∷ [] = ap texts_of (next_taken lines i line low is) ∙ one_more (take i lines) line in
+    subst (λ (l : List (List ℕ)). AllZip R l (texts_of (ys ++ noted ∷ []))) (sym left)
+    (subst (λ (l : List (List ℕ)). AllZip R (texts_of (take i lines) ++ string_bytes line ∷ []) l) (sym (one_more ys noted)) both)
+
+-- one more element, and one more text that it has
+pub zip_more : {X : Type 0} (R : X → List ℕ → Type 0) (xs : List X) (i : ℕ) (x : X) (before after : List (List ℕ)) (line : List ℕ)
+    → i < length xs → x ≡ get_or xs i x → AllZip R (take i xs) before → after ≡ before ++ line ∷ []
+    → R x line → AllZip R (take (i + 1) xs) after
+zip_more R xs i x before after line low is all now one =
+    let both = zip_push R (take i xs) before x line all one in
+    subst (λ (l : List (List ℕ)). AllZip R (take (i + 1) xs) l) (sym now)
+    (subst (λ l. AllZip R l (before ++ line ∷ [])) (sym (next_taken xs i x low is)) both)

@@ -22,11 +22,7 @@ pub(crate) fn entries_in(alloc: Global, calls: &[Vec<Item>]) -> Result<Vec<Vec<S
 }
 
 /// Adds the entries of a call.
-fn push_entries(
-    alloc: Global,
-    all: &mut Vec<Vec<Sqe>>,
-    items: &[Item],
-) -> Result<(), AllocError>
+fn push_entries(alloc: Global, all: &mut Vec<Vec<Sqe>>, items: &[Item]) -> Result<(), AllocError>
     ensures { OnOk result
         (entries_of all.new.items ≡ entries_of all.old.items ++ accepted_of items.now ∷ []) }
 {

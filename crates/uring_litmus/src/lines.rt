@@ -25,11 +25,7 @@ pub(crate) fn lines_of(
 }
 
 /// The line of each outcome.
-fn each_line(
-    alloc: Global,
-    endings: &[Ending],
-    form: Form,
-) -> Result<Vec<String>, AllocError>
+fn each_line(alloc: Global, endings: &[Ending], form: Form) -> Result<Vec<String>, AllocError>
     ensures { IfOk result (λ lines. AreLinesOf form endings.now (texts_of lines.items)) }
 {
     let mut lines = Vec::new(alloc);

@@ -63,12 +63,7 @@ pub(crate) fn endings_in<R: Read>(
 }
 
 /// What these calls may come to.
-fn found_in(
-    alloc: Global,
-    setup: &Setup,
-    calls: &[Vec<Sqe>],
-    most: u64,
-) -> Result<Found, PlayFault>
+fn found_in(alloc: Global, setup: &Setup, calls: &[Vec<Sqe>], most: u64) -> Result<Found, PlayFault>
     ensures right { IfOk result
         (λ found. AreEndings setup.now (entries_of calls.now) found.endings.items) }
     ensures all { IfOk result

@@ -72,11 +72,7 @@ fn push_order(alloc: Global, pair: &mut String, ending: &Ending) -> Result<(), A
 }
 
 /// Each line with its note, by these pairs.
-fn note_all(
-    alloc: Global,
-    lines: &[String],
-    pairs: &[String],
-) -> Result<Vec<String>, AllocError>
+fn note_all(alloc: Global, lines: &[String], pairs: &[String]) -> Result<Vec<String>, AllocError>
     ensures { IfOk result
         (λ shown. AllZip (IsNoted true) (texts_of lines.now) (texts_of shown.items)) }
 {

@@ -69,11 +69,7 @@ fn add_none(alloc: Global, parts: &mut Vec<String>) -> Result<(), AllocError>
 }
 
 /// Adds the text of each completion.
-fn add_each(
-    alloc: Global,
-    parts: &mut Vec<String>,
-    completions: &[Cqe],
-) -> Result<(), AllocError>
+fn add_each(alloc: Global, parts: &mut Vec<String>, completions: &[Cqe]) -> Result<(), AllocError>
     ensures { OnOk result
         (texts_of parts.new.items ≡ texts_of parts.old.items ++ completion_texts completions.now) }
 {

@@ -4,10 +4,7 @@ use std::alloc::{AllocError, Global};
 use uring_text::{spelled_long, spelled_number, spelled_signed, split_tokens};
 
 /// The parts of a line, if each is one that an outcome may have: a completion, a file, or `none`.
-pub fn parts_of_line<'a>(
-    alloc: Global,
-    line: &'a str,
-) -> Result<Option<Vec<&'a str>>, AllocError> {
+pub fn parts_of_line<'a>(alloc: Global, line: &'a str) -> Result<Option<Vec<&'a str>>, AllocError> {
     let mut parts = Vec::new(alloc);
     for part in line.split(", ") {
         if !is_part(alloc, part)? {
@@ -25,9 +22,7 @@ fn is_part(alloc: Global, part: &str) -> Result<bool, AllocError> {
     Ok(match tokens.as_slice() {
         [b"none"] => true,
         [b"cqe", user_data, result, bytes] => {
-            spelled_long(user_data).is_some()
-                && spelled_signed(result).is_some()
-                && is_data(bytes)
+            spelled_long(user_data).is_some() && spelled_signed(result).is_some() && is_data(bytes)
         }
         [
             b"file",
