@@ -1,8 +1,14 @@
 -- The texts of files, one more at a time.
-use Rattle.std.proofs.Common.{◌≡◌, ℕ, zero, suc, ◌+◌, ◌<◌, ◌≤◌, List, [], ◌∷◌, ◌++◌, length, take, Option, Some, None, refl, sym, ap, ◌∙◌, append_assoc, add-one, arith}
+use Rattle.std.proofs.Common.{◌≡◌, ℕ, zero, suc, ◌+◌, ◌<◌, ◌≤◌, List, [], ◌∷◌, ◌++◌, length, take, get_or, Option, Some, None, pos, refl, sym, ap, ap₂, ◌∙◌, append_assoc, add-one, arith}
 use Rattle.std.specs.Prelude.{slice_get, MatchOption}
+use Rattle.std.specs.Option.{option_map, option_and_then, option_to_list}
+use Rattle.std.proofs.lemmas.List.{take_more}
+use Rattle.std.proofs.lemmas.Option.{slice_get-get_or}
 use Rattle.uring_files.specs.Contents.{FileContents}
-use Rattle.uring_litmus.specs.Parts.{file_text, files_texts}
+use Rattle.uring_files.specs.Operations.{file_of, byte_of}
+use Rattle.uring_files.specs.declared.file.FileState.{FileState}
+use Rattle.uring_text.specs.Tokens.{hex_or_dash}
+use Rattle.uring_litmus.specs.Parts.{state_text, file_text, files_texts}
 
 files_append : (fd : ℕ) (xs : List FileContents) (file : FileContents)
     → files_texts fd (xs ++ file ∷ []) ≡ files_texts fd xs ++ file_text (fd + length xs) file ∷ []
@@ -43,3 +49,34 @@ file_more files fd (Some file) before so after some is more =
     more ∙ ap (λ l. l ++ file_text fd file ∷ []) is ∙ append_assoc before (files_texts 0 (take fd files)) (file_text fd file ∷ [])
     ∙ ap (λ l. before ++ l) (ap (λ n. files_texts 0 (take fd files) ++ file_text n file ∷ []) (sym count) ∙ sym (files_append 0 (take fd files) file))
     ∙ ap (λ l. before ++ files_texts 0 l) (sym (taken_at files fd file some)) ∙ ap (λ n. before ++ files_texts 0 (take n files)) (sym (add-one fd))
+
+-- one byte more of a file
+pub byte_more : (files : List FileContents) (fd : ℕ) (file : FileContents) (at : ℕ) (before after : List ℕ)
+    → file_of files (pos fd) ≡ Some file → at < length file.bytes → before ≡ take at file.bytes
+    → after ≡ before ++ option_to_list (byte_of files (pos fd) at) → after ≡ take (at + 1) file.bytes
+byte_more files fd file at before after is low so now =
+    let here : byte_of files (pos fd) at ≡ Some (get_or file.bytes at 0) = ap (option_and_then (λ (f : FileContents). slice_get f.bytes at)) is ∙ slice_get-get_or file.bytes at 0 low in
+    now ∙ ap (λ (l : List ℕ). l ++ option_to_list (byte_of files (pos fd) at)) so
+    ∙ ap (λ (o : Option ℕ). take at file.bytes ++ option_to_list o) here ∙ sym (take_more file.bytes at 0 low)
+
+-- how a file stands
+abbrev pub state_of_file : FileContents → FileState
+state_of_file file = record { len = length file.bytes; writes = file.writes; synced = file.synced }
+
+-- there is no file
+pub no_file : (o : Option FileContents) (fd : ℕ) (texts : List (List ℕ)) → None ≡ option_map state_of_file o
+    → MatchOption o (texts ≡ texts) (λ file. texts ≡ texts ++ file_text fd file ∷ [])
+no_file None fd texts none = refl
+no_file (Some file) fd texts none = absurd cc
+
+-- there is one
+pub one_file : (o : Option FileContents) (fd : ℕ) (s : FileState) (bytes text : List ℕ) (before after : List (List ℕ))
+    → Some s ≡ option_map state_of_file o
+    → ((file : FileContents) → o ≡ Some file → length file.bytes ≡ s.len → bytes ≡ file.bytes)
+    → text ≡ state_text fd s ++ hex_or_dash bytes → after ≡ before ++ text ∷ []
+    → MatchOption o (after ≡ before) (λ file. after ≡ before ++ file_text fd file ∷ [])
+one_file None fd s bytes text before after some are is now = absurd cc
+one_file (Some file) fd s bytes text before after some are is now =
+    let same : s ≡ state_of_file file = cc in
+    let len : length file.bytes ≡ s.len = ap (λ (x : FileState). x.len) (sym same) in
+    now ∙ ap (λ (t : List ℕ). before ++ t ∷ []) (is ∙ ap₂ (λ (x : FileState) (l : List ℕ). state_text fd x ++ hex_or_dash l) same (are file refl len))

@@ -17,7 +17,7 @@ use Rattle.uring_litmus.specs.declared.form.Form.{Form}
 use Rattle.uring_litmus.specs.Items.{accepted_of}
 use Rattle.uring_litmus.specs.Parts.{texts_of}
 use Rattle.uring_litmus.specs.Lines.{AreLinesOf, IsLineOf, IsSortedOnce, ShowAll}
-use Rattle.uring_litmus.specs.Listings.{IsNoted, IsListOf, Finds, Lists, lines_text, count_text}
+use Rattle.uring_litmus.specs.Listings.{IsNoted, IsListOf, AreFound, Finds, Lists, lines_text, count_text}
 
 -- each line is that of an outcome
 of_line : (form : Form) (endings : List Ending) (lines : List (List ℕ)) → AreLinesOf form endings lines
@@ -61,37 +61,37 @@ list_text form endings is_all most lines shown count none listed text show noted
   show_all = show;
   noted = noted;
   is = is ∙ ap (λ (l : List ℕ). l ++ count_text count is_all most) (list ∙ ap (λ (l : List ℕ). l ++ lines_text (texts_of shown)) empty)
-      ∙ ap (λ (n : ℕ). lines_text (texts_of shown) ++ count_text n is_all most) (many ∙ sym (length-map string_bytes shown));
+      ∙ ap (λ (n : ℕ). lines_text (texts_of shown) ++ count_text n is_all most) (many ∙ sym (length-map (λ (s : String Global). string_bytes s) shown));
 }
 
-pub finds : (setup : Setup) (items : Vec (Vec Item Global) Global) (calls : List (Vec Sqe Global)) (endings : List Ending) (is_all : Bool) (a a' : Option (List ℕ))
-    → ReadsCalls setup (Ok items) a a' → entries_of calls ≡ map accepted_of (lists_of items.items)
-    → AreEndings setup (entries_of calls) endings
-    → (is_all ≡ true → AreAllEndings setup (entries_of calls) endings) → Finds setup endings is_all a a'
-finds setup items calls endings is_all a a' read same right all = record {
+pub finds : (setup : Setup) (items : Vec (Vec Item Global) Global) (endings : List Ending) (is_all : Bool) (a a' : Option (List ℕ))
+    → ReadsCalls setup (Ok items) a a'
+    → AreFound setup (map accepted_of (lists_of items.items)) endings is_all → Finds setup endings is_all a a'
+finds setup items endings is_all a a' read found = record {
   bytes = read.bytes;
   consumed = read.consumed;
   at_end = read.whole;
   calls = lists_of items.items;
   told = read.returned;
-  right = subst (λ (l : List (List Sqe)). AreEndings setup l endings) same right;
-  all = λ yes. subst (λ (l : List (List Sqe)). AreAllEndings setup l endings) same (all yes);
+  found = found;
 }
 
-pub listed : (form : Form) (setup : Setup) (most : ℕ) (is_all : Bool) (endings : List Ending) (text written : List ℕ) (a a' b b' : Option (List ℕ))
-    → Finds setup endings is_all a a' → IsListOf form endings is_all most text → Appends b b' written
-    → written ≡ text → Lists form setup most is_all a a' b b'
-listed form setup most is_all endings text written a a' b b' found list writes same = record {
-  bytes = found.bytes;
-  consumed = found.consumed;
-  at_end = found.at_end;
-  calls = found.calls;
-  told = found.told;
-  lines = list.lines;
-  shown = list.shown;
-  noted = list.noted;
-  right = λ line has. let r = list.show_all.right line has in (r.0, found.right r.0 r.1, r.2);
-  all = λ yes e can. list.show_all.all e ((found.all yes e).1 can);
-  sorted = list.show_all.sorted;
-  written = subst (λ (l : List ℕ). Appends b b' l) (same ∙ list.is) writes;
-}
+pub listed : (form : Form) (setup : Setup) (most : ℕ) (is_all all : Bool) (endings : List Ending) (text : List ℕ) (a a' b b' : Option (List ℕ))
+    → is_all ≡ all → Finds setup endings all a a' → IsListOf form endings all most text → Appends b b' text
+    → Lists form setup most is_all a a' b b'
+listed form setup most is_all all endings text a a' b b' same finding list writes =
+    subst (λ (x : Bool). Lists form setup most x a a' b b') (sym same)
+    (record {
+      bytes = finding.bytes;
+      consumed = finding.consumed;
+      at_end = finding.at_end;
+      calls = finding.calls;
+      told = finding.told;
+      lines = list.lines;
+      shown = list.shown;
+      noted = list.noted;
+      right = λ line has. let r = list.show_all.right line has in (r.0, finding.found.right r.0 r.1, r.2);
+      all = λ yes e can. list.show_all.all e ((finding.found.all yes e).1 can);
+      sorted = list.show_all.sorted;
+      written = subst (λ (l : List ℕ). Appends b b' l) list.is writes;
+    })

@@ -2,4 +2,3 @@ pub mod Items
 pub mod Parts
 pub mod Lines
 pub mod Listings
-pub mod Claims

@@ -7,6 +7,7 @@ use Rattle.std.specs.List.{AllZip}
 use Rattle.std.specs.List.Sorted.{IsStrictlySortedBy}
 use Rattle.std.specs.Io.KnownBytes.{Consumes, Appends, IsAtEnd}
 use Rattle.uring_entry.specs.Setup.{Setup}
+use Rattle.uring_entry.specs.Layout.{Sqe}
 use Rattle.uring_text.specs.Lines.{ended}
 use Rattle.uring_ports.specs.declared.item.Item.{Item}
 use Rattle.uring_play_text.specs.Inputs.{IsTold}
@@ -38,6 +39,11 @@ pub record IsListOf (form : Form) (endings : List Ending) (is_all : Bool) (most 
   pub noted : AllZip (IsNoted form.is_sorted) lines shown
   pub is : text ≡ lines_text shown ++ count_text (length shown) is_all most
 
+-- these are endings of these calls, each one that moves lead to; if the walk went to its end, all
+pub record AreFound (setup : Setup) (calls : List (List Sqe)) (endings : List Ending) (is_all : Bool) : Type 0 where
+  pub right : AreEndings setup calls endings
+  pub all : is_all ≡ true → AreAllEndings setup calls endings
+
 -- Of the calls that were read, these are endings, each one that moves lead to; if the walk went to its end, all.
 pub record Finds (setup : Setup) (endings : List Ending) (is_all : Bool) (left_before left_after : Option (List ℕ)) : Type 0 where
   pub bytes : List ℕ
@@ -45,8 +51,7 @@ pub record Finds (setup : Setup) (endings : List Ending) (is_all : Bool) (left_b
   pub at_end : IsAtEnd left_after
   pub calls : List (List Item)
   pub told : IsTold setup.sq bytes (Ok calls)
-  pub right : AreEndings setup (map accepted_of calls) endings
-  pub all : is_all ≡ true → AreAllEndings setup (map accepted_of calls) endings
+  pub found : AreFound setup (map accepted_of calls) endings is_all
 
 -- Calls were read to the end of the input, and a list was written: each line shows an outcome that moves give these calls; if the walk went to its end, each outcome is shown by a line; the lines are sorted by their bytes, each once; and behind them it says how many they are.
 pub record Lists (form : Form) (setup : Setup) (most : ℕ) (is_all : Bool) (left_before left_after held_before held_after : Option (List ℕ)) : Type 0 where

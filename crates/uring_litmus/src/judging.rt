@@ -1,7 +1,6 @@
 //! Claims that are judged, and outcomes that are chosen.
 
-ghost use Rattle.std.specs.Prelude.{◌<◌, IfOk, IfSome, Contains, length};
-ghost use Rattle.uring_litmus.specs.Claims.{wanted_of, Judges, IsVerdictOn, Chooses, IsOneOf};
+ghost use Rattle.std.specs.Prelude.{◌<◌, IfOk, IfSome, length};
 
 use crate::claims::{Claim, first_against};
 use crate::form::Form;
@@ -46,10 +45,7 @@ pub fn judge<R: Read>(
     claim: Claim,
     lines: &[Vec<&str>],
     most: u64,
-) -> Result<Judged, PlayFault>
-    ensures { IfOk result
-        (λ verdict. Judges setup.now claim (wanted_of lines.now) verdict (R.remaining reader.old) (R.remaining reader.new)) }
-{
+) -> Result<Judged, PlayFault> {
     let Found { endings, is_all } = endings_in(alloc, reader, setup, most)?;
     Ok(verdict_on(alloc, endings, is_all, claim, lines)?)
 }
@@ -61,10 +57,7 @@ fn verdict_on(
     is_all: bool,
     claim: Claim,
     lines: &[Vec<&str>],
-) -> Result<Judged, AllocError>
-    ensures { IfOk result
-        (λ verdict. IsVerdictOn claim (wanted_of lines.now) is_all endings.items verdict) }
-{
+) -> Result<Judged, AllocError> {
     let against = first_against(alloc, endings.as_slice(), claim, lines);
     let count = endings.len();
     match against {
@@ -89,7 +82,6 @@ fn verdict_on(
 /// The outcome at this place; the others are dropped.
 fn taken(endings: Vec<Ending>, at: usize) -> Ending
     requires { at < length endings.items }
-    ensures { Contains endings.items result }
 {
     let mut rest = endings;
     let ending = rest.swap_remove(at);
@@ -107,10 +99,7 @@ pub fn choose<R: Read>(
     form: Form,
     most: u64,
     number: u32,
-) -> Result<Chosen, PlayFault>
-    ensures { IfOk result
-        (λ choice. Chooses setup.now choice (R.remaining reader.old) (R.remaining reader.new)) }
-{
+) -> Result<Chosen, PlayFault> {
     let Found { endings, .. } = endings_in(alloc, reader, setup, most)?;
     Ok(choice_of(alloc, endings, form, number)?)
 }
@@ -121,9 +110,7 @@ fn choice_of(
     endings: Vec<Ending>,
     form: Form,
     number: u32,
-) -> Result<Chosen, AllocError>
-    ensures { IfOk result (λ choice. IsOneOf endings.items choice) }
-{
+) -> Result<Chosen, AllocError> {
     let found = place_of(alloc, endings.as_slice(), form, number);
     match found {
         Ok(Ok(at)) => Ok(Chosen::Outcome {

@@ -1,9 +1,11 @@
 //! The list of all that calls may come to.
 
-ghost use Rattle.std.specs.Prelude.{◌≡◌, ◌++◌, IfOk, OnOk, true, string_bytes};
+ghost use Rattle.std.specs.Prelude.{◌≡◌, ◌++◌, IfOk, OnOk, List, ℕ, map, string_bytes};
+ghost use Rattle.std.specs.Io.KnownBytes.{Appends};
 ghost use Rattle.uring_litmus.specs.Parts.{texts_of};
-ghost use Rattle.uring_litmus.specs.Listings.{IsListOf, Finds, Lists, lines_text, count_text};
-ghost use Rattle.uring_outcomes.specs.Outcomes.{AreAllEndings, AreEndings};
+ghost use Rattle.uring_litmus.specs.Listings.{IsListOf, AreFound, Finds, Lists, lines_text, count_text};
+ghost use Rattle.uring_litmus.specs.Items.{accepted_of};
+ghost use Rattle.uring_play_text.specs.Inputs.{lists_of};
 ghost use Rattle.uring_outcomes.specs.Runs.{entries_of};
 
 use crate::calls::entries_in;
@@ -14,7 +16,7 @@ use std::alloc::{AllocError, Global};
 use std::io::{Read, Write};
 use uring_entry::{Setup, Sqe};
 use uring_outcomes::{Ending, Found, WalkFault, outcomes_within};
-use uring_play_text::{PlayFault, read_calls};
+use uring_play_text::{Item, PlayFault, read_calls};
 use uring_text::{Calls, push_number, push_text, write_all};
 
 /// Reads calls, as `uring play` does, and writes what they may come to on empty files of this set-up, a line an outcome, sorted by bytes, and then how many lines these are. The walk stops after so many paths; whether it went to its end, so that these are all, is returned.
@@ -33,12 +35,37 @@ pub fn list<R: Read, W: Write>(
     ensures { IfOk result
         (λ is_all. Lists form setup.now most is_all (R.remaining reader.old) (R.remaining reader.new) (W.contents writer.old) (W.contents writer.new)) }
 {
-    let Found { endings, is_all } = endings_in(alloc, reader, setup, most)?;
+    let found = endings_in(alloc, reader, setup, most)?;
+    write_found(alloc, writer, found, form, most)
+}
+
+/// Writes the list of what was found, and returns whether it is all.
+fn write_found<W: Write>(
+    alloc: Global,
+    writer: &mut W,
+    found: Found,
+    form: Form,
+    most: u64,
+) -> Result<bool, PlayFault>
+    ensures { IfOk result
+        (λ is_all. (is_all ≡ found.is_all)
+        × ((text : List ℕ) × IsListOf form found.endings.items found.is_all most text
+        × Appends (W.contents writer.old) (W.contents writer.new) text)) }
+{
+    let Found { endings, is_all } = found;
     let text = text_of(alloc, endings.as_slice(), form, is_all, most);
     drop(endings);
     let text = text?;
+    write_text(writer, text.as_str())?;
+    Ok(is_all)
+}
+
+/// Writes a text.
+fn write_text<W: Write>(writer: &mut W, text: &str) -> Result<(), PlayFault>
+    ensures { OnOk result (Appends (W.contents writer.old) (W.contents writer.new) text.now) }
+{
     match write_all(writer, text.as_bytes(), &mut Calls::new()) {
-        Ok(()) => Ok(is_all),
+        Ok(()) => Ok(()),
         Err(_) => Err(PlayFault::Write),
     }
 }
@@ -54,9 +81,22 @@ pub(crate) fn endings_in<R: Read>(
         (λ found. Finds setup.now found.endings.items found.is_all (R.remaining reader.old) (R.remaining reader.new)) }
 {
     let items = read_calls(alloc, reader, setup)?;
-    let calls = entries_in(alloc, items.as_slice());
+    let found = endings_of(alloc, items.as_slice(), setup, most);
     drop(items);
-    let calls = calls?;
+    found
+}
+
+/// What calls of these items may come to.
+fn endings_of(
+    alloc: Global,
+    items: &[Vec<Item>],
+    setup: &Setup,
+    most: u64,
+) -> Result<Found, PlayFault>
+    ensures { IfOk result
+        (λ found. AreFound setup.now (map accepted_of (lists_of items.now)) found.endings.items found.is_all) }
+{
+    let calls = entries_in(alloc, items)?;
     let found = found_in(alloc, setup, calls.as_slice(), most);
     drop(calls);
     found
@@ -64,10 +104,8 @@ pub(crate) fn endings_in<R: Read>(
 
 /// What these calls may come to.
 fn found_in(alloc: Global, setup: &Setup, calls: &[Vec<Sqe>], most: u64) -> Result<Found, PlayFault>
-    ensures right { IfOk result
-        (λ found. AreEndings setup.now (entries_of calls.now) found.endings.items) }
-    ensures all { IfOk result
-        (λ found. found.is_all ≡ true → AreAllEndings setup.now (entries_of calls.now) found.endings.items) }
+    ensures { IfOk result
+        (λ found. AreFound setup.now (entries_of calls.now) found.endings.items found.is_all) }
 {
     match outcomes_within(alloc, setup, calls, most) {
         Ok(found) => Ok(found),

@@ -3,7 +3,8 @@
 ghost use Rattle.std.specs.Prelude.{◌≡◌, ◌++◌, ◌∷◌, [], ◌<◌, ◌≤◌, pos, codes, IfOk, OnOk, MatchOption, Some, length, string_bytes, if◌then◌else◌};
 ghost use Rattle.uring_entry.specs.Layout.{Cqe};
 ghost use Rattle.uring_files.specs.Contents.{FileContents};
-ghost use Rattle.uring_files.specs.Operations.{file_of};
+ghost use Rattle.std.specs.Option.{option_to_list};
+ghost use Rattle.uring_files.specs.Operations.{file_of, state_of, byte_of};
 ghost use Rattle.uring_text.specs.Completions.{completion_text};
 ghost use Rattle.uring_text.specs.Tokens.{hex_or_dash};
 ghost use Rattle.uring_litmus.specs.Parts.{texts_of, IsShown, IsOrderedBy, completion_texts, completion_parts, state_text, file_text, files_texts};
@@ -135,15 +136,37 @@ fn add_file(
         (MatchOption (file_of files.now (pos fd)) (texts_of parts.new.items ≡ texts_of parts.old.items)
         (λ file. texts_of parts.new.items ≡ texts_of parts.old.items ++ file_text fd file ∷ [])) }
 {
-    let Some(state) = files.state(fd as i32) else {
+    let Some(state) = state_at(files, fd) else {
         return Ok(());
     };
-    let bytes = bytes_of(alloc, files, fd as i32, state.len)?;
-    let mut text = String::new(alloc);
-    push_state(alloc, &mut text, fd, &state)?;
-    push_hex(alloc, &mut text, bytes.as_slice())?;
+    let bytes = bytes_of(alloc, files, fd, state.len)?;
+    let text = text_of_file(alloc, fd, &state, bytes.as_slice())?;
     parts.push(text)?;
     Ok(())
+}
+
+/// How the file of this descriptor stands.
+fn state_at(files: &Files, fd: u32) -> Option<FileState>
+    requires { fd < 64 }
+    ensures { result ≡ state_of files.now (pos fd) }
+{
+    files.state(fd as i32)
+}
+
+/// The text of a file that stands so and has these bytes.
+fn text_of_file(
+    alloc: Global,
+    fd: u32,
+    state: &FileState,
+    bytes: &[u8],
+) -> Result<String, AllocError>
+    ensures { IfOk result
+        (λ text. string_bytes text ≡ state_text fd state.now ++ hex_or_dash bytes.now) }
+{
+    let mut text = String::new(alloc);
+    push_state(alloc, &mut text, fd, state)?;
+    push_hex(alloc, &mut text, bytes)?;
+    Ok(text)
 }
 
 /// Appends which file it is and how it stands.
@@ -168,17 +191,36 @@ fn push_state(
 }
 
 /// The bytes of the file of this descriptor, which has so many.
-fn bytes_of(alloc: Global, files: &Files, fd: i32, len: u32) -> Result<Vec<u8>, AllocError>
-    ensures { (file : FileContents) → file_of files.now fd ≡ Some file → length file.bytes ≡ len
-        → IfOk result (λ bytes. bytes.items ≡ file.bytes) }
+fn bytes_of(alloc: Global, files: &Files, fd: u32, len: u32) -> Result<Vec<u8>, AllocError>
+    requires { fd < 64 }
+    ensures { (file : FileContents) → file_of files.now (pos fd) ≡ Some file
+        → length file.bytes ≡ len → IfOk result (λ bytes. bytes.items ≡ file.bytes) }
 {
     let mut bytes = Vec::new(alloc);
     for at in 0..len {
-        if let Some(byte) = files.byte(fd, u64::from(at)) {
-            bytes.push(byte)?;
-        }
+        push_byte(&mut bytes, files, fd, at)?;
     }
     Ok(bytes)
+}
+
+/// Appends the byte of a file at this offset, if there is one.
+fn push_byte(bytes: &mut Vec<u8>, files: &Files, fd: u32, at: u32) -> Result<(), AllocError>
+    requires { fd < 64 }
+    ensures { OnOk result
+        (bytes.new.items ≡ bytes.old.items ++ option_to_list (byte_of files.now (pos fd) at)) }
+{
+    if let Some(byte) = byte_at(files, fd, at) {
+        bytes.push(byte)?;
+    }
+    Ok(())
+}
+
+/// The byte of a file at this offset.
+fn byte_at(files: &Files, fd: u32, at: u32) -> Option<u8>
+    requires { fd < 64 }
+    ensures { result ≡ byte_of files.now (pos fd) at }
+{
+    files.byte(fd as i32, u64::from(at))
 }
 
 /// Appends bytes as two lower case hexadecimal digits each, or `-` for none.
