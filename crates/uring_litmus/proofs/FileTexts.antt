@@ -63,11 +63,22 @@ byte_more files fd file at before after is low so now =
 abbrev pub state_of_file : FileContents → FileState
 state_of_file file = record { len = length file.bytes; writes = file.writes; synced = file.synced }
 
--- there is no file
-pub no_file : (o : Option FileContents) (fd : ℕ) (texts : List (List ℕ)) → None ≡ option_map state_of_file o
-    → MatchOption o (texts ≡ texts) (λ file. texts ≡ texts ++ file_text fd file ∷ [])
-no_file None fd texts none = refl
-no_file (Some file) fd texts none = absurd cc
+taken_whole : {X : Type 0} (xs : List X) (k : ℕ) → slice_get xs k ≡ None → take k xs ≡ xs
+taken_whole [] zero none = refl
+taken_whole [] (suc k) none = refl
+taken_whole (x ∷ xs) zero none = absurd cc
+taken_whole (x ∷ xs) (suc k) none = ap (λ l. x ∷ l) (taken_whole xs k none)
+
+none_at : (o : Option FileContents) → None ≡ option_map state_of_file o → o ≡ None
+none_at None none = refl
+none_at (Some file) none = absurd cc
+
+-- where there is no file, all were told
+pub all_taken : (files : List FileContents) (fd : ℕ) (before texts : List (List ℕ))
+    → None ≡ option_map state_of_file (slice_get files fd) → texts ≡ before ++ files_texts 0 (take fd files)
+    → texts ≡ before ++ files_texts 0 files
+all_taken files fd before texts none is =
+    is ∙ ap (λ (l : List FileContents). before ++ files_texts 0 l) (taken_whole files fd (none_at (slice_get files fd) none))
 
 -- there is one
 pub one_file : (o : Option FileContents) (fd : ℕ) (s : FileState) (bytes text : List ℕ) (before after : List (List ℕ))

@@ -61,7 +61,7 @@ list_text form endings is_all most lines shown count none listed text show noted
   show_all = show;
   noted = noted;
   is = is ∙ ap (λ (l : List ℕ). l ++ count_text count is_all most) (list ∙ ap (λ (l : List ℕ). l ++ lines_text (texts_of shown)) empty)
-      ∙ ap (λ (n : ℕ). lines_text (texts_of shown) ++ count_text n is_all most) (many ∙ sym (length-map (λ (s : String Global). string_bytes s) shown));
+      ∙ ap (λ (n : ℕ). lines_text (texts_of shown) ++ count_text n is_all most) (many ∙ sym (length-map shown string_bytes));
 }
 
 pub finds : (setup : Setup) (items : Vec (Vec Item Global) Global) (endings : List Ending) (is_all : Bool) (a a' : Option (List ℕ))

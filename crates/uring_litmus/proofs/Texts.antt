@@ -1,5 +1,5 @@
 -- Texts in lists, one more at a time.
-use Rattle.std.proofs.Common.{◌≡◌, ℕ, ◌+◌, ◌<◌, List, [], ◌∷◌, ◌++◌, length, map, take, get_or, refl, sym, ap, subst, ◌∙◌, append_assoc}
+use Rattle.std.proofs.Common.{◌≡◌, Bool, true, false, ℕ, ◌+◌, ◌<◌, List, [], ◌∷◌, ◌++◌, length, map, take, get_or, refl, sym, ap, subst, ◌∙◌, append_assoc}
 use Rattle.std.specs.Prelude.{flat_map, string_bytes}
 use Rattle.std.specs.List.{AllZip}
 use Rattle.std.proofs.lemmas.List.{take_more, map-append, append-nil}
@@ -7,6 +7,7 @@ use Rattle.std.proofs.lemmas.List.Concat.{flat_map-append}
 use Rattle.std.specs.declared.string.String.{String}
 use Rattle.std.specs.declared.alloc.Global.{Global}
 use Rattle.uring_litmus.specs.Parts.{texts_of}
+use Rattle.uring_litmus.specs.Listings.{IsNoted}
 
 -- a text is put behind others
 pub one_more : (texts : List (String Global)) (text : String Global)
@@ -42,6 +43,12 @@ zip_push R [] [] x y all one = (one, tt)
 zip_push R [] (z ∷ ys) x y all one = absurd all
 zip_push R (z ∷ xs) [] x y all one = absurd all
 zip_push R (z ∷ xs) (u ∷ ys) x y all one = (all.0, zip_push R xs ys x y all.1 one)
+
+-- each text with itself
+pub zip_same : (b : Bool) (texts : List (List ℕ)) → b ≡ false → AllZip (IsNoted b) texts texts
+zip_same true texts e = absurd cc
+zip_same false [] e = tt
+zip_same false (text ∷ texts) e = (refl, zip_same false texts e)
 
 -- one more text on both sides
 pub zip_texts : (R : List ℕ → List ℕ → Type 0) (lines ys : List (String Global)) (i : ℕ) (line noted : String Global)

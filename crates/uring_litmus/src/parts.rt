@@ -17,6 +17,9 @@ use uring_outcomes::{Cqe, Ending, Files};
 use uring_play_text::sort;
 use uring_text::{push_completion, push_number, push_text};
 
+/// A descriptor that no file has.
+const PAST_FILES: u32 = Setup::MAX_FILES + 1;
+
 /// The parts of an outcome, in order: its completions, and its files if they are asked for.
 pub(crate) fn parts_of(
     alloc: Global,
@@ -102,7 +105,6 @@ fn add_files_if(
     files: &Files,
     has_files: bool,
 ) -> Result<(), AllocError>
-    requires { length files.now ≤ 64 }
     ensures { OnOk result
         (texts_of parts.new.items ≡ texts_of parts.old.items ++ (if has_files then files_texts 0 files.now else [])) }
 {
@@ -112,16 +114,18 @@ fn add_files_if(
     Ok(())
 }
 
-/// Adds the text of each file.
+/// Adds the text of each file. There are no more than a set-up has: of others none is told.
 fn add_files(alloc: Global, parts: &mut Vec<String>, files: &Files) -> Result<(), AllocError>
-    requires { length files.now ≤ 64 }
     ensures { OnOk result
         (texts_of parts.new.items ≡ texts_of parts.old.items ++ files_texts 0 files.now) }
 {
-    for fd in 0..Setup::MAX_FILES {
-        add_file(alloc, parts, files, fd)?;
+    for fd in 0..PAST_FILES {
+        match state_at(files, fd) {
+            None => return Ok(()),
+            Some(_) => add_file(alloc, parts, files, fd)?,
+        }
     }
-    Ok(())
+    Err(AllocError)
 }
 
 /// Adds the text of the file of this descriptor, if there is one.
@@ -131,7 +135,7 @@ fn add_file(
     files: &Files,
     fd: u32,
 ) -> Result<(), AllocError>
-    requires { fd < 64 }
+    requires { fd < 65 }
     ensures { OnOk result
         (MatchOption (file_of files.now (pos fd)) (texts_of parts.new.items ≡ texts_of parts.old.items)
         (λ file. texts_of parts.new.items ≡ texts_of parts.old.items ++ file_text fd file ∷ [])) }
@@ -147,7 +151,7 @@ fn add_file(
 
 /// How the file of this descriptor stands.
 fn state_at(files: &Files, fd: u32) -> Option<FileState>
-    requires { fd < 64 }
+    requires { fd < 65 }
     ensures { result ≡ state_of files.now (pos fd) }
 {
     files.state(fd as i32)
@@ -192,7 +196,7 @@ fn push_state(
 
 /// The bytes of the file of this descriptor, which has so many.
 fn bytes_of(alloc: Global, files: &Files, fd: u32, len: u32) -> Result<Vec<u8>, AllocError>
-    requires { fd < 64 }
+    requires { fd < 65 }
     ensures { (file : FileContents) → file_of files.now (pos fd) ≡ Some file
         → length file.bytes ≡ len → IfOk result (λ bytes. bytes.items ≡ file.bytes) }
 {
@@ -205,7 +209,7 @@ fn bytes_of(alloc: Global, files: &Files, fd: u32, len: u32) -> Result<Vec<u8>, 
 
 /// Appends the byte of a file at this offset, if there is one.
 fn push_byte(bytes: &mut Vec<u8>, files: &Files, fd: u32, at: u32) -> Result<(), AllocError>
-    requires { fd < 64 }
+    requires { fd < 65 }
     ensures { OnOk result
         (bytes.new.items ≡ bytes.old.items ++ option_to_list (byte_of files.now (pos fd) at)) }
 {
@@ -217,7 +221,7 @@ fn push_byte(bytes: &mut Vec<u8>, files: &Files, fd: u32, at: u32) -> Result<(),
 
 /// The byte of a file at this offset.
 fn byte_at(files: &Files, fd: u32, at: u32) -> Option<u8>
-    requires { fd < 64 }
+    requires { fd < 65 }
     ensures { result ≡ byte_of files.now (pos fd) at }
 {
     files.byte(fd as i32, u64::from(at))

@@ -2,7 +2,7 @@ use Rattle.std.proofs.Common.{pos, ap, ◌∙◌}
 use Rattle.uring_files.specs.Operations.{file_of}
 use Rattle.uring_litmus.specs.Parts.{texts_of}
 use Rattle.uring_litmus.proofs.Texts.{one_more}
-use Rattle.uring_litmus.proofs.FileTexts.{no_file, one_file}
+use Rattle.uring_litmus.proofs.FileTexts.{one_file}
 use Rattle.uring_litmus.proofs.parts.add_file.Goals as goal
 
 pub returns : goal.returns
