@@ -67,13 +67,23 @@ fn without_lines<'a, 'b>(words: &'b [&'a str]) -> (&'b [&'a str], &'b [&'a str])
     if !matches!(words, [_, "outcomes", ..]) {
         return (words, &[]);
     }
-    match words.iter().position(|word| *word == "--") {
-        Some(at) => (
-            words.get(..at).unwrap_or_default(),
-            words.get(at.saturating_add(1)..).unwrap_or_default(),
-        ),
-        None => (words, &[]),
+    let at = place_of_dashes(words);
+    (
+        words.get(..at).unwrap_or_default(),
+        words.get(at.saturating_add(1)..).unwrap_or_default(),
+    )
+}
+
+/// The place of the first word `--`, or how many words there are.
+fn place_of_dashes(words: &[&str]) -> usize {
+    let mut at = 0_usize;
+    for word in words {
+        if *word == "--" {
+            return at;
+        }
+        at = at.saturating_add(1);
     }
+    at
 }
 
 /// Does what these words ask for, and returns the exit status.
