@@ -1,5 +1,5 @@
 -- What is listed of calls, and shows what they may come to.
-use Rattle.std.proofs.Common.{◌≡◌, ℕ, zero, suc, ◌<◌, Bool, true, List, [], ◌∷◌, ◌++◌, length, map, Option, Ok, get_or, sym, ap, subst, ◌∙◌, refl, arith}
+use Rattle.std.proofs.Common.{◌≡◌, ℕ, zero, suc, Bool, List, [], ◌∷◌, ◌++◌, length, map, Option, Ok, sym, ap, subst, ◌∙◌, refl, arith}
 use Rattle.std.specs.Prelude.{Contains, string_bytes}
 use Rattle.std.specs.List.{AllZip}
 use Rattle.std.specs.Io.KnownBytes.{Appends}
@@ -8,11 +8,9 @@ use Rattle.std.specs.declared.vec.Vec.{Vec}
 use Rattle.std.specs.declared.string.String.{String}
 use Rattle.std.specs.declared.alloc.Global.{Global}
 use Rattle.uring_entry.specs.Setup.{Setup}
-use Rattle.uring_entry.specs.Layout.{Sqe}
 use Rattle.uring_ports.specs.declared.item.Item.{Item}
 use Rattle.uring_play_text.specs.Inputs.{ReadsCalls, lists_of}
-use Rattle.uring_outcomes.specs.Outcomes.{Ending, AreEndings, AreAllEndings}
-use Rattle.uring_outcomes.specs.Runs.{entries_of}
+use Rattle.uring_outcomes.specs.Outcomes.{Ending}
 use Rattle.uring_litmus.specs.declared.form.Form.{Form}
 use Rattle.uring_litmus.specs.Items.{accepted_of}
 use Rattle.uring_litmus.specs.Parts.{texts_of}
