@@ -6,7 +6,7 @@ import subprocess
 import sys
 from collections import Counter
 
-from conforming import planted
+from conforming import litmus, planted
 from conforming.differences import DIFFERENCES, untold
 from conforming.features import named
 from conforming.making import random_scenario
@@ -200,6 +200,8 @@ def conform(words):
         features()
         if words.planted:
             return planted.find(report, scenarios())
+        if words.litmus:
+            return litmus.run(words, report, program())
         them = chosen(words)
         if not them:
             print(f"conform: no scenario has {words.scenario} in its name", file=sys.stderr)

@@ -8,6 +8,9 @@ DIFFERENCES = {
     "cancel of all leaves held back": "Of requests that the kernel holds back it ends with 0, and they run.",
     "skipped failure leaves members out": "The page and the kernel leave these out.",
     "skipping head swallows a fault": "if the head of a chain has the skip flag, the completion of a faulty member is swallowed too, and nobody learns which entry was wrong.",
+    "bad word ends the call": "The kernel ends the call there, with the head past the bad word, and what follows waits for the next call.",
+    "file position is served": "a read or write at offset 2^64 - 1, which means the file position in the pages.",
+    "files have another limit": "The kernel writes up to the limit,",
     "drain beside skipped success": "The kernel refuses a drain with -95 (EOPNOTSUPP) once a ring has used skipped success.",
 }
 

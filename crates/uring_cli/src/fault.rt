@@ -19,6 +19,12 @@ pub enum Fault {
     /// The set-up has no file of this number, but so many.
     NoFile(u32, u32),
 
+    /// The line of this number behind `--`, counted from 1, is none of an outcome; 0: a claim has no line.
+    NoLine(u64),
+
+    /// There is no outcome of this number, but so many.
+    NoOutcome(u32, u64),
+
     /// Nobody reads standard output any more: its pipe was closed at the other end.
     Closed,
 }

@@ -2,12 +2,14 @@
 #![tactic(auto)]
 
 mod fault;
+mod listing;
 mod outlet;
 mod paged;
 mod strict;
 mod telling;
 
 use crate::fault::Fault;
+use crate::listing::{Wanted, claim_of, run_outcomes};
 use crate::outlet::Outlet;
 use crate::paged::{run_page, run_recorded_page};
 use crate::strict::StrictReader;
@@ -20,6 +22,7 @@ use std::sync::Wait;
 use std::thread::Threads;
 use uring_check::{Verdict, check};
 use uring_crash::{Asked, crash};
+use uring_litmus::Form as Shown;
 use uring_options::{Options, Setup, not_text, options};
 use uring_page::Form;
 use uring_pictures::{graph, timeline};
@@ -53,10 +56,45 @@ fn run<R: Threads + Wait + Copy + Send + 'static>(
         drop(words);
         return Err(Fault::Trace(TraceFault::Memory));
     };
-    let asked = options(alloc, texts.as_slice());
+    let ended = run_words(rt, threads, texts.as_slice());
     drop(texts);
     drop(words);
-    match asked? {
+    ended
+}
+
+/// The words that are options, and the lines behind a word `--` of `uring outcomes`.
+fn without_lines<'a, 'b>(words: &'b [&'a str]) -> (&'b [&'a str], &'b [&'a str]) {
+    if !matches!(words, [_, "outcomes", ..]) {
+        return (words, &[]);
+    }
+    let at = place_of_dashes(words);
+    (
+        words.get(..at).unwrap_or_default(),
+        words.get(at.saturating_add(1)..).unwrap_or_default(),
+    )
+}
+
+/// The place of the first word `--`, or how many words there are.
+fn place_of_dashes(words: &[&str]) -> usize {
+    let mut at = 0_usize;
+    for word in words {
+        if *word == "--" {
+            return at;
+        }
+        at = at.saturating_add(1);
+    }
+    at
+}
+
+/// Does what these words ask for, and returns the exit status.
+fn run_words<R: Threads + Wait + Copy + Send + 'static>(
+    rt: &HostRuntime,
+    threads: R,
+    words: &[&str],
+) -> Result<u8, Fault> {
+    let alloc = rt.alloc();
+    let (words, lines) = without_lines(words);
+    match options(alloc, words)? {
         Options::Play(setup, workers) => {
             let (mut input, mut output) = (rt.stdin(), Outlet::new(rt.stdout()));
             let played = play(threads, alloc, &mut input, &mut output, &setup, workers);
@@ -93,6 +131,26 @@ fn run<R: Threads + Wait + Copy + Send + 'static>(
             at,
             seed,
         } => run_crash(rt, &setup, file, unit, at, seed),
+        Options::Outcomes {
+            setup,
+            is_sorted,
+            has_files,
+            most,
+            number,
+            is_never,
+            is_always,
+        } => {
+            let wanted = Wanted {
+                form: Shown {
+                    is_sorted,
+                    has_files,
+                },
+                most,
+                number,
+                claim: claim_of(is_never, is_always),
+            };
+            run_outcomes(rt, &setup, &wanted, lines)
+        }
     }
 }
 

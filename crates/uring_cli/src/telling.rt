@@ -31,7 +31,7 @@ pub fn tell<W: Write>(alloc: Global, writer: &mut W, fault: &Fault) -> u8 {
 fn status_of(fault: &Fault) -> u8 {
     match fault {
         Fault::Options(fault) if !fault.is_memory() => REFUSED,
-        Fault::NoFile(..) => REFUSED,
+        Fault::NoFile(..) | Fault::NoLine(_) | Fault::NoOutcome(..) => REFUSED,
         _ => FAILED,
     }
 }
@@ -44,6 +44,13 @@ fn text_of(alloc: Global, fault: &Fault) -> Result<String, AllocError> {
         Fault::Options(fault) => text_of_options(alloc, fault),
         Fault::NoFile(file, files) => {
             format!(in alloc; "uring: no file {file}: there are {files}, from 0 on\n")
+        }
+        Fault::NoLine(0) => format!(in alloc; "uring: no line to look for behind --\n"),
+        Fault::NoLine(at) => format!(in alloc;
+            "uring: line {at} behind -- is none of an outcome\n"
+        ),
+        Fault::NoOutcome(number, count) => {
+            format!(in alloc; "uring: no outcome {number}: there are {count}, from 1 on\n")
         }
         Fault::Closed => Ok(String::new(alloc)),
     }

@@ -14,7 +14,7 @@ use Rattle.clap.specs.declared.builder.value_parser.ValueParser.TheVariants.{Sig
 use Rattle.clap.specs.declared.error.kind.ErrorKind.TheVariants.{OutOfMemory}
 use Rattle.uring_entry.specs.Setup.{Setup, IsSetupFor}
 use Rattle.uring_options.specs.declared.answers.Options.{Options}
-use Rattle.uring_options.specs.declared.answers.Options.TheVariants.{Trace, Explain, Graph, Timeline, Page, Json, Check, CheckPage, CheckJson, Play, Shared, Crash}
+use Rattle.uring_options.specs.declared.answers.Options.TheVariants.{Trace, Explain, Graph, Timeline, Page, Json, Check, CheckPage, CheckJson, Play, Shared, Crash, Outcomes}
 use Rattle.uring_options.specs.declared.answers.OptionsFault.{OptionsFault}
 use Rattle.uring_options.specs.declared.answers.OptionsFault.TheVariants.{Small, Words}
 
@@ -25,6 +25,7 @@ pub data Run : Type 0 where
   Checks : Run
   Plays : Run
   Crashes : Run
+  Lists : Run
 
 -- an option of a command: its name, and if it takes a number, the least and the most one
 abbrev pub CommandOption : Type 0
@@ -54,6 +55,9 @@ own_options Plays = number (codes "workers") 1 8 ∷ flag (codes "shared") ∷ [
 own_options Crashes = flag (codes "stop") ∷ number (codes "file") 0 63
     ∷ number (codes "unit") 1 65536 ∷ number (codes "at") 0 4294967295
     ∷ number (codes "seed") 0 4294967295 ∷ []
+own_options Lists = flag (codes "results") ∷ flag (codes "contents")
+    ∷ number (codes "most") 1 4294967295 ∷ number (codes "explain") 1 4294967295
+    ∷ flag (codes "never") ∷ flag (codes "always") ∷ []
 
 -- to clap, an option of this name that takes a number, which this parser checks
 abbrev pub option_rule : Text → ValueParser → Rule
@@ -82,6 +86,7 @@ name_of Explains = codes "explain"
 name_of Checks = codes "check"
 name_of Plays = codes "play"
 name_of Crashes = codes "crash"
+name_of Lists = codes "outcomes"
 
 -- a command of the program with its options
 abbrev pub app_for : Run → App
@@ -97,7 +102,7 @@ with_commands_of app (run ∷ rest) =
 -- the program's command line, as clap sees a command
 abbrev pub uring : App
 uring =
-    with_commands_of (new_app (codes "uring")) (Traces ∷ Explains ∷ Checks ∷ Plays ∷ Crashes ∷ [])
+    with_commands_of (new_app (codes "uring")) (Traces ∷ Explains ∷ Checks ∷ Plays ∷ Crashes ∷ Lists ∷ [])
 
 -- the command, a trace without one
 abbrev pub run_of : Option (Text × List Row) → Run
@@ -107,6 +112,7 @@ run_of (Some named) =
     if bytes_eq named.0 (codes "check") then Checks else
     if bytes_eq named.0 (codes "play") then Plays else
     if bytes_eq named.0 (codes "crash") then Crashes else
+    if bytes_eq named.0 (codes "outcomes") then Lists else
     Traces
 
 -- what the words after a command give, nothing without one
@@ -117,6 +123,7 @@ command_rows (Some named) =
     if bytes_eq named.0 (codes "check") then named.1 else
     if bytes_eq named.0 (codes "play") then named.1 else
     if bytes_eq named.0 (codes "crash") then named.1 else
+    if bytes_eq named.0 (codes "outcomes") then named.1 else
     if bytes_eq named.0 (codes "trace") then named.1 else
     []
 
@@ -230,6 +237,11 @@ IsRunOver run rows n (Shared s workers) =
 IsRunOver run rows n (Crash s file unit at seed) = (run ≡ Crashes) × IsTracedOver rows n s
     × IsNumberOr rows (codes "file") 0 63 0 file × IsNumberOr rows (codes "unit") 1 65536 1 unit
     × Gives rows (codes "at") at × Gives rows (codes "seed") seed
+IsRunOver run rows n (Outcomes s is_sorted has_files most line is_never is_always) =
+    (run ≡ Lists) × IsSetupOver n s
+    × IsGiven rows (codes "results") is_sorted × IsGiven rows (codes "contents") has_files
+    × Gives rows (codes "most") most × Gives rows (codes "explain") line
+    × IsGiven rows (codes "never") is_never × IsGiven rows (codes "always") is_always
 
 -- a completion ring is given, and is smaller after rounding than the submission ring
 pub record IsTooSmall (n : Numbers) : Type 0 where

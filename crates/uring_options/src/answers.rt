@@ -67,6 +67,23 @@ pub enum Options {
         /// By which seed an image is chosen (`--seed`).
         seed: Option<u32>,
     },
+
+    /// `uring outcomes`: what calls may come to over this set-up.
+    Outcomes {
+        setup: Setup,
+        /// Whether the completions of an outcome are sorted, and its orders counted (`--results`).
+        is_sorted: bool,
+        /// Whether the files follow (`--contents`).
+        has_files: bool,
+        /// After how many paths the walk stops (`--most`).
+        most: Option<u32>,
+        /// Of which outcome a history is written, counted from 1 (`--explain`).
+        number: Option<u32>,
+        /// Whether it is claimed that no outcome shows a line (`--never`).
+        is_never: bool,
+        /// Whether it is claimed that each outcome shows a line (`--always`).
+        is_always: bool,
+    },
 }
 
 /// Why a command line is refused.

@@ -7,7 +7,7 @@ ghost use Rattle.clap.specs.declared.builder.command.Command.TheViews.{out-Comma
 ghost use Rattle.uring_options.specs.OptionRows.{app_of_row, rule_of_row, with_rows_of};
 ghost use Rattle.uring_options.specs.CommandLine.{option_rule, flag_rule, uring};
 
-use crate::helps::{IMAGES, ITEMS, REASONS, RECORDS, STEPS};
+use crate::helps::{CLAIMS, IMAGES, ITEMS, REASONS, RECORDS, STEPS};
 use clap::builder::ValueParser;
 use clap::{Arg, ArgAction, Command};
 use std::alloc::{AllocError, Global};
@@ -144,6 +144,42 @@ const SEED: OptionRow = OptionRow {
     numbers: Some((0, 4_294_967_295)),
 };
 
+const RESULTS: OptionRow = OptionRow {
+    id: "results",
+    help: "Sort the completions of each outcome by user data, and say how many orders it has",
+    numbers: None,
+};
+
+const CONTENTS: OptionRow = OptionRow {
+    id: "contents",
+    help: "Write the files of each outcome behind its completions",
+    numbers: None,
+};
+
+const MOST: OptionRow = OptionRow {
+    id: "most",
+    help: "Stop after so many paths, and say that these are not known to be all",
+    numbers: Some((1, 4_294_967_295)),
+};
+
+const NUMBER: OptionRow = OptionRow {
+    id: "explain",
+    help: "Write a history that comes to the outcome of this line, counted from 1",
+    numbers: Some((1, 4_294_967_295)),
+};
+
+const NEVER: OptionRow = OptionRow {
+    id: "never",
+    help: "Tell whether no outcome shows any of the lines behind --",
+    numbers: None,
+};
+
+const ALWAYS: OptionRow = OptionRow {
+    id: "always",
+    help: "Tell whether each outcome shows some of the lines behind --",
+    numbers: None,
+};
+
 /// `uring trace`.
 static TRACE: CommandRow = CommandRow {
     name: "trace",
@@ -184,6 +220,16 @@ static CRASH: CommandRow = CommandRow {
     options: &[SQ, CQ, FILES, START, STOP, FILE, UNIT, AT, SEED],
 };
 
+/// `uring outcomes`.
+static OUTCOMES: CommandRow = CommandRow {
+    name: "outcomes",
+    about: "Read calls as play does, and write everything that they may come to",
+    after_help: CLAIMS,
+    options: &[
+        SQ, CQ, FILES, START, RESULTS, CONTENTS, MOST, NUMBER, NEVER, ALWAYS,
+    ],
+};
+
 /// The program's command line.
 pub(crate) fn uring_command<'a>(alloc: Global) -> Result<Command<'a>, AllocError>
     ensures { IfOk result (λ command. app_of command ≡ uring) }
@@ -197,7 +243,8 @@ pub(crate) fn uring_command<'a>(alloc: Global) -> Result<Command<'a>, AllocError
     let command = with_command(alloc, command, &EXPLAIN)?;
     let command = with_command(alloc, command, &CHECK)?;
     let command = with_command(alloc, command, &PLAY)?;
-    with_command(alloc, command, &CRASH)
+    let command = with_command(alloc, command, &CRASH)?;
+    with_command(alloc, command, &OUTCOMES)
 }
 
 /// The command with one command more.

@@ -153,3 +153,28 @@ a whole. A write that ended with an error may be left too.
 
 A bad line is told on standard error with its number, and nothing is written;
 the status is then 4. It is 2 if there is no such file.";
+
+/// What `uring outcomes` writes, for its help.
+pub(crate) const CLAIMS: &str = "\
+Calls are those of play. Each outcome is a line: the completions that some order
+posts, and no others, with a comma and a blank between, or none; the lines are
+sorted by their bytes, and then comes how many they are:
+  cqe 1 0 -, cqe 2 0 -
+  cqe 2 0 -, cqe 1 0 -
+  outcomes 2
+With --contents the files follow, each as it is left:
+  file FD len N writes N synced N data HEX
+With --results an outcome is what a program sees that sorts its completions, and
+how many orders it has stands behind it:
+  cqe 1 0 -, cqe 2 0 -  # orders 2
+
+A LINE behind -- is completions, and files, as above. An outcome shows it if its
+completions and files have these among them, in this order.
+  uring outcomes --never -- LINE ..            no outcome shows any LINE
+  uring outcomes --always -- LINE ..           each outcome shows some LINE
+The status is 0 if it is so. It is 1 if it isn't, and a history that comes to
+such an outcome is written, as check reads it. With --explain N the history of
+line N is written.
+
+With --most N the walk stops after N paths: what was found is right, and the last
+line says that there may be more. The status is 3 then, if it isn't known.";

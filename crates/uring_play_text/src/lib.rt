@@ -12,4 +12,4 @@ pub use play_fault::PlayFault;
 pub use reading::{read_calls, read_calls_in};
 pub use uring_entry::{Cqe, Setup};
 pub use uring_ports::Item;
-pub use writing::{write_out, write_out_in};
+pub use writing::{sort, write_out, write_out_in};

@@ -55,7 +55,7 @@ pub fn write_out_in<M: TextMemory, W: Write>(
 }
 
 /// Sorts completions by user data, result and data.
-fn sort(completions: &mut [Cqe])
+pub fn sort(completions: &mut [Cqe])
     ensures same { IsPermutation completions.old completions.new }
     ensures order { IsInOrder completions.new }
 {

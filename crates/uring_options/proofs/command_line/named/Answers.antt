@@ -12,5 +12,8 @@ played-requires c = rw c.in-play.is at c.requires
 pub crashed-requires : goal.crashed-requires
 crashed-requires c = rw c.in-crash.is at c.requires
 
+pub listed-requires : goal.listed-requires
+listed-requires c = rw c.in-outcomes.is at c.requires
+
 pub traced-requires : goal.traced-requires
 traced-requires c = rw c.in-trace.is at c.requires

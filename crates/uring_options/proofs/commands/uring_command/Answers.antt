@@ -2,7 +2,7 @@ use Rattle.std.proofs.Common.{◌≡◌, ◌∙◌, ap, rules}
 use Rattle.std.proofs.lemmas.Result.{IfOk-weaker}
 use Rattle.std.specs.Prelude.{codes}
 use Rattle.clap.specs.Simple.{App, app_of, new_app, with_subcommand}
-use Rattle.uring_options.specs.CommandLine.{Traces, Explains, Checks, Plays, Crashes, app_for}
+use Rattle.uring_options.specs.CommandLine.{Traces, Explains, Checks, Plays, Crashes, Lists, app_for}
 use Rattle.uring_options.proofs.commands.uring_command.Goals as goal
 
 pub returns : goal.returns
@@ -12,4 +12,5 @@ returns c =
     let explain = c.in_ok-command-2.ensures ∙ ap (λ (a : App). with_subcommand a (app_for Explains).top) trace in
     let check = c.in_ok-command-3.ensures ∙ ap (λ (a : App). with_subcommand a (app_for Checks).top) explain in
     let play = c.in_ok-command-4.ensures ∙ ap (λ (a : App). with_subcommand a (app_for Plays).top) check in
-    IfOk-weaker c.with_command-5.result _ _ (λ more h. h ∙ ap (λ (a : App). with_subcommand a (app_for Crashes).top) play) c.with_command-5.ensures
+    let crash = c.in_ok-command-5.ensures ∙ ap (λ (a : App). with_subcommand a (app_for Crashes).top) play in
+    IfOk-weaker c.with_command-6.result _ _ (λ more h. h ∙ ap (λ (a : App). with_subcommand a (app_for Lists).top) crash) c.with_command-6.ensures

@@ -1,0 +1,32 @@
+-- The entries of calls, one more at a time.
+use Rattle.std.proofs.Common.{◌≡◌, ℕ, ◌+◌, ◌<◌, List, [], ◌∷◌, ◌++◌, length, map, take, get_or, refl, sym, ap, ◌∙◌}
+use Rattle.std.specs.Option.{option_to_list}
+use Rattle.std.proofs.lemmas.List.{map-append}
+use Rattle.std.proofs.lemmas.List.Elements.{filter_map-append}
+use Rattle.std.specs.declared.vec.Vec.{Vec}
+use Rattle.std.specs.declared.alloc.Global.{Global}
+use Rattle.uring_entry.specs.Layout.{Sqe}
+use Rattle.uring_ports.specs.declared.item.Item.{Item}
+use Rattle.uring_ports.specs.declared.item.Item.TheVariants as item
+use Rattle.uring_play_text.specs.Inputs.{lists_of}
+use Rattle.uring_litmus.specs.Items.{entry_of, accepted_of}
+use Rattle.uring_litmus.proofs.Texts.{next_taken}
+
+one_entry : (x : Item) → accepted_of (x ∷ []) ≡ option_to_list (entry_of x)
+one_entry (item.Entry entry) = refl
+one_entry (item.Bad word) = refl
+
+pub entry_more : (xs : List Item) (i : ℕ) (x : Item) (before after : List Sqe) → i < length xs
+    → x ≡ get_or xs i x → before ≡ accepted_of (take i xs)
+    → after ≡ before ++ option_to_list (entry_of x) → after ≡ accepted_of (take (i + 1) xs)
+entry_more xs i x before after low is a b =
+    b ∙ ap (λ (l : List Sqe). l ++ option_to_list (entry_of x)) a ∙ ap (λ (l : List Sqe). accepted_of (take i xs) ++ l) (sym (one_entry x))
+    ∙ sym (ap accepted_of (next_taken xs i x low is) ∙ filter_map-append entry_of (take i xs) (x ∷ []))
+
+pub call_more : (calls : List (Vec Item Global)) (i : ℕ) (call : Vec Item Global) (before after : List (List Sqe))
+    → i < length calls → call ≡ get_or calls i call → before ≡ map accepted_of (lists_of (take i calls))
+    → after ≡ before ++ accepted_of call.items ∷ [] → after ≡ map accepted_of (lists_of (take (i + 1) calls))
+call_more calls i call before after low is a b =
+    let cut : lists_of (take (i + 1) calls) ≡ lists_of (take i calls) ++ call.items ∷ [] = ap lists_of (next_taken calls i call low is) ∙ map-append (λ (v : Vec Item Global). v.items) (take i calls) (call ∷ []) in
+    b ∙ ap (λ (l : List (List Sqe)). l ++ accepted_of call.items ∷ []) a
+    ∙ sym (ap (map accepted_of) cut ∙ map-append accepted_of (lists_of (take i calls)) (call.items ∷ []))

@@ -1,0 +1,93 @@
+-- The texts of files, one more at a time.
+use Rattle.std.proofs.Common.{◌≡◌, ℕ, zero, suc, ◌+◌, ◌<◌, List, [], ◌∷◌, ◌++◌, length, take, get_or, Option, Some, None, pos, refl, sym, ap, ap₂, ◌∙◌, append_assoc, add-one, arith}
+use Rattle.std.specs.Prelude.{slice_get, MatchOption}
+use Rattle.std.specs.Option.{option_map, option_and_then, option_to_list}
+use Rattle.std.proofs.lemmas.List.{take_more}
+use Rattle.std.proofs.lemmas.Option.{slice_get-get_or}
+use Rattle.uring_files.specs.Contents.{FileContents}
+use Rattle.uring_files.specs.Operations.{file_of, byte_of}
+use Rattle.uring_files.specs.declared.file.FileState.{FileState}
+use Rattle.uring_text.specs.Tokens.{hex_or_dash}
+use Rattle.uring_litmus.specs.Parts.{state_text, file_text, files_texts}
+
+files_append : (fd : ℕ) (xs : List FileContents) (file : FileContents)
+    → files_texts fd (xs ++ file ∷ []) ≡ files_texts fd xs ++ file_text (fd + length xs) file ∷ []
+files_append fd [] file =
+    let same : fd ≡ fd + 0 = omega arith in
+    ap (λ n. file_text n file ∷ []) same
+files_append fd (x ∷ xs) file =
+    let same : fd + 1 + length xs ≡ fd + suc (length xs) = omega arith in
+    ap (λ l. file_text fd x ∷ l) (files_append (fd + 1) xs file ∙ ap (λ n. files_texts (fd + 1) xs ++ file_text n file ∷ []) same)
+
+taken_past : {X : Type 0} (xs : List X) (k : ℕ) → slice_get xs k ≡ None → take (suc k) xs ≡ take k xs
+taken_past [] zero none = refl
+taken_past [] (suc k) none = refl
+taken_past (x ∷ xs) zero none = absurd cc
+taken_past (x ∷ xs) (suc k) none = ap (λ l. x ∷ l) (taken_past xs k none)
+
+taken_at : {X : Type 0} (xs : List X) (k : ℕ) (x : X) → slice_get xs k ≡ Some x
+    → take (suc k) xs ≡ take k xs ++ x ∷ []
+taken_at [] k x some = absurd cc
+taken_at (y ∷ xs) zero x some = let same : y ≡ x = cc in ap (λ z. z ∷ []) same
+taken_at (y ∷ xs) (suc k) x some = ap (λ l. y ∷ l) (taken_at xs k x some)
+
+taken_count : {X : Type 0} (xs : List X) (k : ℕ) (x : X) → slice_get xs k ≡ Some x
+    → length (take k xs) ≡ k
+taken_count [] k x some = absurd cc
+taken_count (y ∷ xs) zero x some = refl
+taken_count (y ∷ xs) (suc k) x some = ap suc (taken_count xs k x some)
+
+-- one file more, if there is one
+pub file_more : (files : List FileContents) (fd : ℕ) (o : Option FileContents) (before so after : List (List ℕ))
+    → slice_get files fd ≡ o → so ≡ before ++ files_texts 0 (take fd files)
+    → MatchOption o (after ≡ so) (λ file. after ≡ so ++ file_text fd file ∷ [])
+    → after ≡ before ++ files_texts 0 (take (fd + 1) files)
+file_more files fd None before so after none is same =
+    same ∙ is ∙ ap (λ l. before ++ files_texts 0 l) (sym (taken_past files fd none)) ∙ ap (λ n. before ++ files_texts 0 (take n files)) (sym (add-one fd))
+file_more files fd (Some file) before so after some is more =
+    let count : 0 + length (take fd files) ≡ fd = let n = taken_count files fd file some in omega arith in
+    more ∙ ap (λ l. l ++ file_text fd file ∷ []) is ∙ append_assoc before (files_texts 0 (take fd files)) (file_text fd file ∷ [])
+    ∙ ap (λ l. before ++ l) (ap (λ n. files_texts 0 (take fd files) ++ file_text n file ∷ []) (sym count) ∙ sym (files_append 0 (take fd files) file))
+    ∙ ap (λ l. before ++ files_texts 0 l) (sym (taken_at files fd file some)) ∙ ap (λ n. before ++ files_texts 0 (take n files)) (sym (add-one fd))
+
+-- one byte more of a file
+pub byte_more : (files : List FileContents) (fd : ℕ) (file : FileContents) (at : ℕ) (before after : List ℕ)
+    → file_of files (pos fd) ≡ Some file → at < length file.bytes → before ≡ take at file.bytes
+    → after ≡ before ++ option_to_list (byte_of files (pos fd) at) → after ≡ take (at + 1) file.bytes
+byte_more files fd file at before after is low so now =
+    let here : byte_of files (pos fd) at ≡ Some (get_or file.bytes at 0) = ap (option_and_then (λ (f : FileContents). slice_get f.bytes at)) is ∙ slice_get-get_or file.bytes at 0 low in
+    now ∙ ap (λ (l : List ℕ). l ++ option_to_list (byte_of files (pos fd) at)) so
+    ∙ ap (λ (o : Option ℕ). take at file.bytes ++ option_to_list o) here ∙ sym (take_more file.bytes at 0 low)
+
+-- how a file stands
+abbrev pub state_of_file : FileContents → FileState
+state_of_file file = record { len = length file.bytes; writes = file.writes; synced = file.synced }
+
+taken_whole : {X : Type 0} (xs : List X) (k : ℕ) → slice_get xs k ≡ None → take k xs ≡ xs
+taken_whole [] zero none = refl
+taken_whole [] (suc k) none = refl
+taken_whole (x ∷ xs) zero none = absurd cc
+taken_whole (x ∷ xs) (suc k) none = ap (λ l. x ∷ l) (taken_whole xs k none)
+
+none_at : (o : Option FileContents) → None ≡ option_map state_of_file o → o ≡ None
+none_at None none = refl
+none_at (Some file) none = absurd cc
+
+-- where there is no file, all were told
+pub all_taken : (files : List FileContents) (fd : ℕ) (before texts : List (List ℕ))
+    → None ≡ option_map state_of_file (slice_get files fd) → texts ≡ before ++ files_texts 0 (take fd files)
+    → texts ≡ before ++ files_texts 0 files
+all_taken files fd before texts none is =
+    is ∙ ap (λ (l : List FileContents). before ++ files_texts 0 l) (taken_whole files fd (none_at (slice_get files fd) none))
+
+-- there is one
+pub one_file : (o : Option FileContents) (fd : ℕ) (s : FileState) (bytes text : List ℕ) (before after : List (List ℕ))
+    → Some s ≡ option_map state_of_file o
+    → ((file : FileContents) → o ≡ Some file → length file.bytes ≡ s.len → bytes ≡ file.bytes)
+    → text ≡ state_text fd s ++ hex_or_dash bytes → after ≡ before ++ text ∷ []
+    → MatchOption o (after ≡ before) (λ file. after ≡ before ++ file_text fd file ∷ [])
+one_file None fd s bytes text before after some are is now = absurd cc
+one_file (Some file) fd s bytes text before after some are is now =
+    let same : s ≡ state_of_file file = cc in
+    let len : length file.bytes ≡ s.len = ap (λ (x : FileState). x.len) (sym same) in
+    now ∙ ap (λ (t : List ℕ). before ++ t ∷ []) (is ∙ ap₂ (λ (x : FileState) (l : List ℕ). state_text fd x ++ hex_or_dash l) same (are file refl len))

@@ -1,0 +1,95 @@
+-- What is listed of calls, and shows what they may come to.
+use Rattle.std.proofs.Common.{◌≡◌, ℕ, zero, suc, Bool, List, [], ◌∷◌, ◌++◌, length, map, Option, Ok, sym, ap, subst, ◌∙◌, refl, arith}
+use Rattle.std.specs.Prelude.{Contains, string_bytes}
+use Rattle.std.specs.List.{AllZip}
+use Rattle.std.specs.Io.KnownBytes.{Appends}
+use Rattle.std.proofs.lemmas.List.{length-map}
+use Rattle.std.specs.declared.vec.Vec.{Vec}
+use Rattle.std.specs.declared.string.String.{String}
+use Rattle.std.specs.declared.alloc.Global.{Global}
+use Rattle.uring_entry.specs.Setup.{Setup}
+use Rattle.uring_ports.specs.declared.item.Item.{Item}
+use Rattle.uring_play_text.specs.Inputs.{ReadsCalls, lists_of}
+use Rattle.uring_outcomes.specs.Outcomes.{Ending}
+use Rattle.uring_litmus.specs.declared.form.Form.{Form}
+use Rattle.uring_litmus.specs.Items.{accepted_of}
+use Rattle.uring_litmus.specs.Parts.{texts_of}
+use Rattle.uring_litmus.specs.Lines.{AreLinesOf, IsLineOf, IsSortedOnce, ShowAll}
+use Rattle.uring_litmus.specs.Listings.{IsNoted, IsListOf, AreFound, Finds, Lists, lines_text, count_text}
+
+-- each line is that of an outcome
+of_line : (form : Form) (endings : List Ending) (lines : List (List ℕ)) → AreLinesOf form endings lines
+    → (line : List ℕ) → Contains lines line → (e : Ending) × Contains endings e × IsLineOf form e line
+of_line form [] [] are line (k, low, is) = absurd (omega arith)
+of_line form [] (l ∷ lines) are line has = absurd are
+of_line form (e ∷ endings) [] are line has = absurd are
+of_line form (e ∷ endings) (l ∷ lines) are line (zero, low, is) =
+    (e, (zero, omega arith, refl), subst (λ (x : List ℕ). IsLineOf form e x) is are.0)
+of_line form (e ∷ endings) (l ∷ lines) are line (suc k, low, is) =
+    let r = of_line form endings lines are.1 line (k, omega arith, is) in
+    (r.0, (suc r.1.0, omega arith, r.1.2), r.2)
+
+-- and each outcome has one
+has_line : (form : Form) (endings : List Ending) (lines : List (List ℕ)) → AreLinesOf form endings lines
+    → (e : Ending) → Contains endings e → (line : List ℕ) × Contains lines line × IsLineOf form e line
+has_line form [] [] are e (k, low, is) = absurd (omega arith)
+has_line form [] (l ∷ lines) are e has = absurd are
+has_line form (f ∷ endings) [] are e has = absurd are
+has_line form (f ∷ endings) (l ∷ lines) are e (zero, low, is) =
+    (l, (zero, omega arith, refl), subst (λ (x : Ending). IsLineOf form x l) is are.0)
+has_line form (f ∷ endings) (l ∷ lines) are e (suc k, low, is) =
+    let r = has_line form endings lines are.1 e (k, omega arith, is) in
+    (r.0, (suc r.1.0, omega arith, r.1.2), r.2)
+
+pub all_shown : (form : Form) (endings : List Ending) (each lines : List (List ℕ))
+    → AreLinesOf form endings each → IsSortedOnce each lines → ShowAll form endings lines
+all_shown form endings each lines are once = record {
+  right = λ line has. of_line form endings each are line (once.right line has);
+  all = λ e has. let r = has_line form endings each are e has in (r.0, once.kept r.0 r.1, r.2);
+  sorted = once.sorted;
+}
+
+pub list_text : (form : Form) (endings : List Ending) (is_all : Bool) (most : ℕ) (lines shown : List (String Global)) (count : ℕ) (none listed text : List ℕ)
+    → ShowAll form endings (texts_of lines) → AllZip (IsNoted form.is_sorted) (texts_of lines) (texts_of shown)
+    → none ≡ [] → listed ≡ none ++ lines_text (texts_of shown) → count ≡ length shown
+    → text ≡ listed ++ count_text count is_all most → IsListOf form endings is_all most text
+list_text form endings is_all most lines shown count none listed text show noted empty list many is = record {
+  lines = texts_of lines;
+  shown = texts_of shown;
+  show_all = show;
+  noted = noted;
+  is = is ∙ ap (λ (l : List ℕ). l ++ count_text count is_all most) (list ∙ ap (λ (l : List ℕ). l ++ lines_text (texts_of shown)) empty)
+      ∙ ap (λ (n : ℕ). lines_text (texts_of shown) ++ count_text n is_all most) (many ∙ sym (length-map shown string_bytes));
+}
+
+pub finds : (setup : Setup) (items : Vec (Vec Item Global) Global) (endings : List Ending) (is_all : Bool) (a a' : Option (List ℕ))
+    → ReadsCalls setup (Ok items) a a'
+    → AreFound setup (map accepted_of (lists_of items.items)) endings is_all → Finds setup endings is_all a a'
+finds setup items endings is_all a a' read found = record {
+  bytes = read.bytes;
+  consumed = read.consumed;
+  at_end = read.whole;
+  calls = lists_of items.items;
+  told = read.returned;
+  found = found;
+}
+
+pub listed : (form : Form) (setup : Setup) (most : ℕ) (is_all all : Bool) (endings : List Ending) (text : List ℕ) (a a' b b' : Option (List ℕ))
+    → is_all ≡ all → Finds setup endings all a a' → IsListOf form endings all most text → Appends b b' text
+    → Lists form setup most is_all a a' b b'
+listed form setup most is_all all endings text a a' b b' same finding list writes =
+    subst (λ (x : Bool). Lists form setup most x a a' b b') (sym same)
+    (record {
+      bytes = finding.bytes;
+      consumed = finding.consumed;
+      at_end = finding.at_end;
+      calls = finding.calls;
+      told = finding.told;
+      lines = list.lines;
+      shown = list.shown;
+      noted = list.noted;
+      right = λ line has. let r = list.show_all.right line has in (r.0, finding.found.right r.0 r.1, r.2);
+      all = λ yes e can. list.show_all.all e ((finding.found.all yes e).1 can);
+      sorted = list.show_all.sorted;
+      written = subst (λ (l : List ℕ). Appends b b' l) list.is writes;
+    })

@@ -1,0 +1,71 @@
+-- Texts in lists, one more at a time.
+use Rattle.std.proofs.Common.{◌≡◌, Bool, true, false, ℕ, ◌+◌, ◌<◌, List, [], ◌∷◌, ◌++◌, length, map, take, get_or, refl, sym, ap, subst, ◌∙◌, append_assoc}
+use Rattle.std.specs.Prelude.{flat_map, string_bytes}
+use Rattle.std.specs.List.{AllZip}
+use Rattle.std.proofs.lemmas.List.{take_more, map-append, append-nil}
+use Rattle.std.proofs.lemmas.List.Concat.{flat_map-append}
+use Rattle.std.specs.declared.string.String.{String}
+use Rattle.std.specs.declared.alloc.Global.{Global}
+use Rattle.uring_litmus.specs.Parts.{texts_of}
+use Rattle.uring_litmus.specs.Listings.{IsNoted}
+
+-- a text is put behind others
+pub one_more : (texts : List (String Global)) (text : String Global)
+    → texts_of (texts ++ text ∷ []) ≡ texts_of texts ++ string_bytes text ∷ []
+one_more texts text = map-append string_bytes texts (text ∷ [])
+
+-- the first so many elements, and one more
+pub next_taken : {X : Type 0} (xs : List X) (i : ℕ) (x : X) → i < length xs → x ≡ get_or xs i x
+    → take (i + 1) xs ≡ take i xs ++ x ∷ []
+next_taken xs i x low is = take_more xs i x low ∙ ap (λ y. take i xs ++ y ∷ []) (sym is)
+
+-- what a function gives of the first so many, and of one more
+pub map_more : {X Y : Type 0} (f : X → Y) (xs : List X) (i : ℕ) (x : X) (before so after : List Y)
+    → i < length xs → x ≡ get_or xs i x → so ≡ before ++ map f (take i xs) → after ≡ so ++ f x ∷ []
+    → after ≡ before ++ map f (take (i + 1) xs)
+map_more f xs i x before so after low is a b =
+    b ∙ ap (λ l. l ++ f x ∷ []) a ∙ append_assoc before (map f (take i xs)) (f x ∷ [])
+    ∙ ap (λ l. before ++ l) (sym (ap (map f) (next_taken xs i x low is) ∙ map-append f (take i xs) (x ∷ [])))
+
+-- the same if it gives lists, which are put together
+pub flat_more : {X Y : Type 0} (f : X → List Y) (xs : List X) (i : ℕ) (x : X) (before so after : List Y)
+    → i < length xs → x ≡ get_or xs i x → so ≡ before ++ flat_map f (take i xs) → after ≡ so ++ f x
+    → after ≡ before ++ flat_map f (take (i + 1) xs)
+flat_more f xs i x before so after low is a b =
+    let one : flat_map f (x ∷ []) ≡ f x = append-nil (f x) in
+    b ∙ ap (λ l. l ++ f x) a ∙ append_assoc before (flat_map f (take i xs)) (f x)
+    ∙ ap (λ l. before ++ l) (sym (ap (flat_map f) (next_taken xs i x low is) ∙ flat_map-append f (take i xs) (x ∷ []) ∙ ap (λ l. flat_map f (take i xs) ++ l) one))
+
+-- one more on both sides
+pub zip_push : {X Y : Type 0} (R : X → Y → Type 0) (xs : List X) (ys : List Y) (x : X) (y : Y)
+    → AllZip R xs ys → R x y → AllZip R (xs ++ x ∷ []) (ys ++ y ∷ [])
+zip_push R [] [] x y all one = (one, tt)
+zip_push R [] (z ∷ ys) x y all one = absurd all
+zip_push R (z ∷ xs) [] x y all one = absurd all
+zip_push R (z ∷ xs) (u ∷ ys) x y all one = (all.0, zip_push R xs ys x y all.1 one)
+
+-- each text with itself
+pub zip_same : (b : Bool) (texts : List (List ℕ)) → b ≡ false → AllZip (IsNoted b) texts texts
+zip_same true texts e = absurd cc
+zip_same false [] e = tt
+zip_same false (text ∷ texts) e = (refl, zip_same false texts e)
+
+-- one more text on both sides
+pub zip_texts : (R : List ℕ → List ℕ → Type 0) (lines ys : List (String Global)) (i : ℕ) (line noted : String Global)
+    → i < length lines → line ≡ get_or lines i line → AllZip R (texts_of (take i lines)) (texts_of ys)
+    → R (string_bytes line) (string_bytes noted)
+    → AllZip R (texts_of (take (i + 1) lines)) (texts_of (ys ++ noted ∷ []))
+zip_texts R lines ys i line noted low is all one =
+    let both = zip_push R (texts_of (take i lines)) (texts_of ys) (string_bytes line) (string_bytes noted) all one in
+    let left : texts_of (take (i + 1) lines) ≡ texts_of (take i lines) ++ string_bytes line ∷ [] = ap texts_of (next_taken lines i line low is) ∙ one_more (take i lines) line in
+    subst (λ (l : List (List ℕ)). AllZip R l (texts_of (ys ++ noted ∷ []))) (sym left)
+    (subst (λ (l : List (List ℕ)). AllZip R (texts_of (take i lines) ++ string_bytes line ∷ []) l) (sym (one_more ys noted)) both)
+
+-- one more element, and one more text that it has
+pub zip_more : {X : Type 0} (R : X → List ℕ → Type 0) (xs : List X) (i : ℕ) (x : X) (before after : List (List ℕ)) (line : List ℕ)
+    → i < length xs → x ≡ get_or xs i x → AllZip R (take i xs) before → after ≡ before ++ line ∷ []
+    → R x line → AllZip R (take (i + 1) xs) after
+zip_more R xs i x before after line low is all now one =
+    let both = zip_push R (take i xs) before x line all one in
+    subst (λ (l : List (List ℕ)). AllZip R (take (i + 1) xs) l) (sym now)
+    (subst (λ l. AllZip R l (before ++ line ∷ [])) (sym (next_taken xs i x low is)) both)

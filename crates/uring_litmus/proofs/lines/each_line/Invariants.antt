@@ -1,0 +1,7 @@
+use Rattle.std.proofs.Common.{take}
+use Rattle.uring_litmus.specs.Parts.{texts_of}
+use Rattle.uring_litmus.specs.Lines.{AreLinesOf}
+use Rattle.uring_litmus.proofs.lines.each_line.Given as goal
+
+abbrev pub invariant-loop-ending : goal.invariant-loop-ending
+invariant-loop-ending l = AreLinesOf l.form (take l.ending-index l.endings) (texts_of l.lines.items)

@@ -1,0 +1,9 @@
+use Rattle.std.proofs.Common.{◌≡◌, ◌++◌, take}
+use Rattle.std.specs.Prelude.{flat_map, string_bytes}
+use Rattle.uring_litmus.specs.Parts.{texts_of}
+use Rattle.uring_litmus.specs.Lines.{parted}
+use Rattle.uring_litmus.proofs.lines.push_rest.Given as goal
+
+abbrev pub invariant-loop-part : goal.invariant-loop-part
+invariant-loop-part l = string_bytes l.line
+    ≡ string_bytes l.fn.line ++ flat_map parted (texts_of (take l.part-index l.parts))

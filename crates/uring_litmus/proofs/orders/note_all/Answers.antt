@@ -1,0 +1,9 @@
+use Rattle.std.proofs.Common.{true, rules}
+use Rattle.uring_litmus.specs.Listings.{IsNoted}
+use Rattle.uring_litmus.proofs.Texts.{zip_texts}
+use Rattle.uring_litmus.proofs.orders.note_all.Goals as goal
+
+pub loop-line-preserved : goal.loop-line-preserved
+loop-line-preserved c =
+    rw c.in_ok-push.ensures.items
+    (zip_texts (IsNoted true) c.args.lines.now c.loop-line.shown.items c.loop-line.line-index c.line-item.result c.in_ok-noted.noted (search rules) c.line-item.is c.loop-line.invariant (rw c.as_str.ensures.value at c.in_ok-noted.ensures))

@@ -1,0 +1,21 @@
+//! Everything that calls may come to, as text: the outcomes line by line, and claims about them.
+#![tactic(auto)]
+
+mod calls;
+mod claims;
+mod form;
+mod judging;
+mod lines;
+mod listing;
+mod orders;
+mod parts;
+mod wanted;
+
+pub use claims::Claim;
+pub use form::Form;
+pub use judging::{Chosen, Judged, choose, judge};
+pub use lines::line_of;
+pub use listing::list;
+pub use uring_outcomes::Ending;
+pub use uring_play_text::PlayFault;
+pub use wanted::parts_of_line;

@@ -1,0 +1,94 @@
+//! The lines of outcomes, sorted, each once.
+
+ghost use Rattle.std.specs.Prelude.{◌≡◌, ◌++◌, ◌∷◌, [], List, ℕ, IfOk, OnOk, flat_map, codes, string_bytes};
+ghost use Rattle.std.specs.List.Sorted.{IsPermutation};
+ghost use Rattle.uring_litmus.specs.Parts.{texts_of};
+ghost use Rattle.uring_litmus.specs.Lines.{joined, parted, AreLinesOf, IsLineOf, IsSortedOnce, ShowAll};
+
+use crate::form::Form;
+use crate::parts::parts_of;
+use std::alloc::{AllocError, Global};
+use uring_outcomes::Ending;
+use uring_text::push_text;
+
+/// The lines of these outcomes, sorted by their bytes, each once.
+pub(crate) fn lines_of(
+    alloc: Global,
+    endings: &[Ending],
+    form: Form,
+) -> Result<Vec<String>, AllocError>
+    ensures { IfOk result (λ lines. ShowAll form endings.now (texts_of lines.items)) }
+{
+    let mut lines = each_line(alloc, endings, form)?;
+    sort_once(&mut lines);
+    Ok(lines)
+}
+
+/// The line of each outcome.
+fn each_line(alloc: Global, endings: &[Ending], form: Form) -> Result<Vec<String>, AllocError>
+    ensures { IfOk result (λ lines. AreLinesOf form endings.now (texts_of lines.items)) }
+{
+    let mut lines = Vec::new(alloc);
+    for ending in endings {
+        push_line(alloc, &mut lines, ending, form)?;
+    }
+    Ok(lines)
+}
+
+/// Sorts lines by their bytes, and leaves each once.
+pub(crate) fn sort_once(lines: &mut Vec<String>)
+    ensures { IsSortedOnce (texts_of lines.old.items) (texts_of lines.new.items) }
+{
+    lines.sort_unstable();
+    lines.dedup();
+}
+
+/// Adds the line of an outcome.
+fn push_line(
+    alloc: Global,
+    lines: &mut Vec<String>,
+    ending: &Ending,
+    form: Form,
+) -> Result<(), AllocError>
+    ensures { OnOk result
+        ((line : List ℕ) × (texts_of lines.new.items ≡ texts_of lines.old.items ++ line ∷ [])
+        × IsLineOf form ending.now line) }
+{
+    let line = line_of(alloc, ending, form)?;
+    lines.push(line)?;
+    Ok(())
+}
+
+/// The line of an outcome.
+pub fn line_of(alloc: Global, ending: &Ending, form: Form) -> Result<String, AllocError>
+    ensures { IfOk result (λ line. IsLineOf form ending.now (string_bytes line)) }
+{
+    let parts = parts_of(alloc, ending, form)?;
+    let line = join(alloc, parts.as_slice());
+    drop(parts);
+    line
+}
+
+/// These parts with a comma and a blank between.
+fn join(alloc: Global, parts: &[String]) -> Result<String, AllocError>
+    ensures { IfOk result (λ line. string_bytes line ≡ joined (texts_of parts.now)) }
+{
+    let mut line = String::new(alloc);
+    if let [first, rest @ ..] = parts {
+        push_text(&alloc, &mut line, first.as_str())?;
+        push_rest(alloc, &mut line, rest)?;
+    }
+    Ok(line)
+}
+
+/// Appends these parts, each behind a comma and a blank.
+fn push_rest(alloc: Global, line: &mut String, parts: &[String]) -> Result<(), AllocError>
+    ensures { OnOk result
+        (string_bytes line.new ≡ string_bytes line.old ++ flat_map parted (texts_of parts.now)) }
+{
+    for part in parts {
+        push_text(&alloc, line, ", ")?;
+        push_text(&alloc, line, part.as_str())?;
+    }
+    Ok(())
+}

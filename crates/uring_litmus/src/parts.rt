@@ -1,0 +1,240 @@
+//! The parts of an outcome as text: its completions, and its files.
+
+ghost use Rattle.std.specs.Prelude.{◌≡◌, ◌++◌, ◌∷◌, [], ◌<◌, ◌≤◌, pos, codes, IfOk, OnOk, MatchOption, Some, length, string_bytes, if◌then◌else◌};
+ghost use Rattle.uring_entry.specs.Layout.{Cqe};
+ghost use Rattle.uring_files.specs.Contents.{FileContents};
+ghost use Rattle.std.specs.Option.{option_to_list};
+ghost use Rattle.uring_files.specs.Operations.{file_of, state_of, byte_of};
+ghost use Rattle.uring_text.specs.Completions.{completion_text};
+ghost use Rattle.uring_text.specs.Tokens.{hex_or_dash};
+ghost use Rattle.uring_litmus.specs.Parts.{texts_of, IsShown, IsOrderedBy, completion_texts, completion_parts, state_text, file_text, files_texts};
+
+use crate::form::Form;
+use std::alloc::{AllocError, Global};
+use uring_entry::Setup;
+use uring_files::FileState;
+use uring_outcomes::{Cqe, Ending, Files};
+use uring_play_text::sort;
+use uring_text::{push_completion, push_number, push_text};
+
+/// A descriptor that no file has.
+const PAST_FILES: u32 = Setup::MAX_FILES + 1;
+
+/// The parts of an outcome, in order: its completions, and its files if they are asked for.
+pub(crate) fn parts_of(
+    alloc: Global,
+    ending: &Ending,
+    form: Form,
+) -> Result<Vec<String>, AllocError>
+    ensures { IfOk result (λ parts. IsShown form ending.now (texts_of parts.items)) }
+{
+    let completions = ordered(alloc, ending.posted(), form.is_sorted)?;
+    let mut parts = Vec::new(alloc);
+    add_completions(alloc, &mut parts, completions.as_slice())?;
+    add_files_if(alloc, &mut parts, ending.files(), form.has_files)?;
+    Ok(parts)
+}
+
+/// The completions, sorted if that is asked for.
+fn ordered(alloc: Global, posted: &[Cqe], is_sorted: bool) -> Result<Vec<Cqe>, AllocError>
+    ensures { IfOk result (λ shown. IsOrderedBy is_sorted posted.now shown.items) }
+{
+    let mut completions = Vec::from_slice(alloc, posted)?;
+    if is_sorted {
+        sort(completions.as_mut_slice());
+    }
+    Ok(completions)
+}
+
+/// Adds the text of each completion, or `none` if there is none.
+fn add_completions(
+    alloc: Global,
+    parts: &mut Vec<String>,
+    completions: &[Cqe],
+) -> Result<(), AllocError>
+    ensures { OnOk result
+        (texts_of parts.new.items ≡ texts_of parts.old.items ++ completion_parts completions.now) }
+{
+    if completions.is_empty() {
+        return add_none(alloc, parts);
+    }
+    add_each(alloc, parts, completions)
+}
+
+/// Adds the part of an outcome that has posted nothing.
+fn add_none(alloc: Global, parts: &mut Vec<String>) -> Result<(), AllocError>
+    ensures { OnOk result
+        (texts_of parts.new.items ≡ texts_of parts.old.items ++ codes "none" ∷ []) }
+{
+    let mut text = String::new(alloc);
+    push_text(&alloc, &mut text, "none")?;
+    parts.push(text)?;
+    Ok(())
+}
+
+/// Adds the text of each completion.
+fn add_each(alloc: Global, parts: &mut Vec<String>, completions: &[Cqe]) -> Result<(), AllocError>
+    ensures { OnOk result
+        (texts_of parts.new.items ≡ texts_of parts.old.items ++ completion_texts completions.now) }
+{
+    for completion in completions {
+        add_completion(alloc, parts, completion)?;
+    }
+    Ok(())
+}
+
+/// Adds the text of a completion.
+fn add_completion(
+    alloc: Global,
+    parts: &mut Vec<String>,
+    completion: &Cqe,
+) -> Result<(), AllocError>
+    ensures { OnOk result
+        (texts_of parts.new.items ≡ texts_of parts.old.items ++ completion_text completion.now ∷ []) }
+{
+    let mut text = String::new(alloc);
+    push_completion(alloc, &mut text, completion)?;
+    parts.push(text)?;
+    Ok(())
+}
+
+/// Adds the text of each file, if that is asked for.
+fn add_files_if(
+    alloc: Global,
+    parts: &mut Vec<String>,
+    files: &Files,
+    has_files: bool,
+) -> Result<(), AllocError>
+    ensures { OnOk result
+        (texts_of parts.new.items ≡ texts_of parts.old.items ++ (if has_files then files_texts 0 files.now else [])) }
+{
+    if has_files {
+        add_files(alloc, parts, files)?;
+    }
+    Ok(())
+}
+
+/// Adds the text of each file. There are no more than a set-up has: of others none is told.
+fn add_files(alloc: Global, parts: &mut Vec<String>, files: &Files) -> Result<(), AllocError>
+    ensures { OnOk result
+        (texts_of parts.new.items ≡ texts_of parts.old.items ++ files_texts 0 files.now) }
+{
+    for fd in 0..PAST_FILES {
+        match state_at(files, fd) {
+            None => return Ok(()),
+            Some(_) => add_file(alloc, parts, files, fd)?,
+        }
+    }
+    Err(AllocError)
+}
+
+/// Adds the text of the file of this descriptor, if there is one.
+fn add_file(
+    alloc: Global,
+    parts: &mut Vec<String>,
+    files: &Files,
+    fd: u32,
+) -> Result<(), AllocError>
+    requires { fd < 65 }
+    ensures { OnOk result
+        (MatchOption (file_of files.now (pos fd)) (texts_of parts.new.items ≡ texts_of parts.old.items)
+        (λ file. texts_of parts.new.items ≡ texts_of parts.old.items ++ file_text fd file ∷ [])) }
+{
+    let Some(state) = state_at(files, fd) else {
+        return Ok(());
+    };
+    let bytes = bytes_of(alloc, files, fd, state.len)?;
+    let text = text_of_file(alloc, fd, &state, bytes.as_slice())?;
+    parts.push(text)?;
+    Ok(())
+}
+
+/// How the file of this descriptor stands.
+fn state_at(files: &Files, fd: u32) -> Option<FileState>
+    requires { fd < 65 }
+    ensures { result ≡ state_of files.now (pos fd) }
+{
+    files.state(fd as i32)
+}
+
+/// The text of a file that stands so and has these bytes.
+fn text_of_file(
+    alloc: Global,
+    fd: u32,
+    state: &FileState,
+    bytes: &[u8],
+) -> Result<String, AllocError>
+    ensures { IfOk result
+        (λ text. string_bytes text ≡ state_text fd state.now ++ hex_or_dash bytes.now) }
+{
+    let mut text = String::new(alloc);
+    push_state(alloc, &mut text, fd, state)?;
+    push_hex(alloc, &mut text, bytes)?;
+    Ok(text)
+}
+
+/// Appends which file it is and how it stands.
+fn push_state(
+    alloc: Global,
+    text: &mut String,
+    fd: u32,
+    state: &FileState,
+) -> Result<(), AllocError>
+    ensures { OnOk result
+        (string_bytes text.new ≡ string_bytes text.old ++ state_text fd state.now) }
+{
+    push_text(&alloc, text, "file ")?;
+    push_number(&alloc, text, u64::from(fd))?;
+    push_text(&alloc, text, " len ")?;
+    push_number(&alloc, text, u64::from(state.len))?;
+    push_text(&alloc, text, " writes ")?;
+    push_number(&alloc, text, state.writes)?;
+    push_text(&alloc, text, " synced ")?;
+    push_number(&alloc, text, state.synced)?;
+    push_text(&alloc, text, " data ")
+}
+
+/// The bytes of the file of this descriptor, which has so many.
+fn bytes_of(alloc: Global, files: &Files, fd: u32, len: u32) -> Result<Vec<u8>, AllocError>
+    requires { fd < 65 }
+    ensures { (file : FileContents) → file_of files.now (pos fd) ≡ Some file
+        → length file.bytes ≡ len → IfOk result (λ bytes. bytes.items ≡ file.bytes) }
+{
+    let mut bytes = Vec::new(alloc);
+    for at in 0..len {
+        push_byte(&mut bytes, files, fd, at)?;
+    }
+    Ok(bytes)
+}
+
+/// Appends the byte of a file at this offset, if there is one.
+fn push_byte(bytes: &mut Vec<u8>, files: &Files, fd: u32, at: u32) -> Result<(), AllocError>
+    requires { fd < 65 }
+    ensures { OnOk result
+        (bytes.new.items ≡ bytes.old.items ++ option_to_list (byte_of files.now (pos fd) at)) }
+{
+    if let Some(byte) = byte_at(files, fd, at) {
+        bytes.push(byte)?;
+    }
+    Ok(())
+}
+
+/// The byte of a file at this offset.
+fn byte_at(files: &Files, fd: u32, at: u32) -> Option<u8>
+    requires { fd < 65 }
+    ensures { result ≡ byte_of files.now (pos fd) at }
+{
+    files.byte(fd as i32, u64::from(at))
+}
+
+/// Appends bytes as two lower case hexadecimal digits each, or `-` for none.
+fn push_hex(alloc: Global, text: &mut String, bytes: &[u8]) -> Result<(), AllocError>
+    ensures { OnOk result
+        (string_bytes text.new ≡ string_bytes text.old ++ hex_or_dash bytes.now) }
+{
+    if bytes.is_empty() {
+        return push_text(&alloc, text, "-");
+    }
+    let digits = hex::encode(alloc, bytes)?;
+    push_text(&alloc, text, digits.as_str())
+}
