@@ -41,6 +41,9 @@ bool goes_on_behind(const struct request *request, int32_t res);
 /* Whether it doesn't wait whatever its descriptor is: it is asked not to, or for nothing. */
 bool is_impatient(const struct request *request);
 
+/* Whether it is to take a provided buffer and there is none: it ends so, whatever its descriptor has. One that goes on waits. */
+bool lacks_buffer(struct ring *ring, const struct request *request);
+
 /* Whether one that may have to wait wouldn't wait now. */
 bool is_ready(const struct request *request);
 

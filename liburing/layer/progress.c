@@ -40,7 +40,7 @@ static bool can_finish(struct ring *ring, struct request *request)
         return has_counted(ring, request);
     if (goes_on(request) && !can_post_extra(ring))
         return false;
-    return !request->is_stream || is_found_ready(ring, request);
+    return !request->is_stream || lacks_buffer(ring, request) || is_found_ready(ring, request);
 }
 
 /* The core isn't to be asked for a request again before another has ended. */
@@ -118,11 +118,10 @@ static bool cancel_running(struct ring *ring, uint64_t target)
 }
 
 /* What the application sees of a cancel that found its request running and waiting: a success, as the kernel's. The core
- * calls it a failure: where a link or a skipped success stands on that, it is seen as one. */
+ * calls it a failure. */
 static int32_t shown_of_cancel(struct ring *ring, const struct request *cancel, int32_t res)
 {
-    bool is_found = res == -EALREADY && cancel_running(ring, cancel->entry.addr);
-    return is_found && !(cancel->entry.flags & (IOSQE_IO_LINK | IOSQE_IO_HARDLINK | IOSQE_CQE_SKIP_SUCCESS)) ? 0 : res;
+    return res == -EALREADY && cancel_running(ring, cancel->entry.addr) ? 0 : res;
 }
 
 /* What the application sees of a request that the core ends without letting it start. */

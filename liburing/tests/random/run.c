@@ -70,13 +70,13 @@ static void see_all(struct world *world)
     if (tail - cq_head(&world->ring) > world->model.cq_entries)
         wrong(&world->model, "the completion ring's tail is %u", tail);
     while (world->seen != tail) {
-        if (world->seen >= MOST_ACTIONS)
+        if (world->seen >= 2 * MOST_ACTIONS)
             wrong(&world->model, "there are too many completions");
         struct completion shown = completion_at(&world->ring, world->seen);
         world->shown[world->seen++] = shown;
-        if (shown.flags != 0)
-            wrong(&world->model, "a completion has flags");
-        see(&world->model, shown.user_data, shown.res);
+        see(&world->model, shown.user_data, shown.res, shown.flags);
+        if (shown.flags & IORING_CQE_F_BUFFER)
+            world->is_provided[shown.flags >> IORING_CQE_BUFFER_SHIFT] = false;
         note_outcome(world, shown);
     }
 }
@@ -148,7 +148,7 @@ static void enter(struct world *world, uint32_t to_submit, uint32_t min_complete
     int64_t start = real_time();
     call.result = enter_ring(&world->ring, to_submit, min_complete, is_getting, call.limit, has_mask);
     if (may_sleep)
-        model->slack += real_time() - start;
+        model->slack = add_times(model->slack, real_time() - start);
     look(world, &call);
     see_all(world);
     judge_call(model);
@@ -209,6 +209,31 @@ static bool has_pipe_writes(const struct world *world)
     return false;
 }
 
+/* Only if it is known which buffers were taken. */
+static void act_provide(struct world *world, uint32_t count)
+{
+    if (sq_flags(&world->ring) & IORING_SQ_CQ_OVERFLOW)
+        return;
+    for (unsigned buffer = 0; buffer < PROVIDED && count > 0; buffer++)
+        count -= provide(world, buffer);
+}
+
+/* Only if no request waits that finds its file when it starts. */
+static void act_update(struct world *world)
+{
+    const struct model *model = &world->model;
+    if (sq_flags(&world->ring) & IORING_SQ_CQ_OVERFLOW)
+        return;
+    for (uint32_t i = 0; i < model->count; i++) {
+        const struct request *request = &model->requests[i];
+        bool is_first = i == 0 || model->requests[i - 1].group != request->group;
+        bool is_loose = is_first && !(request->action->flags & IOSQE_IO_DRAIN);
+        if (!request->is_ended && request->action->is_registered && request->action->object == OTHER_LOG && !is_loose)
+            return;
+    }
+    update_files(world);
+}
+
 static void act(struct world *world, unsigned index)
 {
     const struct action *action = &world->program->actions[index];
@@ -238,6 +263,12 @@ static void act(struct world *world, unsigned index)
         break;
     case REOPEN:
         act_reopen(world);
+        break;
+    case PROVIDE:
+        act_provide(world, action->count);
+        break;
+    case UPDATE:
+        act_update(world);
         break;
     }
 }
@@ -286,6 +317,29 @@ static void run_threads(struct world *worlds, unsigned count)
         pthread_join(threads[i], NULL);
 }
 
+/* The models of all rings know one another. */
+static void let_talk(struct world *worlds, unsigned count)
+{
+    static struct message messages[MOST_ACTIONS];
+    memset(messages, 0, sizeof messages);
+    for (unsigned i = 0; i < count; i++) {
+        worlds[i].model.messages = messages;
+        for (unsigned other = 0; other < count; other++)
+            worlds[i].model.others[other] = &worlds[other].model;
+    }
+}
+
+/* Messages of a ring that came to rest later are seen now. */
+static void judge_messages(struct world *world)
+{
+    finish(world);
+    for (unsigned i = 0; i < MOST_ACTIONS; i++) {
+        const struct message *message = &world->model.messages[i];
+        if (message->is_sent && !message->is_seen && world->program->actions[i].target == world->index)
+            wrong(&world->model, "message %u is lost", i);
+    }
+}
+
 void run_program(const struct program *program, bool is_kernel, struct outcome *outcome)
 {
     struct world *worlds = calloc(program->ring_count, sizeof *worlds);
@@ -295,17 +349,23 @@ void run_program(const struct program *program, bool is_kernel, struct outcome *
         worlds[i].index = i;
         worlds[i].is_kernel = is_kernel;
         worlds[i].outcome = outcome;
+        worlds[i].others = worlds;
         make_world(&worlds[i]);
     }
+    if (program->has_messages)
+        let_talk(worlds, program->ring_count);
     if (program->is_threaded)
         run_threads(worlds, program->ring_count);
     for (unsigned i = 0; i < program->count && !program->is_threaded; i++)
         act(&worlds[program->actions[i].ring], i);
+    for (unsigned i = 0; i < program->ring_count && !program->is_threaded; i++)
+        finish(&worlds[i]);
     for (unsigned i = 0; i < program->ring_count; i++) {
-        if (!program->is_threaded)
-            finish(&worlds[i]);
+        if (program->has_messages)
+            judge_messages(&worlds[i]);
         judge_world(&worlds[i]);
         free(worlds[i].is_used);
+        free(worlds[i].provided_ring);
     }
     free(worlds);
 }
