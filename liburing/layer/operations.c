@@ -351,10 +351,11 @@ int32_t carry_out(struct ring *ring, struct request *request, enum injection fau
 
 bool is_success(const struct request *request, int32_t res)
 {
-    if (res == -ETIME)
-        return request->entry.opcode == IORING_OP_TIMEOUT && request->entry.timeout_flags & IORING_TIMEOUT_ETIME_SUCCESS;
+    /* The chain goes on behind a linked timeout, also if that has fired. */
     if (is_linked_timeout(request))
         return !request->is_cancelled;
+    if (res == -ETIME)
+        return request->entry.opcode == IORING_OP_TIMEOUT && request->entry.timeout_flags & IORING_TIMEOUT_ETIME_SUCCESS;
     if (is_of_sockets(request->entry.opcode))
         return is_socket_success(request, res);
     if (is_splice(request))

@@ -96,7 +96,7 @@ static void end_of(struct ring *ring, struct request *request, int32_t res, int3
     ring->has_changed = true;
     ring->running -= request->state == RUNS;
     look_again_behind(ring, request);
-    ring->drains -= (request->entry.flags & IOSQE_IO_DRAIN) != 0;
+    ring->drains -= request->is_draining;
     ring->counting -= request->enough > 0;
     end_request(&ring->requests, request);
     forget_refusals(ring, told == TOLD_SUCCESS && !is_cancel);

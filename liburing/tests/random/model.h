@@ -39,6 +39,7 @@ struct request {
     bool is_ended, is_doomed;
     bool is_cancelled;                  /* a cancel found it running, or its timeout did */
     bool is_faulty;
+    bool is_loose;                      /* its file was found when it was accepted */
     int32_t failure;                    /* with which it ends however it is carried out, or 0 */
     bool has_fired, may_have_fired;     /* of a linked timeout: in a call that shows nothing of it */
     int64_t since;                      /* the virtual time at which it could start; negative: not yet */
@@ -120,7 +121,8 @@ bool has_linked_timeouts(const struct model *model);
 /* When a timeout, or a linked one, ends that runs; negative: it doesn't run. */
 int64_t end_of_timeout(const struct request *timeout);
 
-/* Whether a message is to be seen. */
+/* Whether one that drains, or a member of its chain, is outstanding; and whether a message is to be seen. */
+bool has_drains(const struct model *model);
 bool has_due_messages(const struct model *model);
 
 /* Whether a request waits for its pipe, whether it is on what may have to wait, and whether it waits for no other request. */

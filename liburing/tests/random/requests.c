@@ -24,10 +24,11 @@ void wrong(const struct model *model, const char *format, ...)
 
 /* ---- acceptance ---- */
 
-/* A linked timeout wants a request before it that it limits. */
+/* A linked timeout wants a request before it that it limits, which isn't one itself. */
 static bool is_faulty(const struct model *model, const struct action *action, bool is_behind)
 {
-    bool has_place = is_behind && model->requests[model->count - 1].action->code != IORING_OP_LINK_TIMEOUT;
+    const struct action *before = is_behind ? model->requests[model->count - 1].action : NULL;
+    bool has_place = before && (before->code != IORING_OP_LINK_TIMEOUT || before->flaw == BAD_CODE);
     return (action->flaw != NO_FLAW && action->flaw != BAD_DATA) || (action->code == IORING_OP_LINK_TIMEOUT && !has_place);
 }
 
@@ -70,6 +71,19 @@ static void note_starts(struct model *model)
     }
 }
 
+/* One that is behind no link and no drain finds its file at once. */
+static void note_loose(struct model *model, uint32_t first)
+{
+    bool has_drain = false;
+    for (uint32_t i = 0; i < model->count; i++) {
+        struct request *request = &model->requests[i];
+        bool is_first = i == 0 || model->requests[i - 1].group != request->group;
+        has_drain |= !request->is_ended && model->has_drain[request->group];
+        if (i >= first)
+            request->is_loose = is_first && !has_drain;
+    }
+}
+
 void take(struct model *model, uint32_t to_submit)
 {
     uint32_t first = model->count;
@@ -87,16 +101,18 @@ void take(struct model *model, uint32_t to_submit)
             break;
     }
     doom_faulty(model, first);
+    note_loose(model, first);
     note_starts(model);
     model->call->accepted = model->count - first;
 }
 
 /* ---- what may go on ---- */
 
-/* Whether a request waits for another that hasn't ended. In the kernel nobody waits for a faulty group that drains. */
+/* Whether a request waits for another that hasn't ended. In the kernel nobody waits for a faulty group that drains, nor
+ * for a linked timeout, which runs beside the request before it. */
 static bool waits_for(const struct model *model, const struct request *request, const struct request *other)
 {
-    if (other->is_ended || other >= request)
+    if (other->is_ended || other >= request || (model->is_kernel && other->action->code == IORING_OP_LINK_TIMEOUT))
         return false;
     bool is_drain = model->has_drain[other->group] && !(model->is_kernel && model->has_fault[other->group]);
     return other->group == request->group || is_drain || model->has_drain[request->group];
@@ -342,7 +358,7 @@ static struct model *receiver_of(const struct model *model, const struct request
     return model->others[request->action->target];
 }
 
-static bool has_drains(const struct model *model)
+bool has_drains(const struct model *model)
 {
     for (uint32_t i = 0; i < model->count; i++)
         if (!model->requests[i].is_ended && model->has_drain[model->requests[i].group])

@@ -124,7 +124,7 @@ static void deliver_provided(struct model *model, const struct request *request,
     memcpy(model->things->provided[buffer], bytes, length);
     memmove(model->queue, model->queue + 1, --model->queue_length);
     model->queue_flags = IORING_CQE_F_BUFFER | (uint32_t)buffer << IORING_CQE_BUFFER_SHIFT;
-    if (memcmp(model->things->provided, model->provided, sizeof model->things->provided) != 0)
+    if (memcmp(model->things->provided[buffer], model->provided + buffer * PROVIDED_SIZE, PROVIDED_SIZE) != 0)
         wrong(model, "entry %u has read something else into a provided buffer", request->index);
 }
 

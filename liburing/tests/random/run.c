@@ -94,6 +94,15 @@ static void reap(struct world *world, uint32_t count)
 
 /* ---- calling ---- */
 
+/* What posts nothing may have ended, so that what waits for it runs. */
+static bool may_have_unseen_ends(const struct model *model)
+{
+    for (uint32_t i = 0; i < model->count; i++)
+        if (!model->requests[i].is_ended && model->requests[i].action->flags & IOSQE_CQE_SKIP_SUCCESS)
+            return true;
+    return false;
+}
+
 /* The limit that a call is given: where it would really sleep, a short one. A call that waits for one completion, which a
  * timeout will give, sleeps only for a pipe that is read already. */
 static int64_t limit_of(const struct world *world, const struct call *call, int64_t limit)
@@ -105,7 +114,7 @@ static int64_t limit_of(const struct world *world, const struct call *call, int6
         return KERNEL_WAIT;
     bool may_sleep = has_pipe_reads(model, false) || world->program->is_threaded;
     if (may_sleep && call->min_complete == 1 && call->ready == 0 && has_timeouts(model))
-        may_sleep = has_pipe_reads(model, true);
+        may_sleep = has_pipe_reads(model, true) || may_have_unseen_ends(model);
     return may_sleep && (limit < 0 || limit > SHORT_WAIT) ? SHORT_WAIT : limit;
 }
 
@@ -194,9 +203,8 @@ static void act_reopen(struct world *world)
     const struct model *model = &world->model;
     if (sq_flags(&world->ring) & IORING_SQ_CQ_OVERFLOW)
         return;
-    for (uint32_t i = 0; i < model->count; i++)
-        if (!model->requests[i].is_ended && model->requests[i].action->flags & IOSQE_CQE_SKIP_SUCCESS)
-            return;
+    if (may_have_unseen_ends(model))
+        return;
     close_ring(&world->ring);
     make_world_ring(world);
 }
@@ -218,7 +226,7 @@ static void act_provide(struct world *world, uint32_t count)
         count -= provide(world, buffer);
 }
 
-/* Only if no request waits that finds its file when it starts. */
+/* Only if no request waits that may find its file when it starts. */
 static void act_update(struct world *world)
 {
     const struct model *model = &world->model;
@@ -226,9 +234,7 @@ static void act_update(struct world *world)
         return;
     for (uint32_t i = 0; i < model->count; i++) {
         const struct request *request = &model->requests[i];
-        bool is_first = i == 0 || model->requests[i - 1].group != request->group;
-        bool is_loose = is_first && !(request->action->flags & IOSQE_IO_DRAIN);
-        if (!request->is_ended && request->action->is_registered && request->action->object == OTHER_LOG && !is_loose)
+        if (!request->is_ended && request->action->is_registered && request->action->object == OTHER_LOG && !request->is_loose)
             return;
     }
     update_files(world);
@@ -329,13 +335,13 @@ static void let_talk(struct world *worlds, unsigned count)
     }
 }
 
-/* Messages of a ring that came to rest later are seen now. */
+/* Messages of a ring that came to rest later are seen now, unless one that posts nothing drains still. */
 static void judge_messages(struct world *world)
 {
     finish(world);
     for (unsigned i = 0; i < MOST_ACTIONS; i++) {
         const struct message *message = &world->model.messages[i];
-        if (message->is_sent && !message->is_seen && world->program->actions[i].target == world->index)
+        if (message->is_sent && !message->is_seen && !has_drains(&world->model) && world->program->actions[i].target == world->index)
             wrong(&world->model, "message %u is lost", i);
     }
 }
