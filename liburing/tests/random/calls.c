@@ -200,6 +200,7 @@ static void judge_policy(struct model *model)
 void judge_call(struct model *model)
 {
     judge_words(model);
+    model->has_overflowed = model->call->flags & IORING_SQ_CQ_OVERFLOW;
     if (model->is_kernel)
         return;
     judge_result(model);

@@ -80,6 +80,7 @@ struct model {
     struct model *others[MOST_RINGS];   /* the models of all rings, which send messages to one another */
     struct message *messages;           /* by the sender's action */
     bool is_late;                       /* what is seen next may have ended before this call */
+    bool has_overflowed;                /* completions that aren't seen yet are outside of the ring */
     struct call *call;
     struct things *things;
     const struct vectors *data;         /* the application's */

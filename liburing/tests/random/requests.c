@@ -393,7 +393,8 @@ static void see_message(struct model *model, unsigned index, int32_t res)
             continue;
         if (request->is_doomed || (request->is_ended && !message->is_sent))
             wrong(model, "message %u is shown, and wasn't sent", index);
-        force_before(sender, request);
+        if (!sender->has_overflowed)
+            force_before(sender, request);
         message->is_seen = true;
         return;
     }

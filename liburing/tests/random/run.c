@@ -112,9 +112,10 @@ static int64_t limit_of(const struct world *world, const struct call *call, int6
         return -1;
     if (world->is_kernel)
         return KERNEL_WAIT;
+    bool is_empty = world->things.read == world->things.written && !world->things.is_fed_out;
     bool may_sleep = has_pipe_reads(model, false) || world->program->is_threaded;
     if (may_sleep && call->min_complete == 1 && call->ready == 0 && has_timeouts(model))
-        may_sleep = has_pipe_reads(model, true) || may_have_unseen_ends(model);
+        may_sleep = has_pipe_reads(model, true) || (has_pipe_reads(model, false) && is_empty && may_have_unseen_ends(model));
     return may_sleep && (limit < 0 || limit > SHORT_WAIT) ? SHORT_WAIT : limit;
 }
 
