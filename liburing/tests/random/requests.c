@@ -289,6 +289,13 @@ static bool is_in_order(const struct model *model)
     return !model->is_kernel && (strcmp(model->program->policy, "order") == 0 || strcmp(model->program->policy, "lazy") == 0);
 }
 
+/* Whether a running request ends if it is cancelled. The pipe's end may have been closed. */
+static bool can_wait(const struct model *model, const struct request *target)
+{
+    bool is_closed = target->action->object == PIPE_IN && model->things->is_fed_out;
+    return (is_stream(model, target) && !is_closed) || is_timeout(target);
+}
+
 static void cancel(struct model *model, const struct request *cancel, int32_t res)
 {
     struct request *target = target_of(model, cancel);
@@ -299,8 +306,7 @@ static void cancel(struct model *model, const struct request *cancel, int32_t re
     }
     if ((res != 0 && res != -EALREADY) || !target)
         wrong(model, "cancel %u ends with %" PRId32 ", and %s", cancel->index, res, target ? "has a target" : "has no target");
-    bool is_closed = target->action->object == PIPE_IN && model->things->is_fed_out;
-    bool is_waiting_kind = (is_stream(model, target) && !is_closed) || is_timeout(target);
+    bool is_waiting_kind = can_wait(model, target);
     /* In order, all that comes before and may start has been started. */
     bool has_started = is_in_order(model) && target < cancel && can_start(model, target);
     if (res == 0 && has_started && !is_waiting_kind)
@@ -336,7 +342,7 @@ static void remove_one(struct model *model, const struct request *removal, int32
     for (struct request *request = model->requests; request < model->requests + model->count; request++)
         if (is_found_by(removal, request))
             target = request;
-    bool is_waiting_kind = target && (is_stream(model, target) || is_timeout(target));
+    bool is_waiting_kind = target && can_wait(model, target);
     if (res == -ENOENT) {
         if (is_waiting_kind && can_start(model, target) && !target->is_doomed && !target->is_cancelled && !may_have_been_cancelled(model, target))
             wrong(model, "removal %u doesn't find entry %u", removal->index, target->index);

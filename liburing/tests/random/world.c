@@ -80,8 +80,8 @@ void update_files(struct world *world)
     model->has_file = fd >= 0;
 }
 
-/* The files by their numbers; of the pipe's end that is written none, since it is to be closed. All but one of the buffers
- * are provided. */
+/* The files by their numbers; of the pipe's end that is written none, since it is to be closed. Few of the
+ * buffers are provided. */
 static void register_all(struct world *world)
 {
     struct model *model = &world->model;
@@ -101,7 +101,7 @@ static void register_all(struct world *world)
     long provided = register_at_ring(&world->ring, IORING_REGISTER_PBUF_RING, &group, 1);
     if (files != 0 || buffers != 0 || provided != 0)
         wrong(model, "registering ends with %ld, %ld and %ld", files, buffers, provided);
-    for (unsigned buffer = 0; buffer + 1 < PROVIDED; buffer++)
+    for (unsigned buffer = 0; buffer < world->program->seed % PROVIDED; buffer++)
         provide(world, buffer);
 }
 
