@@ -162,7 +162,10 @@ static bool can_make_ready(const struct request *request)
 static enum outcome finish_running(struct ring *ring, struct request *request)
 {
     int32_t res = -ECANCELED;
-    if (!request->is_cancelled) {
+    if (request->is_cancelled) {
+        /* (one that goes on has those of its last event) */
+        request->flags = 0;
+    } else {
         /* Other threads are to see what has ended, however long this one takes. */
         if (request->entry.opcode != IORING_OP_NOP)
             show_ends(ring);

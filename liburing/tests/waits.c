@@ -201,6 +201,24 @@ static void test_sockets(void)
 }
 
 /* A receive that goes on takes a buffer for each piece, and ends with the stream. */
+/* The last completion of one that is cancelled has no buffer. */
+static void want_cancelled(struct ring *ring, const int *ends, void *memory)
+{
+    struct io_uring_sqe *provide = put_plain(ring, IORING_OP_PROVIDE_BUFFERS, 0, 1);
+    provide->addr = (uintptr_t)memory;
+    provide->len = 16;
+    check(result_of_one(ring, 1) == 0);
+    struct io_uring_sqe *entry = put(ring, IORING_OP_RECV, 1, IOSQE_BUFFER_SELECT);
+    entry->fd = ends[0];
+    entry->ioprio = IORING_RECV_MULTISHOT;
+    check(enter(ring, 1, 0, 0) == 1);
+    check(next_of(ring).flags == (IORING_CQE_F_MORE | IORING_CQE_F_BUFFER));
+    put(ring, IORING_OP_ASYNC_CANCEL, 2, IOSQE_CQE_SKIP_SUCCESS)->addr = 1;
+    check(enter(ring, 1, 0, 0) == 1);
+    struct seen last = next_of(ring);
+    check(last.user_data == 1 && last.res == -ECANCELED && last.flags == 0);
+}
+
 static void test_multishot_receive(void)
 {
     struct ring ring;
@@ -225,6 +243,7 @@ static void test_multishot_receive(void)
     check(send(ends[1], "piece", 5, 0) == 5);
     struct seen last = next_of(&ring);
     check(last.res == -ENOBUFS && last.flags == 0);
+    want_cancelled(&ring, ends, memory);
     close(ends[0]);
     close(ends[1]);
     close_ring(&ring);
