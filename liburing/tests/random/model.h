@@ -29,6 +29,7 @@ struct things {
     bool is_fed_out;                    /* its end for writing is closed */
     bool is_closed;                     /* OTHER_LOG */
     struct vectors data[MOST_ACTIONS];
+    uint8_t provided[PROVIDED][PROVIDED_SIZE];
 };
 
 struct request {
@@ -36,7 +37,12 @@ struct request {
     uint16_t index;                     /* the action's */
     uint16_t group;
     bool is_ended, is_doomed;
-    bool is_cancelled;                  /* a cancel found it running */
+    bool is_cancelled;                  /* a cancel found it running, or its timeout did */
+    bool may_be_found_again;            /* by another cancel */
+    bool is_faulty;
+    bool is_loose;                      /* its file was found when it was accepted */
+    int32_t failure;                    /* with which it ends however it is carried out, or 0 */
+    bool has_fired, may_have_fired;     /* of a linked timeout: in a call that shows nothing of it */
     int64_t since;                      /* the virtual time at which it could start; negative: not yet */
 };
 
@@ -69,11 +75,28 @@ struct model {
     int32_t published[MOST_ACTIONS];    /* an action for each position, or negative: its word names no slot */
     uint32_t published_count, taken, dropped;
     int64_t now, slack;                 /* virtual time, and how much later it may be */
+    bool has_file;                      /* OTHER_LOG is registered */
+    uint8_t queue[PROVIDED];            /* the buffers that are provided, the next first */
+    uint32_t queue_length, queue_flags; /* and the flags of a completion that took one */
+    struct model *others[MOST_RINGS];   /* the models of all rings, which send messages to one another */
+    struct message *messages;           /* by the sender's action */
     bool is_late;                       /* what is seen next may have ended before this call */
+    bool has_overflowed;                /* completions that aren't seen yet are outside of the ring */
     struct call *call;
     struct things *things;
     const struct vectors *data;         /* the application's */
+    const uint8_t *provided;            /* the application's too, one buffer behind the other */
 };
+
+enum { LINKS = IOSQE_IO_LINK | IOSQE_IO_HARDLINK };
+
+/* A message from one ring to another. */
+struct message {
+    bool is_sent, is_seen;
+    bool is_due;                        /* the other ring has it, and shows it */
+};
+
+enum { MESSAGE = 0x4000000 };           /* in the user data of one */
 
 /* ---- requests.c ---- */
 
@@ -84,7 +107,7 @@ _Noreturn void wrong(const struct model *model, const char *format, ...) __attri
 void take(struct model *model, uint32_t to_submit);
 
 /* The next completion of the ring, in order. */
-void see(struct model *model, uint64_t user_data, int32_t res);
+void see(struct model *model, uint64_t user_data, int32_t res, uint32_t flags);
 
 /* Nothing can go on but timeouts and what waits for a pipe. */
 void expect_stuck(struct model *model, const char *what);
@@ -95,17 +118,49 @@ uint32_t count_awaited(const struct model *model);
 /* Whether a read of the pipe is outstanding; or one that may have been started. */
 bool has_pipe_reads(const struct model *model, bool is_started);
 
-/* Whether a timeout runs. */
+/* Whether a timeout runs, or one that is linked behind a request that runs. */
 bool has_timeouts(const struct model *model);
+bool has_linked_timeouts(const struct model *model);
 
-/* Whether a request waits for its pipe, and whether it waits for no other request. */
+/* When a timeout, or a linked one, ends that runs; negative: it doesn't run. */
+int64_t end_of_timeout(const struct request *timeout);
+
+/* Whether a request waits for its pipe, whether it is on what may have to wait, and whether it waits for no other request. */
 bool is_blocked(const struct model *model, const struct request *request);
+bool is_stream(const struct model *model, const struct request *request);
 bool can_start(const struct model *model, const struct request *request);
 
 static inline uint64_t user_data_of(unsigned index)
 {
     return (index + 1) * 0x0000000700000001u;
 }
+
+/* It isn't doomed, nor found by a cancel. */
+bool is_timeout(const struct request *request);
+
+/* A request must have ended by now, or all that one waits for: so they succeeded unseen. */
+void force(struct model *model, struct request *request, const char *why);
+void force_before(struct model *model, const struct request *request);
+
+/* A timeout that is linked behind it may have cancelled it, unseen. */
+bool may_have_been_cancelled(const struct model *model, const struct request *request);
+
+/* The policy is one that goes by the order of submission. */
+bool is_in_order(const struct model *model);
+
+/* ---- acts.c ---- */
+
+/* A cancel, a removal or a message has ended with this result. */
+void cancel(struct model *model, const struct request *cancel, int32_t res);
+void remove_one(struct model *model, const struct request *removal, int32_t res);
+void send_one(struct model *model, const struct request *request, int32_t res);
+
+/* Whether one that drains, or a member of its chain, is outstanding; and whether a message is to be seen. */
+bool has_drains(const struct model *model);
+bool has_due_messages(const struct model *model);
+
+/* A message is shown. */
+void see_message(struct model *model, unsigned index, int32_t res);
 
 /* ---- results.c ---- */
 
