@@ -12,7 +12,7 @@ from crashing.events import Log
 from crashing.rooms import ROOM
 
 HERE = os.path.dirname(os.path.dirname(os.path.realpath(__file__)))
-PRELOADED = f"{HERE}/out/uring-run.so"
+PRELOADED = next((it for it in (f"{HERE}/out/uring-run.so", f"{HERE}/uring-run.so") if os.path.exists(it)), f"{HERE}/out/uring-run.so")
 
 
 class Run:

@@ -4,8 +4,7 @@ import ctypes
 import os
 
 HERE = os.path.dirname(os.path.dirname(os.path.realpath(__file__)))
-LIBRARY = os.environ.get("WULGACH_VOLUMES", f"{HERE}/out/volumes.so")
-ENOENT, EFBIG = -2, -27
+LIBRARY = next((it for it in (f"{HERE}/out/volumes.so", f"{HERE}/volumes.so") if os.path.exists(it)), f"{HERE}/out/volumes.so")
 
 
 class Place(ctypes.Structure):
