@@ -7,7 +7,7 @@ import shlex
 import sys
 import time
 
-from crashing.images import all_images, image_of, losses, unsettled
+from crashing.images import all_images, image_of, losses, pieces, unsettled
 from crashing.labels import Chosen
 from crashing.rooms import Room
 from crashing.runs import PRELOADED, Run
@@ -21,9 +21,9 @@ DEPTHS = 3
 
 
 class Failure:
-    def __init__(self, run, moment, kind, lost, seed, status, said):
+    def __init__(self, run, moment, losses, status, said):
         self.policy, self.items, self.choices, self.moment = run.policy, run.items(), len(run.choices), moment
-        self.kind, self.lost, self.seed, self.status, self.said = kind, lost, seed, status, said
+        self.losses, self.status, self.said = losses, status, said
 
 
 class Crasher:
@@ -47,9 +47,10 @@ class Crasher:
         for moment, kind, seed in sorted(specs):
             disk.advance(moment)
             chosen = choose(disk, kind, seed)
-            status, said = self.verdict(image_of(disk, chosen), run.printed(moment))
+            image = image_of(disk, chosen)
+            status, said = self.verdict(image, run.printed(moment))
             if status != 0:
-                found.append(Failure(run, moment, chosen.kind, sorted(chosen.lost), seed, status, said))
+                found.append(Failure(run, moment, pieces(image, image_of(disk, Chosen("most"))), status, said))
                 if not self.options.keep_going:
                     break
         return found
@@ -64,7 +65,7 @@ class Crasher:
             for image in images or []:
                 status, said = self.verdict(image, run.printed(moment))
                 if status != 0:
-                    found.append(Failure(run, moment, "all", [], 0, status, said))
+                    found.append(Failure(run, moment, pieces(image, image_of(disk, Chosen("most"))), status, said))
                     if not self.options.keep_going:
                         return found, passed
         return found, passed
@@ -78,7 +79,7 @@ class Crasher:
 def choose(disk, kind, seed):
     if kind == "single":
         numbers = unsettled(disk)
-        return Chosen("lose", [numbers[seed % len(numbers)]] if numbers else [])
+        return Chosen("lose", [(numbers[seed % len(numbers)],)] if numbers else [])
     if kind == "seed":
         return Chosen("seed", dice=random.Random(seed))
     return Chosen(kind)
@@ -170,10 +171,26 @@ def split_words(options):
     options.shown = [*options.words, "--", *options.check]
     options.words = [real(options.words[0]), *options.words[1:]]
     options.check = [real(options.check[0]), *options.check[1:]]
-    options.lose = [int(it) for it in options.lose.split(",") if it]
+    options.lose = [read_loss(it) for it in options.lose.split(",") if it]
     for path, target in ((PRELOADED, "out/uring-run.so"), (LIBRARY, "out/volumes.so")):
         if not os.path.exists(path):
             stop(f"{path} isn't there: make -C liburing {target}")
+
+
+def read_loss(word):
+    """N, N:FIRST-LAST or N:length."""
+    number, _, part = word.partition(":")
+    try:
+        if part in ("", "length"):
+            return (int(number), part) if part else (int(number),)
+        first, last = part.split("-")
+        return int(number), int(first), int(last) + 1
+    except ValueError:
+        stop(f"{word}: a loss is N, N:FIRST-LAST or N:length")
+
+
+def told_loss(loss):
+    return f"{loss[0]}:{loss[1]}-{loss[2] - 1}" if len(loss) == 3 else ":".join(map(str, loss))
 
 
 def real(word):
@@ -204,12 +221,11 @@ def tell(options, failure):
             items = shortest(options, crasher, items)
             print(f"the run made {failure.choices} choices; {len(items)} {'is' if len(items) == 1 else 'are'} enough")
         run = Run(options, list_of(items))
-        found = search(crasher, run) or (failure.moment, None)
-        if found[1] is None:
-            print("it isn't found again without the image of its seed:")
+        moment, lost = search(crasher, run) or (failure.moment, failure.losses)
+        if not crasher.fails(run, moment, Chosen("lose", lost)):
+            print("that isn't told by what is lost: two writes that ran at once are left in another order, or the program doesn't do the same in each run", flush=True)
             sys.stdout.buffer.write(failure.said)
             return 1
-        moment, lost = found
         lost = fewest(lambda some: crasher.fails(run, moment, Chosen("lose", some)), lost)
         moment = next((at for at in run.moments() if at <= moment and crasher.fails(run, at, Chosen("lose", lost))), moment)
         options.list = list_of(items)[len("list:") :]
@@ -234,11 +250,11 @@ def search(crasher, run):
 
 def lost_by(disk, kind, at, numbers):
     if kind == "least":
-        return numbers
+        return [(it,) for it in numbers]
     if kind == "single":
-        return numbers[at : at + 1]
+        return [(it,) for it in numbers[at : at + 1]]
     dice = random.Random(at)
-    return [it for it in numbers if dice.random() < 0.5]
+    return [(it,) for it in numbers if dice.random() < 0.5]
 
 
 def shortest(options, crasher, items):
@@ -305,7 +321,7 @@ def repeated(options, moment, chosen):
     words += ["--apart"] if options.apart else []
     words += ["--ends"] if options.ends else []
     words += ["--list", options.list] if options.list else []
-    words += ["--at", str(moment), "--lose", ",".join(map(str, sorted(chosen.lost)))]
+    words += ["--at", str(moment), "--lose", ",".join(map(told_loss, chosen.losses))]
     return shlex.join([*words, *options.shown])
 
 

@@ -80,7 +80,7 @@ class Log:
         operation = Operation(event, at)
         self.operations.append(operation)
         if event.kind == MAPPED:
-            operation.begin, operation.end, operation.result = self.compared.get(event.file, at), at, event.length
+            operation.begin, operation.end, operation.result = self.compared_at(event.file, at), at, event.length
             return
         if event.kind in (SYNC, SYNC_ALL):
             self.compared[event.file] = at
@@ -88,6 +88,10 @@ class Log:
             self.of_rings[event.process, event.operation] = operation
         else:
             self.open.setdefault(thread, []).append(operation)
+
+    def compared_at(self, file, at):
+        """Where a file was last compared with what was mapped of it, by a sync of it or of all (0): where such a sync began or ended."""
+        return max((self.compared[it] for it in (file, 0) if it in self.compared), default=at)
 
     def end(self, at, event, thread):
         if event.operation:
@@ -98,5 +102,7 @@ class Log:
         if operation is None:
             return
         operation.end, operation.result, operation.made = at, event.result, event.file
+        if operation.kind in (SYNC, SYNC_ALL):
+            self.compared[operation.file] = at
         if operation.kind == COPY:
             operation.bytes = event.bytes

@@ -68,7 +68,7 @@ class Synced:
 
 def crash_file(disk, file, syncs, chosen):
     if not file.changes:
-        return bytes(file.contents[: file.length]).ljust(file.length, b"\0"), ([], file.length)
+        return bytes(file.contents[: file.length]).ljust(file.length, b"\0"), ([], file.length, [])
     left = Parts(Synced(file.changes, syncs), disk.now).crash(chosen)
     cells = Bytes(with_length(disk, file, syncs, left), disk.now, disk.unit, tears_of(file, disk.unit, chosen)).crash(chosen)
     return paint(file, left, cells)
@@ -95,6 +95,8 @@ def is_behind(change, cut):
 def tears_of(file, unit, chosen):
     """Where writes are cut, by chance."""
     dice, found = chosen.dice, []
+    for change in file.changes if chosen.torn else []:
+        found += [place for part in chosen.torn.get(change.operation.number, []) for place in part]
     for change in file.changes[-20:] if chosen.is_torn else []:
         units = (change.last - change.first) // unit
         if units > 1 and dice.random() < 0.7:
@@ -112,7 +114,7 @@ def paint(file, left, cells):
             if len(contents) < last:
                 contents.extend(bytes(last - len(contents)))
             contents[first:last] = change.data[first - change.first : last - change.first] if change.data is not None else bytes(last - first)
-    return bytes(contents[:length]).ljust(length, b"\0"), (cells, length)
+    return bytes(contents[:length]).ljust(length, b"\0"), (cells, length, left)
 
 
 def unsettled(disk):
@@ -185,12 +187,23 @@ def losses(disk, image, whole):
     for number in sorted(whole.shown):
         if number not in image.shown:
             continue
-        file, (cells, length), (shown, shorter) = disk.files[number], whole.shown[number], image.shown[number]
+        file, (cells, length, _), (shown, shorter, _) = disk.files[number], whole.shown[number], image.shown[number]
         name = disk.short(file)
         for change, ranges in lost_ranges(cells, shown).items():
             found.append(f"{told_ranges(ranges)} of {name} are lost: {why_lost(disk, change, file.all_syncs, name)}")
         if length != shorter and not any(name in it for it in found):
             found.append(f"the length of {name} is {shorter} and not {length}")
+    return found
+
+
+def pieces(image, whole):
+    """The losses that make an image of the one in which nothing is lost."""
+    found = [(it.operation.number,) for it in whole.left if it not in image.left]
+    for number in sorted(whole.shown):
+        if number in image.shown:
+            (cells, _, left), (shown, _, shorter) = whole.shown[number], image.shown[number]
+            found += [(change.operation.number, first, last) for change, ranges in lost_ranges(cells, shown).items() for first, last in ranges]
+            found += [(change.operation.number, "length") for change in left if change not in shorter]
     return found
 
 

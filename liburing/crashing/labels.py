@@ -14,10 +14,18 @@ WHOLE = 1 << 40     # a unit that is larger than any volume here
 
 
 class Chosen:
-    """What is left: every change that may be (`most`), none that needn't (`least`), all but some, or by chance (`seed`): then writes are left whole or torn."""
+    """What is left: every change that may be (`most`), none that needn't (`least`), all but some (`lose`), or by chance (`seed`): then writes are left whole or torn.
 
-    def __init__(self, kind, lost=(), dice=None):
-        self.kind, self.lost, self.dice = kind, frozenset(lost), dice
+    A loss is (number,) of an operation, (number, first, last) of some of its bytes, or (number, "length"): the file isn't made longer or shorter by it.
+    """
+
+    def __init__(self, kind, losses=(), dice=None):
+        self.kind, self.losses, self.dice = kind, tuple(losses), dice
+        self.lost = {it[0] for it in self.losses if len(it) == 1}
+        self.short = self.lost | {it[0] for it in self.losses if it[1:] == ("length",)}
+        self.torn = {}
+        for number, first, last in (it for it in self.losses if len(it) == 3):
+            self.torn.setdefault(number, []).append((first, last))
         self.is_torn = dice is not None and dice.random() < 0.5
 
     def parts(self, count, numbers):
@@ -26,9 +34,22 @@ class Chosen:
             return array.array("Q")
         if self.kind == "seed":
             return self.by_chance(count, numbers)
-        part = array.array("Q", [number for number, change in numbers if change.operation.number not in self.lost])
+        part = array.array("Q", [number for number, change in numbers if change.operation.number not in self.short])
         part.append(0)
         return part * count
+
+    def parts_of_cells(self, cells, numbers):
+        """The same of a file's bytes, where changes may be lost in part."""
+        if self.kind != "lose":
+            return self.parts(len(cells), numbers)
+        choice = array.array("Q")
+        for first, last, _ in cells:
+            choice.extend(number for number, change in numbers if not self.loses(change.operation.number, first, last))
+            choice.append(0)
+        return choice
+
+    def loses(self, number, first, last):
+        return number in self.lost or any(one < last and first < other for one, other in self.torn.get(number, []))
 
     def by_chance(self, count, numbers):
         dice, choice = self.dice, array.array("Q")
@@ -214,7 +235,7 @@ class Bytes(History):
     def choice(self, chosen):
         if chosen.kind == "least":
             return array.array("Q")
-        return array.array("Q", [0]) + chosen.parts(len(self.cells), self.numbers)
+        return array.array("Q", [0]) + chosen.parts_of_cells(self.cells, self.numbers)
 
     def crash(self, chosen):
         """Which change shows where: ranges, each with its change or None."""

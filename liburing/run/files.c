@@ -164,6 +164,7 @@ static long call_sync(long call, const long words[6])
     compare_maps(file);
     struct event event = {.kind = EVENT_SYNC, .file = file};
     log_event(&event, path, NULL, NULL, 0);
+    compare_maps(file);
     return end_operation(fails_now() ? -EIO : 0);
 }
 
@@ -175,6 +176,7 @@ static long call_sync_all(long call, const long words[6])
     compare_maps(0);
     struct event event = {.kind = EVENT_SYNC_ALL};
     log_event(&event, NULL, NULL, NULL, 0);
+    compare_maps(0);
     return end_operation(0);
 }
 

@@ -1,5 +1,5 @@
-/* Memory that is shared with a file. Nobody sees when it is written: the file is compared with a copy, page by page, at each msync
- * and fsync of it and where the process ends. What has changed goes into the log. Its bytes are read by a descriptor of our own,
+/* Memory that is shared with a file. Nobody sees when it is written: the file is compared with a copy, page by page, where an msync
+ * or fsync of it begins and where it ends, and where the process ends. What has changed since goes into the log. Its bytes are read by a descriptor of our own,
  * which stays open: whether the memory is still mapped doesn't matter, and to close it would take the program's locks away.
  */
 #define _GNU_SOURCE
@@ -176,9 +176,13 @@ static long call_msync(const long words[6])
         compare(map->of);
         log_event(&event, path_of(map->of->fd, path) ? path : NULL, NULL, NULL, 0);
     }
-    unlock();
     long result = pass(SYS_msync, words[0], words[1], map ? MS_ASYNC : words[2], 0, 0, 0);
-    return map ? end_operation(result) : result;
+    if (map) {
+        compare(map->of);
+        end_operation(result);
+    }
+    unlock();
+    return result;
 }
 
 /* Here the 6th argument is whole; of the descriptor only the lower half is read, so that the upper one has the mark. */
