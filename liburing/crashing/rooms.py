@@ -5,12 +5,13 @@ import shutil
 import subprocess
 import tempfile
 
+from exploring.serving import ROOM
+
 BLOCK = 4096
 # A file up to this size is read anyway: memory that is shared with a file may change it without a sign.
 SMALL = 1 << 22
 # The time that a file has which we have written: whoever writes to it later leaves another.
 OURS = 10**18
-ROOM = "/dev/shm" if os.access("/dev/shm", os.W_OK) else None
 
 
 class Room:

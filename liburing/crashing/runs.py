@@ -9,7 +9,7 @@ import tempfile
 
 from crashing.disk import Disk
 from crashing.events import Log
-from crashing.rooms import ROOM
+from exploring.serving import ROOM
 
 HERE = os.path.dirname(os.path.dirname(os.path.realpath(__file__)))
 PRELOADED = next((it for it in (f"{HERE}/out/uring-run.so", f"{HERE}/uring-run.so") if os.path.exists(it)), f"{HERE}/out/uring-run.so")
