@@ -15,7 +15,7 @@
 #include <sys/syscall.h>
 #include <unistd.h>
 
-enum { HIGH = 900, MOST_PARTS = 1024 };
+enum { HIGH = 900 };
 
 static struct {
     char path[PATH_ROOM], disk[PATH_ROOM], output[PATH_ROOM];
@@ -68,10 +68,8 @@ static void append(const struct iovec *parts, size_t count)
 
 void log_event(struct event *event, const char *path, const char *second_path, const struct iovec *bytes, size_t count)
 {
-    struct iovec parts[MOST_PARTS];
     size_t length = 0;
-    if (count > MOST_PARTS - 3)
-        count = 0;
+    struct iovec parts[count + 3];
     event->process = (uint32_t)pass(SYS_getpid, 0, 0, 0, 0, 0, 0);
     event->thread = (uint32_t)pass(SYS_gettid, 0, 0, 0, 0, 0, 0);
     event->path = path ? (uint16_t)strlen(path) : 0;

@@ -6,6 +6,9 @@
 
 #include <string.h>
 
+/* Of a write in more parts the bytes aren't logged, and the comparison at the run's end tells of it. */
+enum { MOST_VECTORS = 1000 };
+
 static bool is_write(const struct request *request)
 {
     uint8_t code = request->entry.opcode;
@@ -43,7 +46,7 @@ void log_start(const struct ring *ring, const struct request *request)
     event.flags = syncs_writes(request->fd) || entry->rw_flags & (RWF_DSYNC | RWF_SYNC) ? SYNCS_ITS_RANGE : 0;
     event.offset = place_of_write(request->fd, (int64_t)entry->off, entry->rw_flags & RWF_APPEND);
     event.length = request->length;
-    log_event(&event, path, NULL, request->vectors, request->vector_count);
+    log_event(&event, path, NULL, request->vectors, request->vector_count <= MOST_VECTORS ? request->vector_count : 0);
 }
 
 static void log_part(const struct ring *ring, const struct request *request, uint16_t kind, int64_t result)

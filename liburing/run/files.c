@@ -32,53 +32,6 @@
 
 enum { MOST_VECTORS = 1000, MOST_LINES = 128, MAKES = O_CREAT | O_TRUNC | (O_TMPFILE & ~O_DIRECTORY) };
 
-static const int plain_calls[] = {
-    SYS_write, SYS_pwrite64, SYS_writev, SYS_pwritev, SYS_pwritev2, SYS_ftruncate, SYS_truncate, SYS_fallocate,
-    SYS_fsync, SYS_fdatasync, SYS_sync, SYS_syncfs, SYS_creat, SYS_rename, SYS_renameat, SYS_renameat2,
-    SYS_link, SYS_linkat, SYS_unlink, SYS_unlinkat, SYS_rmdir, SYS_mkdir, SYS_mkdirat, SYS_symlink, SYS_symlinkat,
-    SYS_copy_file_range, SYS_sendfile, SYS_msync, SYS_exit_group,
-};
-enum { PLAIN = sizeof plain_calls / sizeof *plain_calls };
-
-/* What traps one call, if a word of it has one of some bits: 4 lines, and 2 without that. */
-static size_t put_test(struct sock_filter *lines, int call, int word, uint32_t bits)
-{
-    const size_t low = offsetof(struct seccomp_data, args) + (size_t)word * 8;
-    lines[0] = (struct sock_filter)BPF_JUMP(BPF_JMP | BPF_JEQ | BPF_K, (uint32_t)call, 0, 4);
-    lines[1] = (struct sock_filter)BPF_STMT(BPF_LD | BPF_W | BPF_ABS, (uint32_t)low);
-    lines[2] = (struct sock_filter)BPF_JUMP(BPF_JMP | BPF_JSET | BPF_K, bits, 0, 1);
-    lines[3] = (struct sock_filter)BPF_STMT(BPF_RET | BPF_K, SECCOMP_RET_TRAP);
-    lines[4] = (struct sock_filter)BPF_STMT(BPF_RET | BPF_K, SECCOMP_RET_ALLOW);
-    return 5;
-}
-
-bool trap_files(void)
-{
-    struct sock_filter lines[MOST_LINES] = {
-        BPF_STMT(BPF_LD | BPF_W | BPF_ABS, offsetof(struct seccomp_data, arch)),
-        BPF_JUMP(BPF_JMP | BPF_JEQ | BPF_K, AUDIT_ARCH_X86_64, 1, 0),
-        BPF_STMT(BPF_RET | BPF_K, SECCOMP_RET_ALLOW),
-        /* Our own calls; that of mmap has its mark at the descriptor. */
-        BPF_STMT(BPF_LD | BPF_W | BPF_ABS, offsetof(struct seccomp_data, args[5]) + 4),
-        BPF_JUMP(BPF_JMP | BPF_JEQ | BPF_K, (uint32_t)PASSES, 2, 0),
-        BPF_STMT(BPF_LD | BPF_W | BPF_ABS, offsetof(struct seccomp_data, args[4]) + 4),
-        BPF_JUMP(BPF_JMP | BPF_JEQ | BPF_K, (uint32_t)PASSES, 0, 1),
-        BPF_STMT(BPF_RET | BPF_K, SECCOMP_RET_ALLOW),
-        BPF_STMT(BPF_LD | BPF_W | BPF_ABS, offsetof(struct seccomp_data, nr)),
-    };
-    size_t count = 9;
-    count += put_test(lines + count, SYS_open, 1, MAKES);
-    count += put_test(lines + count, SYS_openat, 2, MAKES);
-    count += put_test(lines + count, SYS_mmap, 3, MAP_SHARED);
-    for (size_t i = 0; i < PLAIN; i++) {
-        lines[count++] = (struct sock_filter)BPF_JUMP(BPF_JMP | BPF_JEQ | BPF_K, (uint32_t)plain_calls[i], 0, 1);
-        lines[count++] = (struct sock_filter)BPF_STMT(BPF_RET | BPF_K, SECCOMP_RET_TRAP);
-    }
-    lines[count++] = (struct sock_filter)BPF_STMT(BPF_RET | BPF_K, SECCOMP_RET_ALLOW);
-    struct sock_fprog program = {.len = (unsigned short)count, .filter = lines};
-    return prctl(PR_SET_NO_NEW_PRIVS, 1, 0, 0, 0) == 0 && prctl(PR_SET_SECCOMP, SECCOMP_MODE_FILTER, &program) == 0;
-}
-
 long end_operation(long result)
 {
     struct event event = {.kind = EVENT_END, .result = result};
@@ -91,11 +44,11 @@ static long carry(long call, const long words[6])
     return pass(call, words[0], words[1], words[2], words[3], words[4], words[5]);
 }
 
-/* The vectors of a call; false if they can't be read, or are too many. */
+/* The vectors of a call; false if they can't be read. */
 static bool read_vectors(const void *from, size_t count, struct iovec *vectors)
 {
     struct iovec here = {vectors, count * sizeof *vectors}, there = {(void *)(uintptr_t)from, count * sizeof *vectors};
-    return count <= MOST_VECTORS && (count == 0 || process_vm_readv(getpid(), &here, 1, &there, 1, 0) == (ssize_t)there.iov_len);
+    return process_vm_readv(getpid(), &here, 1, &there, 1, 0) == (ssize_t)there.iov_len;
 }
 
 /* A write, of one run of bytes or of vectors. */
@@ -140,10 +93,13 @@ static long call_write_bytes(long call, const long words[6])
 
 static long call_write_vectors(long call, const long words[6])
 {
-    struct iovec vectors[MOST_VECTORS];
-    if (words[2] < 0 || !read_vectors((const void *)words[1], (size_t)words[2], vectors))
+    size_t count = (size_t)words[2];
+    if (count == 0 || count > MOST_VECTORS)
         return carry(call, words);
-    struct written written = {(int)words[0], call == SYS_pwritev2 ? (int)words[5] : 0, call == SYS_writev ? -1 : words[3], vectors, (size_t)words[2]};
+    struct iovec vectors[count];
+    if (!read_vectors((const void *)words[1], count, vectors))
+        return carry(call, words);
+    struct written written = {(int)words[0], call == SYS_pwritev2 ? (int)words[5] : 0, call == SYS_writev ? -1 : words[3], vectors, count};
     return call_write(call, words, &written);
 }
 
@@ -194,7 +150,7 @@ static long call_on_length(long call, const long words[6])
     return end_operation(carry(call, words));
 }
 
-static long call_truncate(const long words[6])
+static long call_truncate(long call, const long words[6])
 {
     long file = pass(SYS_open, words[0], O_PATH | O_CLOEXEC, 0, 0, 0, 0);
     char path[PATH_ROOM];
@@ -206,69 +162,78 @@ static long call_truncate(const long words[6])
     }
     if (file >= 0)
         pass(SYS_close, file, 0, 0, 0, 0, 0);
-    long result = carry(SYS_truncate, words);
+    long result = carry(call, words);
     return is_seen ? end_operation(result) : result;
 }
 
+/* The process ends: what it wrote through memory is seen for the last time. */
+static long call_exit(long call, const long words[6])
+{
+    compare_maps(0);
+    return carry(call, words);
+}
+
+static const struct {
+    int call;
+    long (*serve)(long call, const long words[6]);
+} served[] = {
+    {SYS_write, call_write_bytes}, {SYS_pwrite64, call_write_bytes}, {SYS_writev, call_write_vectors}, {SYS_pwritev, call_write_vectors}, {SYS_pwritev2, call_write_vectors},
+    {SYS_fsync, call_sync}, {SYS_fdatasync, call_sync}, {SYS_sync, call_sync_all}, {SYS_syncfs, call_sync_all},
+    {SYS_ftruncate, call_on_length}, {SYS_fallocate, call_on_length}, {SYS_truncate, call_truncate}, {SYS_creat, call_open},
+    {SYS_rename, call_on_names}, {SYS_renameat, call_on_names}, {SYS_renameat2, call_on_names}, {SYS_link, call_on_names}, {SYS_linkat, call_on_names},
+    {SYS_unlink, call_on_names}, {SYS_unlinkat, call_on_names}, {SYS_rmdir, call_on_names}, {SYS_mkdir, call_on_names}, {SYS_mkdirat, call_on_names},
+    {SYS_symlink, call_on_names}, {SYS_symlinkat, call_on_names},
+    {SYS_copy_file_range, call_copy}, {SYS_sendfile, call_copy}, {SYS_msync, call_map}, {SYS_exit_group, call_exit},
+    /* These are trapped only where a word of theirs has some bits. */
+    {SYS_open, call_open}, {SYS_openat, call_open}, {SYS_mmap, call_map},
+};
+enum { SERVED = sizeof served / sizeof *served, PLAIN = SERVED - 3 };
+
 bool serve_file_call(long call, const long words[6], long *result)
 {
-    switch (call) {
-    case SYS_write:
-    case SYS_pwrite64:
-        *result = call_write_bytes(call, words);
-        return true;
-    case SYS_writev:
-    case SYS_pwritev:
-    case SYS_pwritev2:
-        *result = call_write_vectors(call, words);
-        return true;
-    case SYS_fsync:
-    case SYS_fdatasync:
-        *result = call_sync(call, words);
-        return true;
-    case SYS_sync:
-    case SYS_syncfs:
-        *result = call_sync_all(call, words);
-        return true;
-    case SYS_ftruncate:
-    case SYS_fallocate:
-        *result = call_on_length(call, words);
-        return true;
-    case SYS_truncate:
-        *result = call_truncate(words);
-        return true;
-    case SYS_open:
-    case SYS_openat:
-    case SYS_creat:
-        *result = call_open(call, words);
-        return true;
-    case SYS_copy_file_range:
-    case SYS_sendfile:
-        *result = call_copy(call, words);
-        return true;
-    case SYS_mmap:
-    case SYS_msync:
-        *result = call_map(call, words);
-        return true;
-    case SYS_exit_group:
-        compare_maps(0);
-        *result = carry(call, words);
-        return true;
-    case SYS_rename:
-    case SYS_renameat:
-    case SYS_renameat2:
-    case SYS_link:
-    case SYS_linkat:
-    case SYS_unlink:
-    case SYS_unlinkat:
-    case SYS_rmdir:
-    case SYS_mkdir:
-    case SYS_mkdirat:
-    case SYS_symlink:
-    case SYS_symlinkat:
-        *result = call_on_names(call, words);
-        return true;
-    default:
-        return false;
+    for (size_t i = 0; i < SERVED; i++)
+        if (served[i].call == call) {
+            *result = served[i].serve(call, words);
+            return true;
+        }
+    return false;
+}
+
+/* Five lines of the filter: a call is trapped if a word of it has one of some bits. */
+static size_t put_test(struct sock_filter *lines, int call, int word, uint32_t bits)
+{
+    const size_t low = offsetof(struct seccomp_data, args) + (size_t)word * 8;
+    lines[0] = (struct sock_filter)BPF_JUMP(BPF_JMP | BPF_JEQ | BPF_K, (uint32_t)call, 0, 4);
+    lines[1] = (struct sock_filter)BPF_STMT(BPF_LD | BPF_W | BPF_ABS, (uint32_t)low);
+    lines[2] = (struct sock_filter)BPF_JUMP(BPF_JMP | BPF_JSET | BPF_K, bits, 0, 1);
+    lines[3] = (struct sock_filter)BPF_STMT(BPF_RET | BPF_K, SECCOMP_RET_TRAP);
+    lines[4] = (struct sock_filter)BPF_STMT(BPF_RET | BPF_K, SECCOMP_RET_ALLOW);
+    return 5;
+}
+
+bool trap_files(void)
+{
+    struct sock_filter lines[MOST_LINES] = {
+        BPF_STMT(BPF_LD | BPF_W | BPF_ABS, offsetof(struct seccomp_data, arch)),
+        BPF_JUMP(BPF_JMP | BPF_JEQ | BPF_K, AUDIT_ARCH_X86_64, 1, 0),
+        BPF_STMT(BPF_RET | BPF_K, SECCOMP_RET_ALLOW),
+        /* Our own calls; that of mmap has its mark at the descriptor. */
+        BPF_STMT(BPF_LD | BPF_W | BPF_ABS, offsetof(struct seccomp_data, args[5]) + 4),
+        BPF_JUMP(BPF_JMP | BPF_JEQ | BPF_K, (uint32_t)PASSES, 2, 0),
+        BPF_STMT(BPF_LD | BPF_W | BPF_ABS, offsetof(struct seccomp_data, args[4]) + 4),
+        BPF_JUMP(BPF_JMP | BPF_JEQ | BPF_K, (uint32_t)PASSES, 0, 1),
+        BPF_STMT(BPF_RET | BPF_K, SECCOMP_RET_ALLOW),
+        BPF_STMT(BPF_LD | BPF_W | BPF_ABS, offsetof(struct seccomp_data, nr)),
+    };
+    size_t count = 9;
+    count += put_test(lines + count, SYS_open, 1, MAKES);
+    count += put_test(lines + count, SYS_openat, 2, MAKES);
+    count += put_test(lines + count, SYS_mmap, 3, MAP_SHARED);
+    for (size_t i = 0; i < PLAIN; i++) {
+        lines[count++] = (struct sock_filter)BPF_JUMP(BPF_JMP | BPF_JEQ | BPF_K, (uint32_t)served[i].call, 0, 1);
+        lines[count++] = (struct sock_filter)BPF_STMT(BPF_RET | BPF_K, SECCOMP_RET_TRAP);
     }
+    lines[count++] = (struct sock_filter)BPF_STMT(BPF_RET | BPF_K, SECCOMP_RET_ALLOW);
+    struct sock_fprog program = {.len = (unsigned short)count, .filter = lines};
+    return prctl(PR_SET_NO_NEW_PRIVS, 1, 0, 0, 0) == 0 && prctl(PR_SET_SECCOMP, SECCOMP_MODE_FILTER, &program) == 0;
 }

@@ -7,6 +7,7 @@
  */
 #define _GNU_SOURCE
 #include <fcntl.h>
+#include <pthread.h>
 #include <stdbool.h>
 #include <stdio.h>
 #include <stdlib.h>
@@ -216,6 +217,25 @@ static void by_child(void)
     demand(wait(&status) > 0 && status == 0, "a child");
 }
 
+static void *write_part(void *part)
+{
+    int file = open("data", O_RDWR);
+    put(file, bytes, SIZE / 4, *(int *)part * (SIZE / 4));
+    sync_file(file);
+    return part;
+}
+
+static void by_threads(void)
+{
+    static int parts[4] = {0, 1, 2, 3};
+    pthread_t threads[4];
+    close(make("data", 0));
+    for (int i = 0; i < 4; i++)
+        demand(pthread_create(&threads[i], NULL, write_part, &parts[i]) == 0, "a thread");
+    for (int i = 0; i < 4; i++)
+        pthread_join(threads[i], NULL);
+}
+
 static void by_inline(void)
 {
     int file = make("data", 0);
@@ -256,7 +276,7 @@ static const struct {
     {"write", by_write}, {"creat", by_creat}, {"writev", by_vectors}, {"pwritev2", by_flags}, {"dsync", by_synced_file},
     {"osync", by_wholly_synced_file}, {"direct", by_direct}, {"append", by_append}, {"stream", by_stream}, {"cut", by_cut},
     {"length", by_length}, {"room", by_room}, {"copy", by_copy}, {"sendfile", by_sendfile}, {"memory", by_memory},
-    {"rename", by_rename}, {"link", by_link}, {"nameless", by_nameless}, {"child", by_child}, {"inline", by_inline},
+    {"rename", by_rename}, {"link", by_link}, {"nameless", by_nameless}, {"child", by_child}, {"threads", by_threads}, {"inline", by_inline},
     {"sync", by_whole_sync}, {"syncfs", by_disk_sync}, {"splice", by_splice},
 };
 enum { WAYS = sizeof ways / sizeof *ways };
