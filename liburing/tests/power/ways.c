@@ -197,6 +197,42 @@ static void by_link(void)
     demand(link("new", "data") == 0 && unlink("new") == 0, "link");
 }
 
+static void by_symbolic_link(void)
+{
+    int file = make("new", 0);
+    put(file, bytes, SIZE, 0);
+    sync_file(file);
+    demand(symlink("new", "data") == 0, "symlink");
+}
+
+/* A file of another folder, which is removed then. */
+static void by_folder(void)
+{
+    demand(mkdir("folder", 0700) == 0, "mkdir");
+    int file = make("folder/new", 0);
+    put(file, bytes, SIZE, 0);
+    sync_file(file);
+    demand(rename("folder/new", "data") == 0 && rmdir("folder") == 0, "rename, rmdir");
+}
+
+static void by_exchange(void)
+{
+    int file = make("new", 0);
+    put(make("data", 0), "old", 3, 0);
+    put(file, bytes, SIZE, 0);
+    sync_file(file);
+    demand(syscall(SYS_renameat2, AT_FDCWD, "new", AT_FDCWD, "data", 2) == 0 && unlink("new") == 0, "renameat2");
+}
+
+/* That a range is on its way to the disk makes nothing safe. */
+static void by_range(void)
+{
+    int file = make("data", 0);
+    put(file, bytes, SIZE, 0);
+    demand(sync_file_range(file, 0, SIZE, SYNC_FILE_RANGE_WAIT_BEFORE | SYNC_FILE_RANGE_WRITE | SYNC_FILE_RANGE_WAIT_AFTER) == 0, "sync_file_range");
+    sync_file(file);
+}
+
 static void by_nameless(void)
 {
     char name[40];
@@ -276,7 +312,8 @@ static const struct {
     {"write", by_write}, {"creat", by_creat}, {"writev", by_vectors}, {"pwritev2", by_flags}, {"dsync", by_synced_file},
     {"osync", by_wholly_synced_file}, {"direct", by_direct}, {"append", by_append}, {"stream", by_stream}, {"cut", by_cut},
     {"length", by_length}, {"room", by_room}, {"copy", by_copy}, {"sendfile", by_sendfile}, {"memory", by_memory},
-    {"rename", by_rename}, {"link", by_link}, {"nameless", by_nameless}, {"child", by_child}, {"threads", by_threads}, {"inline", by_inline},
+    {"rename", by_rename}, {"link", by_link}, {"nameless", by_nameless}, {"symlink", by_symbolic_link},
+    {"folder", by_folder}, {"exchange", by_exchange}, {"range", by_range}, {"child", by_child}, {"threads", by_threads}, {"inline", by_inline},
     {"sync", by_whole_sync}, {"syncfs", by_disk_sync}, {"splice", by_splice},
 };
 enum { WAYS = sizeof ways / sizeof *ways };
