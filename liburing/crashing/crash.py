@@ -31,7 +31,10 @@ class Crasher:
 
     def __init__(self, options):
         self.options, self.room = options, Room(options.check, options.seconds)
-        self.known, self.crashes = {}, 0
+        self.known, self.crashes, self.deadline = {}, 0, float("inf")
+
+    def is_over(self):
+        return time.monotonic() > self.deadline
 
     def verdict(self, image, printed):
         self.crashes += 1
@@ -211,27 +214,42 @@ def look_at(options, run):
 
 
 def tell(options, failure):
-    """Makes a failure short and tells it: the fewest choices before, then the fewest losses, then the earliest moment."""
+    """Makes a failure short and tells it: the fewest choices before, then the fewest losses, then the earliest moment. It takes so many seconds at most, and tells what it has by then."""
     how = {"list:": "in order"}.get(failure.policy, failure.policy)
     print(f"a crash fails: run {how}, behind event {failure.moment}, status {failure.status}", flush=True)
     crasher = Crasher(options)
+    crasher.deadline = time.monotonic() + options.shorten
     try:
-        items = failure.items
-        if items:
-            items = shortest(options, crasher, items)
-            print(f"the run made {failure.choices} choices; {len(items)} {'is' if len(items) == 1 else 'are'} enough")
-        run = Run(options, list_of(items))
-        moment, lost = search(crasher, run) or (failure.moment, failure.losses)
-        if not crasher.fails(run, moment, Chosen("lose", lost)):
+        items = shortest(options, crasher, failure.items) if failure.items else []
+        if failure.items:
+            print(f"the run made {failure.choices} choices; {len(items)} {'is' if len(items) == 1 else 'are'} enough", flush=True)
+        run = shared if failure.policy == shared.policy else Run(options, list_of(items))
+        found = (failure.moment, failure.losses) if items == failure.items else search(crasher, run)
+        if not found or not crasher.fails(run, found[0], Chosen("lose", found[1])):
             print("that isn't told by what is lost: two writes that ran at once are left in another order, or the program doesn't do the same in each run", flush=True)
             sys.stdout.buffer.write(failure.said)
             return 1
-        lost = fewest(lambda some: crasher.fails(run, moment, Chosen("lose", some)), lost)
-        moment = next((at for at in run.moments() if at <= moment and crasher.fails(run, at, Chosen("lose", lost))), moment)
+        moment, lost = shorten(crasher, run, *found)
         options.list = list_of(items)[len("list:") :]
         return show(options, run, moment, Chosen("lose", lost))
     finally:
         crasher.room.close()
+
+
+def shorten(crasher, run, moment, lost):
+    """Whole writes if that will do, then the fewest losses, then the earliest moment."""
+    whole = sorted({it[:1] for it in lost})
+    if crasher.fails(run, moment, Chosen("lose", whole)):
+        lost = whole
+    lost = fewest(lambda some: not crasher.is_over() and crasher.fails(run, moment, Chosen("lose", some)), lost)
+    disk = run.begin()
+    for at in run.moments():
+        disk.advance(at)
+        if at >= moment or crasher.is_over():
+            break
+        if crasher.verdict(image_of(disk, Chosen("lose", lost)), run.printed(at))[0] != 0:
+            return at, lost
+    return moment, lost
 
 
 def search(crasher, run):
@@ -243,6 +261,8 @@ def search(crasher, run):
             numbers = unsettled(disk)
             for at in range(min(tries, max(1, len(numbers))) if kind == "single" else tries):
                 lost = lost_by(disk, kind, at, numbers)
+                if crasher.is_over():
+                    return None
                 if lost and crasher.verdict(image_of(disk, Chosen("lose", lost)), run.printed(moment))[0] != 0:
                     return moment, lost
     return None

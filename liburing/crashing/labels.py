@@ -27,41 +27,38 @@ class Chosen:
         for number, first, last in (it for it in self.losses if len(it) == 3):
             self.torn.setdefault(number, []).append((first, last))
         self.is_torn = dice is not None and dice.random() < 0.5
+        self.chance = dice.choice([0.1, 0.3, 0.5, 0.7, 0.9]) if dice is not None else None
 
-    def parts(self, count, numbers):
-        """The parts of a choice for so many units. The numbers are pairs: of a write, and its change."""
-        if self.kind == "least":
-            return array.array("Q")
+    def part(self, numbers):
+        """The numbers of one unit. They are given as pairs: of a write, and its change."""
         if self.kind == "seed":
-            return self.by_chance(count, numbers)
-        part = array.array("Q", [number for number, change in numbers if change.operation.number not in self.short])
-        part.append(0)
-        return part * count
+            return self.some(numbers)
+        return [number for number, change in numbers if change.operation.number not in self.short]
 
-    def parts_of_cells(self, cells, numbers):
-        """The same of a file's bytes, where changes may be lost in part."""
-        if self.kind != "lose":
-            return self.parts(len(cells), numbers)
-        choice = array.array("Q")
+    def parts(self, cells, numbers):
+        """Those of a file's cells, each of the changes that touch it. A seed leaves the same of each, or, torn, of each something else."""
+        choice, same = array.array("Q"), self.some(numbers) if self.kind == "seed" else []
+        places = {number: at for at, number in enumerate(same)}
         for first, last, _ in cells:
-            choice.extend(number for number, change in numbers if not self.loses(change.operation.number, first, last))
+            own = [(number, change) for number, change in numbers if change.first < last and first < change.last]
+            if self.kind != "seed":
+                part = [number for number, change in own if not self.loses(change.operation.number, first, last)]
+            elif self.is_torn:
+                part = self.some(own)
+            else:
+                part = sorted((number for number, _ in own if number in places), key=places.get)
+            choice.extend(part)
             choice.append(0)
         return choice
 
     def loses(self, number, first, last):
         return number in self.lost or any(one < last and first < other for one, other in self.torn.get(number, []))
 
-    def by_chance(self, count, numbers):
-        dice, choice = self.dice, array.array("Q")
-        chance, part = dice.choice([0.1, 0.3, 0.5, 0.7, 0.9]), None
-        for _ in range(count):
-            if part is None or self.is_torn:
-                part = [number for number, _ in numbers if dice.random() < chance]
-                if dice.random() < 0.3:
-                    dice.shuffle(part)
-                part.append(0)
-            choice.extend(part)
-        return choice
+    def some(self, numbers):
+        """Some of these, as many as the dice say, now and then in another order."""
+        if self.dice.random() < 0.3:
+            numbers = self.dice.sample(numbers, len(numbers))
+        return [number for number, _ in numbers if self.dice.random() < self.chance]
 
 
 class History:
@@ -93,7 +90,6 @@ class History:
             else:
                 for number in begun.get(it, []):
                     volume.end_sync(number, it.is_done)
-        self.by_change = begun
 
     def safe(self):
         """The changes that are safe."""
@@ -151,7 +147,7 @@ class Parts(History):
     def choice(self, chosen):
         if chosen.kind == "least":
             return array.array("Q")
-        return array.array("Q", [0]) + chosen.parts(1, self.numbers)
+        return array.array("Q", [0, *chosen.part(self.numbers), 0])
 
     def read(self, image):
         return [change for change, at in self.places.items() if image[at]]
@@ -235,7 +231,7 @@ class Bytes(History):
     def choice(self, chosen):
         if chosen.kind == "least":
             return array.array("Q")
-        return array.array("Q", [0]) + chosen.parts_of_cells(self.cells, self.numbers)
+        return array.array("Q", [0]) + chosen.parts(self.cells, self.numbers)
 
     def crash(self, chosen):
         """Which change shows where: ranges, each with its change or None."""
