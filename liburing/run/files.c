@@ -183,7 +183,7 @@ static const struct {
     {SYS_rename, call_on_names}, {SYS_renameat, call_on_names}, {SYS_renameat2, call_on_names}, {SYS_link, call_on_names}, {SYS_linkat, call_on_names},
     {SYS_unlink, call_on_names}, {SYS_unlinkat, call_on_names}, {SYS_rmdir, call_on_names}, {SYS_mkdir, call_on_names}, {SYS_mkdirat, call_on_names},
     {SYS_symlink, call_on_names}, {SYS_symlinkat, call_on_names},
-    {SYS_copy_file_range, call_copy}, {SYS_sendfile, call_copy}, {SYS_msync, call_map}, {SYS_exit_group, call_exit},
+    {SYS_copy_file_range, call_copy}, {SYS_sendfile, call_copy}, {SYS_splice, call_copy}, {SYS_msync, call_map}, {SYS_exit_group, call_exit},
     /* These are trapped only where a word of theirs has some bits. */
     {SYS_open, call_open}, {SYS_openat, call_open}, {SYS_mmap, call_map},
 };

@@ -4,6 +4,7 @@
 
 #include <stdbool.h>
 #include <stddef.h>
+#include <stdint.h>
 #include <sys/types.h>
 
 /* Traps them. False: the kernel refuses the filter. */
@@ -17,6 +18,9 @@ long call_on_names(long call, const long words[6]);
 long call_open(long call, const long words[6]);
 long call_copy(long call, const long words[6]);
 long call_map(long call, const long words[6]);
+
+/* A descriptor of our own that reads a file, and stays open; negative if there is none. */
+int reader_of(uint64_t file, int fd);
 
 /* Puts into the log what has changed in the mapped memory of a file, or of any (0). */
 void compare_maps(ino_t file);

@@ -19,8 +19,9 @@
 
 enum { MOST_FILES = 64, MOST_MAPS = 256, PAGE = 4096, HIGH = 900 };
 
-/* A file that has been mapped: its copy has room for so many bytes. */
+/* A file that is read by a descriptor of our own; if it has been mapped, its copy has room for so many bytes. */
 struct mapped {
+    bool is_used;
     uint64_t file;
     int fd;
     char *copy;
@@ -87,7 +88,7 @@ static void compare(struct mapped *mapped)
 void compare_maps(ino_t file)
 {
     lock();
-    for (struct mapped *mapped = files; mapped < files + MOST_FILES && mapped->copy; mapped++)
+    for (struct mapped *mapped = files; mapped < files + MOST_FILES && mapped->is_used; mapped++)
         if (file == 0 || mapped->file == file)
             compare(mapped);
     unlock();
@@ -131,13 +132,21 @@ static int open_again(int fd)
 static struct mapped *mapped_of(uint64_t file, int fd)
 {
     struct mapped *mapped = files;
-    while (mapped < files + MOST_FILES && mapped->copy && mapped->file != file)
+    while (mapped < files + MOST_FILES && mapped->is_used && mapped->file != file)
         mapped++;
     if (mapped == files + MOST_FILES)
         return NULL;
-    if (!mapped->copy)
-        *mapped = (struct mapped){file, open_again(fd), NULL, 0};
+    if (!mapped->is_used)
+        *mapped = (struct mapped){.is_used = true, .file = file, .fd = open_again(fd)};
     return mapped->fd < 0 ? NULL : mapped;
+}
+
+int reader_of(uint64_t file, int fd)
+{
+    lock();
+    const struct mapped *mapped = mapped_of(file, fd);
+    unlock();
+    return mapped ? mapped->fd : -1;
 }
 
 static void add_map(char *memory, size_t length, int fd, int64_t offset)

@@ -3,11 +3,12 @@
  *   ways run WAY [unsynced]     8 KB go to `data`; once they are safe, or, `unsynced`, once they are written, a line is printed
  *   ways check                  status 1: the line was printed, and `data` isn't whole
  *   ways list                   prints the ways
- *   ways run CASE, ways check CASE   what a parameter of `explore crash` decides: unit, replace, retry
+ *   ways run CASE, ways check CASE   what a parameter of `explore crash` decides: unit, replace, retry; and what nobody sees: killed
  */
 #define _GNU_SOURCE
 #include <fcntl.h>
 #include <pthread.h>
+#include <signal.h>
 #include <stdbool.h>
 #include <stdio.h>
 #include <stdlib.h>
@@ -296,13 +297,23 @@ static void by_disk_sync(void)
         demand(syncfs(file) == 0, "syncfs");
 }
 
-/* What isn't trapped: the comparison at the end is to tell of it. */
 static void by_splice(void)
 {
     int file = make("data", 0), pipes[2];
     demand(pipe(pipes) == 0 && write(pipes[1], bytes, SIZE) == SIZE, "a pipe");
     demand(splice(pipes[0], NULL, file, NULL, SIZE, 0) == SIZE, "splice");
     sync_file(file);
+}
+
+/* Memory that nobody sees written, since the process is killed: the comparison at the end tells of it. */
+static void run_killed(void)
+{
+    int file = make("data", 0);
+    demand(ftruncate(file, SIZE) == 0, "ftruncate");
+    char *memory = mmap(NULL, SIZE, PROT_READ | PROT_WRITE, MAP_SHARED, file, 0);
+    demand(memory != MAP_FAILED, "mmap");
+    memcpy(memory, bytes, SIZE);
+    kill(getpid(), SIGKILL);
 }
 
 static const struct {
@@ -397,6 +408,8 @@ static int run(const char *name)
         return run_replace(), 0;
     if (strcmp(name, "retry") == 0)
         return run_retry(), 0;
+    if (strcmp(name, "killed") == 0)
+        return run_killed(), 0;
     for (size_t i = 0; i < WAYS; i++)
         if (strcmp(ways[i].name, name) == 0) {
             ways[i].write();
