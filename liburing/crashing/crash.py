@@ -4,7 +4,9 @@ import multiprocessing
 import os
 import random
 import shlex
+import shutil
 import sys
+import tempfile
 import time
 
 from crashing.images import all_images, image_of, losses, pieces, unsettled
@@ -13,6 +15,7 @@ from crashing.rooms import Room
 from crashing.runs import PRELOADED, Run
 from crashing.volumes import LIBRARY
 from exploring.runs import list_of, priorities, stop
+from exploring.serving import ROOM
 
 KINDS = ["least", "least", "single", "single", "single", "seed", "seed", "seed", "seed", "most"]
 EACH = 20           # crashes of a run, where runs differ
@@ -30,7 +33,7 @@ class Crasher:
     """Crashes one run after the other, in a room of its own. What was checked once isn't checked again."""
 
     def __init__(self, options):
-        self.options, self.room = options, Room(options.check, options.seconds)
+        self.options, self.room = options, Room(options.check, options.seconds, options.place)
         self.known, self.crashes, self.deadline = {}, 0, float("inf")
 
     def is_over(self):
@@ -101,7 +104,6 @@ crasher = shared = None
 def begin_worker(options):
     global crasher
     crasher = Crasher(options)
-    multiprocessing.util.Finalize(None, crasher.room.close, exitpriority=1)
 
 
 def work(task):
@@ -137,8 +139,17 @@ def policy_of(options, seed, choices):
 
 
 def crash(options, program):
-    global shared
+    """The command: all that it makes lies in one folder, which is removed at its end."""
     split_words(options)
+    options.place = tempfile.mkdtemp(prefix="wulgach-crash-", dir=ROOM)
+    try:
+        return crash_in_place(options)
+    finally:
+        shutil.rmtree(options.place, ignore_errors=True)
+
+
+def crash_in_place(options):
+    global shared
     begun = time.monotonic()
     run = shared = Run(options, "list:" + (options.list or ""))
     look_at(options, run)
@@ -156,6 +167,7 @@ def crash(options, program):
             if options.time and time.monotonic() - begun > options.time:
                 break
         pool.terminate()
+        pool.join()
     seconds = time.monotonic() - begun
     print(f"{crashes} crashes, {images} checked: {len(failures)} fail; {crashes / seconds:.0f} a second{f'; {passed} moments have more than {options.most} images' if passed else ''}", flush=True)
     if not failures:

@@ -5,8 +5,6 @@ import shutil
 import subprocess
 import tempfile
 
-from exploring.serving import ROOM
-
 BLOCK = 4096
 # A file up to this size is read anyway: memory that is shared with a file may change it without a sign.
 SMALL = 1 << 22
@@ -17,9 +15,9 @@ OURS = 10**18
 class Room:
     """What changed is written, and no more: of a file that nobody has touched since, the blocks that differ."""
 
-    def __init__(self, check, seconds):
+    def __init__(self, check, seconds, place):
         self.check, self.seconds = check, seconds
-        self.place = tempfile.mkdtemp(prefix="crash-", dir=ROOM)
+        self.place = tempfile.mkdtemp(prefix="room-", dir=place)
         self.folder = f"{self.place}/image"
         os.mkdir(self.folder)
         self.known = {}

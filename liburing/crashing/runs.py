@@ -9,7 +9,6 @@ import tempfile
 
 from crashing.disk import Disk
 from crashing.events import Log
-from exploring.serving import ROOM
 
 HERE = os.path.dirname(os.path.dirname(os.path.realpath(__file__)))
 PRELOADED = next((it for it in (f"{HERE}/out/uring-run.so", f"{HERE}/uring-run.so") if os.path.exists(it)), f"{HERE}/out/uring-run.so")
@@ -20,7 +19,7 @@ class Run:
 
     def __init__(self, options, policy):
         self.policy = policy
-        place = tempfile.mkdtemp(prefix="run-", dir=ROOM)
+        place = tempfile.mkdtemp(prefix="run-", dir=options.place)
         try:
             folder = os.path.realpath(f"{place}/disk")
             shutil.copytree(options.disk, folder, symlinks=True) if options.disk else os.mkdir(folder)
