@@ -156,7 +156,7 @@ def crash_in_place(options):
     if options.at is not None:
         return show(options, run, options.at, Chosen("lose", options.lose))
     failures, crashes, images, passed = [], 0, 0, 0
-    for remark in run.remarks:
+    for remark in ([f"the run in order ends with status {run.status}"] if run.status != 0 else []) + run.remarks:
         print(f"explore: {remark}", file=sys.stderr)
     with multiprocessing.get_context("fork").Pool(options.jobs, begin_worker, (options,)) as pool:
         for found, count, different, remarks, left in pool.imap(work, tasks(options, run)):
@@ -346,7 +346,7 @@ def show(options, run, moment, chosen):
 
 
 def repeated(options, moment, chosen):
-    words = ["liburing/explore", "crash"]
+    words = [sys.argv[0], "crash"]
     for name, value, usual in (("--disk", options.disk, None), ("--names", options.names, "any"), ("--unit", options.unit, 1), ("--fsync-fails", options.fsync_fails, None)):
         if value != usual:
             words += [name, str(value)]
