@@ -8,6 +8,7 @@
 #include "../layer/passing.h"
 #include "run.h"
 
+#include <errno.h>
 #include <fcntl.h>
 #include <stdatomic.h>
 #include <stdio.h>
@@ -74,10 +75,19 @@ static void log_page(struct mapped *mapped, size_t at, const char *now, size_t l
     log_event(&event, path_of(mapped->fd, path) ? path : NULL, NULL, &bytes, 1);
 }
 
+/* The next page from here on that the file has: holes are passed over, so that one which is mostly empty costs little. */
+static size_t next_page(const struct mapped *mapped, size_t at)
+{
+    long found = pass(SYS_lseek, mapped->fd, (long)at, SEEK_DATA, 0, 0, 0);
+    if (found == -EINVAL)
+        return at;
+    return found < 0 ? mapped->room : (size_t)found / PAGE * PAGE;
+}
+
 static void compare(struct mapped *mapped)
 {
     char page[PAGE];
-    for (size_t at = 0; at < mapped->room; at += PAGE) {
+    for (size_t at = next_page(mapped, 0); at < mapped->room; at = next_page(mapped, at + PAGE)) {
         long length = pass(SYS_pread64, mapped->fd, (long)page, PAGE, (long)at, 0, 0);
         if (length <= 0)
             return;
@@ -94,11 +104,10 @@ void compare_maps(ino_t file)
     unlock();
 }
 
-static void read_copy(struct mapped *mapped, size_t at)
+static void read_copy(struct mapped *mapped, size_t from)
 {
-    long length;
-    while (at < mapped->room && (length = pass(SYS_pread64, mapped->fd, (long)(mapped->copy + at), (long)(mapped->room - at), (long)at, 0, 0)) > 0)
-        at += (size_t)length;
+    for (size_t at = next_page(mapped, from); at < mapped->room; at = next_page(mapped, at + PAGE))
+        pass(SYS_pread64, mapped->fd, (long)(mapped->copy + at), PAGE, (long)at, 0, 0);
 }
 
 /* Room for a file's first bytes; false if there is none. */
