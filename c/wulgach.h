@@ -27,7 +27,7 @@
  *   -9  (EBADF)   the place is empty. Returned by every function of a place but `new`, and only then.
  *   -22 (EINVAL)  from `step`: the words give no step. From `new`: a number of the set-up is out of its range, and
  *                 wulgach_setup_fault says which; of a volume, the unit is 0. From `begin_..`: no number is left.
- *   -12 (ENOMEM)  from `new`, and from `begin_..`, `contents`, `crash`, `count_images`, `images` and `fold` of a volume: memory was refused.
+ *   -12 (ENOMEM)  from `new`, from `submit` and `reap_all` of a core, and from `begin_..`, `contents`, `crash`, `count_images`, `images` and `fold` of a volume: memory was refused.
  *   -27 (EFBIG)   from `begin_write`: the write would end above 2^63 - 1.
  *   -2  (ENOENT)  from a function that reads: there is no such completion, request, file or byte. From `end_..` and `fail_..`
  *                 of a volume: no write or sync of this number runs.
@@ -151,6 +151,11 @@ struct wulgach_answer {
     uint8_t bytes[64];  /* ENDED, REAPED */
 };
 
+/* An entry: 128 bytes, byte 0 in the low byte of word 0. */
+struct wulgach_entry {
+    uint64_t words[16];
+};
+
 /* The bytes that an outcome carries: what a read gave, and zeros behind it; zeros for all else. */
 struct wulgach_bytes {
     uint8_t bytes[64];
@@ -266,6 +271,22 @@ int32_t wulgach_core_new(struct wulgach_core *core, const struct wulgach_setup *
 
 /* Makes one step, and writes its answer. -22 exactly if kind is 8 (FINISH) or above 14. */
 int32_t wulgach_core_step(struct wulgach_core *core, const struct wulgach_step *step, struct wulgach_answer *answer);
+
+/* Makes all steps of a submission call of count entries at once: LOAD_HEAD; for each entry a FILL of the slot of its place, from
+ * 0, and an INDEX; STORE_TAIL; a BEGIN of count positions; count times TAKE; and END, whose answer it writes: TAKEN.
+ *
+ * A refusal is written as an answer, as of the step that would be refused. CLOSED, IN_CALL, NO_SLOT (more entries than the ring
+ * has slots) or BUSY (positions that were staged before wait for a call): no step was made. SPENT or AGAIN: the BEGIN was refused,
+ * and all entries are published and wait for another one. A ring that stops behind an entry with a fault leaves those after it
+ * published too.
+ *
+ * -12 if memory for a copy of the entries was refused; then nothing has changed. */
+int32_t wulgach_core_submit(struct wulgach_core *core, const struct wulgach_entry *entries, size_t count, struct wulgach_answer *answer);
+
+/* Reaps the completions that the ring shows now, into these places from the first on: LOAD_CQ_TAIL, a REAP for each, and
+ * STORE_CQ_HEAD. Writes how many: as many as there are, or as there is room for. Those that wait in the overflow list come into the
+ * ring by a FLUSH. -12 if memory for a copy of as many as there is room for was refused; then nothing has changed. */
+int32_t wulgach_core_reap_all(struct wulgach_core *core, struct wulgach_completion *completions, size_t room, uint64_t *count);
 
 /* Ends running request number with any result and any bytes, and writes the answer: ENDED with that very outcome
  * exactly if it was running, else NOT_RUNNING. A running request succeeded if a read or a write moved all its bytes, or

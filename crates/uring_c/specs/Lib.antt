@@ -7,5 +7,6 @@ pub mod OperationForm
 pub mod WhyForm
 pub mod SetUps
 pub mod Stepping
+pub mod Whole
 pub mod ReadingForms
 pub mod VolumeForms

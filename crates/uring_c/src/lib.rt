@@ -24,4 +24,7 @@ mod volume_calls;
 mod volume_exports;
 mod volume_memory;
 mod volume_place;
+mod whole_call_exports;
+mod whole_call_memory;
+mod whole_calls;
 mod why_words;

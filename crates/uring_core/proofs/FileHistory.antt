@@ -1,6 +1,6 @@
 -- What an event makes of the files of a history: a Finish that ends its request does what its operation does (`files_ended`), and no other step changes a file (`files_kept`).
 -- From `Moves`: doomed requests end with a fault and cancels are on no file, so their ends change none.
--- Stable: other crates may import `files_ended` and `files_kept`.
+-- Stable: other crates may import `files_ended`, `files_kept` and `files_kept_from`.
 use Rattle.std.proofs.Common.{◌≡◌, ℕ, ℤ, negsuc, ◌==◌, List, [], ◌∷◌, ◌++◌, true, refl, ◌∙◌, ap}
 use Rattle.std.specs.List.{list_any}
 use Rattle.std.proofs.lemmas.Bool.{or_left, or_right, eq-eqb, cond_both}
@@ -9,7 +9,7 @@ use Rattle.uring_entry.specs.Layout.{Sqe}
 use Rattle.uring_entry.specs.Preparation.{is_faulty, is_cancel, operation_of}
 use Rattle.uring_entry.specs.Requests.{Requests, Ending, entry_of, doomed_result, cancel_result, no_bytes, with_call, with_started, with_ended, with_issued_end}
 use Rattle.uring_entry.proofs.Preparations.{asks_cancel}
-use Rattle.uring_files.specs.Contents.{FileContents}
+use Rattle.uring_files.specs.Contents.{FileContents, empty_files}
 use Rattle.uring_files.specs.Operations.{after}
 use Rattle.uring_files.proofs.OperationCases.{failed}
 use Rattle.uring_core.specs.CalledFor.{files_after, files_of}
@@ -76,10 +76,17 @@ move_keeps r q s a files (ends_doomed n outstanding) other i =
 move_keeps r q s a files (ends_cancel n outstanding spared ready cancel) other i = issued_end r n (cancel_result r n) files ∙ cancel_changes_none (files_after r files r.ended) (entry_of r n) (cancel_result r n) cancel
 move_keeps r q s a files (ends_run n res bytes running) other i = absurd other
 
--- a step but a finish leaves the files as they are
+-- a step but a finish leaves the files as they are, whatever files there were at first
+pub files_kept_from : (first : List FileContents) (g : Setup) (s : Step) (a : Answer) (before : History)
+    → IsLawfulApart g ((s, a) ∷ before) → IsNoFinish s
+    → files_after (world g ((s, a) ∷ before)).requests first (world g ((s, a) ∷ before)).requests.ended
+    ≡ files_after (world g before).requests first (world g before).requests.ended
+files_kept_from first g s a before lawful other =
+    move_keeps (world g before).requests _ s a first (move_of g s a before lawful) other
+    (sound_of g before lawful.1).requests
+
 pub files_kept : (g : Setup) (s : Step) (a : Answer) (before : History)
     → IsLawfulApart g ((s, a) ∷ before) → IsNoFinish s
     → files_of g (world g ((s, a) ∷ before)) ≡ files_of g (world g before)
 files_kept g s a before lawful other =
-    move_keeps (world g before).requests _ s a _ (move_of g s a before lawful) other
-    (sound_of g before lawful.1).requests
+    files_kept_from (empty_files g.files) g s a before lawful other

@@ -24,4 +24,5 @@ pub mod FileHistory
 pub mod SameAnswers
 pub mod RecordedAnswers
 pub mod Issuable
+pub mod WholeCalls
 pub mod Outstanding

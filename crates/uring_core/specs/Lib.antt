@@ -6,3 +6,4 @@ pub mod Told
 pub mod CalledFor
 pub mod Core
 pub mod Recorded
+pub mod WholeCalls

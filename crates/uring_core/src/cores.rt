@@ -1,6 +1,6 @@
 //! The core: rings and dispatcher, moved step by step.
 
-ghost use Rattle.std.specs.Prelude.{◌≡◌, ℕ, ◌+◌, ◌<◌, ◌≤◌, ◌∷◌, [], true, length, IsOk, IfOk};
+ghost use Rattle.std.specs.Prelude.{◌≡◌, ℕ, ◌+◌, ◌<◌, ◌≤◌, ◌∷◌, [], true, length, IsOk, IfOk, None};
 ghost use Rattle.uring_entry.specs.Setup.{Setup};
 ghost use Rattle.uring_entry.specs.Submission.{Submission, stops_at, with_stopped};
 ghost use Rattle.uring_entry.specs.Completions.{Completions, with_end};
@@ -10,16 +10,20 @@ ghost use Rattle.uring_rings.specs.Sq.{ShowsSubmission};
 ghost use Rattle.uring_dispatch.specs.Dispatch.{ShowsRequests};
 ghost use Rattle.uring_dispatch.specs.IssueAndFinish.{posts_of};
 ghost use Rattle.uring_core.specs.Histories.{History, world};
+ghost use Rattle.uring_core.specs.StepAnswers.{reap_answer_of};
 ghost use Rattle.uring_core.specs.declared.step.Step.TheVariants as step;
 ghost use Rattle.uring_core.specs.declared.answer.Answer.TheVariants as answer;
 
 mod readings;
+mod reap_all;
+mod submit;
 
 use crate::answer::Answer;
 use crate::conversions::{next_answer, reaped};
 use crate::step::Step;
 use std::alloc::{AllocError, Global};
 use std::marker::Model;
+pub use submit::NotSubmitted;
 use uring_dispatch::{Dispatch, Issued, Posts, ReserveError};
 use uring_entry::{Cqe, Outcome, Setup, Sqe, prepare, succeeded};
 use uring_memory::Memory;
@@ -158,6 +162,7 @@ impl Core {
         ensures setup { self.new.setup ≡ self.old.setup }
         ensures fits { (h : History) → FitsApart self.old h
             → FitsApart self.new ((step.Fill slot entry, result) ∷ h) }
+        ensures others { self.new ≡ record self.old { sq = self.new.sq } }
         ensures memory { HasNoLessMemory self.old self.new }
     {
         Answer::from(self.sq.fill(slot, entry))
@@ -168,6 +173,7 @@ impl Core {
         ensures setup { self.new.setup ≡ self.old.setup }
         ensures fits { (h : History) → FitsApart self.old h
             → FitsApart self.new ((step.Index word, result) ∷ h) }
+        ensures others { self.new ≡ record self.old { sq = self.new.sq } }
         ensures memory { HasNoLessMemory self.old self.new }
     {
         Answer::from(self.sq.index(word))
@@ -178,6 +184,7 @@ impl Core {
         ensures setup { self.new.setup ≡ self.old.setup }
         ensures fits { (h : History) → FitsApart self.old h
             → FitsApart self.new ((step.StoreTail, result) ∷ h) }
+        ensures others { self.new ≡ record self.old { sq = self.new.sq } }
         ensures memory { HasNoLessMemory self.old self.new }
     {
         Answer::Tail(self.sq.store_tail())
@@ -188,6 +195,7 @@ impl Core {
         ensures setup { self.new.setup ≡ self.old.setup }
         ensures fits { (h : History) → FitsApart self.old h
             → FitsApart self.new ((step.LoadHead, result) ∷ h) }
+        ensures others { self.new ≡ record self.old { sq = self.new.sq } }
         ensures memory { HasNoLessMemory self.old self.new }
     {
         Answer::Head(self.sq.load_head())
@@ -302,7 +310,18 @@ impl Core {
             → FitsApart self.new ((step.Reap, result) ∷ h) }
         ensures memory { HasNoLessMemory self.old self.new }
     {
-        reaped(self.cq.reap())
+        reaped(self.reap_next())
+    }
+
+    /// The next completion, if the application copies one; else nothing changes.
+    fn reap_next(&mut self) -> Option<Cqe>
+        ensures setup { self.new.setup ≡ self.old.setup }
+        ensures fits { (h : History) → FitsApart self.old h
+            → FitsApart self.new ((step.Reap, reap_answer_of result) ∷ h) }
+        ensures none { result ≡ None → self.new ≡ self.old }
+        ensures memory { HasNoLessMemory self.old self.new }
+    {
+        self.cq.reap()
     }
 
     /// The application stores the completion ring's head.

@@ -9,7 +9,7 @@ mod step;
 mod wanted;
 
 pub use answer::{Answer, same_answer};
-pub use cores::{Core, Counts};
+pub use cores::{Core, Counts, NotSubmitted};
 pub use follow::compared;
 pub use step::Step;
 pub use uring_dispatch::Found;

@@ -11,7 +11,7 @@ use Rattle.uring_volume.specs.Images.{IsImage}
 use Rattle.uring_text.specs.declared.trace_fault.TraceFault.{TraceFault}
 use Rattle.uring_text.specs.Writing.{WritesText}
 use Rattle.uring_trace.specs.Exchanges.{events_of}
-use Rattle.uring_crash.specs.Logs.{log_of}
+use Rattle.uring_epochs.specs.Logs.{log_of}
 use Rattle.uring_crash.specs.Watches.{Watches}
 use Rattle.uring_crash.specs.declared.watch.Watch.{Watch}
 use Rattle.uring_crash.specs.Following.{Follows, HasFollowed}

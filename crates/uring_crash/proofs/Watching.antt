@@ -10,7 +10,7 @@ use Rattle.uring_core.specs.declared.answer.Answer.{Answer}
 use Rattle.uring_machine.specs.Machine.{Machine, Fits}
 use Rattle.uring_volume.specs.Images.{IsImage}
 use Rattle.uring_volume.specs.Events as volume
-use Rattle.uring_crash.specs.Logs.{Log, log_of, logged, issued_as, finished_as}
+use Rattle.uring_epochs.specs.Logs.{Log, log_of, logged, issued_as, finished_as}
 use Rattle.uring_crash.specs.Watches.{Watching}
 
 -- the log that a step makes of another

@@ -5,7 +5,7 @@ ghost use Rattle.std.specs.Io.KnownBytes.{Appends};
 ghost use Rattle.uring_entry.specs.Setup.{Setup};
 ghost use Rattle.uring_core.specs.Histories.{History};
 ghost use Rattle.uring_volume.specs.Images.{IsImage};
-ghost use Rattle.uring_crash.specs.Logs.{log_of};
+ghost use Rattle.uring_epochs.specs.Logs.{log_of};
 ghost use Rattle.uring_crash.specs.Watches.{Watches};
 ghost use Rattle.uring_crash.specs.Following.{Follows};
 ghost use Rattle.uring_crash.specs.Crashes.{Leaves, image_text};

@@ -4,9 +4,9 @@ ghost use Rattle.std.specs.Prelude.{◌≡◌, ◌++◌, OnOk, string_bytes};
 ghost use Rattle.uring_text.specs.Tokens.{hex_or_dash};
 ghost use Rattle.uring_crash.specs.Crashes.{image_text};
 
-use crate::file_log::FileLog;
 use std::alloc::{AllocError, Global};
 use std::fmt::Write;
+use uring_epochs::FileLog;
 use uring_text::{push_number, push_text};
 use uring_volume::Piece;
 

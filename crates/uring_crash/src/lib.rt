@@ -2,10 +2,8 @@
 #![tactic(auto)]
 
 mod crash_run;
-mod file_log;
 mod follower;
 mod image_text;
-pub mod laws;
 mod watch;
 
 pub use crash_run::{Asked, crash};

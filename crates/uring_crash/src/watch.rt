@@ -4,11 +4,11 @@ ghost use Rattle.std.specs.Prelude.{◌≡◌, ◌<◌, ◌∷◌, [], ℕ, ℤ,
 ghost use Rattle.uring_entry.specs.Setup.{Setup};
 ghost use Rattle.uring_volume.specs.Images.{IsImage};
 ghost use Rattle.uring_core.specs.Histories.{History};
-ghost use Rattle.uring_crash.specs.Logs.{log_of};
+ghost use Rattle.uring_epochs.specs.Logs.{log_of};
 ghost use Rattle.uring_crash.specs.Watches.{Watches};
 
-use crate::file_log::FileLog;
 use std::alloc::{AllocError, Global};
+use uring_epochs::FileLog;
 use uring_machine::{Answer, Machine, Setup, Step};
 
 /// A machine, and the log of one of its files.
@@ -24,7 +24,7 @@ impl Watch {
         requires { 0 < unit }
         ensures { IfOk result (λ watch. Watches unit setup.now fd watch []) }
     {
-        let log = FileLog::new(alloc, unit, fd);
+        let log = FileLog::new(alloc, unit, fd, Vec::new(alloc));
         Ok(Watch {
             machine: Machine::new(alloc, setup)?,
             log,

@@ -16,6 +16,10 @@ pub record FileContents : Type 0 where
 abbrev pub empty_file : FileContents
 empty_file = record { bytes = []; writes = 0; synced = 0 }
 
+-- a file at first that has these bytes. Our own rule
+abbrev pub file_of_bytes : List ℕ → FileContents
+file_of_bytes bytes = record { bytes = bytes; writes = 0; synced = 0 }
+
 -- so many files at first
 abbrev pub empty_files : ℕ → List FileContents
 empty_files count = replicate count empty_file

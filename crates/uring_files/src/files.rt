@@ -25,9 +25,9 @@ impl Model for Files {
 }
 
 impl Files {
-    ghost use Rattle.std.specs.Prelude.{◌≤◌, pos, ◌<◌, length, IfNone, None};
+    ghost use Rattle.std.specs.Prelude.{◌≤◌, pos, ◌<◌, length, slice_set, IfNone, None};
     ghost use Rattle.std.specs.Option.{option_copied};
-    ghost use Rattle.uring_files.specs.Contents.{empty_files, max_len};
+    ghost use Rattle.uring_files.specs.Contents.{empty_files, file_of_bytes, max_len};
     ghost use Rattle.uring_files.specs.Operations.{IsForFiles, IsOutcome, is_lengthening, result_of, after, file_of, state_of, byte_of};
 
     /// As many files as `count`, each of no bytes. The only error is that memory for them was refused; no files take none.
@@ -49,6 +49,15 @@ impl Files {
             files.push_reserved(File::new(alloc));
         }
         Ok(Files { files })
+    }
+
+    /// Puts a file of these bytes in the place of one that is there. No write of it is counted, and no sync.
+    pub fn put(&mut self, place: usize, bytes: Vec<u8>)
+        requires there { place < length self.old }
+        requires short { length bytes.items ≤ max_len }
+        ensures { self.new ≡ slice_set self.old place (file_of_bytes bytes.items) }
+    {
+        self.files[place] = File::of_bytes(bytes);
     }
 
     /// Carries out an operation, any but a cancel, that moves at most 64 bytes, and returns how it ended. A result of 0 or more is that of a success, and one below 0 the negative of an error number; such an end changes no file.

@@ -1,6 +1,6 @@
 //! The submission ring: slots, positions and calls.
 
-ghost use Rattle.std.specs.Prelude.{◌≡◌, ◌≢◌, ℕ, ◌%◌, ◌<◌, ◌≤◌, length, true, IfOk, IsOk, is_some};
+ghost use Rattle.std.specs.Prelude.{◌≡◌, ◌≢◌, ℕ, ◌%◌, ◌<◌, ◌≤◌, length, true, IfOk, IsOk, is_some, ◌-◌};
 ghost use Rattle.uring_entry.specs.Setup.{Setup};
 ghost use Rattle.uring_entry.specs.IndexWords.{word_of};
 ghost use Rattle.uring_entry.specs.Submission.{Submission, no_submission, staged, taken, pending, dropped, is_busy, with_published, with_head_loaded, with_stopped};
@@ -168,6 +168,14 @@ impl Sq {
             → IsOrderedSubmission g.sq l }
     {
         self.published.distance(self.head)
+    }
+
+    /// The positions staged, published or not, and not taken by a closed call: 0 to the ring's size.
+    pub fn waiting(&self) -> u32
+        ensures { (g : Setup) (l : Submission) → ShowsSubmission g self.now l
+            → result ≡ staged l - taken l }
+    {
+        self.tail.distance(self.head)
     }
 
     /// How many positions were dropped since the ring was made, modulo 2^32: those of closed calls whose word names no slot. io_uring_setup(2), on `dropped`.

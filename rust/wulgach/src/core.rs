@@ -1,4 +1,5 @@
 use crate::answer::{Answer, Completion};
+use crate::entry::Entry;
 use crate::error::{made, Error};
 use crate::ffi::{self, Place};
 use crate::reading::{self, Counts, Operation};
@@ -62,6 +63,60 @@ impl Core {
         match unsafe { ffi::wulgach_core_step(self.place.get_mut(), &step.words(), &mut answer) } {
             0 => Ok(Answer::of(&answer)),
             _ => Err(Error::FinishOfCore),
+        }
+    }
+
+    /// Makes all steps of a submission call of these entries at once, and returns the answer to its `End`. A refusal is an answer too, as of the step that would be refused: `Closed`, `InCall`, `NoSlot` (more entries than slots) or `Busy` (positions that were staged before wait for a call), and then no step was made; `Spent` or `Again`, and then all entries are published, and wait for another `Begin`. `Error::NoMemory` if there is none for a copy of the entries; then nothing has changed.
+    ///
+    /// ```
+    /// # use wulgach::{Answer, Core, Entry, Setup, Step};
+    /// # fn main() -> Result<(), wulgach::Error> {
+    /// let mut core = Core::new(&Setup::default())?;
+    /// let entries = [Entry::nop(7, 0), Entry::nop(8, 0)];
+    /// assert_eq!(core.submit(&entries)?, Answer::Taken { accepted: 2, dropped: 0, head: 2 });
+    /// for number in 0..2 {
+    ///     core.step(Step::Issue { number })?;
+    ///     core.finish(number, 0, [0; 64]);
+    /// }
+    /// let completions = core.reap_all(16)?;
+    /// assert_eq!(completions.iter().map(|c| c.user_data).collect::<Vec<_>>(), [7, 8]);
+    /// # Ok(())
+    /// # }
+    /// ```
+    pub fn submit(&mut self, entries: &[Entry]) -> Result<Answer, Error> {
+        let mut answer = ffi::Answer::ZERO;
+        // SAFETY: as in `step`, and the library reads so many entries.
+        match unsafe {
+            ffi::wulgach_core_submit(
+                self.place.get_mut(),
+                entries.as_ptr(),
+                entries.len(),
+                &mut answer,
+            )
+        } {
+            0 => Ok(Answer::of(&answer)),
+            _ => Err(Error::NoMemory),
+        }
+    }
+
+    /// Reaps the completions that the ring shows now, at most this many. Those that wait in the overflow list come into the ring by a `Flush`. `Error::NoMemory` if there is none for a copy of as many; then nothing has changed.
+    pub fn reap_all(&mut self, most: usize) -> Result<Vec<Completion>, Error> {
+        let mut completions = vec![reading::NO_COMPLETION; most];
+        let mut count = 0;
+        // SAFETY: as in `step`, and the library writes at most so many completions.
+        match unsafe {
+            ffi::wulgach_core_reap_all(
+                self.place.get_mut(),
+                completions.as_mut_ptr(),
+                most,
+                &mut count,
+            )
+        } {
+            0 => Ok(completions[..count as usize]
+                .iter()
+                .map(reading::completion)
+                .collect()),
+            _ => Err(Error::NoMemory),
         }
     }
 

@@ -14,6 +14,7 @@ pub mod flags {
 
 /// An entry of the submission ring: 128 bytes as 16 words, byte 0 in the low byte of word 0. Any words are an entry.
 #[derive(Clone, Copy, Debug, PartialEq, Eq)]
+#[repr(C)]
 pub struct Entry {
     words: [u64; 16],
 }

@@ -1,5 +1,6 @@
 //! The structs and functions of `c/wulgach.h`.
 
+use crate::entry::Entry;
 use std::ffi::c_void;
 
 /// A place for a core, a machine or a volume. All zero: empty.
@@ -77,6 +78,7 @@ pub struct Counts {
 }
 
 #[repr(C)]
+#[derive(Clone, Copy)]
 pub struct Completion {
     pub user_data: u64,
     pub res: i32,
@@ -113,6 +115,18 @@ extern "C" {
     pub fn wulgach_setup_fault(setup: *const Setup) -> i32;
     pub fn wulgach_core_new(core: *mut Place, setup: *const Setup) -> i32;
     pub fn wulgach_core_step(core: *mut Place, step: *const Step, answer: *mut Answer) -> i32;
+    pub fn wulgach_core_submit(
+        core: *mut Place,
+        entries: *const Entry,
+        count: usize,
+        answer: *mut Answer,
+    ) -> i32;
+    pub fn wulgach_core_reap_all(
+        core: *mut Place,
+        completions: *mut Completion,
+        room: usize,
+        count: *mut u64,
+    ) -> i32;
     pub fn wulgach_core_finish(
         core: *mut Place,
         number: u64,

@@ -3,4 +3,4 @@ use Rattle.uring_crash.proofs.Watching.{image_of}
 use Rattle.uring_crash.proofs.watch.Watch.crash.Goals as goal
 
 pub returns : goal.returns
-returns c = IfOk-weaker c.crash.result _ _ (λ now image unit setup fd h w. image_of unit setup fd _ _ h now.items w image) c.crash.ensures
+returns c = IfOk-weaker c.crash.result _ _ (λ now image unit setup fd h w. image_of unit setup fd _ _ h now.items w image) c.crash.ensures.image

@@ -1,0 +1,203 @@
+/* Whole calls beside the rows of steps that they are: two cores are given the same entries, one of them by
+ * wulgach_core_submit and wulgach_core_reap_all, the other one step by step, and both tell the same. And each refusal, with what
+ * it leaves. The linker hands malloc and realloc to the functions below, which refuse the calls that a test asks them to. */
+#include "wulgach.h"
+
+#include <stdio.h>
+#include <stdlib.h>
+#include <string.h>
+
+void *__real_malloc(size_t size);
+void *__real_realloc(void *at, size_t size);
+
+/* How many calls are served before one is refused; none is below 0. */
+static long served = -1;
+
+static bool is_refused(void)
+{
+    if (served < 0)
+        return false;
+    return served-- == 0;
+}
+
+void *__wrap_malloc(size_t size)
+{
+    return is_refused() ? NULL : __real_malloc(size);
+}
+
+void *__wrap_realloc(void *at, size_t size)
+{
+    return is_refused() ? NULL : __real_realloc(at, size);
+}
+
+static void check(bool is_right, const char *what)
+{
+    if (!is_right) {
+        fprintf(stderr, "whole_calls: %s\n", what);
+        exit(1);
+    }
+}
+
+enum { SIZE = 8 };
+
+static const struct wulgach_setup going_on = {.sq = SIZE, .files = 1, .start = UINT32_MAX - 3};
+static const struct wulgach_setup stopping = {.sq = SIZE, .files = 1, .stops = true};
+
+static struct wulgach_answer step(struct wulgach_core *core, uint32_t kind, uint32_t word, uint64_t number)
+{
+    struct wulgach_step made = {.kind = kind, .word = word, .number = number};
+    struct wulgach_answer answer;
+    check(wulgach_core_step(core, &made, &answer) == 0, "a step");
+    return answer;
+}
+
+/* The steps of wulgach_core_submit. Returns the last answer. */
+static struct wulgach_answer submit_by_steps(struct wulgach_core *core, const struct wulgach_entry *entries, uint32_t count)
+{
+    step(core, WULGACH_LOAD_HEAD, 0, 0);
+    for (uint32_t i = 0; i < count; i++) {
+        struct wulgach_step fill = {.kind = WULGACH_FILL, .word = i};
+        struct wulgach_answer answer;
+        memcpy(fill.entry, entries[i].words, sizeof fill.entry);
+        check(wulgach_core_step(core, &fill, &answer) == 0 && answer.kind == WULGACH_FILLED, "a fill");
+        check(step(core, WULGACH_INDEX, i, 0).kind == WULGACH_STAGED, "an index");
+    }
+    step(core, WULGACH_STORE_TAIL, 0, 0);
+    check(step(core, WULGACH_BEGIN, count, 0).kind == WULGACH_CALL, "a begin");
+    for (uint32_t i = 0; i < count; i++)
+        step(core, WULGACH_TAKE, 0, 0);
+    return step(core, WULGACH_END, 0, 0);
+}
+
+static bool is_same_answer(const struct wulgach_answer *a, const struct wulgach_answer *b)
+{
+    return a->kind == b->kind && a->word == b->word && a->dropped == b->dropped && a->head == b->head;
+}
+
+/* Takes what waits, issues and finishes all that can go on, in the order of the numbers. */
+static void carry_out(struct wulgach_core *core)
+{
+    struct wulgach_bytes bytes = {{1, 2, 3}};
+    struct wulgach_answer next;
+    while ((next = step(core, WULGACH_NEXT, 0, 0)).kind == WULGACH_NEXT_IS) {
+        struct wulgach_answer answer = step(core, WULGACH_ISSUE, 0, next.number);
+        if (answer.kind == WULGACH_RUN)
+            check(wulgach_core_finish(core, next.number, 0, &bytes, &answer) == 0, "a finish");
+    }
+}
+
+/* Makes count entries: no-ops with user data from first on, the one at faulty with a fault. */
+static void make_entries(struct wulgach_entry *entries, uint32_t count, uint64_t first, uint32_t faulty)
+{
+    for (uint32_t i = 0; i < count; i++)
+        wulgach_nop(entries[i].words, first + i, i == faulty ? 128 : i % 3 == 0 ? WULGACH_IO_LINK : 0);
+}
+
+/* What both cores tell of how far they came, and of each completion that rests. */
+static void compare(struct wulgach_core *whole, struct wulgach_core *stepped)
+{
+    struct wulgach_counts a, b;
+    check(wulgach_core_counts(whole, &a) == 0 && wulgach_core_counts(stepped, &b) == 0, "counts");
+    check(memcmp(&a, &b, sizeof a) == 0, "the same counts");
+    for (uint64_t i = 0; i < a.posted - a.reaped; i++) {
+        struct wulgach_completion one, other;
+        check(wulgach_core_rest(whole, i, &one) == 0 && wulgach_core_rest(stepped, i, &other) == 0, "a completion");
+        check(one.user_data == other.user_data && one.res == other.res, "the same completion");
+    }
+}
+
+/* Reaps both: the one at once into room places, the other step by step. */
+static void reap(struct wulgach_core *whole, struct wulgach_core *stepped, size_t room)
+{
+    struct wulgach_completion places[2 * SIZE] = {{0}};
+    uint64_t count = 99;
+    check(wulgach_core_reap_all(whole, places, room, &count) == 0 && count <= room, "reap_all");
+    step(stepped, WULGACH_LOAD_CQ_TAIL, 0, 0);
+    for (uint64_t i = 0; i < count; i++) {
+        struct wulgach_answer answer = step(stepped, WULGACH_REAP, 0, 0);
+        check(answer.kind == WULGACH_REAPED && answer.number == places[i].user_data && answer.res == places[i].res, "the same is reaped");
+        check(memcmp(answer.bytes, places[i].bytes, sizeof answer.bytes) == 0, "with the same bytes");
+    }
+    if (count < room)
+        check(step(stepped, WULGACH_REAP, 0, 0).kind == WULGACH_NOTHING, "all is reaped");
+    for (size_t i = count; i < 2 * SIZE; i++)
+        check(places[i].user_data == 0, "the other places are left");
+    step(stepped, WULGACH_STORE_CQ_HEAD, 0, 0);
+    step(whole, WULGACH_FLUSH, 0, 0);
+    step(stepped, WULGACH_FLUSH, 0, 0);
+}
+
+/* Calls of 0 to all entries, with a fault or none, on rings that go on or stop. */
+static void side_by_side(const struct wulgach_setup *setup)
+{
+    struct wulgach_core whole = {0}, stepped = {0};
+    check(wulgach_core_new(&whole, setup) == 0 && wulgach_core_new(&stepped, setup) == 0, "new");
+    for (uint32_t round = 0; round < 200; round++) {
+        struct wulgach_entry entries[SIZE];
+        uint32_t count = round % (SIZE + 1), faulty = round / 3 % (2 * SIZE);
+        make_entries(entries, count, 100 * round + 1, faulty);
+        struct wulgach_answer answer, last;
+        check(wulgach_core_submit(&whole, entries, count, &answer) == 0 && answer.kind == WULGACH_TAKEN, "submit");
+        last = submit_by_steps(&stepped, entries, count);
+        check(is_same_answer(&answer, &last), "the same answer");
+        carry_out(&whole);
+        carry_out(&stepped);
+        compare(&whole, &stepped);
+        reap(&whole, &stepped, round % 5 == 0 ? 3 : 2 * SIZE);
+        if (answer.word < count) {
+            check(wulgach_core_submit(&whole, entries, 1, &last) == 0 && last.kind == WULGACH_BUSY, "the rest waits");
+            for (int i = 0; i < 2; i++) {
+                struct wulgach_core *core = i ? &stepped : &whole;
+                uint32_t left = step(core, WULGACH_BEGIN, SIZE, 0).word;
+                check(left == count - answer.word, "so many wait");
+                while (step(core, WULGACH_TAKE, 0, 0).kind != WULGACH_NO_MORE) {
+                }
+                check(step(core, WULGACH_END, 0, 0).kind == WULGACH_TAKEN, "a later call takes the rest");
+            }
+        }
+    }
+    check(wulgach_core_free(&whole) == 0 && wulgach_core_free(&stepped) == 0, "free");
+}
+
+/* Each refusal of a call, and what it leaves. */
+static void refusals(void)
+{
+    struct wulgach_core core = {0};
+    struct wulgach_entry entries[SIZE + 1];
+    struct wulgach_answer answer = {.kind = 99};
+    struct wulgach_completion place = {.user_data = 99};
+    struct wulgach_counts counts;
+    uint64_t count = 99;
+    make_entries(entries, SIZE + 1, 1, SIZE + 1);
+    check(wulgach_core_submit(&core, entries, 1, &answer) == -9 && answer.kind == 99, "submit at an empty place");
+    check(wulgach_core_reap_all(&core, &place, 1, &count) == -9 && count == 99 && place.user_data == 99, "reap_all at an empty place");
+    check(wulgach_core_new(&core, &going_on) == 0, "new");
+    check(wulgach_core_submit(&core, entries, SIZE + 1, &answer) == 0 && answer.kind == WULGACH_NO_SLOT, "too many entries");
+    served = 0;
+    check(wulgach_core_submit(&core, entries, 2, &answer) == -12, "no memory for a copy");
+    served = 1;
+    check(wulgach_core_submit(&core, entries, 2, &answer) == 0 && answer.kind == WULGACH_AGAIN, "no memory for the call");
+    served = -1;
+    check(wulgach_core_submit(&core, entries, 1, &answer) == 0 && answer.kind == WULGACH_BUSY, "the entries wait");
+    check(step(&core, WULGACH_BEGIN, SIZE, 0).word == 2, "another begin takes them");
+    check(wulgach_core_submit(&core, entries, 1, &answer) == 0 && answer.kind == WULGACH_IN_CALL, "a call is open");
+    while (step(&core, WULGACH_TAKE, 0, 0).kind != WULGACH_NO_MORE) {
+    }
+    check(step(&core, WULGACH_END, 0, 0).word == 2, "both are accepted");
+    served = 0;
+    check(wulgach_core_reap_all(&core, &place, 1, &count) == -12 && count == 99, "no memory for completions");
+    served = -1;
+    check(step(&core, WULGACH_CLOSE, 0, 0).kind == WULGACH_SHUT, "close");
+    check(wulgach_core_submit(&core, entries, 1, &answer) == 0 && answer.kind == WULGACH_CLOSED, "a closed ring");
+    check(wulgach_core_counts(&core, &counts) == 0 && counts.accepted == 2, "nothing more was accepted");
+    check(wulgach_core_free(&core) == 0, "free");
+}
+
+int main(void)
+{
+    side_by_side(&going_on);
+    side_by_side(&stopping);
+    refusals();
+    puts("whole_calls: whole calls and their steps do the same");
+    return 0;
+}

@@ -1,0 +1,49 @@
+//! The whole calls of a core that C makes: `wulgach_core_submit` and `wulgach_core_reap_all` of the header.
+ghost use Rattle.std.specs.Prelude.{◌≡◌, ◌↔◌, pos, neg_ℤ, None, map};
+ghost use Rattle.uring_entry.specs.declared.errno.TheConstants.{EBADF, ENOMEM};
+ghost use Rattle.uring_c.specs.Places.{core_in};
+ghost use Rattle.uring_c.specs.Whole.{TellsSubmit, TellsReaped};
+
+use crate::answer_words::AnswerWords;
+use crate::completion_words::CompletionWords;
+use crate::core_place::CorePlace;
+use crate::whole_call_memory::{EntryWords, core_reap_all_in, core_submit_in};
+use std::alloc::Global;
+
+/// Makes all steps of a submission call of these entries, and writes the answer. -12 (ENOMEM) if memory for a copy of the entries is refused; then nothing changes.
+#[unsafe(no_mangle)]
+pub extern "C" fn wulgach_core_submit(
+    alloc: Global,
+    place: &mut CorePlace,
+    entries: &[EntryWords],
+    answer: &mut AnswerWords,
+) -> i32
+    ensures empty { (result ≡ neg_ℤ EBADF) ↔ (core_in place.old ≡ None) }
+    ensures results { (result ≡ pos 0 → ⊥) → (result ≡ neg_ℤ EBADF → ⊥) → result ≡ neg_ℤ ENOMEM }
+    ensures kept { (result ≡ pos 0 → ⊥)
+        → (core_in place.new ≡ core_in place.old) × (answer.new ≡ answer.old) }
+    ensures made { result ≡ pos 0
+        → TellsSubmit (map (λ e. e.words) entries.now) (core_in place.old) (core_in place.new)
+        answer.new }
+{
+    core_submit_in(&alloc, alloc, place, entries, answer)
+}
+
+/// Reaps all completions that the ring shows into these places, as far as there are places, and writes how many. -12 (ENOMEM) if memory for them is refused; then nothing changes.
+#[unsafe(no_mangle)]
+pub extern "C" fn wulgach_core_reap_all(
+    alloc: Global,
+    place: &mut CorePlace,
+    completions: &mut [CompletionWords],
+    count: &mut u64,
+) -> i32
+    ensures empty { (result ≡ neg_ℤ EBADF) ↔ (core_in place.old ≡ None) }
+    ensures results { (result ≡ pos 0 → ⊥) → (result ≡ neg_ℤ EBADF → ⊥) → result ≡ neg_ℤ ENOMEM }
+    ensures kept { (result ≡ pos 0 → ⊥) → (core_in place.new ≡ core_in place.old)
+        × (completions.new ≡ completions.old) × (count.new ≡ count.old) }
+    ensures made { result ≡ pos 0
+        → TellsReaped (core_in place.old) (core_in place.new) completions.old completions.new
+        count.new }
+{
+    core_reap_all_in(&alloc, alloc, place, completions, count)
+}

@@ -1,0 +1,126 @@
+-- Rows of steps that are made at once: one entry, one take or one completion more at their end, and what their answers are known to be.
+use Rattle.std.proofs.Common.{◌≡◌, ℕ, suc, ◌+◌, ◌-◌, ◌≤◌, ◌<◌, Bool, true, false, cond, List, [], ◌∷◌, ◌++◌, length, take, set, get_or, Option, Some, None, is_some, refl, sym, ap, subst, ◌∙◌, arith, inl, inr}
+use Rattle.std.proofs.lemmas.List.{take_more, length-take-le}
+use Rattle.std.proofs.lemmas.Grind.{common_steps}
+use Rattle.uring_entry.specs.Setup.{Setup}
+use Rattle.uring_entry.specs.Layout.{Sqe, Cqe}
+use Rattle.uring_entry.specs.Submission.{call_length}
+use Rattle.uring_core.specs.World.{World}
+use Rattle.uring_core.specs.StepAnswers.{CalledForApart, OrAgain, begin_answer, is_spent, take_answer, reap_answer_of}
+use Rattle.uring_core.specs.Histories.{History, world}
+use Rattle.uring_core.specs.Core.{Core, FitsApart, HasNoLessMemory, IsShortFor, elements_for_call}
+use Rattle.uring_core.specs.WholeCalls.{after_fill, after_index, after_entries, after_takes, after_reaps}
+use Rattle.std.specs.Prelude.{Result, Err}
+use Rattle.uring_core.specs.declared.cores.submit.NotSubmitted.{NotSubmitted}
+use Rattle.uring_core.specs.declared.cores.submit.NotSubmitted.TheVariants as refused
+use Rattle.uring_core.specs.declared.step.Step.{Step}
+use Rattle.uring_core.specs.declared.step.Step.TheVariants as step
+use Rattle.uring_core.specs.declared.answer.Answer.{Answer}
+use Rattle.uring_core.specs.declared.answer.Answer.TheVariants as answer
+
+-- an answer is the one that is called for
+pub as_called : (p : Core) (g : Setup) (s : Step) (a b : Answer) (h : History) → p.setup ≡ g
+    → (CalledForApart g (world g h) s a → a ≡ b) → FitsApart p ((s, a) ∷ h)
+    → FitsApart p ((s, b) ∷ h)
+as_called p g s a b h same told f =
+    subst (λ x. FitsApart p ((s, x) ∷ h)) (told (subst (λ k. CalledForApart k (world k h) s a) same f.lawful.0)) f
+
+-- the last entry is put in last
+pub after_entries-snoc : (g : Setup) (slot : ℕ) (entries : List Sqe) (entry : Sqe) (h : History)
+    → after_entries g slot (entries ++ entry ∷ []) h
+    ≡ after_index g (slot + length entries) (after_fill g (slot + length entries) entry (after_entries g slot entries h))
+after_entries-snoc g slot [] entry h =
+    ap (λ s. after_index g s (after_fill g s entry h)) (omega arith)
+after_entries-snoc g slot (first ∷ later) entry h =
+    after_entries-snoc g (slot + 1) later entry (after_index g slot (after_fill g slot first h))
+    ∙ ap (λ s. after_index g s (after_fill g s entry (after_entries g (slot + 1) later (after_index g slot (after_fill g slot first h))))) (omega arith)
+
+-- the entry of this place is put in
+pub entries_next : (g : Setup) (entries : List Sqe) (i slot : ℕ) (entry : Sqe) (h : History)
+    → slot ≡ i → i < length entries → entry ≡ get_or entries i entry
+    → after_entries g 0 (take (i + 1) entries) h
+    ≡ after_index g slot (after_fill g slot entry (after_entries g 0 (take i entries) h))
+entries_next g entries i slot entry h at within is =
+    let many : 0 + length (take i entries) ≡ slot = omega (arith, at, length-take-le i entries (omega arith)) in
+    rw (take_more entries i entry within, ← is)
+    (after_entries-snoc g 0 (take i entries) entry h
+    ∙ ap (λ s. after_index g s (after_fill g s entry (after_entries g 0 (take i entries) h))) many)
+
+-- one position more is taken
+pub takes_next : (g : Setup) (n : ℕ) (h : History)
+    → after_takes g (n + 1) h
+    ≡ (step.Take, take_answer (world g (after_takes g n h))) ∷ after_takes g n h
+takes_next g n h = ap (λ k. after_takes g k h) (let one : n + 1 ≡ suc n = omega arith in one)
+
+-- the last completion is reaped last
+pub after_reaps-snoc : (completions : List Cqe) (completion : Cqe) (h : History)
+    → after_reaps (completions ++ completion ∷ []) h
+    ≡ (step.Reap, answer.Reaped completion) ∷ after_reaps completions h
+after_reaps-snoc [] completion h = refl
+after_reaps-snoc (first ∷ later) completion h =
+    after_reaps-snoc later completion ((step.Reap, answer.Reaped first) ∷ h)
+
+-- the completion of this place is reaped
+pub reaps_next : (completions : List Cqe) (i : ℕ) (completion : Cqe) (h : History)
+    → i < length completions
+    → after_reaps (take (i + 1) (set completions i completion)) h
+    ≡ (step.Reap, answer.Reaped completion) ∷ after_reaps (take i completions) h
+reaps_next completions i completion h within =
+    let next : take (i + 1) (set completions i completion) ≡ take i completions ++ completion ∷ [] = grind (arith, common_steps) in
+    ap (λ xs. after_reaps xs h) next ∙ after_reaps-snoc (take i completions) completion h
+
+-- a reap that gave none: none is shown
+pub none_shown : (o : Option Cqe) → answer.Nothing ≡ reap_answer_of o → o ≡ None
+none_shown None e = refl
+none_shown (Some completion) e = absurd (let f : answer.Nothing ≡ answer.Reaped completion = e in cc)
+
+-- A change of the submission ring alone, and then another.
+pub submission_then : (p q r : Core) → q ≡ record p { sq = q.sq } → r ≡ record q { sq = r.sq }
+    → r ≡ record p { sq = r.sq }
+submission_then p q r first second = second ∙ ap (λ (x : Core). record x { sq = r.sq }) first
+
+-- it keeps the memory
+pub submission_keeps : (p q : Core) → q ≡ record p { sq = q.sq } → HasNoLessMemory p q
+submission_keeps p q alone =
+    subst (λ x. HasNoLessMemory p x) (sym alone) (record { requests = omega arith; completions = omega arith })
+
+pub memory_then : (p q r : Core) → HasNoLessMemory p q → HasNoLessMemory q r
+    → HasNoLessMemory p r
+memory_then p q r first second = record {
+  requests = omega (arith, first.requests, second.requests);
+  completions = omega (arith, first.completions, second.completions);
+}
+
+-- a call that opens has the length that is called for
+pub opened_called : (w : World) (count n : ℕ) → OrAgain (begin_answer w count) (answer.Call n)
+    → answer.Call n ≡ answer.Call (call_length w.submission count)
+opened_called w count n told =
+    by_tests w.is_closed (is_some w.submission.call) (is_spent w (call_length w.submission count)) told
+  where
+    by_tests : (closed in_call spent : Bool)
+        → OrAgain (cond closed answer.Closed (cond in_call answer.InCall (cond spent answer.Spent (answer.Call (call_length w.submission count))))) (answer.Call n)
+        → answer.Call n ≡ answer.Call (call_length w.submission count)
+    by_tests true in_call spent e = absurd (let f : answer.Call n ≡ answer.Closed = e in cc)
+    by_tests false true spent e = absurd (let f : answer.Call n ≡ answer.InCall = e in cc)
+    by_tests false false true e = absurd (let f : answer.Call n ≡ answer.Spent = e in cc)
+    by_tests false false false (inl e) = e
+    by_tests false false false (inr e) = absurd (let f : answer.Call n ≡ answer.Again = e.0 in cc)
+
+-- one refusal, and one answer of a Begin that was refused
+pub one_refusal : (a b : NotSubmitted) → ◌≡◌ {A = Result Answer NotSubmitted} (Err a) (Err b)
+    → a ≡ b
+one_refusal a b e = cc
+
+pub begin_refused : (a b : Answer)
+    → ◌≡◌ {A = Result Answer NotSubmitted} (Err (refused.Begin a)) (Err (refused.Begin b)) → a ≡ b
+begin_refused a b e = cc
+
+-- memory that is short for a call is short for a longer one
+pub short_for_more : (p : Core) (few many : ℕ) → few ≤ many → IsShortFor p few → IsShortFor p many
+short_for_more p few many less (inl requests) = inl (omega arith)
+short_for_more p few many less (inr posts) = inr (omega arith)
+
+-- and a longer one may need more elements
+pub more_elements : (p : Core) (few many n : ℕ) → few ≤ many → elements_for_call p many ≤ n
+    → elements_for_call p few ≤ n
+more_elements p few many n less within = omega arith

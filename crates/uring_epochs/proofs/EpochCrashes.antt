@@ -1,0 +1,241 @@
+-- That what a crash leaves may be left, and that the next epoch goes on from it.
+use Rattle.std.proofs.Common.{◌≡◌, ℕ, zero, suc, ◌<◌, ◌≤◌, ◌-◌, List, [], ◌∷◌, ◌++◌, length, get_or, length-append, inl, inr, Bool, true, false, cond, Option, Some, None, Result, Ok, Err, refl, sym, subst, ◌∙◌, ap, arith}
+use Rattle.std.specs.Prelude.{pos, ℤ, slice_get, IfOk}
+use Rattle.std.specs.declared.alloc.AllocError.{AllocError}
+use Rattle.std.specs.Option.{option_map}
+use Rattle.std.proofs.lemmas.Option.{slice_get-map, slice_get_within, get_or_from_slice_get}
+use Rattle.std.proofs.lemmas.List.{get_or_append_left, get_or-append_right}
+use Rattle.uring_volume.proofs.Painting.{below_or_from}
+use Rattle.uring_entry.specs.Setup.{Setup}
+use Rattle.uring_entry.specs.Requests.{Requests, operation_running}
+use Rattle.uring_entry.specs.declared.operation.Op.{Op}
+use Rattle.uring_entry.specs.declared.operation.Op.TheVariants.{Write, Fsync}
+use Rattle.std.proofs.Math.ListN.{get_or-eq_default}
+use Rattle.uring_files.specs.Contents.{FileContents, file_of_bytes, empty_files, max_len}
+use Rattle.uring_volume.specs.Images.{IsImage}
+use Rattle.uring_volume.specs.Choices.{IsLeftBy}
+use Rattle.uring_volume.specs.Volume.{Volume, with_event}
+use Rattle.uring_volume.specs.declared.event.Event.{Event}
+use Rattle.uring_core.specs.Core.{FitsApart}
+use Rattle.uring_core.specs.Histories.{History, world}
+use Rattle.uring_core.specs.declared.step.Step.{Step}
+use Rattle.uring_core.specs.declared.step.Step.TheVariants as step
+use Rattle.uring_core.specs.declared.answer.Answer.{Answer}
+use Rattle.uring_core.specs.declared.answer.Answer.TheVariants as answer
+use Rattle.uring_epochs.specs.Logs.{Log, log_on, log_from, logged, begun, begun_of, finished, finished_of}
+use Rattle.uring_epochs.specs.Epochs.{CrashMachine, Epoch, FitsRun, IsRun, AreLeft, AreImages, IsImageBy, IsLeftAt, begun_on, first_files, file_at, logs_on, volume_of}
+use Rattle.uring_epochs.proofs.Noted.{map_same, first_many, first_empty, first_at, logs_at}
+
+-- a log keeps its unit and its first bytes
+abbrev Keeps : Log → Log → Type 0
+Keeps old new = (new.volume.unit ≡ old.volume.unit) × (new.volume.first ≡ old.volume.first)
+
+keeps_if : (b : Bool) (old new : Log) → Keeps old new → Keeps old (cond b new old)
+keeps_if true old new k = k
+keeps_if false old new k = (refl, refl)
+
+event_if : (b : Bool) (e : Event) (v : Volume)
+    → ((cond b (with_event e v) v).unit ≡ v.unit) × ((cond b (with_event e v) v).first ≡ v.first)
+event_if true e v = (refl, refl)
+event_if false e v = (refl, refl)
+
+begun_keeps : (n : ℕ) (op : Op) (log : Log) → Keeps log (begun n op log)
+begun_keeps n (Write fd off len bytes) log = keeps_if _ log _ (refl, refl)
+begun_keeps n (Fsync fd) log = keeps_if _ log _ (refl, refl)
+begun_keeps n _ log = (refl, refl)
+
+finished_keeps : (n : ℕ) (op : Op) (res : ℤ) (log : Log) → Keeps log (finished n op res log)
+finished_keeps n (Write fd off len bytes) res log = keeps_if _ log _ (event_if _ _ log.volume)
+finished_keeps n (Fsync fd) res log = keeps_if _ log _ (event_if _ _ log.volume)
+finished_keeps n _ res log = (refl, refl)
+
+begun_of_keeps : (n : ℕ) (op : Option Op) (log : Log) → Keeps log (begun_of n op log)
+begun_of_keeps n None log = (refl, refl)
+begun_of_keeps n (Some op) log = begun_keeps n op log
+
+finished_of_keeps : (n : ℕ) (op : Option Op) (res : ℤ) (log : Log) → Keeps log (finished_of n op res log)
+finished_of_keeps n None res log = (refl, refl)
+finished_of_keeps n (Some op) res log = finished_keeps n op res log
+
+logged_keeps : (r q : Requests) (s : Step) (a : Answer) (log : Log) → Keeps log (logged r q s a log)
+logged_keeps r q (step.Issue n) answer.Run log = begun_of_keeps n (operation_running q n) log
+logged_keeps r q (step.Finish n) (answer.Ended res bytes) log = finished_of_keeps n (operation_running r n) res log
+logged_keeps r q (step.Issue n) _ log = (refl, refl)
+logged_keeps r q (step.Finish n) _ log = (refl, refl)
+logged_keeps r q _ a log = (refl, refl)
+
+pub from_keeps : (start : Log) (g : Setup) (h : History) → Keeps start (log_from start g h)
+from_keeps start g [] = (refl, refl)
+from_keeps start g ((s, a) ∷ before) =
+    let k = logged_keeps (world g before).requests (world g ((s, a) ∷ before)).requests s a (log_from start g before) in
+    let l = from_keeps start g before in
+    (k.0 ∙ l.0, k.1 ∙ l.1)
+
+-- Images of the first files, one after the other.
+pub record ImagesUpTo (logs : List Log) (choices images : List (List ℕ)) (n : ℕ) : Type 0 where
+  pub many : length images ≡ n
+  pub each : (place : ℕ) (log : Log) → place < n → slice_get logs place ≡ Some log
+      → IsImageBy log (get_or choices place []) (get_or images place [])
+
+pub images_none : (logs : List Log) (choices : List (List ℕ)) → ImagesUpTo logs choices [] 0
+images_none logs choices = record { many = refl; each = λ place log below is. absurd (omega (arith, below)) }
+
+pub images_more : (logs : List Log) (choices images : List (List ℕ)) (n : ℕ) (log : Log) (now : List ℕ)
+    → slice_get logs n ≡ Some log → IsImageBy log (get_or choices n []) now → ImagesUpTo logs choices images n
+    → ImagesUpTo logs choices (images ++ now ∷ []) (suc n)
+images_more logs choices images n log now here by so = record {
+  many = length-append images (now ∷ []) ∙ omega (arith, so.many);
+  each = λ place other below is. elim (below_or_from place n) [
+    | inl before ↦
+        let inside : place < length images = omega (arith, before, so.many) in
+        subst (λ (bs : List ℕ). IsImageBy other (get_or choices place []) bs) (sym (get_or_append_left images (now ∷ []) [] place inside)) (so.each place other before is)
+    | inr from ↦
+        let same : place ≡ n = omega (arith, below, from) in
+        let one : Some other ≡ Some log = sym is ∙ ap (slice_get logs) same ∙ here in
+        let is_log : other ≡ log = cc in
+        let last : get_or (images ++ now ∷ []) place [] ≡ now = get_or-append_right images (now ∷ []) n place [] so.many (omega (arith, same)) ∙ ap (λ (k : ℕ). get_or (now ∷ []) k []) (let it : place - n ≡ 0 = omega (arith, same) in it) in
+        subst (λ (bs : List ℕ). IsImageBy other (get_or choices place []) bs) (sym last)
+        (subst (λ (k : ℕ). IsImageBy other (get_or choices k []) now) (sym same)
+        (subst (λ (l : Log). IsImageBy l (get_or choices n []) now) (sym is_log) by))
+  ];
+}
+
+pub images_all : (logs : List Log) (choices images : List (List ℕ)) (n : ℕ) → length logs ≡ n
+    → ImagesUpTo logs choices images n → AreImages logs choices images
+images_all logs choices images n many so = record {
+  many = so.many ∙ sym many;
+  each = λ place log is. so.each place log (let within = slice_get_within logs place log is in omega (arith, within, many)) is;
+}
+
+-- the log of the file at a place
+log_at : (m : CrashMachine) (e : Epoch) (earlier : List Epoch) → FitsRun m e earlier
+    → (place : ℕ) → place < length e.first
+    → slice_get m.logs place
+    ≡ Some (log_from (log_on m.unit (file_at e.first place).bytes (pos place)) m.core.setup e.history)
+log_at m e earlier f place within =
+    ap (λ (ls : List Log). slice_get ls place) f.logs
+    ∙ slice_get-map (λ log. log_from log m.core.setup e.history) (logs_on m.unit 0 e.first) place
+    ∙ ap (λ (o : Option Log). option_map (λ log. log_from log m.core.setup e.history) o) (logs_at m.unit e.first place within)
+
+-- what is left of the file at a place
+left_at : (m : CrashMachine) (e : Epoch) (earlier : List Epoch) (choices images : List (List ℕ))
+    → FitsRun m e earlier → AreImages m.logs choices images → (place : ℕ) → place < length e.first
+    → IsImage m.unit (file_at e.first place).bytes (volume_of m.unit m.core.setup e place).history (get_or images place [])
+    × IsLeftAt m.unit m.core.setup e place (get_or choices place []) (get_or images place [])
+left_at m e earlier choices images f are place within =
+    let start : Log = log_on m.unit (file_at e.first place).bytes (pos place) in
+    let log : Log = log_from start m.core.setup e.history in
+    let by : IsImageBy log (get_or choices place []) (get_or images place []) = are.each place log (log_at m e earlier f place within) in
+    let keeps = from_keeps start m.core.setup e.history in
+    let h = log.volume.history in (
+      subst (λ (bs : List ℕ). IsImage m.unit bs h (get_or images place [])) keeps.1 (subst (λ (u : ℕ). IsImage u log.volume.first h (get_or images place [])) keeps.0 by.image),
+      subst (λ (bs : List ℕ). IsLeftBy m.unit bs h (get_or choices place []) (get_or images place [])) keeps.1 (subst (λ (u : ℕ). IsLeftBy u log.volume.first h (get_or choices place []) (get_or images place [])) keeps.0 by.chosen),
+    )
+
+bytes_at : (n : ℕ) (images : List (List ℕ)) (place : ℕ) → place < n
+    → (file_at (first_files n images) place).bytes ≡ get_or images place []
+bytes_at n images place within = ap (λ (f : FileContents). f.bytes) (first_at n images place within)
+
+images_left : (m : CrashMachine) (e : Epoch) (earlier : List Epoch) (choices images : List (List ℕ))
+    → FitsRun m e earlier → AreImages m.logs choices images
+    → AreLeft m.unit m.core.setup e (first_files m.core.setup.files images)
+images_left m e earlier choices images f are =
+    let n : ℕ = m.core.setup.files in
+    let many : length (first_files n images) ≡ n = first_many n images in
+    record {
+      many = many ∙ sym f.many;
+      image = λ place within.
+          subst (λ (bs : List ℕ). IsImage m.unit (file_at e.first place).bytes (volume_of m.unit m.core.setup e place).history bs) (sym (bytes_at n images place (omega (arith, within, many))))
+          (left_at m e earlier choices images f are place (omega (arith, within, many, f.many))).0;
+      uncounted = λ place within.
+          let is = first_at n images place (omega (arith, within, many)) in
+          is ∙ ap file_of_bytes (ap (λ (f : FileContents). f.bytes) (sym is));
+    }
+
+-- the next epoch
+pub crash_fits : (m next : CrashMachine) (choices images : List (List ℕ)) (e : Epoch) (earlier : List Epoch)
+    → next.core.setup ≡ m.core.setup → next.unit ≡ m.unit
+    → FitsRun next (begun_on (first_files m.core.setup.files images)) []
+    → AreImages m.logs choices images → FitsRun m e earlier
+    → FitsRun next (begun_on next.files) (e ∷ earlier)
+crash_fits m next choices images e earlier same units fresh are f =
+    let first : List FileContents = first_files m.core.setup.files images in
+    let left : AreLeft m.unit m.core.setup e first = images_left m e earlier choices images f are in
+    let run : IsRun m.unit m.core.setup (begun_on first ∷ e ∷ earlier) = (tt, left, f.run) in
+    let moved : IsRun next.unit next.core.setup (begun_on first ∷ e ∷ earlier) =
+    subst (λ (g : Setup). IsRun next.unit g (begun_on first ∷ e ∷ earlier)) (sym same) (subst (λ (u : ℕ). IsRun u m.core.setup (begun_on first ∷ e ∷ earlier)) (sym units) run) in
+    subst (λ (fs : List FileContents). FitsRun next (begun_on fs) (e ∷ earlier)) (sym fresh.files)
+    (record { core = fresh.core; files = fresh.files; logs = fresh.logs; many = fresh.many; run = moved })
+
+pub crash_chosen : (m next : CrashMachine) (choices images : List (List ℕ)) (e : Epoch) (earlier : List Epoch)
+    → FitsRun next (begun_on (first_files m.core.setup.files images)) []
+    → AreImages m.logs choices images → FitsRun m e earlier
+    → (place : ℕ) → place < length next.files
+    → IsLeftAt m.unit m.core.setup e place (get_or choices place []) (file_at next.files place).bytes
+crash_chosen m next choices images e earlier fresh are f place within =
+    let n : ℕ = m.core.setup.files in
+    let first : List FileContents = first_files n images in
+    let many : length first ≡ n = first_many n images in
+    let inside : place < n = omega (arith, within, many, ap (λ (fs : List FileContents). length fs) fresh.files) in
+    subst (λ (fs : List FileContents). IsLeftAt m.unit m.core.setup e place (get_or choices place []) (file_at fs place).bytes) (sym fresh.files)
+    (subst (λ (bs : List ℕ). IsLeftAt m.unit m.core.setup e place (get_or choices place []) bs) (sym (bytes_at n images place inside))
+    (left_at m e earlier choices images f are place (omega (arith, inside, f.many))).1)
+
+-- a machine on empty files
+pub new_fits : (m : CrashMachine) (n : ℕ) → FitsRun m (begun_on (first_files n [])) []
+    → FitsRun m (begun_on (empty_files n)) []
+new_fits m n f = subst (λ (fs : List FileContents). FitsRun m (begun_on fs) []) (sym (first_empty n)) f
+
+-- a machine on which nothing has happened
+pub on_fits : (m : CrashMachine) (images : List (List ℕ)) (files : ℕ)
+    → FitsApart m.core [] → m.core.setup.files ≡ files → m.files ≡ first_files files images
+    → m.logs ≡ logs_on m.unit 0 (first_files files images)
+    → FitsRun m (begun_on (first_files files images)) []
+on_fits m images files fits same these logs = record {
+  core = fits;
+  files = these;
+  logs = logs ∙ map_same (λ log. log) (logs_on m.unit 0 (first_files files images)) (λ log. refl);
+  many = first_many files images ∙ sym same;
+  run = (tt, tt, tt);
+}
+
+-- What a call that makes the next machine says of it.
+
+pub crash_result_fits : (r : Result CrashMachine AllocError) (m : CrashMachine) (g : Setup) (choices images : List (List ℕ))
+    → g ≡ m.core.setup → IfOk r (λ next. next.core.setup ≡ g) → IfOk r (λ next. next.unit ≡ m.unit)
+    → IfOk r (λ next. FitsRun next (begun_on (first_files g.files images)) [])
+    → AreImages m.logs choices images
+    → IfOk r (λ next. (e : Epoch) (earlier : List Epoch) → FitsRun m e earlier → FitsRun next (begun_on next.files) (e ∷ earlier))
+crash_result_fits (Ok next) m g choices images is same units fresh are = λ e earlier f.
+    crash_fits m next choices images e earlier (same ∙ is) units (subst (λ (k : Setup). FitsRun next (begun_on (first_files k.files images)) []) is fresh) are f
+crash_result_fits (Err e) m g choices images is same units fresh are = tt
+
+pub crash_result_chosen : (r : Result CrashMachine AllocError) (m : CrashMachine) (g : Setup) (choices images : List (List ℕ))
+    → g ≡ m.core.setup → IfOk r (λ next. FitsRun next (begun_on (first_files g.files images)) [])
+    → AreImages m.logs choices images
+    → IfOk r (λ next. (e : Epoch) (earlier : List Epoch) → FitsRun m e earlier → (place : ℕ) → place < length next.files
+    → IsLeftAt m.unit m.core.setup e place (get_or choices place []) (file_at next.files place).bytes)
+crash_result_chosen (Ok next) m g choices images is fresh are = λ e earlier f.
+    crash_chosen m next choices images e earlier (subst (λ (k : Setup). FitsRun next (begun_on (first_files k.files images)) []) is fresh) are f
+crash_result_chosen (Err e) m g choices images is fresh are = tt
+
+some_at : {X : Type 0} (xs : List X) (i : ℕ) → i < length xs → (x : X) × (slice_get xs i ≡ Some x)
+some_at [] i within = absurd (omega (arith, within))
+some_at (x ∷ xs) zero within = (x, refl)
+some_at (x ∷ xs) (suc i) within = some_at xs i (omega (arith, within))
+
+-- no image is longer than a file may be
+pub images_short : (logs : List Log) (choices images : List (List ℕ)) → AreImages logs choices images
+    → (place : ℕ) → length (get_or images place []) ≤ max_len
+images_short logs choices images are place = elim (below_or_from place (length images)) [
+  | inl within ↦
+      let here = some_at logs place (omega (arith, within, are.many)) in
+      (are.each place here.0 here.1).short
+  | inr past ↦ subst (λ (bs : List ℕ). length bs ≤ max_len) (sym (get_or-eq_default images [] past)) (let it : 0 ≤ max_len = omega arith in it)
+]
+
+pub log_read : (logs : List Log) (i : ℕ) (log : Log) → i < length logs → log ≡ get_or logs i log
+    → slice_get logs i ≡ Some log
+log_read logs i log within is =
+    let here = some_at logs i within in
+    here.1 ∙ ap (λ (l : Log). Some l) (sym (get_or_from_slice_get logs i here.0 log here.1) ∙ sym is)

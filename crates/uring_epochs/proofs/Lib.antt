@@ -1,0 +1,10 @@
+pub mod LogBytes
+pub mod LogNumbers
+pub mod LogStands
+pub mod LogFiles
+pub mod LogLaws
+pub mod LawfulFrom
+pub mod Noted
+pub mod Short
+pub mod EpochSteps
+pub mod EpochCrashes

@@ -1,0 +1,46 @@
+-- The laws of logs.
+use Rattle.std.proofs.Common.{◌≡◌, ℕ, true, Some, None, sym, ◌∙◌, inl, inr}
+use Rattle.std.proofs.lemmas.Bool.{cases_Bool, cond-true, cond-false}
+use Rattle.std.proofs.lemmas.Bool.Decides.{Decides-int_eq}
+use Rattle.uring_entry.specs.Preparation.{operation_of}
+use Rattle.uring_entry.specs.Requests.{Requests, entry_of, is_running, operation_running}
+use Rattle.uring_entry.specs.declared.operation.Op.{Op}
+use Rattle.uring_files.specs.Contents.{empty_files}
+use Rattle.uring_files.specs.Laws.{WritesOver}
+use Rattle.uring_core.specs.Histories.{world}
+use Rattle.uring_epochs.proofs.LawfulFrom.{lawful_new, apart_from}
+use Rattle.uring_epochs.specs.Logs.{log_of}
+use Rattle.uring_epochs.specs.Laws.{RunningWritesRun, RunningSyncsRun, VolumeShowsTheFile, VolumesShowTheFiles}
+use Rattle.uring_epochs.proofs.LogStands.{stands_of}
+use Rattle.uring_epochs.proofs.LogFiles.{shows_of, shows_at}
+
+-- who runs, with which operation
+runs_as : (r : Requests) (n : ℕ) (op : Op) → operation_running r n ≡ Some op
+    → (is_running r n ≡ true) × (operation_of (entry_of r n) ≡ op)
+runs_as r n op is = elim (cases_Bool (is_running r n)) [
+  | inl runs ↦
+      let e : Some (operation_of (entry_of r n)) ≡ Some op = sym (cond-true (is_running r n) (Some (operation_of (entry_of r n))) None runs) ∙ is in
+      let same : operation_of (entry_of r n) ≡ op = cc in
+      (runs, same)
+  | inr idle ↦
+      let e : None ≡ Some op = sym (cond-false (is_running r n) (Some (operation_of (entry_of r n))) None idle) ∙ is in
+      absurd cc
+]
+
+pub running_writes_run : RunningWritesRun
+running_writes_run unit g fd h n off len bytes lawful is sure =
+    let s = stands_of unit g fd h (apart_from (empty_files g.files) g h (lawful_new g h lawful)) in
+    let runs = runs_as (world g h).requests n _ is in
+    (s.writes n fd off len bytes runs.0 runs.1 ((Decides-int_eq (log_of unit g fd h).fd fd).1 s.file) sure).running
+
+pub running_syncs_run : RunningSyncsRun
+running_syncs_run unit g fd h n lawful is =
+    let s = stands_of unit g fd h (apart_from (empty_files g.files) g h (lawful_new g h lawful)) in
+    let runs = runs_as (world g h).requests n _ is in
+    (s.syncs n fd runs.0 runs.1 ((Decides-int_eq (log_of unit g fd h).fd fd).1 s.file)).1
+
+pub volume_shows_the_file : WritesOver → VolumeShowsTheFile
+volume_shows_the_file over unit g fd h file lawful is = shows_of over unit g fd h lawful file is
+
+pub volumes_show_the_files : WritesOver → VolumesShowTheFiles
+volumes_show_the_files over unit g e place file lawful is = shows_at over unit g e place lawful file is

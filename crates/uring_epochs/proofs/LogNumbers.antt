@@ -1,0 +1,70 @@
+-- The numbers of a log's requests, and of what runs.
+use Rattle.std.proofs.Common.{◌≡◌, ◌<◌, ◌≤◌, ◌==◌, ◌||◌, ◌⊎◌, ℕ, suc, Bool, true, false, not, List, [], ◌∷◌, ◌++◌, length, refl, sym, subst, ◌∙◌, inl, inr, arith}
+use Rattle.std.proofs.lemmas.Bool.{cases_Bool, both_ways, cond-true, cond-false, or_left, or_right, eqb-true, eq-eqb}
+use Rattle.std.proofs.lemmas.List.Folds.{list_any-append}
+use Rattle.uring_volume.specs.Volume.{but, is_one_of}
+use Rattle.uring_epochs.specs.Logs.{number_of}
+
+pub number_short : (n : ℕ) (q : List ℕ) → number_of n q ≤ length q
+number_short n [] = omega arith
+number_short n (m ∷ q) = elim (cases_Bool (m == n)) [
+  | inl same ↦ omega (arith, cond-true (m == n) (suc (length q)) (number_of n q) same)
+  | inr other ↦ omega (arith, cond-false (m == n) (suc (length q)) (number_of n q) other, number_short n q)
+]
+
+pub number_new : (n : ℕ) (q : List ℕ) → number_of n (n ∷ q) ≡ suc (length q)
+number_new n q = cond-true (n == n) (suc (length q)) (number_of n q) (eq-eqb n n refl)
+
+pub number_old : (m n : ℕ) (q : List ℕ) → (m == n) ≡ false → number_of n (m ∷ q) ≡ number_of n q
+number_old m n q other = cond-false (m == n) (suc (length q)) (number_of n q) other
+
+-- no two requests have the same number
+pub number_once : (n m : ℕ) (q : List ℕ) → 0 < number_of n q → number_of n q ≡ number_of m q → n ≡ m
+number_once n m [] some same = absurd (omega (arith, some))
+number_once n m (x ∷ q) some same = elim (cases_Bool (x == n)) [
+  | inl is_n ↦ elim (cases_Bool (x == m)) [
+    | inl is_m ↦ sym (eqb-true x n is_n) ∙ eqb-true x m is_m
+    | inr not_m ↦ absurd (omega (arith, same, cond-true (x == n) (suc (length q)) (number_of n q) is_n, number_old x m q not_m, number_short m q))
+  ]
+  | inr not_n ↦ elim (cases_Bool (x == m)) [
+    | inl is_m ↦ absurd (omega (arith, same, cond-true (x == m) (suc (length q)) (number_of m q) is_m, number_old x n q not_n, number_short n q))
+    | inr not_m ↦ number_once n m q (omega (arith, some, number_old x n q not_n)) (sym (number_old x n q not_n) ∙ same ∙ number_old x m q not_m)
+  ]
+]
+
+or_either : (x y : Bool) → (x || y) ≡ true → (x ≡ true) ⊎ (y ≡ true)
+or_either true y is = inl refl
+or_either false y is = inr is
+
+was_true : (b : Bool) → not b ≡ false → b ≡ true
+was_true true e = refl
+was_true false e = absurd (both_ways true e refl)
+
+-- what runs, with one more
+pub in_more : (k j : ℕ) (ns : List ℕ) → is_one_of j ns ≡ true → is_one_of j (ns ++ k ∷ []) ≡ true
+in_more k j ns is =
+    list_any-append (λ m. m == j) ns (k ∷ []) ∙ or_left (is_one_of j ns) (is_one_of j (k ∷ [])) is
+
+pub in_new : (k : ℕ) (ns : List ℕ) → is_one_of k (ns ++ k ∷ []) ≡ true
+in_new k ns =
+    list_any-append (λ m. m == k) ns (k ∷ [])
+    ∙ or_right (is_one_of k ns) (is_one_of k (k ∷ [])) (or_left (k == k) false (eq-eqb k k refl))
+
+-- and without another
+pub in_but : (k j : ℕ) (ns : List ℕ) → (j ≡ k → ⊥) → is_one_of j ns ≡ true
+    → is_one_of j (but k ns) ≡ true
+in_but k j [] differ is = absurd (both_ways false refl is)
+in_but k j (n ∷ ns) differ is = elim (cases_Bool (not (n == k))) [
+  | inl stays ↦
+      let here : is_one_of j (n ∷ but k ns) ≡ true = elim (or_either (n == j) (is_one_of j ns) is) [
+        | inl same ↦ or_left (n == j) (is_one_of j (but k ns)) same
+        | inr more ↦ or_right (n == j) (is_one_of j (but k ns)) (in_but k j ns differ more)
+      ] in
+      subst (λ ks. is_one_of j ks ≡ true) (sym (cond-true (not (n == k)) (n ∷ but k ns) (but k ns) stays)) here
+  | inr goes ↦
+      let here : is_one_of j (but k ns) ≡ true = elim (or_either (n == j) (is_one_of j ns) is) [
+        | inl same ↦ absurd (differ (sym (eqb-true n j same) ∙ eqb-true n k (was_true (n == k) goes)))
+        | inr more ↦ in_but k j ns differ more
+      ] in
+      subst (λ ks. is_one_of j ks ≡ true) (sym (cond-false (not (n == k)) (n ∷ but k ns) (but k ns) goes)) here
+]

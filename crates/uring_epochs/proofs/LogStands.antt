@@ -1,0 +1,411 @@
+-- What the log of a file keeps: whatever of the file runs on the machine runs on the volume.
+use Rattle.std.proofs.Common.{◌≡◌, ◌<◌, ◌≤◌, ◌==◌, ◌&&◌, ◌||◌, ◌⊎◌, ℕ, ℤ, suc, Bool, true, false, not, cond, List, [], ◌∷◌, ◌++◌, length, take, Option, Some, None, refl, sym, subst, ap, ◌∙◌, inl, inr, arith}
+use Rattle.std.specs.Ordering.{int_eq}
+use Rattle.std.specs.Prelude.{pos}
+use Rattle.std.proofs.lemmas.Bool.{cases_Bool, both_ways, cond-true, cond-false, and_parts, and_from, or_left, or_right, eqb-true, eq-eqb, false_from_ne_true}
+use Rattle.std.proofs.lemmas.List.{append-nil}
+use Rattle.std.proofs.lemmas.List.Elements.{filter-append}
+use Rattle.std.proofs.lemmas.List.Folds.{list_any-append}
+use Rattle.uring_entry.specs.Setup.{Setup}
+use Rattle.uring_entry.specs.Preparation.{operation_of}
+use Rattle.uring_entry.specs.Requests.{Requests, no_request, entry_of, has_started, has_ended, is_running, operation_running, with_call, with_started, with_ended}
+use Rattle.uring_entry.specs.declared.operation.Op.{Op}
+use Rattle.uring_entry.specs.declared.operation.Op.TheVariants.{Nop, Read, Write, Fsync, Cancel}
+use Rattle.uring_volume.specs.Writes as piece
+use Rattle.uring_volume.specs.Events.{History}
+use Rattle.uring_volume.specs.Choices.{issued, named}
+use Rattle.uring_volume.specs.Volume.{Volume, is_one_of, running_writes, running_syncs, with_event, with_write, with_sync}
+use Rattle.uring_volume.specs.declared.event.Event.TheVariants.{WriteEnded, SyncEnded, SyncFailed}
+use Rattle.uring_volume.specs.declared.event.SyncRange.TheVariants.{Whole}
+use Rattle.uring_core.specs.Events.{started_by, end_told_by}
+use Rattle.uring_core.specs.Histories as core
+use Rattle.uring_core.specs.Histories.{world, IsLawfulApart}
+use Rattle.uring_core.specs.declared.step.Step.{Step}
+use Rattle.uring_core.specs.declared.step.Step.TheVariants as step
+use Rattle.uring_core.specs.declared.answer.Answer.{Answer}
+use Rattle.uring_core.specs.declared.answer.Answer.TheVariants as answer
+use Rattle.uring_core.proofs.ListCounts.{any_new}
+use Rattle.uring_core.proofs.Moves.{Move, stays, accepts, starts, ends_doomed, ends_cancel, ends_run, move_of}
+use Rattle.uring_core.proofs.Running.{entry_stays}
+use Rattle.uring_core.proofs.Sound.{sound_of}
+use Rattle.uring_core.proofs.SoundRequests.{IsSoundRequests}
+use Rattle.uring_epochs.specs.Logs.{Log, log_on, log_from, log_of, logged, number_of, has_effect, begun, begun_of, finished, finished_of, write_ended, sync_with}
+use Rattle.uring_epochs.proofs.LogNumbers.{number_short, number_old, number_once, in_more, in_new, in_but}
+
+-- a write runs on the volume under a number
+pub record Runs (h : History) (k off : ℕ) (bytes : List ℕ) : Type 0 where
+  pub positive : 0 < k
+  pub running : is_one_of k (running_writes h) ≡ true
+  pub is : named k (issued h) ≡ record { number = k; off = off; bytes = bytes } ∷ []
+
+-- what runs of the file, as the requests stand, runs in the log
+pub record Stands (fd : ℤ) (r : Requests) (log : Log) : Type 0 where
+  pub file : log.fd ≡ fd
+  pub next : log.volume.next ≡ suc (length log.requests)
+  pub fresh : (k : ℕ) → log.volume.next ≤ k → named k (issued log.volume.history) ≡ []
+  pub writes : (m : ℕ) (own : ℤ) (off len : ℕ) (bytes : List ℕ) → is_running r m ≡ true
+      → operation_of (entry_of r m) ≡ Write own off len bytes → int_eq log.fd own ≡ true
+      → has_effect off len ≡ true
+      → Runs log.volume.history (number_of m log.requests) off (take len bytes)
+  pub syncs : (m : ℕ) (own : ℤ) → is_running r m ≡ true
+      → operation_of (entry_of r m) ≡ Fsync own → int_eq log.fd own ≡ true
+      → (0 < number_of m log.requests)
+      × (is_one_of (number_of m log.requests) (running_syncs log.volume.history) ≡ true)
+
+stands_first : (unit : ℕ) (first : List ℕ) (fd : ℤ) → Stands fd no_request (log_on unit first fd)
+stands_first unit first fd = record {
+  file = refl;
+  next = refl;
+  fresh = λ k next. refl;
+  writes = λ m own off len bytes runs is on sure. absurd (both_ways false refl runs);
+  syncs = λ m own runs is on. absurd (both_ways false refl runs);
+}
+
+-- Who runs.
+
+-- as one starts
+run_or : (r : Requests) (n m : ℕ) → is_running (with_started r n) m ≡ true
+    → (is_running r m ≡ true) ⊎ (n ≡ m)
+run_or r n m is =
+    let parts = and_parts (has_started (with_started r n) m) (not (has_ended r m)) is in
+    elim (any_new (λ k. k == m) r.started n parts.0) [
+      | inl old ↦ inl (and_from (has_started r m) (not (has_ended r m)) old parts.1)
+      | inr new ↦ inr (eqb-true n m new)
+    ]
+
+not_ended : (b : Bool) → not b ≡ true → b ≡ false
+not_ended true e = absurd (both_ways false refl e)
+not_ended false e = refl
+
+-- as one ends
+run_less : (r : Requests) (n : ℕ) (res : ℤ) (bytes : List ℕ) (m : ℕ) → is_running (with_ended r n res bytes) m ≡ true
+    → (is_running r m ≡ true) × (m ≡ n → ⊥)
+run_less r n res bytes m is =
+    let q = with_ended r n res bytes in
+    let parts = and_parts (has_started r m) (not (has_ended q m)) is in
+    let none : has_ended q m ≡ false = not_ended (has_ended q m) parts.1 in
+    let all : has_ended q m ≡ (has_ended r m || ((n == m) || false)) = list_any-append (λ e. e.number == m) r.ended (record { number = n; res = res; bytes = bytes } ∷ []) in
+    let old : has_ended r m ≡ false = false_from_ne_true (has_ended r m) (λ e. both_ways (has_ended q m) none (all ∙ or_left (has_ended r m) ((n == m) || false) e)) in (
+      and_from (has_started r m) (not (has_ended r m)) parts.0 (ap not old),
+      λ same. both_ways (has_ended q m) none (all ∙ or_right (has_ended r m) ((n == m) || false) (or_left (n == m) false (eq-eqb n m (sym same)))),
+    )
+
+-- fewer run, and the log stays
+stands_less : (fd : ℤ) (r q : Requests) (log : Log)
+    → ((m : ℕ) → is_running q m ≡ true → (is_running r m ≡ true) × (operation_of (entry_of q m) ≡ operation_of (entry_of r m)))
+    → Stands fd r log → Stands fd q log
+stands_less fd r q log less s = record {
+  file = s.file;
+  next = s.next;
+  fresh = s.fresh;
+  writes = λ m own off len bytes runs is on sure. let old = less m runs in s.writes m own off len bytes old.0 (sym old.1 ∙ is) on sure;
+  syncs = λ m own runs is on. let old = less m runs in s.syncs m own old.0 (sym old.1 ∙ is) on;
+}
+
+-- A request begins to run.
+
+-- the same operation
+as_of : (r : Requests) (n m : ℕ) (op other : Op) → n ≡ m → operation_of (entry_of r n) ≡ op
+    → operation_of (entry_of r m) ≡ other → op ≡ other
+as_of r n m op other same a b =
+    sym a ∙ ap (λ (k : ℕ). operation_of (entry_of r k)) same ∙ b
+
+-- one that isn't logged
+stands_unlogged : (fd : ℤ) (r : Requests) (n : ℕ) (log : Log)
+    → ((own : ℤ) (off len : ℕ) (bytes : List ℕ) → operation_of (entry_of r n) ≡ Write own off len bytes → int_eq log.fd own ≡ true → has_effect off len ≡ true → ⊥)
+    → ((own : ℤ) → operation_of (entry_of r n) ≡ Fsync own → int_eq log.fd own ≡ true → ⊥)
+    → Stands fd r log → Stands fd (with_started r n) log
+stands_unlogged fd r n log no_write no_sync s = record {
+  file = s.file;
+  next = s.next;
+  fresh = s.fresh;
+  writes = λ m own off len bytes runs is on sure. elim (run_or r n m runs) [
+    | inl old ↦ s.writes m own off len bytes old is on sure
+    | inr new ↦ absurd (no_write own off len bytes (ap (λ (k : ℕ). operation_of (entry_of r k)) new ∙ is) on sure)
+  ];
+  syncs = λ m own runs is on. elim (run_or r n m runs) [
+    | inl old ↦ s.syncs m own old is on
+    | inr new ↦ absurd (no_sync own (ap (λ (k : ℕ). operation_of (entry_of r k)) new ∙ is) on)
+  ];
+}
+
+-- whoever ran before and isn't this one
+ran : (r : Requests) (n m : ℕ) → (n == m) ≡ false → is_running (with_started r n) m ≡ true
+    → is_running r m ≡ true
+ran r n m other runs = elim (run_or r n m runs) [
+  | inl old ↦ old
+  | inr new ↦ absurd (both_ways (n == m) other (eq-eqb n m new))
+]
+
+-- the writes of a number, with one more
+named_old : (k : ℕ) (ws : List piece.Write) (w : piece.Write) → (w.number == k) ≡ false
+    → named k (ws ++ w ∷ []) ≡ named k ws
+named_old k ws w other =
+    filter-append (λ v. v.number == k) ws (w ∷ [])
+    ∙ ap (λ (vs : List piece.Write). named k ws ++ vs) (cond-false (w.number == k) (w ∷ []) [] other)
+    ∙ append-nil (named k ws)
+
+named_new : (k : ℕ) (ws : List piece.Write) (w : piece.Write) → w.number ≡ k → named k ws ≡ []
+    → named k (ws ++ w ∷ []) ≡ w ∷ []
+named_new k ws w same none =
+    filter-append (λ v. v.number == k) ws (w ∷ [])
+    ∙ ap (λ (vs : List piece.Write). vs ++ named k (w ∷ [])) none
+    ∙ cond-true (w.number == k) (w ∷ []) [] (eq-eqb w.number k same)
+
+-- a write that begins
+stands_write : (fd : ℤ) (r : Requests) (n : ℕ) (log : Log) (own : ℤ) (off len : ℕ) (bytes : List ℕ)
+    → operation_of (entry_of r n) ≡ Write own off len bytes → Stands fd r log
+    → Stands fd (with_started r n) (record log { volume = with_write off (take len bytes) log.volume; requests = n ∷ log.requests })
+stands_write fd r n log own off len bytes is s =
+    let h : History = log.volume.history in
+    let next : ℕ = log.volume.next in
+    let w : piece.Write = record { number = next; off = off; bytes = take len bytes } in
+    let now : History = (with_write off (take len bytes) log.volume).history in
+    record {
+      file = s.file;
+      next = omega (arith, s.next);
+      fresh = λ k from.
+          named_old k (issued h) w (false_from_ne_true (next == k) (λ e. omega (arith, eqb-true next k e, from)))
+          ∙ s.fresh k (omega (arith, from));
+      writes = λ m own' off' len' bytes' runs is' on sure. elim (cases_Bool (n == m)) [
+        | inl same ↦
+            let at : Write own off len bytes ≡ Write own' off' len' bytes' = as_of r n m _ _ (eqb-true n m same) is is' in
+            let offs : off ≡ off' = cc in
+            let lens : len ≡ len' = cc in
+            let all : bytes ≡ bytes' = cc in
+            let given : take len bytes ≡ take len' bytes' = ap (λ (l : ℕ). take l bytes) lens ∙ ap (take len') all in
+            let number : next ≡ number_of m (n ∷ log.requests) = s.next ∙ sym (cond-true (n == m) (suc (length log.requests)) (number_of m log.requests) same) in
+            let runs_now : Runs now next off (take len bytes) = record { positive = omega (arith, s.next); running = in_new next (running_writes h); is = named_new next (issued h) w refl (s.fresh next (omega arith)) } in
+            subst (λ (k : ℕ). Runs now k off' (take len' bytes')) number (subst (λ (o : ℕ). Runs now next o (take len' bytes')) offs (subst (λ (bs : List ℕ). Runs now next off bs) given runs_now))
+        | inr other ↦
+            let old = s.writes m own' off' len' bytes' (ran r n m other runs) is' on sure in
+            let k : ℕ = number_of m log.requests in
+            let differs : (next == k) ≡ false = false_from_ne_true (next == k) (λ e. omega (arith, eqb-true next k e, s.next, number_short m log.requests)) in
+            subst (λ (j : ℕ). Runs now j off' (take len' bytes')) (sym (number_old n m log.requests other))
+            (record { positive = old.positive; running = in_more next k (running_writes h) old.running; is = named_old k (issued h) w differs ∙ old.is })
+      ];
+      syncs = λ m own' runs is' on. elim (cases_Bool (n == m)) [
+        | inl same ↦
+            let at : Write own off len bytes ≡ Fsync own' = as_of r n m _ _ (eqb-true n m same) is is' in
+            absurd cc
+        | inr other ↦
+            subst (λ (j : ℕ). (0 < j) × (is_one_of j (running_syncs now) ≡ true)) (sym (number_old n m log.requests other))
+            (s.syncs m own' (ran r n m other runs) is' on)
+      ];
+    }
+
+-- a sync that begins
+stands_sync : (fd : ℤ) (r : Requests) (n : ℕ) (log : Log) (own : ℤ)
+    → operation_of (entry_of r n) ≡ Fsync own → Stands fd r log
+    → Stands fd (with_started r n) (record log { volume = with_sync Whole log.volume; requests = n ∷ log.requests })
+stands_sync fd r n log own is s =
+    let h : History = log.volume.history in
+    let next : ℕ = log.volume.next in
+    let now : History = (with_sync Whole log.volume).history in
+    record {
+      file = s.file;
+      next = omega (arith, s.next);
+      fresh = λ k from. s.fresh k (omega (arith, from));
+      writes = λ m own' off' len' bytes' runs is' on sure. elim (cases_Bool (n == m)) [
+        | inl same ↦
+            let at : Fsync own ≡ Write own' off' len' bytes' = as_of r n m _ _ (eqb-true n m same) is is' in
+            absurd cc
+        | inr other ↦
+            let old = s.writes m own' off' len' bytes' (ran r n m other runs) is' on sure in
+            subst (λ (j : ℕ). Runs now j off' (take len' bytes')) (sym (number_old n m log.requests other))
+            (record { positive = old.positive; running = old.running; is = old.is })
+      ];
+      syncs = λ m own' runs is' on. elim (cases_Bool (n == m)) [
+        | inl same ↦
+            let number : next ≡ number_of m (n ∷ log.requests) = s.next ∙ sym (cond-true (n == m) (suc (length log.requests)) (number_of m log.requests) same) in
+            subst (λ (j : ℕ). (0 < j) × (is_one_of j (running_syncs now) ≡ true)) number (omega (arith, s.next), in_new next (running_syncs h))
+        | inr other ↦
+            let old = s.syncs m own' (ran r n m other runs) is' on in
+            subst (λ (j : ℕ). (0 < j) × (is_one_of j (running_syncs now) ≡ true)) (sym (number_old n m log.requests other))
+            (old.0, in_more next (number_of m log.requests) (running_syncs h) old.1)
+      ];
+    }
+
+-- any operation that begins
+stands_begun : (fd : ℤ) (r : Requests) (n : ℕ) (log : Log) (op : Op) → operation_of (entry_of r n) ≡ op
+    → Stands fd r log → Stands fd (with_started r n) (begun n op log)
+stands_begun fd r n log (Write own off len bytes) is s =
+    let test : Bool = int_eq log.fd own && has_effect off len in
+    let more : Log = record log { volume = with_write off (take len bytes) log.volume; requests = n ∷ log.requests } in
+    elim (cases_Bool test) [
+      | inl sure ↦ subst (Stands fd (with_started r n)) (sym (cond-true test more log sure)) (stands_write fd r n log own off len bytes is s)
+      | inr fails ↦
+          let no_write : (own' : ℤ) (off' len' : ℕ) (bytes' : List ℕ) → operation_of (entry_of r n) ≡ Write own' off' len' bytes' → int_eq log.fd own' ≡ true → has_effect off' len' ≡ true → ⊥ =
+          λ own' off' len' bytes' is' on sure.
+          let at : Write own off len bytes ≡ Write own' off' len' bytes' = sym is ∙ is' in
+          let owns : own ≡ own' = cc in
+          let offs : off ≡ off' = cc in
+          let lens : len ≡ len' = cc in
+          both_ways test fails (and_from (int_eq log.fd own) (has_effect off len) (ap (int_eq log.fd) owns ∙ on) (ap (λ (o : ℕ). has_effect o len) offs ∙ ap (has_effect off') lens ∙ sure)) in
+          let no_sync : (own' : ℤ) → operation_of (entry_of r n) ≡ Fsync own' → int_eq log.fd own' ≡ true → ⊥ =
+          λ own' is' on. let at : Write own off len bytes ≡ Fsync own' = sym is ∙ is' in absurd cc in
+          subst (Stands fd (with_started r n)) (sym (cond-false test more log fails)) (stands_unlogged fd r n log no_write no_sync s)
+    ]
+stands_begun fd r n log (Fsync own) is s =
+    let test : Bool = int_eq log.fd own in
+    let more : Log = record log { volume = with_sync Whole log.volume; requests = n ∷ log.requests } in
+    elim (cases_Bool test) [
+      | inl sure ↦ subst (Stands fd (with_started r n)) (sym (cond-true test more log sure)) (stands_sync fd r n log own is s)
+      | inr fails ↦
+          let no_write : (own' : ℤ) (off' len' : ℕ) (bytes' : List ℕ) → operation_of (entry_of r n) ≡ Write own' off' len' bytes' → int_eq log.fd own' ≡ true → has_effect off' len' ≡ true → ⊥ =
+          λ own' off' len' bytes' is' on sure. let at : Fsync own ≡ Write own' off' len' bytes' = sym is ∙ is' in absurd cc in
+          let no_sync : (own' : ℤ) → operation_of (entry_of r n) ≡ Fsync own' → int_eq log.fd own' ≡ true → ⊥ =
+          λ own' is' on.
+          let at : Fsync own ≡ Fsync own' = sym is ∙ is' in
+          let owns : own ≡ own' = cc in
+          both_ways test fails (ap (int_eq log.fd) owns ∙ on) in
+          subst (Stands fd (with_started r n)) (sym (cond-false test more log fails)) (stands_unlogged fd r n log no_write no_sync s)
+    ]
+stands_begun fd r n log Nop is s = stands_unlogged fd r n log
+    (λ own off len bytes is' on sure. let at : Nop ≡ Write own off len bytes = sym is ∙ is' in absurd cc)
+    (λ own is' on. let at : Nop ≡ Fsync own = sym is ∙ is' in absurd cc) s
+stands_begun fd r n log (Read own' off' len') is s = stands_unlogged fd r n log
+    (λ own off len bytes is' on sure. let at : Read own' off' len' ≡ Write own off len bytes = sym is ∙ is' in absurd cc)
+    (λ own is' on. let at : Read own' off' len' ≡ Fsync own = sym is ∙ is' in absurd cc) s
+stands_begun fd r n log (Cancel target all) is s = stands_unlogged fd r n log
+    (λ own off len bytes is' on sure. let at : Cancel target all ≡ Write own off len bytes = sym is ∙ is' in absurd cc)
+    (λ own is' on. let at : Cancel target all ≡ Fsync own = sym is ∙ is' in absurd cc) s
+
+-- A request that ran ends.
+
+stands_after : (fd : ℤ) (r : Requests) (n : ℕ) (res : ℤ) (bytes : List ℕ) (log : Log) → Stands fd r log
+    → Stands fd (with_ended r n res bytes) log
+stands_after fd r n res bytes log s =
+    stands_less fd r (with_ended r n res bytes) log (λ m runs. ((run_less r n res bytes m runs).0, refl)) s
+
+-- its write ends on the volume
+stands_write_end : (fd : ℤ) (r : Requests) (n : ℕ) (res : ℤ) (bytes : List ℕ) (log : Log) → Stands fd r log
+    → Stands fd (with_ended r n res bytes) (record log { volume = with_event (WriteEnded (number_of n log.requests)) log.volume })
+stands_write_end fd r n res bytes log s =
+    let k : ℕ = number_of n log.requests in
+    record {
+      file = s.file;
+      next = s.next;
+      fresh = s.fresh;
+      writes = λ m own off len given runs is on sure.
+          let less = run_less r n res bytes m runs in
+          let old = s.writes m own off len given less.0 is on sure in
+          record {
+            positive = old.positive;
+            running = in_but k (number_of m log.requests) (running_writes log.volume.history) (λ same. less.1 (number_once m n log.requests old.positive same)) old.running;
+            is = old.is;
+          };
+      syncs = λ m own runs is on. s.syncs m own (run_less r n res bytes m runs).0 is on;
+    }
+
+-- its sync ends there, with success or without
+stands_sync_end : (fd : ℤ) (r : Requests) (n : ℕ) (res : ℤ) (bytes : List ℕ) (log : Log) (good : Bool) → Stands fd r log
+    → Stands fd (with_ended r n res bytes) (record log { volume = with_event (cond good (SyncEnded (number_of n log.requests)) (SyncFailed (number_of n log.requests))) log.volume })
+stands_sync_end fd r n res bytes log true s =
+    let k : ℕ = number_of n log.requests in
+    record {
+      file = s.file;
+      next = s.next;
+      fresh = s.fresh;
+      writes = λ m own off len given runs is on sure.
+          let old = s.writes m own off len given (run_less r n res bytes m runs).0 is on sure in
+          record { positive = old.positive; running = old.running; is = old.is };
+      syncs = λ m own runs is on.
+          let less = run_less r n res bytes m runs in
+          let old = s.syncs m own less.0 is on in
+          (old.0, in_but k (number_of m log.requests) (running_syncs log.volume.history) (λ same. less.1 (number_once m n log.requests old.0 same)) old.1);
+    }
+stands_sync_end fd r n res bytes log false s =
+    let k : ℕ = number_of n log.requests in
+    record {
+      file = s.file;
+      next = s.next;
+      fresh = s.fresh;
+      writes = λ m own off len given runs is on sure.
+          let old = s.writes m own off len given (run_less r n res bytes m runs).0 is on sure in
+          record { positive = old.positive; running = old.running; is = old.is };
+      syncs = λ m own runs is on.
+          let less = run_less r n res bytes m runs in
+          let old = s.syncs m own less.0 is on in
+          (old.0, in_but k (number_of m log.requests) (running_syncs log.volume.history) (λ same. less.1 (number_once m n log.requests old.0 same)) old.1);
+    }
+
+stands_finished : (fd : ℤ) (r : Requests) (n : ℕ) (res : ℤ) (bytes : List ℕ) (log : Log) (op : Op) → Stands fd r log
+    → Stands fd (with_ended r n res bytes) (finished n op res log)
+stands_finished fd r n res bytes log (Write own off len given) s =
+    let k : ℕ = number_of n log.requests in
+    let q : Requests = with_ended r n res bytes in
+    let test : Bool = int_eq log.fd own && has_effect off len && int_eq res (pos len) in
+    let more : Log = record log { volume = write_ended k log.volume } in
+    let runs : Bool = is_one_of k (running_writes log.volume.history) in
+    elim (cases_Bool test) [
+      | inl sure ↦ subst (Stands fd q) (sym (cond-true test more log sure)) (elim (cases_Bool runs) [
+        | inl is ↦ subst (λ (v : Volume). Stands fd q (record log { volume = v })) (sym (cond-true runs (with_event (WriteEnded k) log.volume) log.volume is)) (stands_write_end fd r n res bytes log s)
+        | inr fails ↦ subst (λ (v : Volume). Stands fd q (record log { volume = v })) (sym (cond-false runs (with_event (WriteEnded k) log.volume) log.volume fails)) (stands_after fd r n res bytes log s)
+      ])
+      | inr fails ↦ subst (Stands fd q) (sym (cond-false test more log fails)) (stands_after fd r n res bytes log s)
+    ]
+stands_finished fd r n res bytes log (Fsync own) s =
+    let k : ℕ = number_of n log.requests in
+    let q : Requests = with_ended r n res bytes in
+    let test : Bool = int_eq log.fd own in
+    let more : Log = record log { volume = sync_with res k log.volume } in
+    let runs : Bool = is_one_of k (running_syncs log.volume.history) in
+    let event = cond (int_eq res (pos 0)) (SyncEnded k) (SyncFailed k) in
+    elim (cases_Bool test) [
+      | inl sure ↦ subst (Stands fd q) (sym (cond-true test more log sure)) (elim (cases_Bool runs) [
+        | inl is ↦ subst (λ (v : Volume). Stands fd q (record log { volume = v })) (sym (cond-true runs (with_event event log.volume) log.volume is)) (stands_sync_end fd r n res bytes log (int_eq res (pos 0)) s)
+        | inr fails ↦ subst (λ (v : Volume). Stands fd q (record log { volume = v })) (sym (cond-false runs (with_event event log.volume) log.volume fails)) (stands_after fd r n res bytes log s)
+      ])
+      | inr fails ↦ subst (Stands fd q) (sym (cond-false test more log fails)) (stands_after fd r n res bytes log s)
+    ]
+stands_finished fd r n res bytes log _ s = stands_after fd r n res bytes log s
+
+-- An event.
+
+-- one that starts and ends none
+pub quiet : (r q : Requests) (s : Step) (a : Answer) (log : Log) → started_by (s, a) ≡ None
+    → end_told_by (s, a) ≡ None → logged r q s a log ≡ log
+quiet r q (step.Issue n) answer.Run log no_start no_end = let e : Some n ≡ None = no_start in absurd cc
+quiet r q (step.Finish n) (answer.Ended res bytes) log no_start no_end = let e : Some (record { number = n; res = res; bytes = bytes }) ≡ None = no_end in absurd cc
+quiet r q (step.Issue n) _ log no_start no_end = refl
+quiet r q (step.Finish n) _ log no_start no_end = refl
+quiet r q _ a log no_start no_end = refl
+
+-- the operation of one that has just been started
+pub runs_now : (r : Requests) (n : ℕ) → has_ended r n ≡ false
+    → operation_running (with_started r n) n ≡ Some (operation_of (entry_of r n))
+runs_now r n going =
+    let started : has_started (with_started r n) n ≡ true = list_any-append (λ k. k == n) r.started (n ∷ []) ∙ or_right (has_started r n) ((n == n) || false) (or_left (n == n) false (eq-eqb n n refl)) in
+    cond-true (is_running (with_started r n) n) (Some (operation_of (entry_of r n))) None
+    (and_from (has_started (with_started r n) n) (not (has_ended r n)) started (ap not going))
+
+stands_move : (fd : ℤ) (r q : Requests) (s : Step) (a : Answer) (log : Log) → Move r s a q
+    → IsSoundRequests r → Stands fd r log → Stands fd q (logged r q s a log)
+stands_move fd r q s a log (stays _ _ no_start no_end) i st =
+    subst (Stands fd r) (sym (quiet r r s a log no_start no_end)) st
+stands_move fd r q s a log (accepts accepted missed head entries) i st =
+    stands_less fd r (with_call r entries) log
+    (λ m runs. (runs, ap operation_of (entry_stays r entries m (i.started_accepted m (and_parts (has_started r m) (not (has_ended r m)) runs).0)))) st
+stands_move fd r q s a log (starts n outstanding idle spared ready no_cancel) i st =
+    let going : has_ended r n ≡ false = not_ended (has_ended r n) (and_parts _ (not (has_ended r n)) outstanding).1 in
+    subst (λ (o : Option Op). Stands fd (with_started r n) (begun_of n o log)) (sym (runs_now r n going))
+    (stands_begun fd r n log (operation_of (entry_of r n)) refl st)
+stands_move fd r q s a log (ends_doomed n outstanding) i st =
+    stands_less fd r q log (λ m runs. ((run_less r n _ _ m runs).0, refl)) st
+stands_move fd r q s a log (ends_cancel n outstanding spared ready cancel) i st =
+    stands_less fd r q log (λ m runs. ((run_less r n _ _ m runs).0, refl)) st
+stands_move fd r q s a log (ends_run n res bytes running) i st =
+    subst (λ (o : Option Op). Stands fd (with_ended r n res bytes) (finished_of n o res log)) (sym (cond-true (is_running r n) (Some (operation_of (entry_of r n))) None running))
+    (stands_finished fd r n res bytes log (operation_of (entry_of r n)) st)
+
+pub stands_from : (unit : ℕ) (first : List ℕ) (g : Setup) (fd : ℤ) (h : core.History) → IsLawfulApart g h
+    → Stands fd (world g h).requests (log_from (log_on unit first fd) g h)
+stands_from unit first g fd [] lawful = stands_first unit first fd
+stands_from unit first g fd ((s, a) ∷ before) lawful =
+    stands_move fd (world g before).requests (world g ((s, a) ∷ before)).requests s a (log_from (log_on unit first fd) g before)
+    (move_of g s a before lawful) (sound_of g before lawful.1).requests (stands_from unit first g fd before lawful.1)
+
+pub stands_of : (unit : ℕ) (g : Setup) (fd : ℤ) (h : core.History) → IsLawfulApart g h
+    → Stands fd (world g h).requests (log_of unit g fd h)
+stands_of unit g fd h lawful = stands_from unit [] g fd h lawful

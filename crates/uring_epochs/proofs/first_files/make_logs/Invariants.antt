@@ -1,0 +1,6 @@
+use Rattle.std.proofs.Common.{◌≡◌, map}
+use Rattle.uring_epochs.specs.Epochs.{first_files, logs_on}
+use Rattle.uring_epochs.proofs.first_files.make_logs.Given as goal
+
+abbrev pub invariant-loop-place : goal.invariant-loop-place
+invariant-loop-place l = l.logs.items ≡ logs_on l.unit 0 (first_files l.place (map (λ b. b.items) l.contents))

@@ -1,0 +1,120 @@
+-- The volume of a file of a machine: its writes and syncs as a history issued and ended them, so that what a crash leaves of a volume is what it leaves of the file. All of it is our own rule.
+use Rattle.std.specs.Prelude.{ℕ, ℤ, pos, ◌+◌, ◌-◌, Bool, not, ◌&&◌, ◌==◌, nat_le, List, [], ◌∷◌, length, take, suc, reverse, slice_get, Option, Some, None, if◌then◌else◌}
+use Rattle.std.specs.Ordering.{int_eq}
+use Rattle.uring_entry.specs.Setup.{Setup}
+use Rattle.uring_entry.specs.Requests.{Requests, operation_running}
+use Rattle.uring_entry.specs.declared.operation.Op.{Op}
+use Rattle.uring_entry.specs.declared.operation.Op.TheVariants.{Write, Fsync}
+use Rattle.uring_files.specs.Contents.{max_len}
+use Rattle.uring_volume.specs.Volume.{Volume, with_event, with_write, with_sync, is_one_of, running_writes, running_syncs}
+use Rattle.uring_volume.specs.declared.event.SyncRange.TheVariants.{Whole}
+use Rattle.uring_volume.specs.declared.event.Event.TheVariants.{WriteEnded, SyncEnded, SyncFailed}
+use Rattle.uring_core.specs.Histories.{History, world}
+use Rattle.uring_core.specs.declared.step.Step.{Step}
+use Rattle.uring_core.specs.declared.step.Step.TheVariants as step
+use Rattle.uring_core.specs.declared.answer.Answer.{Answer}
+use Rattle.uring_core.specs.declared.answer.Answer.TheVariants as answer
+
+-- A file's volume, and the requests that its writes and syncs are.
+pub record Log : Type 0 where
+  -- the file's descriptor
+  pub fd : ℤ
+  pub volume : Volume
+  -- the newest first: the oldest has number 1 on the volume, and so on
+  pub requests : List ℕ
+
+-- the file before the first step, in units of so many bytes: it has these bytes
+abbrev pub log_on : ℕ → List ℕ → ℤ → Log
+log_on unit first fd = record {
+  fd = fd;
+  volume = record { unit = unit; first = first; history = []; next = 1 };
+  requests = [];
+}
+
+-- the same of a file that is empty
+abbrev pub empty_log : ℕ → ℤ → Log
+empty_log unit fd = log_on unit [] fd
+
+-- the number that a request has on the volume, 0 if it has none
+abbrev pub number_of : ℕ → List ℕ → ℕ
+number_of n [] = 0
+number_of n (m ∷ older) = if m == n then suc (length older) else number_of n older
+
+-- the request that has a number on the volume, if one has
+abbrev pub request_of : ℕ → List ℕ → Option ℕ
+request_of number requests =
+    if number == 0 then None else slice_get (reverse requests) (number - 1)
+
+-- whether a write changes bytes when it is carried out: it has some, and doesn't pass the largest size of a file. Any other leaves its file as it is
+abbrev pub has_effect : ℕ → ℕ → Bool
+has_effect off len = not (len == 0) && nat_le (off + len) max_len
+
+-- request n begins: a write or a sync of the file is issued on the volume
+abbrev pub begun : ℕ → Op → Log → Log
+begun n (Write fd off len bytes) log =
+    if int_eq log.fd fd && has_effect off len then
+    record log { volume = with_write off (take len bytes) log.volume; requests = n ∷ log.requests }
+    else log
+begun n (Fsync fd) log =
+    if int_eq log.fd fd then
+    record log { volume = with_sync Whole log.volume; requests = n ∷ log.requests }
+    else log
+begun n other log = log
+
+-- the write of this number ends on the volume, if it runs there
+abbrev pub write_ended : ℕ → Volume → Volume
+write_ended k v =
+    if is_one_of k (running_writes v.history) then with_event (WriteEnded k) v else v
+
+-- and the sync of this number, with success if its result is 0
+abbrev pub sync_with : ℤ → ℕ → Volume → Volume
+sync_with res k v =
+    if is_one_of k (running_syncs v.history) then
+    with_event (if int_eq res (pos 0) then SyncEnded k else SyncFailed k) v
+    else v
+
+-- Request n ends with this result. A write that failed stays as one that runs, so that any part of it may be left
+abbrev pub finished : ℕ → Op → ℤ → Log → Log
+finished n (Write fd off len bytes) res log =
+    if int_eq log.fd fd && has_effect off len && int_eq res (pos len) then
+    record log { volume = write_ended (number_of n log.requests) log.volume }
+    else log
+finished n (Fsync fd) res log =
+    if int_eq log.fd fd then
+    record log { volume = sync_with res (number_of n log.requests) log.volume }
+    else log
+finished n other res log = log
+
+-- the same of the operation that ran, if one did
+abbrev pub begun_of : ℕ → Option Op → Log → Log
+begun_of n None log = log
+begun_of n (Some op) log = begun n op log
+
+abbrev pub finished_of : ℕ → Option Op → ℤ → Log → Log
+finished_of n None res log = log
+finished_of n (Some op) res log = finished n op res log
+
+-- what the answer to an Issue or a Finish of request n makes of the log: the one begins it if it runs from then on, the other ends it if it ran
+abbrev pub issued_as : ℕ → Option Op → Answer → Log → Log
+issued_as n op answer.Run log = begun_of n op log
+issued_as n op a log = log
+
+abbrev pub finished_as : ℕ → Option Op → Answer → Log → Log
+finished_as n op (answer.Ended res bytes) log = finished_of n op res log
+finished_as n op a log = log
+
+-- what a step with its answer makes of the log, as the requests stand before it and behind it
+abbrev pub logged : Requests → Requests → Step → Answer → Log → Log
+logged r q (step.Issue n) a log = issued_as n (operation_running q n) a log
+logged r q (step.Finish n) a log = finished_as n (operation_running r n) a log
+logged r q s a log = log
+
+-- What a history has made of the log of a file.
+abbrev pub log_from : Log → Setup → History → Log
+log_from start g [] = start
+log_from start g ((s, a) ∷ before) =
+    logged (world g before).requests (world g ((s, a) ∷ before)).requests s a (log_from start g before)
+
+-- The log of a file that was empty at first, as a history has made it.
+abbrev pub log_of : ℕ → Setup → ℤ → History → Log
+log_of unit g fd h = log_from (empty_log unit fd) g h

@@ -1,0 +1,290 @@
+//! The log of a file: its writes and syncs, as the requests that are these begin and end.
+
+ghost use Rattle.std.specs.Prelude.{◌≡◌, ◌+◌, ◌∷◌, ◌<◌, ◌≤◌, true, reverse, length, IfOk, OnOk, IfSome};
+ghost use Rattle.uring_files.specs.Operations.{IsForFiles};
+ghost use Rattle.uring_files.specs.Contents.{max_len};
+ghost use Rattle.uring_volume.specs.Images.{IsImage};
+ghost use Rattle.uring_volume.specs.Choices.{IsLeftBy, issued, named, has_safe};
+ghost use Rattle.uring_volume.specs.Volume.{with_write, with_sync};
+ghost use Rattle.uring_volume.specs.declared.event.SyncRange.TheVariants.{Whole};
+ghost use Rattle.uring_epochs.specs.Logs as spec;
+ghost use Rattle.uring_epochs.specs.Logs.{request_of, log_on, begun, begun_of, issued_as, finished, finished_of, finished_as, write_ended, sync_with};
+
+use std::alloc::{AllocError, Global};
+use std::marker::Model;
+use uring_core::{Answer, Op};
+use uring_volume::{Piece, SyncRange, Volume};
+
+/// The most bytes that a file may have.
+const MAX_LEN: u64 = 65_536;
+
+/// A file as a volume, and the requests that its writes and syncs are.
+#[derive(Drop)]
+pub struct FileLog {
+    alloc: Global,
+    fd: i32,
+    volume: Volume,
+    // The oldest first: that of number 1 on the volume, and so on.
+    requests: Vec<u64>,
+    // The writes alone, to tell of them.
+    writes: Vec<Piece>,
+}
+
+impl Model for FileLog {
+    ghost use Rattle.std.specs.Prelude.{reverse};
+    ghost use Rattle.uring_epochs.specs.Logs.{Log};
+
+    ghost Value = { Log };
+
+    ghost use Rattle.uring_epochs.specs.Epochs.{IsShort};
+
+    ghost view = { λ l. record { fd = l.fd; volume = l.volume; requests = reverse l.requests.items } };
+
+    ghost use Rattle.std.specs.Prelude.{◌≡◌};
+    ghost use Rattle.uring_volume.specs.Choices.{issued};
+
+    ghost invariant = { λ l. record { short : IsShort l.volume; written : l.writes.items ≡ issued l.volume.history } };
+}
+
+/// The number that a request has on the volume, 0 if it has none.
+fn number_of(requests: &[u64], n: u64) -> u64
+    ensures { result ≡ spec.number_of n (reverse requests.now) }
+{
+    let mut found = 0;
+    for i in 0..requests.len() {
+        if requests[i] == n {
+            found = i as u64 + 1;
+        }
+    }
+    found
+}
+
+/// Whether a write changes bytes when it is carried out.
+fn has_effect(off: u64, len: u32) -> bool
+    ensures value { result ≡ spec.has_effect off len }
+    ensures bound { result ≡ true → off + len ≤ max_len }
+{
+    len != 0 && off <= MAX_LEN && off + u64::from(len) <= MAX_LEN
+}
+
+impl FileLog {
+    /// The log of a file of these bytes, in units of so many.
+    pub fn new(alloc: Global, unit: u64, fd: i32, first: Vec<u8>) -> FileLog
+        requires some { 0 < unit }
+        requires short { length first.items ≤ max_len }
+        ensures { result ≡ log_on unit first.items fd }
+    {
+        FileLog {
+            alloc,
+            fd,
+            volume: Volume::new(alloc, unit, first),
+            requests: Vec::new(alloc),
+            writes: Vec::new(alloc),
+        }
+    }
+
+    /// Notes how an Issue of a request was answered, whose operation this is if it runs now. `AllocError`: memory was refused, and the log is of no use any more.
+    pub fn note_issue(&mut self, n: u64, op: Option<Op>, answer: &Answer) -> Result<(), AllocError>
+        requires { IfSome op IsForFiles }
+        ensures log { OnOk result (self.new ≡ issued_as n op answer.now self.old) }
+        ensures unit { self.new.volume.unit ≡ self.old.volume.unit }
+        ensures first { self.new.volume.first ≡ self.old.volume.first }
+    {
+        match answer {
+            Answer::Run => self.begin_running(n, op),
+            _ => Ok(()),
+        }
+    }
+
+    /// Notes how a Finish of a request was answered, whose operation this was if it ran.
+    pub fn note_finish(&mut self, n: u64, op: Option<Op>, answer: &Answer)
+        ensures log { self.new ≡ finished_as n op answer.now self.old }
+        ensures unit { self.new.volume.unit ≡ self.old.volume.unit }
+        ensures first { self.new.volume.first ≡ self.old.volume.first }
+    {
+        match answer {
+            Answer::Ended { res, .. } => self.end_running(n, op, *res),
+            _ => {}
+        }
+    }
+
+    /// A request begins, if it runs.
+    fn begin_running(&mut self, n: u64, op: Option<Op>) -> Result<(), AllocError>
+        requires { IfSome op IsForFiles }
+        ensures log { OnOk result (self.new ≡ begun_of n op self.old) }
+        ensures unit { self.new.volume.unit ≡ self.old.volume.unit }
+        ensures first { self.new.volume.first ≡ self.old.volume.first }
+    {
+        match op {
+            Some(op) => self.begin(n, &op),
+            None => Ok(()),
+        }
+    }
+
+    /// A request ends, if it ran.
+    fn end_running(&mut self, n: u64, op: Option<Op>, res: i32)
+        ensures log { self.new ≡ finished_of n op res self.old }
+        ensures unit { self.new.volume.unit ≡ self.old.volume.unit }
+        ensures first { self.new.volume.first ≡ self.old.volume.first }
+    {
+        match op {
+            Some(op) => self.end(n, &op, res),
+            None => {}
+        }
+    }
+
+    /// A request begins.
+    fn begin(&mut self, n: u64, op: &Op) -> Result<(), AllocError>
+        requires { IsForFiles op.now }
+        ensures log { OnOk result (self.new ≡ begun n op.now self.old) }
+        ensures unit { self.new.volume.unit ≡ self.old.volume.unit }
+        ensures first { self.new.volume.first ≡ self.old.volume.first }
+    {
+        match op {
+            Op::Write {
+                fd,
+                off,
+                len,
+                bytes,
+            } => {
+                if self.fd == *fd && has_effect(*off, *len) {
+                    self.begin_write(n, *off, &bytes[..*len as usize])
+                } else {
+                    Ok(())
+                }
+            }
+            Op::Fsync { fd } => {
+                if self.fd == *fd {
+                    self.begin_sync(n)
+                } else {
+                    Ok(())
+                }
+            }
+            _ => Ok(()),
+        }
+    }
+
+    /// A write of these bytes begins.
+    fn begin_write(&mut self, n: u64, off: u64, bytes: &[u8]) -> Result<(), AllocError>
+        requires { off + length bytes.now ≤ max_len }
+        ensures log { OnOk result
+            (self.new ≡ record self.old { volume = with_write off bytes.now self.old.volume; requests = n ∷ self.old.requests }) }
+        ensures unit { self.new.volume.unit ≡ self.old.volume.unit }
+        ensures first { self.new.volume.first ≡ self.old.volume.first }
+    {
+        let shown = Vec::from_slice(self.alloc, bytes)?;
+        let written = Vec::from_slice(self.alloc, bytes)?;
+        self.writes.reserve(1)?;
+        self.requests.reserve(1)?;
+        let Ok(number) = self.volume.begin_write(off, written) else {
+            return Err(AllocError);
+        };
+        self.writes.push_reserved(Piece::new(number, off, shown));
+        self.requests.push_reserved(n);
+        Ok(())
+    }
+
+    /// A sync of the whole file begins.
+    fn begin_sync(&mut self, n: u64) -> Result<(), AllocError>
+        ensures log { OnOk result
+            (self.new ≡ record self.old { volume = with_sync Whole self.old.volume; requests = n ∷ self.old.requests }) }
+        ensures unit { self.new.volume.unit ≡ self.old.volume.unit }
+        ensures first { self.new.volume.first ≡ self.old.volume.first }
+    {
+        match self.volume.begin_sync(SyncRange::Whole) {
+            Ok(_) => {
+                self.requests.push(n)?;
+                Ok(())
+            }
+            Err(_) => Err(AllocError),
+        }
+    }
+
+    /// A request ends with this result.
+    fn end(&mut self, n: u64, op: &Op, res: i32)
+        ensures log { self.new ≡ finished n op.now res self.old }
+        ensures unit { self.new.volume.unit ≡ self.old.volume.unit }
+        ensures first { self.new.volume.first ≡ self.old.volume.first }
+    {
+        match op {
+            Op::Write { fd, off, len, .. } => {
+                if self.fd == *fd && has_effect(*off, *len) && i64::from(res) == i64::from(*len) {
+                    self.end_write(n);
+                }
+            }
+            Op::Fsync { fd } => {
+                if self.fd == *fd {
+                    self.end_sync(n, res);
+                }
+            }
+            _ => {}
+        }
+    }
+
+    /// The write that a request is ends.
+    fn end_write(&mut self, n: u64)
+        ensures log { self.new
+            ≡ record self.old { volume = write_ended (spec.number_of n self.old.requests) self.old.volume } }
+        ensures unit { self.new.volume.unit ≡ self.old.volume.unit }
+        ensures first { self.new.volume.first ≡ self.old.volume.first }
+    {
+        self.volume.end_write(number_of(&self.requests, n));
+    }
+
+    /// The sync that a request is ends with this result.
+    fn end_sync(&mut self, n: u64, res: i32)
+        ensures log { self.new
+            ≡ record self.old { volume = sync_with res (spec.number_of n self.old.requests) self.old.volume } }
+        ensures unit { self.new.volume.unit ≡ self.old.volume.unit }
+        ensures first { self.new.volume.first ≡ self.old.volume.first }
+    {
+        let number = number_of(&self.requests, n);
+        if res == 0 {
+            self.volume.end_sync(number);
+        } else {
+            self.volume.fail_sync(number);
+        }
+    }
+
+    /// The bytes that a crash leaves of the file, by a choice.
+    pub fn crash(&self, choice: &[u64]) -> Result<Vec<u8>, AllocError>
+        ensures image { IfOk result (λ now.
+            IsImage self.now.volume.unit self.now.volume.first self.now.volume.history now.items) }
+        ensures chosen { IfOk result (λ now.
+            IsLeftBy self.now.volume.unit self.now.volume.first self.now.volume.history choice.now now.items) }
+        ensures short { IfOk result (λ now. length now.items ≤ max_len) }
+    {
+        self.volume.crash(self.alloc, choice)
+    }
+
+    /// The writes of the file, in the order in which they began. Each has its number on the volume.
+    pub fn writes(&self) -> &[Piece]
+        ensures { result.now ≡ issued self.now.volume.history }
+    {
+        &self.writes
+    }
+
+    /// The request of a number on the volume, if it is one: the oldest has number 1.
+    pub fn request(&self, number: u64) -> Option<u64>
+        ensures { result ≡ request_of number self.now.requests }
+    {
+        if number == 0 {
+            return None;
+        }
+        self.requests.get((number - 1) as usize).copied()
+    }
+
+    /// How many writes and syncs were begun.
+    pub fn count(&self) -> u64
+        ensures { result ≡ length self.now.requests }
+    {
+        self.requests.len() as u64
+    }
+
+    /// Whether the write of a number on the volume is safe.
+    pub fn is_safe(&self, number: u64) -> bool
+        ensures { result ≡ has_safe self.now.volume.history (named number (issued self.now.volume.history)) }
+    {
+        self.volume.is_safe(number)
+    }
+}

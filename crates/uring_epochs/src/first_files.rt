@@ -1,0 +1,58 @@
+//! The files that an epoch begins on, and their logs.
+
+ghost use Rattle.std.specs.Prelude.{◌≡◌, ℕ, ◌^◌, ◌<◌, ◌≤◌, map, length, slice_index_or, [], IfOk};
+ghost use Rattle.uring_files.specs.Contents.{max_len};
+ghost use Rattle.uring_epochs.specs.Epochs.{first_files, logs_on};
+
+use crate::file_log::FileLog;
+use std::alloc::{AllocError, Global};
+use uring_files::Files;
+
+/// So many files, of which the first have these bytes, and the others none.
+pub(crate) fn make_files(
+    alloc: Global,
+    count: u32,
+    contents: &[Vec<u8>],
+) -> Result<Files, AllocError>
+    requires few { length contents.now ≤ count }
+    requires short { (place : ℕ) → length (slice_index_or (map (λ b. b.items) contents.now) place []) ≤ max_len }
+    ensures { IfOk result (λ files. files ≡ first_files count (map (λ b. b.items) contents.now)) }
+{
+    let mut files = Files::new(alloc, count)?;
+    for place in 0..contents.len() {
+        files.put(place, Vec::from_slice(alloc, &contents[place])?);
+    }
+    Ok(files)
+}
+
+/// The logs of these files, in units of so many bytes.
+pub(crate) fn make_logs(
+    alloc: Global,
+    unit: u64,
+    count: u32,
+    contents: &[Vec<u8>],
+) -> Result<Vec<FileLog>, AllocError>
+    requires some { 0 < unit }
+    requires few { count < 2 ^ 31 }
+    requires short { (place : ℕ) → length (slice_index_or (map (λ b. b.items) contents.now) place []) ≤ max_len }
+    ensures { IfOk result (λ logs.
+        logs.items ≡ logs_on unit 0 (first_files count (map (λ b. b.items) contents.now))) }
+{
+    let mut logs = Vec::new(alloc);
+    for place in 0..count {
+        let first = bytes_at(alloc, contents, place as usize)?;
+        logs.push(FileLog::new(alloc, unit, place as i32, first))?;
+    }
+    Ok(logs)
+}
+
+/// The bytes at this place, none past the last.
+fn bytes_at(alloc: Global, contents: &[Vec<u8>], place: usize) -> Result<Vec<u8>, AllocError>
+    ensures { IfOk result (λ bytes.
+        bytes.items ≡ slice_index_or (map (λ b. b.items) contents.now) place []) }
+{
+    match contents.get(place) {
+        Some(bytes) => Vec::from_slice(alloc, bytes),
+        None => Ok(Vec::new(alloc)),
+    }
+}
