@@ -182,21 +182,33 @@ static long open_cut(long call, const long words[6], int at, const char *path)
     return result;
 }
 
-/* A file that isn't there is made: it has a name, or none, wherever that is. */
-static long open_new(long call, const long words[6], int at, const char *path, bool is_nameless)
+/* A file that isn't there is made, with a name. */
+static long open_new(long call, const long words[6], int at, const char *path)
 {
     struct name name;
     struct stat about;
-    char folder[PATH_ROOM];
-    if (is_nameless ? !read_path(path, folder) : !find_name(at, path, &name)->is_on_disk)
+    if (!find_name(at, path, &name)->is_on_disk)
         return carry(call, words);
-    struct event event = {.kind = EVENT_CREATE, .file = is_nameless ? 0 : name.folder};
-    log_event(&event, is_nameless ? NULL : name.path, NULL, NULL, 0);
+    struct event event = {.kind = EVENT_CREATE, .file = name.folder};
+    log_event(&event, name.path, NULL, NULL, 0);
     long result = carry(call, words);
     struct event end = {.kind = EVENT_END, .result = result < 0 ? result : 0};
     if (result >= 0 && pass(SYS_fstat, result, (long)&about, 0, 0, 0, 0) == 0)
         end.file = about.st_ino;
     log_event(&end, NULL, NULL, NULL, 0);
+    return result;
+}
+
+/* One without a name: there is nothing of it before it is there. */
+static long open_nameless(long call, const long words[6])
+{
+    long result = carry(call, words);
+    char path[PATH_ROOM];
+    struct event event = {.kind = EVENT_CREATE}, end = {.kind = EVENT_END};
+    if (result >= 0 && is_on_disk((int)result, path, &end.file)) {
+        log_event(&event, NULL, NULL, NULL, 0);
+        log_event(&end, NULL, NULL, NULL, 0);
+    }
     return result;
 }
 
@@ -206,9 +218,10 @@ long call_open(long call, const long words[6])
     const char *path = (const char *)(call == SYS_openat ? words[1] : words[0]);
     long flags = call == SYS_creat ? O_CREAT | O_TRUNC : call == SYS_open ? words[1] : words[2];
     struct stat about;
-    bool is_nameless = (flags & O_TMPFILE) == O_TMPFILE;
-    bool is_there = !is_nameless && pass(SYS_newfstatat, at, (long)path, (long)&about, 0, 0, 0) == 0;
-    if (is_there)
-        return flags & O_TRUNC && S_ISREG(about.st_mode) && !(flags & O_EXCL && flags & O_CREAT) ? open_cut(call, words, at, path) : carry(call, words);
-    return flags & O_CREAT || is_nameless ? open_new(call, words, at, path, is_nameless) : carry(call, words);
+    if ((flags & O_TMPFILE) == O_TMPFILE)
+        return open_nameless(call, words);
+    if (pass(SYS_newfstatat, at, (long)path, (long)&about, 0, 0, 0) < 0)
+        return flags & O_CREAT ? open_new(call, words, at, path) : carry(call, words);
+    bool is_cut = flags & O_TRUNC && S_ISREG(about.st_mode) && !(flags & O_EXCL && flags & O_CREAT);
+    return is_cut ? open_cut(call, words, at, path) : carry(call, words);
 }
