@@ -1,5 +1,9 @@
-/* The store. Compiled with -DPLANTED=1 or -DPLANTED=2 it has an ordering bug, which examples/liburing/README.md tells of. */
+/* The store. Compiled with -DPLANTED=1 to 4 it has a bug, which examples/liburing/README.md tells of. */
 #include "store.h"
+
+#ifndef PLANTED
+#define PLANTED 0
+#endif
 
 #include <errno.h>
 #include <fcntl.h>
@@ -69,17 +73,20 @@ static void prepare_commit(struct store *store)
 {
     for (unsigned i = 0; i < store->batch_count; i++) {
         unsigned flags = IOSQE_IO_LINK | IOSQE_CQE_SKIP_SUCCESS;
-#ifdef PLANTED
-        if (i == (PLANTED == 1 ? store->batch_count - 1 : 0))
+        if ((PLANTED == 1 && i == store->batch_count - 1) || (PLANTED == 2 && i == 0))
             flags = IOSQE_CQE_SKIP_SUCCESS;
-#endif
+        if (PLANTED == 3 && i == store->batch_count - 1)
+            flags = IOSQE_IO_LINK;
         struct io_uring_sqe *entry = io_uring_get_sqe(&store->ring);
         io_uring_prep_write(entry, store->file, &store->batch[i], sizeof store->batch[i], store->end + i * sizeof store->batch[i]);
         io_uring_sqe_set_flags(entry, flags);
         entry->user_data = WRITE_TAG;
     }
     struct io_uring_sqe *entry = io_uring_get_sqe(&store->ring);
-    io_uring_prep_fsync(entry, store->file, IORING_FSYNC_DATASYNC);
+    if (PLANTED == 4 && store->commit % 2 == 0)
+        io_uring_prep_nop(entry);
+    else
+        io_uring_prep_fsync(entry, store->file, IORING_FSYNC_DATASYNC);
     entry->user_data = SYNC_TAG;
 }
 
@@ -91,7 +98,7 @@ static int wait_for_sync(struct store *store)
         int result = io_uring_wait_cqe(&store->ring, &completion);
         if (result < 0)
             return result;
-        int is_sync = completion->user_data == SYNC_TAG;
+        int is_sync = completion->user_data == SYNC_TAG || PLANTED == 3;
         result = completion->res;
         io_uring_cqe_seen(&store->ring, completion);
         if (is_sync)

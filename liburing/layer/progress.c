@@ -8,6 +8,7 @@
 #include "extras.h"
 #include "fault.h"
 #include "injection.h"
+#include "logged.h"
 #include "operations.h"
 #include "outlook.h"
 #include "policy.h"
@@ -170,7 +171,9 @@ static enum outcome finish_running(struct ring *ring, struct request *request)
         if (request->entry.opcode != IORING_OP_NOP)
             show_ends(ring);
         hear(ring, false);
+        log_carrying(ring, request);
         res = carry_out(ring, request, injected(ring, request));
+        log_carried(ring, request, res);
         if (can_make_ready(request))
             ring->moment++;
         if (res == WOULD_WAIT) {
@@ -202,6 +205,7 @@ static void start(struct ring *ring, struct request *request)
     ring->running++;
     if (!request->is_assigned)
         assign(ring, request);
+    log_start(ring, request);
     if (is_timeout(request))
         start_timeout(ring, request);
     if (is_poll(request) && request->started == 0)

@@ -7,6 +7,8 @@
  * need this library too: programs.c sees to that.
  */
 #define _GNU_SOURCE
+#include "files.h"
+#include "../layer/log.h"
 #include "run.h"
 
 #include <errno.h>
@@ -59,6 +61,8 @@ static long set_filter(long call, const greg_t *registers)
 static void serve(ucontext_t *at, long call)
 {
     greg_t *registers = at->uc_mcontext.gregs;
+    if (serve_file_call(call, (const long[]){registers[REG_RDI], registers[REG_RSI], registers[REG_RDX], registers[REG_R10], registers[REG_R8], registers[REG_R9]}, (long *)&registers[REG_RAX]))
+        return;
     long first = registers[REG_RDI], second = registers[REG_RSI];
     bool is_filter = call == SYS_seccomp || call == SYS_prctl;
     long result = is_filter ? set_filter(call, registers) : wulgach_syscall(call, first, second, (long)registers[REG_RDX], (long)registers[REG_R10], (long)registers[REG_R8], (long)registers[REG_R9]);
@@ -168,9 +172,9 @@ static bool is_trapped(void)
 static void __attribute__((constructor)) begin(void)
 {
     unblock_trap();
-    bool is_set = is_trapped();
-    if (!catch_trap() || !(is_set || set_trap())) {
-        say("io_uring can't be trapped here: the kernel refuses the filter", "");
+    bool is_set = is_trapped(), has_log = is_logging();
+    if (!catch_trap() || !(is_set || (set_trap() && (!has_log || trap_files())))) {
+        say("the calls can't be trapped here: the kernel refuses the filter", "");
         _exit(125);
     }
 }

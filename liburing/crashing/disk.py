@@ -1,0 +1,318 @@
+"""A run's disk: the files and names that it began with, and what has happened to each since and isn't settled yet.
+
+What is settled is in every image. A change is settled once the volume folds it: then it is painted, and forgotten.
+"""
+
+import errno
+import os
+import stat
+
+from crashing.events import COPY, CREATE, LENGTH, LINK, MAKE_FOLDER, MAKE_LINK, MAPPED, OF_NAMES, REMOVE, RENAME, SPACE, SYNC, SYNC_ALL, SYNCS_ITS_RANGE, WRITE
+from crashing.labels import Bytes, Parts
+
+# Modes of fallocate, and a flag of renameat2.
+KEEP_SIZE, PUNCH_HOLE, COLLAPSE_RANGE, ZERO_RANGE, INSERT_RANGE = 1, 2, 8, 16, 32
+EXCHANGE = 2
+# What a write that fails so may have written in part.
+MAY_HAVE_WRITTEN = {errno.EIO, errno.ENOSPC, errno.EDQUOT, errno.EFBIG}
+
+
+class Change:
+    """What an operation does to one file: bytes from `first` on up to `last` (data, or zeros), and its length: at least, or exactly."""
+
+    __slots__ = ("operation", "begin", "end", "first", "last", "data", "length", "is_exact", "is_folded")
+
+    def __init__(self, operation, first, last, data, length, is_exact=False, ends=True):
+        self.operation, self.begin, self.end = operation, operation.begin, operation.end if ends else None
+        self.first, self.last, self.data, self.length, self.is_exact = first, last, data, length, is_exact
+        self.is_folded = False
+
+    def paint(self, contents):
+        if self.last > self.first:
+            if len(contents) < self.last:
+                contents.extend(bytes(self.last - len(contents)))
+            contents[self.first : self.last] = self.data if self.data is not None else bytes(self.last - self.first)
+
+    def lengthen(self, length):
+        if self.length is None:
+            return length
+        return self.length if self.is_exact else max(length, self.length)
+
+
+class Sync:
+    """A sync of a whole file, or of a range; of names: of what `covers` says."""
+
+    __slots__ = ("operation", "begin", "end", "is_done", "range", "covers")
+
+    def __init__(self, operation, begin, end, is_done, range=None, covers=None):
+        self.operation, self.begin, self.end, self.is_done, self.range, self.covers = operation, begin, end, is_done, range, covers
+
+
+class Naming:
+    """What an operation does to names: each becomes another file's, or nobody's."""
+
+    __slots__ = ("operation", "begin", "end", "effects", "files", "folders", "replaced", "is_folded")
+
+    def __init__(self, operation, effects, files, replaced=None):
+        self.operation, self.begin, self.end = operation, operation.begin, operation.end
+        self.effects, self.files, self.replaced = effects, files, replaced
+        self.folders = {folder for folder, _, _ in effects}
+        self.is_folded = False
+
+    def apply(self, names):
+        for folder, name, file in self.effects:
+            if file is None:
+                names.setdefault(folder, {}).pop(name, None)
+            else:
+                names.setdefault(folder, {})[name] = file
+
+
+class File:
+    """A file, a folder or a symbolic link; what is settled of it, and what isn't."""
+
+    def __init__(self, kind, path, contents=b"", mode=0o644):
+        self.kind, self.path, self.mode = kind, path, mode
+        self.contents, self.length = bytearray(contents), len(contents)
+        self.changes, self.syncs, self.all_syncs, self.writes = [], [], [], 0
+
+    def extent(self):
+        return max([self.length, *(change.length or 0 for change in self.changes), *(change.last for change in self.changes)])
+
+
+class Disk:
+    def __init__(self, folder, is_ordered, unit, is_apart=False):
+        self.folder, self.is_ordered, self.unit, self.is_apart = folder, is_ordered, unit, is_apart
+        self.files, self.by_inode, self.names = [], {}, {}
+        self.namings, self.name_syncs, self.remarks, self.now = [], [], [], 0
+        self.root = self.scan(folder)
+
+    def scan(self, path):
+        about = os.lstat(path)
+        if stat.S_ISDIR(about.st_mode):
+            number = self.add(File("folder", path, mode=about.st_mode), about.st_ino)
+            self.names[number] = {name: self.scan(f"{path}/{name}") for name in os.listdir(path)}
+            return number
+        if stat.S_ISLNK(about.st_mode):
+            return self.add(File("link", path, os.fsencode(os.readlink(path))), about.st_ino)
+        if about.st_ino in self.by_inode:
+            return self.by_inode[about.st_ino]
+        with open(path, "rb") as file:
+            return self.add(File("file", path, file.read(), about.st_mode), about.st_ino)
+
+    def add(self, file, inode):
+        self.files.append(file)
+        if inode:
+            self.by_inode[inode] = len(self.files) - 1
+        return len(self.files) - 1
+
+    def remark(self, text):
+        if text not in self.remarks:
+            self.remarks.append(text)
+
+    def begin_with(self, log):
+        """What begins and ends in each event of this log."""
+        self.log, self.begins, self.ends = log, {}, {}
+        for operation in log.operations:
+            self.begins.setdefault(operation.begin, []).append(operation)
+            if operation.end is not None:
+                self.ends.setdefault(operation.end, []).append(operation)
+
+    def advance(self, moment):
+        """Goes on to the moment behind so many events."""
+        for at in range(self.now, moment):
+            self.now = at + 1
+            for operation in self.begins.get(at, []):
+                self.begin(operation)
+            for operation in self.ends.get(at, []):
+                self.end(operation)
+
+    def file_of(self, operation):
+        number = self.by_inode.get(operation.file)
+        if number is None:
+            # (made in a way that wasn't seen, or without a name)
+            number = self.add(File("file", operation.path), operation.file)
+        file = self.files[number]
+        if operation.path and not operation.path.endswith(" (deleted)"):
+            file.path = operation.path
+        return number
+
+    def begin(self, operation):
+        kind = operation.kind
+        if kind in OF_NAMES:
+            if not operation.fails():
+                self.begin_naming(operation)
+        elif kind == SYNC_ALL:
+            for number, file in enumerate(self.files):
+                self.begin_sync(number, operation, None)
+            self.name_syncs.append(Sync(operation, operation.begin, operation.end, not operation.fails(), covers=lambda naming: True))
+        elif kind == SYNC:
+            number = self.file_of(operation)
+            self.begin_sync(number, operation, (operation.offset, operation.offset + operation.length) if operation.length else None)
+            if self.files[number].kind == "folder":
+                self.name_syncs.append(Sync(operation, operation.begin, operation.end, not operation.fails(), covers=lambda naming: number in naming.folders))
+            elif self.is_ordered:
+                self.name_syncs.append(Sync(operation, operation.begin, operation.end, not operation.fails(), covers=lambda naming: number in naming.files))
+        else:
+            self.begin_change(operation)
+
+    def begin_sync(self, number, operation, range):
+        file = self.files[number]
+        if file.kind == "file":
+            file.syncs.append(Sync(operation, operation.begin, operation.end, not operation.fails(), range))
+            file.all_syncs = [*file.all_syncs[-99:], file.syncs[-1]]
+
+    def begin_change(self, operation):
+        file = self.files[self.file_of(operation)]
+        if operation.kind in (WRITE, COPY, MAPPED):
+            file.writes += 1
+            operation.nth = file.writes
+            for first, data, ends in written(operation):
+                self.put(file, Change(operation, first, first + len(data), data, first + len(data), ends=ends))
+        elif not operation.fails() and operation.kind == LENGTH:
+            extent = max(file.extent(), operation.offset)
+            self.put(file, Change(operation, operation.offset, extent, None, operation.offset, True))
+        elif not operation.fails() and operation.kind == SPACE:
+            self.begin_space(file, operation)
+
+    def begin_space(self, file, operation):
+        mode, first, last = operation.flags, operation.offset, operation.offset + operation.length
+        if mode & (COLLAPSE_RANGE | INSERT_RANGE):
+            self.remark(f"{self.short(file)}: fallocate moved bytes, which isn't followed")
+        longer = None if mode & KEEP_SIZE else last
+        is_zero = mode & (PUNCH_HOLE | ZERO_RANGE)
+        self.put(file, Change(operation, first, last if is_zero else first, None, longer))
+
+    def put(self, file, change):
+        file.changes.append(change)
+        operation = change.operation
+        if operation.flags & SYNCS_ITS_RANGE and operation.kind in (WRITE, COPY) and change.end is not None:
+            # (a sync of its range, begun once it has ended: RWF_DSYNC, O_DSYNC)
+            file.syncs.append(Sync(operation, change.end + 0.25, change.end + 0.5, True, (change.first, change.last)))
+
+    def end(self, operation):
+        if operation.kind == SYNC_ALL:
+            for file in self.files:
+                self.fold(file)
+            self.fold_names()
+        elif operation.kind == SYNC or (operation.flags & SYNCS_ITS_RANGE and operation.kind in (WRITE, COPY)):
+            self.fold(self.files[self.by_inode[operation.file]])
+            self.fold_names()
+
+    def fold(self, file):
+        """What the volume folds is painted."""
+        if not file.changes:
+            file.syncs = [it for it in file.syncs if it.end is None or it.end >= self.now]
+            return
+        lengths, contents = Parts(file, self.now), Bytes(file, self.now, self.unit)
+        one, other = lengths.folded(), contents.folded()
+        for change in list(file.changes):
+            if change in one and (change in other or change.last == change.first):
+                change.paint(file.contents)
+                file.length = change.lengthen(file.length)
+                change.is_folded = True
+        file.changes = [it for it in file.changes if not it.is_folded]
+        last = max((it.end for it in file.changes if it.end is not None and it.end < self.now), default=None)
+        first = min((it.end for it in file.changes if it.end is not None and it.end < self.now), default=None)
+        file.syncs = [it for it in file.syncs if is_open(it, self.now) or (last is not None and it.begin > first)]
+
+    def name_groups(self):
+        """The operations on names that a crash leaves together, in one order: all, or those that a chain of names joins."""
+        if self.is_ordered:
+            return [self.namings] if self.namings else []
+        groups = []
+        for naming in self.namings:
+            keys = {(folder, name) for folder, name, _ in naming.effects}
+            joined = [it for it in groups if it[0] & keys]
+            groups = [it for it in groups if not it[0] & keys]
+            members = sorted([naming, *(one for it in joined for one in it[1])], key=lambda it: it.begin)
+            groups.append((keys.union(*(it[0] for it in joined)), members))
+        return [members for _, members in groups]
+
+    def fold_names(self):
+        for group in self.name_groups():
+            found = Parts.of_names(group, self.name_syncs, self.now).folded()
+            for naming in group:
+                if naming in found:
+                    naming.apply(self.names)
+                    naming.is_folded = True
+        self.namings = [it for it in self.namings if not it.is_folded]
+        first = min((it.end for it in self.namings if it.end is not None and it.end < self.now), default=None)
+        self.name_syncs = [it for it in self.name_syncs if is_open(it, self.now) or (first is not None and it.begin > first)]
+
+    def begin_naming(self, operation):
+        folder, name = self.by_inode.get(operation.file), os.path.basename(operation.path)
+        kind = operation.kind
+        if kind == CREATE and not operation.path:
+            self.add(File("file", ""), operation.made)
+        elif kind == CREATE:
+            self.name(operation, [(folder, name, self.add(File("file", operation.path), operation.made))])
+        elif kind == MAKE_FOLDER:
+            number = self.add(File("folder", operation.path, mode=0o755), operation.made)
+            self.names[number] = {}
+            self.name(operation, [(folder, name, number)])
+        elif kind == MAKE_LINK:
+            self.name(operation, [(folder, name, self.add(File("link", operation.path, os.fsencode(operation.second_path)), operation.made))])
+        elif kind == LINK:
+            self.name(operation, [(folder, name, self.known(operation.second, operation.path))])
+        elif kind == REMOVE:
+            self.name(operation, [(folder, name, None)])
+        else:
+            self.rename(operation, folder, name)
+
+    def known(self, inode, path):
+        return self.by_inode[inode] if inode in self.by_inode else self.add(File("file", path), inode)
+
+    def rename(self, operation, folder, name):
+        other, second = self.by_inode.get(operation.second), os.path.basename(operation.second_path)
+        moved = self.known(operation.length, operation.path)
+        replaced = self.current(other, second)
+        if operation.flags & EXCHANGE:
+            effects = [(other, second, moved), (folder, name, replaced)]
+        elif (folder, name) == (other, second) or replaced == moved:
+            return
+        else:
+            effects = [(other, second, moved), (folder, name, None)]
+        self.files[moved].path = operation.second_path or self.files[moved].path
+        effects = [it for it in effects if it[0] is not None]
+        if self.is_apart:
+            for effect in effects:
+                self.name(operation, [effect], moved)
+        else:
+            self.name(operation, effects, moved, replaced)
+
+    def current(self, folder, name):
+        """The file that has a name, as the program sees it."""
+        for naming in reversed(self.namings):
+            for one, other, file in naming.effects:
+                if (one, other) == (folder, name):
+                    return file
+        return self.names.get(folder, {}).get(name)
+
+    def name(self, operation, effects, moved=None, replaced=None):
+        effects = [it for it in effects if it[0] is not None]
+        if effects:
+            files = {file for _, _, file in effects if file is not None} | ({moved} if moved is not None else set())
+            self.namings.append(Naming(operation, effects, files, replaced))
+
+    def short(self, file):
+        return os.path.relpath(file.path, self.folder) if file.path.startswith(self.folder) else file.path or "a file without a name"
+
+
+def is_open(sync, now):
+    return sync.end is None or sync.end >= now
+
+
+def written(operation):
+    """What a write has written: where, the bytes, and whether it has ended. One that failed may have written any part."""
+    if operation.kind == COPY and operation.end is None:
+        return []
+    count, data = operation.result, operation.bytes
+    if count is not None and count < 0:
+        return [(operation.offset, data, False)] if -count in MAY_HAVE_WRITTEN and data else []
+    if count is None:
+        return [(operation.offset, data, False)] if data else []
+    found = [(operation.offset, data[:count], True)] if count else []
+    if operation.actual and operation.actual[1][:count] != data[:count] and count:
+        # (its memory was changed while it ran: either may have been taken)
+        found.append((operation.offset, operation.actual[1][:count], True))
+    return found

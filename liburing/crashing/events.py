@@ -1,0 +1,108 @@
+"""The log of a run's files, as layer/log.h has it: its events, and the operations that begin and end in them."""
+
+import struct
+
+HEAD = struct.Struct("<IHHIIQQQqQqHHI")
+WRITE, COPY, SYNC, SYNC_ALL, LENGTH, SPACE, CREATE, MAKE_FOLDER, MAKE_LINK, LINK, RENAME, REMOVE, END, CARRY, PRINT, MAPPED = range(1, 17)
+SYNCS_ITS_RANGE = 1
+OF_NAMES = {CREATE, MAKE_FOLDER, MAKE_LINK, LINK, RENAME, REMOVE}
+
+
+class Event:
+    __slots__ = ("kind", "flags", "process", "thread", "operation", "file", "second", "offset", "length", "result", "path", "second_path", "bytes")
+
+
+def read_events(data):
+    """The events; and whether the log ends in the middle of one."""
+    found, at = [], 0
+    while at + HEAD.size <= len(data):
+        event = Event()
+        size, event.kind, event.flags, event.process, event.thread, event.operation, event.file, event.second, event.offset, event.length, event.result, path, second, count = HEAD.unpack_from(data, at)
+        if size < HEAD.size or at + size > len(data) or size != HEAD.size + path + second + count:
+            return found, True
+        behind = at + HEAD.size
+        event.path = data[behind : behind + path].decode(errors="surrogateescape")
+        event.second_path = data[behind + path : behind + path + second].decode(errors="surrogateescape")
+        event.bytes = data[behind + path + second : at + size]
+        found.append(event)
+        at += size
+    return found, at != len(data)
+
+
+class Operation:
+    """What begins in one event, and ends in another or not at all. Of a write: its bytes; of a copy they come with its end."""
+
+    __slots__ = ("kind", "flags", "begin", "end", "file", "second", "offset", "length", "result", "path", "second_path", "bytes", "made", "is_of_ring", "actual", "number", "nth")
+
+    def __init__(self, event, at):
+        self.kind, self.flags, self.begin, self.end = event.kind, event.flags, at, None
+        self.file, self.second, self.offset, self.length = event.file, event.second, event.offset, event.length
+        self.path, self.second_path, self.bytes = event.path, event.second_path, event.bytes
+        self.result, self.made, self.is_of_ring, self.actual, self.number = None, 0, event.operation != 0, None, 0
+        self.nth = 0
+
+    def fails(self):
+        return self.result is not None and self.result < 0
+
+
+class Log:
+    """A run: how many events there are, its operations in the order of their begins, and what was printed in which event."""
+
+    def __init__(self, data):
+        self.events, self.is_cut = read_events(data)
+        self.count = len(self.events)
+        self.operations, self.printed = [], []
+        self.open, self.of_rings, self.carried, self.compared = {}, {}, {}, {}
+        for at, event in enumerate(self.events):
+            self.take(at, event)
+        # (a mapped write began where its file was last compared)
+        self.operations.sort(key=lambda it: it.begin)
+        for number, operation in enumerate(self.operations):
+            operation.number = number
+
+    def take(self, at, event):
+        thread = (event.process, event.thread)
+        carried = self.carried.get(thread)
+        if carried is not None and not (event.kind == END and event.operation):
+            if event.kind == WRITE:
+                carried.actual = (event.offset, event.bytes)
+            return
+        if event.kind == END:
+            self.end(at, event, thread)
+        elif event.kind == CARRY:
+            self.carried[thread] = self.of_rings.get((event.process, event.operation))
+        elif event.kind == PRINT:
+            self.printed.append((at, event.bytes))
+        else:
+            self.begin(at, event, thread)
+
+    def begin(self, at, event, thread):
+        operation = Operation(event, at)
+        self.operations.append(operation)
+        if event.kind == MAPPED:
+            operation.begin, operation.end, operation.result = self.compared_at(event.file, at), at, event.length
+            return
+        if event.kind in (SYNC, SYNC_ALL):
+            self.compared[event.file] = at
+        if event.operation:
+            self.of_rings[event.process, event.operation] = operation
+        else:
+            self.open.setdefault(thread, []).append(operation)
+
+    def compared_at(self, file, at):
+        """Where a file was last compared with what was mapped of it, by a sync of it or of all (0): where such a sync began or ended."""
+        return max((self.compared[it] for it in (file, 0) if it in self.compared), default=at)
+
+    def end(self, at, event, thread):
+        if event.operation:
+            self.carried.pop(thread, None)
+            operation = self.of_rings.pop((event.process, event.operation), None)
+        else:
+            operation = self.open[thread].pop() if self.open.get(thread) else None
+        if operation is None:
+            return
+        operation.end, operation.result, operation.made = at, event.result, event.file
+        if operation.kind in (SYNC, SYNC_ALL):
+            self.compared[operation.file] = at
+        if operation.kind == COPY:
+            operation.bytes = event.bytes

@@ -1,0 +1,258 @@
+"""What a crash leaves of a disk: a tree of folders, files and links. The proved volumes choose; here it is put together and told."""
+
+import itertools
+
+from crashing.disk import Sync, is_open
+from crashing.labels import Bytes, Chosen, Parts
+
+
+class Image:
+    """The tree, by paths below the disk: each a folder (None), a file (its bytes and mode), or a link (its target); and what is read for words."""
+
+    def __init__(self):
+        self.tree, self.links, self.shown, self.left = {}, {}, {}, []
+
+    def key(self):
+        return hash(tuple(sorted((path, it if it is None else it[:2]) for path, it in self.tree.items())))
+
+
+def image_of(disk, chosen):
+    return assemble(disk, [Parts.of_names(group, disk.name_syncs, disk.now).crash(chosen) for group in disk.name_groups()], lambda file, syncs: crash_file(disk, file, syncs, chosen))
+
+
+def assemble(disk, groups, contents_of):
+    """The image with these operations on names left, and each file's contents by a call."""
+    image, made = Image(), {}
+    names = {folder: dict(inside) for folder, inside in disk.names.items()}
+    image.left = sorted((naming for left in groups for naming in left), key=lambda it: it.begin)
+    for naming in image.left:
+        naming.apply(names)
+    synced = flushed(disk, image.left)
+
+    def put(number, path):
+        file = disk.files[number]
+        if file.kind == "folder":
+            if path:
+                image.tree[path] = None
+            for name, inside in sorted(names.get(number, {}).items()):
+                put(inside, f"{path}/{name}" if path else name)
+        elif file.kind == "link":
+            image.tree[path] = ("link", bytes(file.contents))
+        elif number in made:
+            image.links[path] = made[number]
+            image.tree[path] = image.tree[made[number]]
+        else:
+            contents, image.shown[number] = contents_of(file, [*file.syncs, *synced.get(number, [])])
+            image.tree[path], made[number] = ("file", contents, file.mode), path
+
+    put(disk.root, "")
+    return image
+
+
+def flushed(disk, left):
+    """Where names are ordered, a rename that replaces a file isn't left without the bytes of the one that takes its place: as if these had been synced before it (ext4's auto_da_alloc)."""
+    found = {}
+    for naming in left if disk.is_ordered else []:
+        if naming.replaced is not None:
+            for number in naming.files:
+                found.setdefault(number, []).append(Sync(naming.operation, naming.begin, naming.begin + 0.5, True))
+    return found
+
+
+class Synced:
+    """A file as the volumes read it, with other syncs, or without some changes."""
+
+    def __init__(self, changes, syncs):
+        self.changes, self.syncs = changes, syncs
+
+
+def crash_file(disk, file, syncs, chosen):
+    if not file.changes:
+        return bytes(file.contents[: file.length]).ljust(file.length, b"\0"), ([], file.length, [])
+    left = Parts(Synced(file.changes, syncs), disk.now).crash(chosen)
+    cells = Bytes(with_length(disk, file, syncs, left), disk.now, disk.unit, tears_of(file, disk.unit, chosen)).crash(chosen)
+    return paint(file, left, cells)
+
+
+def with_length(disk, file, syncs, left):
+    """What may be left of a file's bytes, once it is known which changes its length shows.
+
+    A truncation changes bytes and length as one (our own rule; `apart`: not): if its length isn't left, neither are its zeros, nor what was written behind it once it had ended. Where names are ordered, a file that grew has the bytes with which it grew (ext4's data=ordered). What is there for certain is said to the volume as a sync of its range.
+    """
+    kept, lost = list(syncs), [] if disk.is_apart else [it for it in file.changes if it.is_exact and it not in left]
+    for change in left:
+        grows = disk.is_ordered and not change.is_exact and change.length is not None and change.length > file.length
+        if (grows or (change.is_exact and not disk.is_apart)) and change.last > change.first and not is_open(change, disk.now):
+            kept.append(Sync(change.operation, change.end + 0.25, change.end + 0.5, True, (change.first, change.last)))
+    changes = [it for it in file.changes if it not in lost and not any(is_behind(it, cut) for cut in lost)]
+    return Synced(changes, kept)
+
+
+def is_behind(change, cut):
+    return cut.end is not None and cut.end < change.begin and change.last > cut.length
+
+
+def tears_of(file, unit, chosen):
+    """Where writes are cut, by chance."""
+    dice, found = chosen.dice, []
+    for change in file.changes if chosen.torn else []:
+        found += [place for part in chosen.torn.get(change.operation.number, []) for place in part]
+    for change in file.changes[-20:] if chosen.is_torn else []:
+        units = (change.last - change.first) // unit
+        if units > 1 and dice.random() < 0.7:
+            found += [change.first + dice.randrange(1, units) * unit for _ in range(dice.randrange(1, 4))]
+    return found
+
+
+def paint(file, left, cells):
+    length = file.length
+    for change in sorted(left, key=lambda it: (it.end if it.end is not None else float("inf"), it.begin)):
+        length = change.lengthen(length)
+    contents = bytearray(file.contents)
+    for first, last, change in cells:
+        if change is not None:
+            if len(contents) < last:
+                contents.extend(bytes(last - len(contents)))
+            contents[first:last] = change.data[first - change.first : last - change.first] if change.data is not None else bytes(last - first)
+    return bytes(contents[:length]).ljust(length, b"\0"), (cells, length, left)
+
+
+def unsettled(disk):
+    """The numbers of the operations that needn't be left, in their order."""
+    found = set()
+    for file in disk.files:
+        if file.changes:
+            safe = Parts(file, disk.now).safe() & (Bytes(file, disk.now, disk.unit).safe() | {it for it in file.changes if it.last == it.first})
+            found |= {it.operation.number for it in file.changes if it not in safe}
+    for group in disk.name_groups():
+        safe = Parts.of_names(group, disk.name_syncs, disk.now).safe()
+        found |= {it.operation.number for it in group if it not in safe}
+    return sorted(found)
+
+
+def all_images(disk, most):
+    """All images there are; None if these are more than so many."""
+    groups = [Parts.of_names(group, disk.name_syncs, disk.now).images(most) for group in disk.name_groups()]
+    if None in groups:
+        return None
+    found, kept = [], {}
+    for left in itertools.product(*groups):
+        synced = flushed(disk, [naming for it in left for naming in it])
+        kinds = {}
+        for number, file in enumerate(disk.files):
+            if file.changes:
+                kinds[number] = ways_of(disk, file, [*file.syncs, *synced.get(number, [])], most)
+                if kinds[number] is None:
+                    return None
+        numbers = sorted(kinds)
+        for ways in itertools.product(*(kinds[number] for number in numbers)):
+            chosen = dict(zip((id(disk.files[number]) for number in numbers), ways))
+            image = assemble(disk, left, lambda file, syncs: chosen[id(file)] if id(file) in chosen else crash_file(disk, file, syncs, Chosen("least")))
+            kept.setdefault(image.key(), image)
+            if len(kept) > most:
+                return None
+    found = list(kept.values())
+    return found
+
+
+def ways_of(disk, file, syncs, most):
+    """Each way in which a file may be left."""
+    kept = {}
+    for left in Parts(Synced(file.changes, syncs), disk.now).images(most) or [None]:
+        cells = left is not None and Bytes(with_length(disk, file, syncs, left), disk.now, disk.unit, every_unit(file, disk.unit)).images(most)
+        if not cells:
+            return None
+        for shown in cells:
+            contents, told = paint(file, left, shown)
+            kept.setdefault(contents, (contents, told))
+        if len(kept) > most:
+            return None
+    return list(kept.values())
+
+
+def every_unit(file, unit):
+    """All places where a unit begins that a change touches; of a long write so many that there are too many images anyway."""
+    found = []
+    for change in file.changes:
+        found += list(range(change.first - change.first % unit, min(change.last, change.first + 64 * unit), unit))
+    return found
+
+
+def losses(disk, image, whole):
+    """What an image lacks of the one in which nothing is lost, in words."""
+    found = []
+    for naming in whole.left:
+        if naming not in image.left:
+            found.append(f"{told_naming(disk, naming)} is lost: {why_lost(disk, naming, disk.name_syncs, 'its folder')}")
+    for number in sorted(whole.shown):
+        if number not in image.shown:
+            continue
+        file, (cells, length, _), (shown, shorter, _) = disk.files[number], whole.shown[number], image.shown[number]
+        name = disk.short(file)
+        for change, ranges in lost_ranges(cells, shown).items():
+            found.append(f"{told_ranges(ranges)} of {name} are lost: {why_lost(disk, change, file.all_syncs, name)}")
+        if length != shorter and not any(name in it for it in found):
+            found.append(f"the length of {name} is {shorter} and not {length}")
+    return found
+
+
+def pieces(image, whole):
+    """The losses that make an image of the one in which nothing is lost."""
+    found = [(it.operation.number,) for it in whole.left if it not in image.left]
+    for number in sorted(whole.shown):
+        if number in image.shown:
+            (cells, _, left), (shown, _, shorter) = whole.shown[number], image.shown[number]
+            found += [(change.operation.number, first, last) for change, ranges in lost_ranges(cells, shown).items() for first, last in ranges]
+            found += [(change.operation.number, "length") for change in left if change not in shorter]
+    return found
+
+
+def lost_ranges(cells, shown):
+    """Of each change that shows in the one and not in the other: where."""
+    found = {}
+    after = [(first, last, change) for first, last, change in shown]
+    for first, last, change in cells:
+        if change is None:
+            continue
+        for one, other, now in after:
+            low, high = max(first, one), min(last, other)
+            if low < high and now is not change:
+                ranges = found.setdefault(change, [])
+                if ranges and ranges[-1][1] == low:
+                    ranges[-1] = (ranges[-1][0], high)
+                else:
+                    ranges.append((low, high))
+    return found
+
+
+def told_ranges(ranges):
+    return "bytes " + ", ".join(f"{first} to {last - 1}" for first, last in ranges)
+
+
+def told_naming(disk, naming):
+    operation = naming.operation
+    words = {7: "the name {0}", 8: "the folder {0}", 9: "the link {0}", 10: "the name {0}", 11: "the rename of {0} to {1}", 12: "the removal of {0}"}[operation.kind]
+    return words.format(relative(disk, operation.path), relative(disk, operation.second_path))
+
+
+def relative(disk, path):
+    return path[len(disk.folder) + 1 :] if path.startswith(disk.folder + "/") else path
+
+
+def why_lost(disk, change, syncs, name):
+    operation = change.operation
+    what = f"write {operation.nth}" if operation.nth else "it"
+    if change.end is None or change.end >= disk.now:
+        return f"{what} hadn't ended"
+    own = [it for it in syncs if it.covers is None or it.covers(change)]
+    since = [it for it in own if it.begin > change.end and it.begin < disk.now]
+    across = [it for it in own if it.begin < change.end and not is_open(it, disk.now) and it.end > change.end and it.is_done]
+    if any(not it.is_done and not is_open(it, disk.now) for it in own if it.begin > change.end):
+        return f"an fsync of {name} that reached {what} failed"
+    if any(not is_open(it, disk.now) for it in since):
+        return f"{what} doesn't lie whole in what the fsync of {name} is of"
+    if across:
+        return f"the fsync of {name} was issued before {what} ended"
+    if since:
+        return f"the fsync of {name} that was issued since hadn't ended"
+    return f"no fsync of {name} was issued since {what} ended"

@@ -1,0 +1,115 @@
+"""A run of the program whose log is kept, so that the power can fail in it at any moment without running it again."""
+
+import copy
+import glob
+import os
+import shutil
+import subprocess
+import tempfile
+
+from crashing.disk import Disk
+from crashing.events import Log
+
+HERE = os.path.dirname(os.path.dirname(os.path.realpath(__file__)))
+PRELOADED = next((it for it in (f"{HERE}/out/uring-run.so", f"{HERE}/uring-run.so") if os.path.exists(it)), f"{HERE}/out/uring-run.so")
+
+
+class Run:
+    """What a run did: its log, what it printed, its choices, and its disk as it was when it began."""
+
+    def __init__(self, options, policy):
+        self.policy = policy
+        place = tempfile.mkdtemp(prefix="run-", dir=options.place)
+        try:
+            folder = os.path.realpath(f"{place}/disk")
+            shutil.copytree(options.disk, folder, symlinks=True) if options.disk else os.mkdir(folder)
+            self.disk = Disk(folder, options.names == "ordered", options.unit, options.apart)
+            self.status, self.said = self.call(options, place, folder)
+            with open(f"{place}/log", "rb") as file:
+                self.log = Log(file.read())
+            self.choices = self.read_choices(place)
+            self.remarks = self.compare()
+        finally:
+            shutil.rmtree(place, ignore_errors=True)
+
+    def call(self, options, place, folder):
+        open(f"{place}/log", "wb").close()
+        own = dict(WULGACH_LOG=f"{place}/log", WULGACH_DISK=folder, WULGACH_OUTPUT=f"{place}/printed", WULGACH_POLICY=self.policy, WULGACH_CHOICES=f"{place}/choices", WULGACH_CHOOSE="ends" if options.ends else "events", WULGACH_SYNC="", DISK=folder)
+        if options.fsync_fails:
+            own["WULGACH_SYNC_FAILS"] = str(options.fsync_fails)
+        own["LD_PRELOAD"] = ":".join([PRELOADED, *filter(None, [os.environ.get("LD_PRELOAD")])])
+        with open(f"{place}/printed", "wb") as printed, open(f"{place}/said", "wb") as said:
+            try:
+                status = subprocess.run(options.words, cwd=folder, env={**os.environ, **own}, stdin=subprocess.DEVNULL, stdout=printed, stderr=said, timeout=options.seconds).returncode
+            except subprocess.TimeoutExpired:
+                status = "none: it took too long"
+        with open(f"{place}/said", "rb") as said:
+            return status, said.read()
+
+    def read_choices(self, place):
+        found = []
+        for path in sorted(glob.glob(f"{glob.escape(place)}/choices.*")):
+            with open(path) as lines:
+                words = [line.rstrip("\n").split(" ", 3) for line in lines if line[0].isdecimal()]
+            found += [(int(it[0]), int(it[1]), int(it[2]), it[3]) for it in words]
+        return found
+
+    def items(self):
+        return [(at, way) for at, way, _, _ in self.choices if way]
+
+    def begin(self):
+        """The disk as it was when the run began, and the log that goes on from there."""
+        disk = copy.deepcopy(self.disk)
+        disk.begin_with(self.log)
+        return disk
+
+    def moments(self):
+        """Where something has happened: behind so many events."""
+        marks = {0, self.log.count}
+        for operation in self.log.operations:
+            marks.add(operation.begin + 1)
+            if operation.end is not None:
+                marks.add(operation.end + 1)
+        return sorted(marks | {at + 1 for at, _ in self.log.printed})
+
+    def printed(self, moment):
+        return b"".join(data for at, data in self.log.printed if at < moment)
+
+    def compare(self):
+        """What the log makes of the disk, beside what is there: a difference was made in a way that the log doesn't see."""
+        disk = self.begin()
+        disk.advance(self.log.count)
+        remarks = list(disk.remarks)
+        if self.log.is_cut:
+            remarks.append("the log ends in the middle of an event")
+        names = {folder: dict(inside) for folder, inside in disk.names.items()}
+        for naming in sorted(disk.namings, key=ended):
+            if naming.end is not None:
+                naming.apply(names)
+        remarks += differences(disk, names, disk.root, disk.folder, "")
+        return remarks
+
+
+def ended(it):
+    return it.end if it.end is not None else float("inf")
+
+
+def differences(disk, names, number, real, path):
+    file, found = disk.files[number], []
+    if file.kind == "folder":
+        inside = names.get(number, {})
+        there = set(os.listdir(real)) if os.path.isdir(real) else set()
+        for name in sorted(there ^ set(inside)):
+            found.append(f"{path}{name}: {'was made' if name in there else 'was removed'} in a way that wasn't seen")
+        for name in sorted(there & set(inside)):
+            found += differences(disk, names, inside[name], f"{real}/{name}", f"{path}{name}/")
+    elif file.kind == "file" and os.path.isfile(real):
+        contents, length = bytearray(file.contents), file.length
+        for change in sorted(file.changes, key=ended):
+            if change.end is not None:
+                change.paint(contents)
+                length = change.lengthen(length)
+        with open(real, "rb") as there:
+            if there.read() != bytes(contents[:length]).ljust(length, b"\0"):
+                found.append(f"{path[:-1]}: was written in a way that wasn't seen")
+    return found

@@ -1,0 +1,133 @@
+/* Appends events to the log, by calls that nothing traps and that take no memory: a signal's handler calls them too. */
+#define _GNU_SOURCE
+#include "log.h"
+#include "passing.h"
+
+#include <errno.h>
+#include <fcntl.h>
+#include <limits.h>
+#include <linux/fs.h>
+#include <pthread.h>
+#include <stdio.h>
+#include <stdlib.h>
+#include <string.h>
+#include <sys/stat.h>
+#include <sys/syscall.h>
+#include <unistd.h>
+
+enum { HIGH = 900 };
+
+static struct {
+    char path[PATH_ROOM], disk[PATH_ROOM], output[PATH_ROOM];
+    size_t disk_length;
+    bool is_on;
+    _Atomic int fd;
+} log_of = {.fd = -1};
+
+static void copy_variable(char room[PATH_ROOM], const char *name)
+{
+    const char *value = getenv(name);
+    snprintf(room, PATH_ROOM, "%s", value ? value : "");
+}
+
+static void read_environment(void)
+{
+    copy_variable(log_of.path, "WULGACH_LOG");
+    copy_variable(log_of.disk, "WULGACH_DISK");
+    copy_variable(log_of.output, "WULGACH_OUTPUT");
+    log_of.disk_length = strlen(log_of.disk);
+    log_of.is_on = log_of.path[0] && log_of.disk[0];
+}
+
+bool is_logging(void)
+{
+    static pthread_once_t once = PTHREAD_ONCE_INIT;
+    pthread_once(&once, read_environment);
+    return log_of.is_on;
+}
+
+/* A descriptor that a program which closes low ones doesn't close. */
+static int open_log(void)
+{
+    long low = pass(SYS_openat, AT_FDCWD, (long)log_of.path, O_WRONLY | O_APPEND | O_CREAT | O_CLOEXEC, 0600, 0, 0);
+    long high = low < 0 ? -1 : pass(SYS_fcntl, low, F_DUPFD_CLOEXEC, HIGH, 0, 0, 0);
+    if (high < 0)
+        return (int)low;
+    pass(SYS_close, low, 0, 0, 0, 0, 0);
+    return (int)high;
+}
+
+static void append(const struct iovec *parts, size_t count)
+{
+    int fd = log_of.fd;
+    if (fd < 0 || pass(SYS_writev, fd, (long)parts, (long)count, 0, 0, 0) == -EBADF) {
+        fd = log_of.fd = open_log();
+        pass(SYS_writev, fd, (long)parts, (long)count, 0, 0, 0);
+    }
+}
+
+void log_event(struct event *event, const char *path, const char *second_path, const struct iovec *bytes, size_t count)
+{
+    size_t length = 0;
+    struct iovec parts[count + 3];
+    event->process = (uint32_t)pass(SYS_getpid, 0, 0, 0, 0, 0, 0);
+    event->thread = (uint32_t)pass(SYS_gettid, 0, 0, 0, 0, 0, 0);
+    event->path = path ? (uint16_t)strlen(path) : 0;
+    event->second_path = second_path ? (uint16_t)strlen(second_path) : 0;
+    for (size_t i = 0; i < count; i++)
+        length += bytes[i].iov_len;
+    event->bytes = (uint32_t)length;
+    event->size = (uint32_t)(sizeof *event + event->path + event->second_path + length);
+    parts[0] = (struct iovec){event, sizeof *event};
+    parts[1] = (struct iovec){(void *)(uintptr_t)path, event->path};
+    parts[2] = (struct iovec){(void *)(uintptr_t)second_path, event->second_path};
+    if (count > 0)
+        memcpy(parts + 3, bytes, count * sizeof *bytes);
+    append(parts, count + 3);
+}
+
+bool path_of(int fd, char path[PATH_ROOM])
+{
+    char name[32];
+    snprintf(name, sizeof name, "/proc/self/fd/%d", fd);
+    long length = pass(SYS_readlink, (long)name, (long)path, PATH_ROOM - 1, 0, 0, 0);
+    if (length < 0)
+        return false;
+    path[length] = '\0';
+    return true;
+}
+
+bool is_path_on_disk(const char *path)
+{
+    char behind = strncmp(path, log_of.disk, log_of.disk_length) == 0 ? path[log_of.disk_length] : 'x';
+    return behind == '/' || behind == '\0';
+}
+
+bool is_output(const char *path)
+{
+    return log_of.output[0] && strcmp(path, log_of.output) == 0;
+}
+
+bool is_on_disk(int fd, char path[PATH_ROOM], uint64_t *file)
+{
+    struct stat about;
+    if (!path_of(fd, path) || !is_path_on_disk(path) || pass(SYS_fstat, fd, (long)&about, 0, 0, 0, 0) < 0)
+        return false;
+    *file = about.st_ino;
+    return S_ISREG(about.st_mode) || S_ISDIR(about.st_mode);
+}
+
+int64_t place_of_write(int fd, int64_t offset, bool appends)
+{
+    struct stat about;
+    long flags = pass(SYS_fcntl, fd, F_GETFL, 0, 0, 0, 0);
+    if ((appends || (flags >= 0 && flags & O_APPEND)) && pass(SYS_fstat, fd, (long)&about, 0, 0, 0, 0) == 0)
+        return about.st_size;
+    return offset >= 0 ? offset : pass(SYS_lseek, fd, 0, SEEK_CUR, 0, 0, 0);
+}
+
+bool syncs_writes(int fd)
+{
+    long flags = pass(SYS_fcntl, fd, F_GETFL, 0, 0, 0, 0);
+    return flags >= 0 && flags & O_DSYNC;   /* (O_SYNC has its bit too) */
+}

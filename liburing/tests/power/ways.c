@@ -1,0 +1,435 @@
+/* One way after the other in which a program writes a file, syncs it and says so, and a check of what a crash has left.
+ *
+ *   ways run WAY [unsynced]     8 KB go to `data`; once they are safe, or, `unsynced`, once they are written, a line is printed
+ *   ways check                  status 1: the line was printed, and `data` isn't whole
+ *   ways list                   prints the ways
+ *   ways run CASE, ways check CASE   what a parameter of `explore crash` decides: unit, replace, retry; and what nobody sees: killed
+ */
+#define _GNU_SOURCE
+#include <fcntl.h>
+#include <pthread.h>
+#include <signal.h>
+#include <stdbool.h>
+#include <stdio.h>
+#include <stdlib.h>
+#include <string.h>
+#include <sys/mman.h>
+#include <sys/sendfile.h>
+#include <sys/stat.h>
+#include <sys/syscall.h>
+#include <sys/uio.h>
+#include <sys/wait.h>
+#include <unistd.h>
+
+enum { SIZE = 8192, SECTOR = 512 };
+
+static char bytes[SIZE] __attribute__((aligned(4096)));
+static bool is_synced = true;
+
+static void demand(bool is_so, const char *what)
+{
+    if (!is_so) {
+        perror(what);
+        _exit(2);
+    }
+}
+
+static int make(const char *name, int flags)
+{
+    int file = open(name, O_RDWR | O_CREAT | flags, 0600);
+    demand(file >= 0, name);
+    return file;
+}
+
+static void sync_folder(void)
+{
+    int folder = open(".", O_RDONLY | O_DIRECTORY);
+    demand(fsync(folder) == 0, "fsync of the folder");
+    close(folder);
+}
+
+static void sync_file(int file)
+{
+    if (is_synced)
+        demand(fsync(file) == 0, "fsync");
+}
+
+static void put(int file, const char *from, size_t size, off_t offset)
+{
+    demand(pwrite(file, from, size, offset) == (ssize_t)size, "pwrite");
+}
+
+static void by_write(void)
+{
+    int file = make("data", 0);
+    demand(write(file, bytes, 5000) == 5000 && write(file, bytes, SIZE - 5000) == SIZE - 5000, "write");
+    sync_file(file);
+}
+
+static void by_creat(void)
+{
+    int file = creat("data", 0600);
+    put(file, bytes, SIZE, 0);
+    if (is_synced)
+        demand(fdatasync(file) == 0, "fdatasync");
+}
+
+static void by_vectors(void)
+{
+    struct iovec parts[] = {{bytes, 100}, {bytes, SIZE - 100}};
+    int file = make("data", 0);
+    demand(writev(file, parts, 2) == SIZE, "writev");
+    sync_file(file);
+}
+
+static void by_flags(void)
+{
+    struct iovec part = {bytes, SIZE};
+    int file = make("data", 0);
+    demand(pwritev2(file, &part, 1, 0, is_synced ? RWF_DSYNC : 0) == SIZE, "pwritev2");
+}
+
+static void by_synced_file(void)
+{
+    put(make("data", is_synced ? O_DSYNC : 0), bytes, SIZE, 0);
+}
+
+static void by_wholly_synced_file(void)
+{
+    put(make("data", is_synced ? O_SYNC : 0), bytes, SIZE, 0);
+}
+
+static void by_direct(void)
+{
+    int file = make("data", O_DIRECT);
+    put(file, bytes, SIZE, 0);
+    sync_file(file);
+}
+
+static void by_append(void)
+{
+    int file = make("data", O_APPEND);
+    for (int part = 0; part < 4; part++)
+        demand(write(file, bytes, SIZE / 4) == SIZE / 4, "write");
+    sync_file(file);
+}
+
+static void by_stream(void)
+{
+    FILE *file = fopen("data", "w");
+    demand(file && fwrite(bytes, 1, SIZE, file) == SIZE && fflush(file) == 0, "fwrite");
+    sync_file(fileno(file));
+}
+
+/* Longer bytes are cut off first. */
+static void by_cut(void)
+{
+    int file = make("data", 0);
+    for (int part = 0; part < 2; part++)
+        put(file, "old", 3, part * SIZE);
+    sync_file(file);
+    put(make("data", O_TRUNC), bytes, SIZE, 0);
+    sync_file(file);
+}
+
+static void by_length(void)
+{
+    int file = make("data", 0);
+    demand(ftruncate(file, 2 * SIZE) == 0, "ftruncate");
+    put(file, bytes, SIZE, 0);
+    demand(truncate("data", SIZE) == 0, "truncate");
+    sync_file(file);
+}
+
+static void by_room(void)
+{
+    int file = make("data", 0);
+    demand(fallocate(file, 0, 0, SIZE) == 0, "fallocate");
+    put(file, bytes, SIZE, 0);
+    sync_file(file);
+}
+
+static int source(void)
+{
+    int file = make("source", 0);
+    put(file, bytes, SIZE, 0);
+    return file;
+}
+
+static void by_copy(void)
+{
+    int from = source(), file = make("data", 0);
+    demand(copy_file_range(from, NULL, file, NULL, SIZE, 0) == SIZE, "copy_file_range");
+    sync_file(file);
+}
+
+static void by_sendfile(void)
+{
+    int from = source(), file = make("data", 0);
+    demand(sendfile(file, from, NULL, SIZE) == SIZE, "sendfile");
+    sync_file(file);
+}
+
+static void by_memory(void)
+{
+    int file = make("data", 0);
+    demand(ftruncate(file, SIZE) == 0, "ftruncate");
+    char *memory = mmap(NULL, SIZE, PROT_READ | PROT_WRITE, MAP_SHARED, file, 0);
+    demand(memory != MAP_FAILED, "mmap");
+    memcpy(memory, bytes, SIZE);
+    if (is_synced)
+        demand(msync(memory, SIZE, MS_SYNC) == 0, "msync");
+    sync_file(file);
+}
+
+static void by_rename(void)
+{
+    int file = make("new", 0);
+    put(file, bytes, SIZE, 0);
+    sync_file(file);
+    demand(rename("new", "data") == 0, "rename");
+}
+
+static void by_link(void)
+{
+    int file = make("new", 0);
+    put(file, bytes, SIZE, 0);
+    sync_file(file);
+    demand(link("new", "data") == 0 && unlink("new") == 0, "link");
+}
+
+static void by_symbolic_link(void)
+{
+    int file = make("new", 0);
+    put(file, bytes, SIZE, 0);
+    sync_file(file);
+    demand(symlink("new", "data") == 0, "symlink");
+}
+
+/* A file of another folder, which is removed then. */
+static void by_folder(void)
+{
+    demand(mkdir("folder", 0700) == 0, "mkdir");
+    int file = make("folder/new", 0);
+    put(file, bytes, SIZE, 0);
+    sync_file(file);
+    demand(rename("folder/new", "data") == 0 && rmdir("folder") == 0, "rename, rmdir");
+}
+
+static void by_exchange(void)
+{
+    int file = make("new", 0);
+    put(make("data", 0), "old", 3, 0);
+    put(file, bytes, SIZE, 0);
+    sync_file(file);
+    demand(syscall(SYS_renameat2, AT_FDCWD, "new", AT_FDCWD, "data", 2) == 0 && unlink("new") == 0, "renameat2");
+}
+
+/* That a range is on its way to the disk makes nothing safe. */
+static void by_range(void)
+{
+    int file = make("data", 0);
+    put(file, bytes, SIZE, 0);
+    demand(sync_file_range(file, 0, SIZE, SYNC_FILE_RANGE_WAIT_BEFORE | SYNC_FILE_RANGE_WRITE | SYNC_FILE_RANGE_WAIT_AFTER) == 0, "sync_file_range");
+    sync_file(file);
+}
+
+static void by_nameless(void)
+{
+    char name[40];
+    int file = open(".", O_TMPFILE | O_RDWR, 0600);
+    put(file, bytes, SIZE, 0);
+    sync_file(file);
+    snprintf(name, sizeof name, "/proc/self/fd/%d", file);
+    demand(linkat(AT_FDCWD, name, AT_FDCWD, "data", AT_SYMLINK_FOLLOW) == 0, "linkat");
+}
+
+static void by_child(void)
+{
+    if (fork() == 0) {
+        by_write();
+        _exit(0);
+    }
+    int status;
+    demand(wait(&status) > 0 && status == 0, "a child");
+}
+
+static void *write_part(void *part)
+{
+    int file = open("data", O_RDWR);
+    put(file, bytes, SIZE / 4, *(int *)part * (SIZE / 4));
+    sync_file(file);
+    return part;
+}
+
+static void by_threads(void)
+{
+    static int parts[4] = {0, 1, 2, 3};
+    pthread_t threads[4];
+    close(make("data", 0));
+    for (int i = 0; i < 4; i++)
+        demand(pthread_create(&threads[i], NULL, write_part, &parts[i]) == 0, "a thread");
+    for (int i = 0; i < 4; i++)
+        pthread_join(threads[i], NULL);
+}
+
+static void by_inline(void)
+{
+    int file = make("data", 0);
+    long result;
+    __asm__ volatile("syscall" : "=a"(result) : "a"((long)SYS_write), "D"((long)file), "S"(bytes), "d"((long)SIZE) : "rcx", "r11", "memory");
+    demand(result == SIZE, "a call of its own");
+    sync_file(file);
+}
+
+static void by_whole_sync(void)
+{
+    put(make("data", 0), bytes, SIZE, 0);
+    if (is_synced)
+        sync();
+}
+
+static void by_disk_sync(void)
+{
+    int file = make("data", 0);
+    put(file, bytes, SIZE, 0);
+    if (is_synced)
+        demand(syncfs(file) == 0, "syncfs");
+}
+
+static void by_splice(void)
+{
+    int file = make("data", 0), pipes[2];
+    demand(pipe(pipes) == 0 && write(pipes[1], bytes, SIZE) == SIZE, "a pipe");
+    demand(splice(pipes[0], NULL, file, NULL, SIZE, 0) == SIZE, "splice");
+    sync_file(file);
+}
+
+/* Memory that nobody sees written, since the process is killed: the comparison at the end tells of it. */
+static void run_killed(void)
+{
+    int file = make("data", 0);
+    demand(ftruncate(file, SIZE) == 0, "ftruncate");
+    char *memory = mmap(NULL, SIZE, PROT_READ | PROT_WRITE, MAP_SHARED, file, 0);
+    demand(memory != MAP_FAILED, "mmap");
+    memcpy(memory, bytes, SIZE);
+    kill(getpid(), SIGKILL);
+}
+
+static const struct {
+    const char *name;
+    void (*write)(void);
+} ways[] = {
+    {"write", by_write}, {"creat", by_creat}, {"writev", by_vectors}, {"pwritev2", by_flags}, {"dsync", by_synced_file},
+    {"osync", by_wholly_synced_file}, {"direct", by_direct}, {"append", by_append}, {"stream", by_stream}, {"cut", by_cut},
+    {"length", by_length}, {"room", by_room}, {"copy", by_copy}, {"sendfile", by_sendfile}, {"memory", by_memory},
+    {"rename", by_rename}, {"link", by_link}, {"nameless", by_nameless}, {"symlink", by_symbolic_link},
+    {"folder", by_folder}, {"exchange", by_exchange}, {"range", by_range}, {"child", by_child}, {"threads", by_threads}, {"inline", by_inline},
+    {"sync", by_whole_sync}, {"syncfs", by_disk_sync}, {"splice", by_splice},
+};
+enum { WAYS = sizeof ways / sizeof *ways };
+
+/* A sector is written over, and is to be the old or the new one. */
+static void run_unit(void)
+{
+    int file = make("data", 0);
+    put(file, bytes, SECTOR, 0);
+    sync_file(file);
+    sync_folder();
+    puts("begun");
+    fflush(stdout);
+    memset(bytes, 'y', SECTOR);
+    put(file, bytes, SECTOR, 0);
+    sync_file(file);
+}
+
+/* A file is replaced by a rename, without a sync of the new one: the old or the new is to be there, and never an empty one. */
+static void run_replace(void)
+{
+    int file = make("data", 0);
+    put(file, bytes, SECTOR, 0);
+    sync_file(file);
+    sync_folder();
+    puts("begun");
+    fflush(stdout);
+    memset(bytes, 'y', SECTOR);
+    put(make("new", 0), bytes, SECTOR, 0);
+    demand(rename("new", "data") == 0, "rename");
+}
+
+/* An fsync that fails is called again, and then believed. */
+static void run_retry(void)
+{
+    int file = make("data", 0);
+    sync_folder();
+    put(file, bytes, SIZE, 0);
+    if (fsync(file) < 0 && fsync(file) < 0)
+        _exit(0);
+    puts("safe");
+}
+
+static bool is_printed(const char *word)
+{
+    char line[100];
+    while (fgets(line, sizeof line, stdin))
+        if (strncmp(line, word, strlen(word)) == 0)
+            return true;
+    return false;
+}
+
+/* Whether `data` has so many bytes, all of them one of these letters. */
+static bool is_whole(size_t size, const char *letters)
+{
+    static char found[2 * SIZE];
+    int file = open("data", O_RDONLY);
+    ssize_t length = file < 0 ? -1 : read(file, found, sizeof found);
+    if (length != (ssize_t)size || !strchr(letters, found[0]))
+        return false;
+    for (size_t i = 1; i < size; i++)
+        if (found[i] != found[0])
+            return false;
+    return true;
+}
+
+static int check(const char *what)
+{
+    bool is_half = what && (strcmp(what, "unit") == 0 || strcmp(what, "replace") == 0);
+    if (is_half ? !is_printed("begun") || is_whole(SECTOR, "xy") : !is_printed("safe") || is_whole(SIZE, "x"))
+        return 0;
+    puts("data isn't whole");
+    return 1;
+}
+
+static int run(const char *name)
+{
+    if (strcmp(name, "unit") == 0)
+        return run_unit(), 0;
+    if (strcmp(name, "replace") == 0)
+        return run_replace(), 0;
+    if (strcmp(name, "retry") == 0)
+        return run_retry(), 0;
+    if (strcmp(name, "killed") == 0)
+        return run_killed(), 0;
+    for (size_t i = 0; i < WAYS; i++)
+        if (strcmp(ways[i].name, name) == 0) {
+            ways[i].write();
+            sync_folder();
+            puts("safe");
+            return 0;
+        }
+    return 2;
+}
+
+int main(int argc, char **argv)
+{
+    memset(bytes, 'x', sizeof bytes);
+    is_synced = argc < 4;
+    if (argc > 1 && strcmp(argv[1], "list") == 0) {
+        for (size_t i = 0; i < WAYS; i++)
+            puts(ways[i].name);
+        return 0;
+    }
+    if (argc > 1 && strcmp(argv[1], "check") == 0)
+        return check(argc > 2 ? argv[2] : NULL);
+    return argc > 2 ? run(argv[2]) : 2;
+}
