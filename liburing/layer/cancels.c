@@ -1,6 +1,7 @@
-/* The core knows one cancel, by user data. All others are no-ops to it, and looked for here: a request that runs, or that
- * the core would let start, is marked, and ends with -125 when it is next gone on with. As in the kernel, one that waits
- * behind a link or a drain isn't found.
+/* The core knows one cancel, by user data, which fails if it finds its request running. All others are no-ops to it, and so
+ * is one on whose success a link or a skipped completion stands. Those are looked for here: a request that runs, or that the
+ * core would let start, is marked, and ends with -125 when it is next gone on with. As in the kernel, one that waits behind a
+ * link or a drain isn't found.
  */
 #define _GNU_SOURCE
 #include "cancels.h"
@@ -28,7 +29,8 @@ bool is_well_formed_cancel(const struct io_uring_sqe *entry)
 
 bool is_plain_cancel(const struct io_uring_sqe *entry)
 {
-    return entry->opcode == IORING_OP_ASYNC_CANCEL && !entry->cancel_flags;
+    bool is_relied_on = entry->flags & (IOSQE_IO_LINK | IOSQE_IO_HARDLINK | IOSQE_CQE_SKIP_SUCCESS);
+    return entry->opcode == IORING_OP_ASYNC_CANCEL && !entry->cancel_flags && !is_relied_on;
 }
 
 bool is_well_formed_timeout_removal(const struct io_uring_sqe *entry)

@@ -10,7 +10,7 @@ struct ring;
 bool is_well_formed_cancel(const struct io_uring_sqe *entry);
 bool is_well_formed_timeout_removal(const struct io_uring_sqe *entry);
 
-/* The core's own cancel: it has no flags. */
+/* The core's own cancel: it has no flags, and nothing stands on its success. */
 bool is_plain_cancel(const struct io_uring_sqe *entry);
 
 /* Whether a running request ends if it is cancelled: else it doesn't wait for anything. */

@@ -3,6 +3,7 @@
  */
 #define _GNU_SOURCE
 #include "copying.h"
+#include "process.h"
 
 #include <errno.h>
 #include <limits.h>
@@ -26,7 +27,7 @@ static int judge(ssize_t copied, size_t size)
 int copy_in(void *to, uint64_t from, size_t size)
 {
     struct iovec here = {to, size}, there = {(void *)(uintptr_t)from, size};
-    int result = judge(process_vm_readv(getpid(), &here, 1, &there, 1, 0), size);
+    int result = judge(process_vm_readv(this_process(), &here, 1, &there, 1, 0), size);
     if (result <= 0)
         return result;
     memcpy(to, there.iov_base, size);
@@ -36,7 +37,7 @@ int copy_in(void *to, uint64_t from, size_t size)
 int copy_out(uint64_t to, const void *from, size_t size)
 {
     struct iovec here = {(void *)(uintptr_t)from, size}, there = {(void *)(uintptr_t)to, size};
-    int result = judge(process_vm_writev(getpid(), &here, 1, &there, 1, 0), size);
+    int result = judge(process_vm_writev(this_process(), &here, 1, &there, 1, 0), size);
     if (result <= 0)
         return result;
     memcpy(there.iov_base, from, size);

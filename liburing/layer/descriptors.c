@@ -5,6 +5,7 @@
 #define _GNU_SOURCE
 #include "descriptors.h"
 #include "policy.h"
+#include "process.h"
 #include "readiness.h"
 #include "sleep.h"
 
@@ -42,7 +43,7 @@ __attribute__((constructor)) static void watch_forks(void)
 
 static bool is_own(const struct ring *ring)
 {
-    return ring->process == getpid();
+    return ring->process == this_process();
 }
 
 /* Whether a descriptor is open on this ring. Memory is known by its inode. */

@@ -145,16 +145,16 @@ static bool is_well_formed(const struct io_uring_sqe *entry)
     }
 }
 
-/* A linked timeout wants a request before it that it limits. */
+/* A linked timeout wants a request before it that it limits: the kernel looks for one once it has read the time. */
 static bool has_its_place(const struct io_uring_sqe *entry, const struct request *before)
 {
     bool is_behind = before && before->entry.flags & (IOSQE_IO_LINK | IOSQE_IO_HARDLINK) && before->entry.opcode != IORING_OP_LINK_TIMEOUT;
     return entry->opcode != IORING_OP_LINK_TIMEOUT || is_behind;
 }
 
-enum mapping mapping_of(const struct io_uring_sqe *entry, const struct request *before)
+enum mapping mapping_of(const struct io_uring_sqe *entry)
 {
-    if (entry->flags & REFUSED_FLAGS || entry->personality || !is_served_code(entry->opcode) || !is_well_formed(entry) || !has_its_place(entry, before))
+    if (entry->flags & REFUSED_FLAGS || entry->personality || !is_served_code(entry->opcode) || !is_well_formed(entry))
         return REFUSED;
     return is_plain_cancel(entry) ? CANCEL : TOKEN;
 }
@@ -295,13 +295,15 @@ static int copy_of_token(struct request *request)
     }
 }
 
-int copy_behind(struct request *request)
+int copy_behind(struct request *request, const struct request *before)
 {
     if (request->mapping == CANCEL)
         return 0;
     int result = request->mapping == REFUSED ? -EINVAL : copy_wanted(request, copy_of_token(request));
     if (result == -ENOMEM)
         return result;
+    if (result == 0 && !has_its_place(&request->entry, before))
+        result = -EINVAL;
     if (result < 0)
         request->mapping = REFUSED;
     request->fault = result;

@@ -45,10 +45,7 @@ void post_extra(struct ring *ring, uint64_t user_data, int32_t res, uint32_t fla
 
 bool has_messages(struct ring *ring)
 {
-    pthread_mutex_lock(&ring->inbox.lock);
-    bool is_any = ring->inbox.first;
-    pthread_mutex_unlock(&ring->inbox.lock);
-    return is_any;
+    return __atomic_load_n(&ring->inbox.count, __ATOMIC_SEQ_CST) > 0;
 }
 
 static struct message *take_message(struct inbox *inbox)
@@ -59,6 +56,7 @@ static struct message *take_message(struct inbox *inbox)
         inbox->first = message->next;
         if (!inbox->first)
             inbox->last = &inbox->first;
+        __atomic_sub_fetch(&inbox->count, 1, __ATOMIC_SEQ_CST);
     }
     pthread_mutex_unlock(&inbox->lock);
     return message;
@@ -86,6 +84,7 @@ void put_message(struct inbox *inbox, struct message *message)
     pthread_mutex_lock(&inbox->lock);
     *inbox->last = message;
     inbox->last = &message->next;
+    __atomic_add_fetch(&inbox->count, 1, __ATOMIC_SEQ_CST);
     pthread_mutex_unlock(&inbox->lock);
 }
 
@@ -146,6 +145,7 @@ void make_inbox(struct inbox *inbox)
     pthread_mutex_init(&inbox->lock, NULL);
     inbox->first = NULL;
     inbox->last = &inbox->first;
+    inbox->count = 0;
 }
 
 void free_inbox(struct inbox *inbox)

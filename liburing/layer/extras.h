@@ -22,6 +22,7 @@ struct message {
 struct inbox {
     pthread_mutex_t lock;           /* the last lock that is taken */
     struct message *first, **last;
+    size_t count;                   /* how many: looked at without the lock */
 };
 
 /* Whether an extra completion can be posted now: no drain is outstanding, and there is memory. */

@@ -63,11 +63,13 @@ static bool has_offsets(const struct request *request)
 bool is_stream(const struct request *request)
 {
     struct stat status;
-    if (is_of_sockets(request->entry.opcode) || is_poll(request) || is_splice(request))
+    bool is_socket_call = is_of_sockets(request->entry.opcode);
+    if (is_poll(request) || is_splice(request))
         return true;
-    if (!is_transfer(request) || fstat(request->fd, &status) < 0)
+    if ((!is_transfer(request) && !is_socket_call) || fstat(request->fd, &status) < 0)
         return false;
-    return S_ISCHR(status.st_mode) || !has_offsets(request);
+    /* A call of sockets on anything else fails at once. */
+    return is_socket_call ? S_ISSOCK(status.st_mode) : S_ISCHR(status.st_mode) || !has_offsets(request);
 }
 
 bool goes_on(const struct request *request)
@@ -106,6 +108,12 @@ static bool is_selecting(const struct request *request)
     return request->entry.flags & IOSQE_BUFFER_SELECT;
 }
 
+bool lacks_buffer(struct ring *ring, const struct request *request)
+{
+    struct provided buffer;
+    return is_selecting(request) && !goes_on(request) && !find_provided(ring, request->entry.buf_group, &buffer);
+}
+
 struct pollfd poll_of(const struct request *request)
 {
     if (is_poll(request))
@@ -123,6 +131,8 @@ bool is_impatient(const struct request *request)
         return true;
     if (request->entry.opcode == IORING_OP_CONNECT)
         return !request->done;
+    if (has_message_flags(request->entry.opcode))
+        return request->entry.msg_flags & MSG_DONTWAIT;
     /* A splice looks for its faults before it waits. */
     if (is_splice(request))
         return !request->done;
@@ -292,7 +302,7 @@ bool can_have(const struct request *request, enum injection fault)
 }
 
 /* Carries out what takes a buffer: one is taken if the operation succeeds, and not if a socket has no more to give. */
-static int32_t call_with_buffer(struct ring *ring, struct request *request)
+static int32_t call_with_buffer(struct ring *ring, struct request *request, enum injection fault)
 {
     struct provided buffer;
     request->flags = 0;
@@ -302,6 +312,8 @@ static int32_t call_with_buffer(struct ring *ring, struct request *request)
     *request->vectors = (struct iovec){(void *)(uintptr_t)buffer.address, asked && asked < buffer.length ? asked : buffer.length};
     request->length = request->vectors->iov_len;
     request->done = 0;
+    if (fault == FAULT_SHORT)
+        shorten(request);
     int32_t res = call_or_wait(ring, request);
     if (res > 0 || (res == 0 && is_transfer(request))) {
         take_provided(ring, request->entry.buf_group);
@@ -329,9 +341,9 @@ int32_t carry_out(struct ring *ring, struct request *request, enum injection fau
         return -EIO;
     if (fault == FAULT_ENOSPC)
         return -ENOSPC;
-    if (fault == FAULT_SHORT)
+    if (fault == FAULT_SHORT && !is_selecting(request))
         shorten(request);
-    int32_t res = is_selecting(request) ? call_with_buffer(ring, request) : call_or_wait(ring, request);
+    int32_t res = is_selecting(request) ? call_with_buffer(ring, request, fault) : call_or_wait(ring, request);
     if (res == -EFBIG)
         take_back_signal();
     return res;
@@ -339,10 +351,11 @@ int32_t carry_out(struct ring *ring, struct request *request, enum injection fau
 
 bool is_success(const struct request *request, int32_t res)
 {
-    if (res == -ETIME)
-        return request->entry.opcode == IORING_OP_TIMEOUT && request->entry.timeout_flags & IORING_TIMEOUT_ETIME_SUCCESS;
+    /* The chain goes on behind a linked timeout, also if that has fired. */
     if (is_linked_timeout(request))
         return !request->is_cancelled;
+    if (res == -ETIME)
+        return request->entry.opcode == IORING_OP_TIMEOUT && request->entry.timeout_flags & IORING_TIMEOUT_ETIME_SUCCESS;
     if (is_of_sockets(request->entry.opcode))
         return is_socket_success(request, res);
     if (is_splice(request))

@@ -14,14 +14,15 @@ enum { WOULD_WAIT = -512 };
 /* Whether an operation is served at all, as a probe asks. */
 bool is_served_code(uint8_t code);
 
-/* What the core is to be told of an entry; `before` is the one before it in its call, or NULL. */
-enum mapping mapping_of(const struct io_uring_sqe *entry, const struct request *before);
+/* What the core is to be told of an entry. */
+enum mapping mapping_of(const struct io_uring_sqe *entry);
 
 /* Whether an operation may take a provided buffer. */
 bool can_select(const struct io_uring_sqe *entry);
 
-/* Copies what the entry points to. An entry that points to what can't be read is refused. Returns 0 or -ENOMEM. */
-int copy_behind(struct request *request);
+/* Copies what the entry points to; `before` is the request before it in its call, or NULL. An entry that points to what can't
+ * be read is refused. Returns 0 or -ENOMEM. */
+int copy_behind(struct request *request, const struct request *before);
 
 /* Finds out what a request is carried out on: its file, its buffer, and whether it may have to wait. */
 void assign(struct ring *ring, struct request *request);
@@ -40,6 +41,9 @@ bool goes_on_behind(const struct request *request, int32_t res);
 
 /* Whether it doesn't wait whatever its descriptor is: it is asked not to, or for nothing. */
 bool is_impatient(const struct request *request);
+
+/* Whether it is to take a provided buffer and there is none: it ends so, whatever its descriptor has. One that goes on waits. */
+bool lacks_buffer(struct ring *ring, const struct request *request);
 
 /* Whether one that may have to wait wouldn't wait now. */
 bool is_ready(const struct request *request);

@@ -40,7 +40,7 @@ static bool can_finish(struct ring *ring, struct request *request)
         return has_counted(ring, request);
     if (goes_on(request) && !can_post_extra(ring))
         return false;
-    return !request->is_stream || is_found_ready(ring, request);
+    return !request->is_stream || lacks_buffer(ring, request) || is_found_ready(ring, request);
 }
 
 /* The core isn't to be asked for a request again before another has ended. */
@@ -96,7 +96,7 @@ static void end_of(struct ring *ring, struct request *request, int32_t res, int3
     ring->has_changed = true;
     ring->running -= request->state == RUNS;
     look_again_behind(ring, request);
-    ring->drains -= (request->entry.flags & IOSQE_IO_DRAIN) != 0;
+    ring->drains -= request->is_draining;
     ring->counting -= request->enough > 0;
     end_request(&ring->requests, request);
     forget_refusals(ring, told == TOLD_SUCCESS && !is_cancel);
@@ -118,11 +118,10 @@ static bool cancel_running(struct ring *ring, uint64_t target)
 }
 
 /* What the application sees of a cancel that found its request running and waiting: a success, as the kernel's. The core
- * calls it a failure: where a link or a skipped success stands on that, it is seen as one. */
+ * calls it a failure. */
 static int32_t shown_of_cancel(struct ring *ring, const struct request *cancel, int32_t res)
 {
-    bool is_found = res == -EALREADY && cancel_running(ring, cancel->entry.addr);
-    return is_found && !(cancel->entry.flags & (IOSQE_IO_LINK | IOSQE_IO_HARDLINK | IOSQE_CQE_SKIP_SUCCESS)) ? 0 : res;
+    return res == -EALREADY && cancel_running(ring, cancel->entry.addr) ? 0 : res;
 }
 
 /* What the application sees of a request that the core ends without letting it start. */
@@ -163,7 +162,10 @@ static bool can_make_ready(const struct request *request)
 static enum outcome finish_running(struct ring *ring, struct request *request)
 {
     int32_t res = -ECANCELED;
-    if (!request->is_cancelled) {
+    if (request->is_cancelled) {
+        /* (one that goes on has those of its last event) */
+        request->flags = 0;
+    } else {
         /* Other threads are to see what has ended, however long this one takes. */
         if (request->entry.opcode != IORING_OP_NOP)
             show_ends(ring);

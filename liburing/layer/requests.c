@@ -44,8 +44,12 @@ void add_request(struct requests *requests, struct request *request)
     requests->rows[requests->count++] = request;
 }
 
+/* Numbers rise: if none is missing before it, a request's place is how far its number is from the first. */
 size_t place_of(const struct requests *requests, uint64_t number)
 {
+    uint64_t distance = requests->count > 0 ? number - requests->rows[0]->number : 0;
+    if (distance < requests->count && requests->rows[distance]->number == number)
+        return (size_t)distance;
     size_t low = 0, high = requests->count;
     while (low < high) {
         size_t middle = low + (high - low) / 2;

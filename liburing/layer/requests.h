@@ -23,12 +23,13 @@ struct request {
     int32_t fault;                  /* of a refused entry: what it ends with */
     bool is_linked;                 /* a link puts it behind the one before it */
     uint64_t chain;                 /* the number of its chain's first member: its own, if it is loose */
+    bool is_draining;               /* a member of its chain drains, or it does: those behind wait until all of them have ended */
     struct file *file;              /* the registered file that it is carried out on, if it is one */
     int fd;                         /* the descriptor that it is carried out on */
     struct file *second_file;       /* of a splice: where it reads */
     int second_fd;
     struct buffer *buffer;          /* the registered buffer that it uses, or NULL */
-    bool is_assigned;               /* these are known: when it is accepted, or, behind a link or a drain, when it starts */
+    bool is_assigned;               /* these are known: when it is accepted, or, behind a link or beside a drain, when it starts */
     bool is_stream;                 /* it may have to wait for a descriptor: a transfer on what has no offset or on a device, a poll, a call of sockets */
     uint64_t wanted;                /* of one that takes a provided buffer: how many bytes at most, or 0 */
     uint64_t done;                  /* the bytes that a transfer of sockets has moved so far */

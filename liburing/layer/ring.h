@@ -49,7 +49,7 @@ struct ring {
     struct requests requests;           /* accepted and not ended */
     uint64_t moment;                    /* counts what can make a descriptor ready: within one, each is looked at once */
     size_t running;                     /* how many of them were started */
-    size_t drains;                      /* how many drain, */
+    size_t drains;                      /* how many are draining, */
     size_t counting;                    /* and how many are timeouts with a count that have started */
     size_t passed;                      /* at moment `passed_at` none of so many first requests can be finished */
     uint64_t passed_at;

@@ -9,6 +9,7 @@
 #include "groups.h"
 #include "injection.h"
 #include "policy.h"
+#include "process.h"
 #include "readiness.h"
 #include "ring.h"
 #include "server.h"
@@ -137,7 +138,7 @@ static int make_ring(struct ring **made, uint32_t entries, struct io_uring_param
         free_ring(ring);
         return result;
     }
-    ring->process = getpid();
+    ring->process = this_process();
     start_clock(ring);
     ring->flags = params->flags;
     note_issuer(ring);

@@ -47,6 +47,11 @@ bool is_of_sockets(uint8_t code)
     }
 }
 
+bool has_message_flags(uint8_t code)
+{
+    return is_of_sockets(code) && code != IORING_OP_ACCEPT && code != IORING_OP_CONNECT;
+}
+
 bool is_zero_copy(const struct request *request)
 {
     return request->entry.opcode == IORING_OP_SEND_ZC || request->entry.opcode == IORING_OP_SENDMSG_ZC;
@@ -247,7 +252,8 @@ static int32_t move_all(struct request *request)
     int type = 0;
     socklen_t size = sizeof type;
     bool is_stream = getsockopt(request->fd, SOL_SOCKET, SO_TYPE, &type, &size) == 0 && (type == SOCK_STREAM || type == SOCK_SEQPACKET);
-    return is_whole && is_stream && res > 0 && request->done < request->length ? WOULD_WAIT : (int32_t)request->done;
+    bool may_wait = !(request->entry.msg_flags & MSG_DONTWAIT);
+    return is_whole && may_wait && is_stream && res > 0 && request->done < request->length ? WOULD_WAIT : (int32_t)request->done;
 }
 
 /* One that goes on: sizes and flags stand in the buffer, and behind them the address, the control data and the bytes. */
@@ -282,7 +288,7 @@ static int32_t accept_one_socket(struct ring *ring, const struct request *reques
 {
     const struct io_uring_sqe *entry = &request->entry;
     struct pollfd at = poll_of(request);
-    if (poll(&at, 1, 0) == 0)
+    if (request->is_stream && poll(&at, 1, 0) == 0)
         return is_not_to_wait(request) ? -EAGAIN : WOULD_WAIT;
     int fd = accept4(request->fd, (struct sockaddr *)(uintptr_t)entry->addr, (socklen_t *)(uintptr_t)entry->addr2, (int)entry->accept_flags);
     if (fd < 0)

@@ -10,6 +10,9 @@ struct ring;
 bool is_of_sockets(uint8_t code);
 short events_of_socket(const struct request *request);
 
+/* Whether its entry has flags of a message: one of them asks it not to wait. */
+bool has_message_flags(uint8_t code);
+
 /* What the entry points to. Returns 0, -EFAULT, -EINVAL or -ENOMEM. */
 int copy_of_socket(struct request *request);
 

@@ -30,7 +30,7 @@ static struct request *read_entry(struct ring *ring, uint32_t slot)
     request->entry = *entry_at(&ring->memory, slot);
     request->token = request->entry.user_data;
     request->call = ring->call_number;
-    request->mapping = mapping_of(&request->entry, ring->staged.count > 0 ? ring->staged.rows[ring->staged.count - 1] : NULL);
+    request->mapping = mapping_of(&request->entry);
     int32_t fault = strict_fault(ring, &request->entry);
     if (fault < 0)
         refuse_entry(request, fault);
@@ -38,7 +38,8 @@ static struct request *read_entry(struct ring *ring, uint32_t slot)
         refuse_entry(request, -EACCES);
     else if (request->entry.flags & IOSQE_BUFFER_SELECT && is_served_code(request->entry.opcode) && !can_select(&request->entry))
         refuse_entry(request, -EOPNOTSUPP);
-    if (request->fault < 0 || copy_behind(request) == 0)
+    const struct request *before = ring->staged.count > 0 ? ring->staged.rows[ring->staged.count - 1] : NULL;
+    if (request->fault < 0 || copy_behind(request, before) == 0)
         return request;
     free_request(request);
     return NULL;
@@ -95,10 +96,31 @@ static void accept_one(struct ring *ring, struct request *request, const struct 
     request->number = ring->accepted++;
     request->is_linked = before && before->entry.flags & (IOSQE_IO_LINK | IOSQE_IO_HARDLINK);
     request->chain = request->is_linked ? before->chain : request->number;
-    if (!request->is_linked && !(request->entry.flags & IOSQE_IO_DRAIN))
-        assign(ring, request);
-    ring->drains += (request->entry.flags & IOSQE_IO_DRAIN) != 0;
     add_request(&ring->requests, request);
+}
+
+/* A drain makes its whole chain drain. */
+static void mark_draining(struct ring *ring, size_t first, size_t end)
+{
+    bool is_draining = false;
+    for (size_t i = first; i < end; i++)
+        is_draining |= (ring->requests.rows[i]->entry.flags & IOSQE_IO_DRAIN) != 0;
+    for (size_t i = first; i < end && is_draining; i++)
+        ring->requests.rows[i]->is_draining = true;
+    ring->drains += is_draining ? end - first : 0;
+}
+
+/* Of the requests from a row on, which are new: which drain, and on what those are carried out that wait for no other. */
+static void note_chains(struct ring *ring, size_t first)
+{
+    struct request **rows = ring->requests.rows;
+    for (size_t end; first < ring->requests.count; first = end) {
+        for (end = first + 1; end < ring->requests.count && rows[end]->chain == rows[first]->chain;)
+            end++;
+        mark_draining(ring, first, end);
+        if (ring->drains == 0)
+            assign(ring, rows[first]);
+    }
 }
 
 /* Has the core take what is staged. */
@@ -111,6 +133,7 @@ static int take_staged(struct ring *ring)
     for (uint32_t i = 0; i < count; i++)
         accept_one(ring, ring->staged.rows[i], i > 0 ? ring->staged.rows[i - 1] : NULL);
     drop_requests(&ring->staged, count);
+    note_chains(ring, ring->requests.count - (size_t)(ring->accepted - accepted));
     ring->has_changed = true;
     struct wulgach_answer answer = end_call(ring);
     demand(answer.word == ring->accepted - accepted, "the core accepts another number of requests");

@@ -47,12 +47,21 @@ static void tell_of_setup(const struct io_uring_params *params, long result)
         say("a ring with SQPOLL was asked for: its entries are taken in calls alone, and a program that only looks at memory waits for ever", "");
 }
 
+/* A filter of the program's own stands beside this one. */
+static long set_filter(long call, const greg_t *registers)
+{
+    if (call == SYS_prctl || registers[REG_RDI] != SECCOMP_GET_ACTION_AVAIL)
+        say("the program sets a filter of its own for system calls: what that refuses the layer, of reads, writes and the like, fails or ends the program", "");
+    return syscall(call, (long)registers[REG_RDI], (long)registers[REG_RSI], (long)registers[REG_RDX], (long)registers[REG_R10], (long)registers[REG_R8], ASKS_KERNEL);
+}
+
 /* Puts the result of a trapped call where the call would have left it. */
 static void serve(ucontext_t *at, long call)
 {
     greg_t *registers = at->uc_mcontext.gregs;
     long first = registers[REG_RDI], second = registers[REG_RSI];
-    long result = wulgach_syscall(call, first, second, (long)registers[REG_RDX], (long)registers[REG_R10], (long)registers[REG_R8], (long)registers[REG_R9]);
+    bool is_filter = call == SYS_seccomp || call == SYS_prctl;
+    long result = is_filter ? set_filter(call, registers) : wulgach_syscall(call, first, second, (long)registers[REG_RDX], (long)registers[REG_R10], (long)registers[REG_R8], (long)registers[REG_R9]);
     if (result == -1)
         result = -errno;
     if (call == SYS_io_uring_setup)
@@ -90,33 +99,37 @@ static bool catch_trap(void)
     return catch_for_good(answer);
 }
 
-/* The three calls are trapped, and what would take SIGSYS away succeeds and does nothing: it can't be trapped, since a child
+/* The three calls are trapped, and those that set a filter; and what would take SIGSYS away succeeds and does nothing: it can't be trapped, since a child
  * that the C library spawns does it with all signals blocked. A call with the 6th argument that none of them uses is our own,
- * to the kernel: SIGSYS is caught so, and a strict layer asks the kernel for set-ups and its probe. */
+ * to the kernel: SIGSYS is caught so, a strict layer asks the kernel for set-ups and its probe, and the program's filter is set. */
 static bool set_trap(void)
 {
     const uint32_t x86_64 = 0xc000003e;
     struct sock_filter lines[] = {
         /* 0 */ BPF_STMT(BPF_LD | BPF_W | BPF_ABS, offsetof(struct seccomp_data, arch)),
-        /* 1 */ BPF_JUMP(BPF_JMP | BPF_JEQ | BPF_K, x86_64, 0, 17),
+        /* 1 */ BPF_JUMP(BPF_JMP | BPF_JEQ | BPF_K, x86_64, 0, 21),
         /* 2 */ BPF_STMT(BPF_LD | BPF_W | BPF_ABS, offsetof(struct seccomp_data, nr)),
-        /* 3 */ BPF_JUMP(BPF_JMP | BPF_JEQ | BPF_K, SYS_io_uring_enter, 13, 0),
-        /* 4 */ BPF_JUMP(BPF_JMP | BPF_JEQ | BPF_K, SYS_io_uring_setup, 8, 0),
-        /* 5 */ BPF_JUMP(BPF_JMP | BPF_JEQ | BPF_K, SYS_io_uring_register, 7, 0),
-        /* 6 */ BPF_JUMP(BPF_JMP | BPF_JEQ | BPF_K, SYS_rt_sigaction, 0, 12),
-        /* 7 */ BPF_STMT(BPF_LD | BPF_W | BPF_ABS, offsetof(struct seccomp_data, args[0])),
-        /* 8 */ BPF_JUMP(BPF_JMP | BPF_JEQ | BPF_K, SIGSYS, 0, 10),
-        /* 9 */ BPF_STMT(BPF_LD | BPF_W | BPF_ABS, offsetof(struct seccomp_data, args[5])),
-        /* 10 */ BPF_JUMP(BPF_JMP | BPF_JEQ | BPF_K, (uint32_t)ASKS_KERNEL, 0, 7),
-        /* 11 */ BPF_STMT(BPF_LD | BPF_W | BPF_ABS, offsetof(struct seccomp_data, args[5]) + 4),
-        /* 12 */ BPF_JUMP(BPF_JMP | BPF_JEQ | BPF_K, (uint32_t)(ASKS_KERNEL >> 32), 6, 5),
-        /* 13 */ BPF_STMT(BPF_LD | BPF_W | BPF_ABS, offsetof(struct seccomp_data, args[5])),
-        /* 14 */ BPF_JUMP(BPF_JMP | BPF_JEQ | BPF_K, (uint32_t)ASKS_KERNEL, 0, 2),
-        /* 15 */ BPF_STMT(BPF_LD | BPF_W | BPF_ABS, offsetof(struct seccomp_data, args[5]) + 4),
-        /* 16 */ BPF_JUMP(BPF_JMP | BPF_JEQ | BPF_K, (uint32_t)(ASKS_KERNEL >> 32), 2, 0),
-        /* 17 */ BPF_STMT(BPF_RET | BPF_K, SECCOMP_RET_TRAP),
-        /* 18 */ BPF_STMT(BPF_RET | BPF_K, SECCOMP_RET_ERRNO),
-        /* 19 */ BPF_STMT(BPF_RET | BPF_K, SECCOMP_RET_ALLOW),
+        /* 3 */ BPF_JUMP(BPF_JMP | BPF_JEQ | BPF_K, SYS_io_uring_enter, 17, 0),
+        /* 4 */ BPF_JUMP(BPF_JMP | BPF_JEQ | BPF_K, SYS_io_uring_setup, 12, 0),
+        /* 5 */ BPF_JUMP(BPF_JMP | BPF_JEQ | BPF_K, SYS_io_uring_register, 11, 0),
+        /* 6 */ BPF_JUMP(BPF_JMP | BPF_JEQ | BPF_K, SYS_seccomp, 10, 0),
+        /* 7 */ BPF_JUMP(BPF_JMP | BPF_JEQ | BPF_K, SYS_prctl, 7, 0),
+        /* 8 */ BPF_JUMP(BPF_JMP | BPF_JEQ | BPF_K, SYS_rt_sigaction, 0, 14),
+        /* 9 */ BPF_STMT(BPF_LD | BPF_W | BPF_ABS, offsetof(struct seccomp_data, args[0])),
+        /* 10 */ BPF_JUMP(BPF_JMP | BPF_JEQ | BPF_K, SIGSYS, 0, 12),
+        /* 11 */ BPF_STMT(BPF_LD | BPF_W | BPF_ABS, offsetof(struct seccomp_data, args[5])),
+        /* 12 */ BPF_JUMP(BPF_JMP | BPF_JEQ | BPF_K, (uint32_t)ASKS_KERNEL, 0, 9),
+        /* 13 */ BPF_STMT(BPF_LD | BPF_W | BPF_ABS, offsetof(struct seccomp_data, args[5]) + 4),
+        /* 14 */ BPF_JUMP(BPF_JMP | BPF_JEQ | BPF_K, (uint32_t)(ASKS_KERNEL >> 32), 8, 7),
+        /* 15 */ BPF_STMT(BPF_LD | BPF_W | BPF_ABS, offsetof(struct seccomp_data, args[0])),
+        /* 16 */ BPF_JUMP(BPF_JMP | BPF_JEQ | BPF_K, PR_SET_SECCOMP, 0, 6),
+        /* 17 */ BPF_STMT(BPF_LD | BPF_W | BPF_ABS, offsetof(struct seccomp_data, args[5])),
+        /* 18 */ BPF_JUMP(BPF_JMP | BPF_JEQ | BPF_K, (uint32_t)ASKS_KERNEL, 0, 2),
+        /* 19 */ BPF_STMT(BPF_LD | BPF_W | BPF_ABS, offsetof(struct seccomp_data, args[5]) + 4),
+        /* 20 */ BPF_JUMP(BPF_JMP | BPF_JEQ | BPF_K, (uint32_t)(ASKS_KERNEL >> 32), 2, 0),
+        /* 21 */ BPF_STMT(BPF_RET | BPF_K, SECCOMP_RET_TRAP),
+        /* 22 */ BPF_STMT(BPF_RET | BPF_K, SECCOMP_RET_ERRNO),
+        /* 23 */ BPF_STMT(BPF_RET | BPF_K, SECCOMP_RET_ALLOW),
     };
     struct sock_fprog program = {.len = sizeof lines / sizeof *lines, .filter = lines};
     return prctl(PR_SET_NO_NEW_PRIVS, 1, 0, 0, 0) == 0 && prctl(PR_SET_SECCOMP, SECCOMP_MODE_FILTER, &program) == 0;

@@ -321,7 +321,7 @@ static void test_waiting(void)
     check(enter(&ring, 2, 0, 0) == 2);
     reap_all(&ring, 3, results);
     check(results[0] == -ECANCELED && results[1] == 0 && results[2] == -ENOENT);
-    /* To a link it is a failure. */
+    /* To a link it is a success. */
     put_transfer(&ring, IORING_OP_READ, 0, 0, ends[0], text, 4, 0);
     check(enter(&ring, 1, 0, 0) == 1);
     check(enter_for(&ring, 1, 1000) == -ETIME);
@@ -329,7 +329,7 @@ static void test_waiting(void)
     put(&ring, IORING_OP_NOP, 2, 0);
     check(enter(&ring, 2, 0, 0) == 2);
     reap_all(&ring, 3, results);
-    check(results[0] == -ECANCELED && results[1] == -EALREADY && results[2] == -ECANCELED);
+    check(results[0] == -ECANCELED && results[1] == 0 && results[2] == 0);
     close(ends[0]);
     close(ends[1]);
     close_ring(&ring);

@@ -1,13 +1,15 @@
 /* A program that is linked with nothing of ours and calls io_uring by the processor's own instruction. Run by uring-run
  * its rings are the layer's, which it sees by their descriptors: those are memory.
  *
- *   trapped nop | blocked | threads | fork | vfork | exec | list | spawn | shell | sqpoll | static PROGRAM
+ *   trapped nop | blocked | threads | fork | vfork | exec | list | spawn | shell | sqpoll | filter | static PROGRAM
  *
  * Status 0: all was as it is to be. Else the number of the line that wasn't.
  */
 #define _GNU_SOURCE
 #include <errno.h>
+#include <linux/filter.h>
 #include <linux/io_uring.h>
+#include <linux/seccomp.h>
 #include <pthread.h>
 #include <signal.h>
 #include <spawn.h>
@@ -16,6 +18,7 @@
 #include <stdlib.h>
 #include <string.h>
 #include <sys/mman.h>
+#include <sys/prctl.h>
 #include <sys/syscall.h>
 #include <sys/wait.h>
 #include <unistd.h>
@@ -161,6 +164,18 @@ static void sqpoll(void)
     WANT(call(SYS_io_uring_setup, 4, (long)&params, 0, 0, 0, 0) >= 0);
 }
 
+/* A filter of its own, by either call, which allows everything. */
+static void filtered(void)
+{
+    struct sock_filter allow = BPF_STMT(BPF_RET | BPF_K, SECCOMP_RET_ALLOW);
+    struct sock_fprog program = {.len = 1, .filter = &allow};
+    WANT(prctl(PR_SET_NO_NEW_PRIVS, 1, 0, 0, 0) == 0);
+    WANT(prctl(PR_SET_SECCOMP, SECCOMP_MODE_FILTER, &program) == 0);
+    WANT(syscall(SYS_seccomp, SECCOMP_SET_MODE_FILTER, 0, &program) == 0);
+    WANT(syscall(SYS_seccomp, SECCOMP_SET_MODE_FILTER, 99, &program) == -1 && errno == EINVAL);
+    no_op();
+}
+
 int main(int argc, char **argv)
 {
     static char self[4096];
@@ -186,6 +201,8 @@ int main(int argc, char **argv)
         shell(self);
     else if (strcmp(name, "sqpoll") == 0)
         sqpoll();
+    else if (strcmp(name, "filter") == 0)
+        filtered();
     else if (strcmp(name, "static") == 0 && argc > 2)
         execl(argv[2], argv[2], "nop", NULL);
     else

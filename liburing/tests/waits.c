@@ -108,6 +108,14 @@ static void test_cancels(void)
     put_plain(&ring, IORING_OP_POLL_ADD, 1, ends[0])->poll32_events = POLLIN;
     check(enter(&ring, 1, 0, 0) == 1);
     check(enter_for(&ring, 1, 1000) == -ETIME);
+    /* One that skips its success posts nothing. */
+    put(&ring, IORING_OP_ASYNC_CANCEL, 3, IOSQE_CQE_SKIP_SUCCESS)->addr = 1;
+    check(enter(&ring, 1, 0, 0) == 1);
+    reap_all(&ring, 1, results);
+    check(results[1] == -ECANCELED && enter_for(&ring, 1, 1000) == -ETIME);
+    put_plain(&ring, IORING_OP_POLL_ADD, 1, ends[0])->poll32_events = POLLIN;
+    check(enter(&ring, 1, 0, 0) == 1);
+    check(enter_for(&ring, 1, 1000) == -ETIME);
     struct io_uring_sync_cancel_reg now = {.flags = IORING_ASYNC_CANCEL_ANY, .timeout = {-1, -1}};
     check(register_at(ring.fd, IORING_REGISTER_SYNC_CANCEL, &now, 1) == 1);
     check(count_ready(&ring) == 1 && reap(&ring).res == -ECANCELED);
@@ -193,6 +201,24 @@ static void test_sockets(void)
 }
 
 /* A receive that goes on takes a buffer for each piece, and ends with the stream. */
+/* The last completion of one that is cancelled has no buffer. */
+static void want_cancelled(struct ring *ring, const int *ends, void *memory)
+{
+    struct io_uring_sqe *provide = put_plain(ring, IORING_OP_PROVIDE_BUFFERS, 0, 1);
+    provide->addr = (uintptr_t)memory;
+    provide->len = 16;
+    check(result_of_one(ring, 1) == 0);
+    struct io_uring_sqe *entry = put(ring, IORING_OP_RECV, 1, IOSQE_BUFFER_SELECT);
+    entry->fd = ends[0];
+    entry->ioprio = IORING_RECV_MULTISHOT;
+    check(enter(ring, 1, 0, 0) == 1);
+    check(next_of(ring).flags == (IORING_CQE_F_MORE | IORING_CQE_F_BUFFER));
+    put(ring, IORING_OP_ASYNC_CANCEL, 2, IOSQE_CQE_SKIP_SUCCESS)->addr = 1;
+    check(enter(ring, 1, 0, 0) == 1);
+    struct seen last = next_of(ring);
+    check(last.user_data == 1 && last.res == -ECANCELED && last.flags == 0);
+}
+
 static void test_multishot_receive(void)
 {
     struct ring ring;
@@ -217,8 +243,35 @@ static void test_multishot_receive(void)
     check(send(ends[1], "piece", 5, 0) == 5);
     struct seen last = next_of(&ring);
     check(last.res == -ENOBUFS && last.flags == 0);
+    want_cancelled(&ring, ends, memory);
     close(ends[0]);
     close(ends[1]);
+    close_ring(&ring);
+}
+
+/* What doesn't wait though nothing is there: a receive that says so, also of all that it asks for; and a call of sockets on a
+ * pipe. */
+static void test_no_waiting(void)
+{
+    struct ring ring;
+    int ends[2], pipes[2];
+    char text[8] = "";
+    make_pair(ends);
+    check(pipe(pipes) == 0);
+    make_ring(&ring, 8, 0, 0);
+    put_transfer(&ring, IORING_OP_RECV, 0, 0, ends[0], text, 8, 0)->msg_flags = MSG_DONTWAIT;
+    check(result_of_one(&ring, 1) == -EAGAIN);
+    check(send(ends[1], "four", 4, 0) == 4);
+    put_transfer(&ring, IORING_OP_RECV, 0, 0, ends[0], text, 8, 0)->msg_flags = MSG_DONTWAIT | MSG_WAITALL;
+    check(result_of_one(&ring, 1) == 4 && memcmp(text, "four", 4) == 0);
+    put_transfer(&ring, IORING_OP_RECV, 0, 0, pipes[0], text, 8, 0);
+    check(result_of_one(&ring, 1) == -ENOTSOCK);
+    put_plain(&ring, IORING_OP_ACCEPT, 0, pipes[0]);
+    check(result_of_one(&ring, 1) == -ENOTSOCK);
+    for (int i = 0; i < 2; i++) {
+        close(ends[i]);
+        close(pipes[i]);
+    }
     close_ring(&ring);
 }
 
@@ -483,6 +536,7 @@ int main(int count, char **words)
         {"cancels", test_cancels},
         {"polls", test_polls},
         {"sockets", test_sockets},
+        {"no waiting", test_no_waiting},
         {"multishot receive", test_multishot_receive},
         {"multishot accept", test_multishot_accept},
         {"splice", test_splice},

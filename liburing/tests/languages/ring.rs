@@ -1,7 +1,9 @@
-//! A ring by system calls of its own, in inline assembler: a chain of a write, an fsync and a read, a hundred times in each of
-//! four threads. Run by uring-run; linked with nothing of ours.
+//! A ring by system calls of its own, in inline assembler or by the C library's syscall(): a chain of a write, an fsync and a
+//! read, a hundred times in each of four threads, of which two call in the one way and two in the other. Run by uring-run;
+//! linked with nothing of ours.
 
 use std::arch::asm;
+use std::ffi::c_long;
 use std::fs::OpenOptions;
 use std::os::fd::AsRawFd;
 use std::sync::atomic::{AtomicU32, Ordering};
@@ -14,7 +16,18 @@ const READ: u8 = 22;
 const WRITE: u8 = 23;
 const LINK: u8 = 4;
 
-fn call(number: usize, words: [usize; 6]) -> isize {
+extern "C" {
+    fn syscall(number: c_long, ...) -> c_long;
+}
+
+fn call_by_libc(number: usize, [a, b, c, d, e, f]: [usize; 6]) -> isize {
+    match unsafe { syscall(number as c_long, a, b, c, d, e, f) } {
+        -1 => -std::io::Error::last_os_error().raw_os_error().unwrap() as isize,
+        result => result as isize,
+    }
+}
+
+fn call_by_assembler(number: usize, words: [usize; 6]) -> isize {
     let result: isize;
     unsafe {
         asm!("syscall", inlateout("rax") number as isize => result, in("rdi") words[0], in("rsi") words[1], in("rdx") words[2],
@@ -23,7 +36,10 @@ fn call(number: usize, words: [usize; 6]) -> isize {
     result
 }
 
+type Call = fn(usize, [usize; 6]) -> isize;
+
 struct Ring {
+    call: Call,
     fd: usize,
     params: [u32; 30],
     sq: usize,
@@ -32,7 +48,7 @@ struct Ring {
 }
 
 impl Ring {
-    fn new(entries: usize) -> Ring {
+    fn new(call: Call, entries: usize) -> Ring {
         let mut params = [0u32; 30];
         let fd = call(SETUP, [entries, params.as_mut_ptr() as usize, 0, 0, 0, 0]);
         assert!(fd >= 0, "io_uring_setup: {fd}");
@@ -41,7 +57,7 @@ impl Ring {
             assert!(at > 0, "mmap: {at}");
             at as usize
         };
-        Ring { fd: fd as usize, params, sq: map(0), cq: map(0x800_0000), table: map(0x1000_0000) }
+        Ring { call, fd: fd as usize, params, sq: map(0), cq: map(0x800_0000), table: map(0x1000_0000) }
     }
 
     fn word(&self, at: usize, offset: u32) -> &AtomicU32 {
@@ -62,7 +78,7 @@ impl Ring {
     }
 
     fn submit_and_wait(&self, count: usize) {
-        let done = call(ENTER, [self.fd, count, count, 1, 0, 0]);
+        let done = (self.call)(ENTER, [self.fd, count, count, 1, 0, 0]);
         assert_eq!(done, count as isize);
     }
 
@@ -84,7 +100,8 @@ fn work(thread: usize) {
     let path = std::env::temp_dir().join(format!("ring-{}-{thread}", std::process::id()));
     let file = OpenOptions::new().read(true).write(true).create(true).truncate(true).open(&path).unwrap();
     std::fs::remove_file(&path).unwrap();
-    let (ring, fd) = (Ring::new(8), file.as_raw_fd());
+    let call: Call = if thread % 2 == 0 { call_by_assembler } else { call_by_libc };
+    let (ring, fd) = (Ring::new(call, 8), file.as_raw_fd());
     for turn in 0..100 {
         let (text, mut back) = (format!("by Rust {thread} {turn:06}"), [0u8; 16]);
         ring.put(WRITE, LINK, fd, text.as_ptr() as usize, 16, 1);

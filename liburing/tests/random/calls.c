@@ -24,11 +24,6 @@ static bool is_seeded(const struct model *model)
 
 /* ---- time ---- */
 
-static int64_t end_of(const struct request *timeout)
-{
-    return add_times(timeout->since, timeout->action->time);
-}
-
 /* Whether one time is certainly before another. */
 static bool is_before(const struct model *model, int64_t one, int64_t other)
 {
@@ -40,20 +35,21 @@ void fire(struct model *model, const struct request *timeout)
     if (model->is_kernel)
         return;
     expect_stuck(model, "can go on while time passes");
+    int64_t end = end_of_timeout(timeout);
     for (const struct request *other = model->requests; other < model->requests + model->count; other++) {
-        if (other == timeout || other->is_ended || other->is_doomed || other->action->code != IORING_OP_TIMEOUT || other->since < 0)
-            continue;
-        bool is_equal = end_of(other) == end_of(timeout) && model->slack == 0;
-        if (is_before(model, end_of(other), end_of(timeout)) || (is_equal && other < timeout))
+        int64_t end_of_other = other == timeout || other->may_have_fired ? -1 : end_of_timeout(other);
+        bool is_equal = end_of_other == end && model->slack == 0;
+        if (end_of_other >= 0 && (is_before(model, end_of_other, end) || (is_equal && other < timeout)))
             wrong(model, "timeout %u ends before timeout %u", timeout->index, other->index);
     }
-    if (model->now < end_of(timeout))
-        model->now = end_of(timeout);
+    if (model->now < end)
+        model->now = end;
     struct call *call = model->call;
-    call->is_fired = true;
+    /* A linked timeout ends no wait: what it cancels posts the completion. */
+    call->is_fired |= timeout->action->code == IORING_OP_TIMEOUT;
     if (!model->is_late && call->min_complete == 0 && has_pipe_reads(model, true))
         wrong(model, "timeout %u ends in a peek, though a pipe is waited for", timeout->index);
-    if (!model->is_late && call->deadline >= 0 && is_before(model, call->deadline, end_of(timeout)))
+    if (!model->is_late && call->deadline >= 0 && is_before(model, call->deadline, end))
         wrong(model, "timeout %u ends behind the call's limit", timeout->index);
 }
 
@@ -114,8 +110,11 @@ static void judge_words(const struct model *model)
         wrong(model, "there are more completions than the ring holds");
 }
 
+/* A message may be on its way, and nothing shows it. */
 static bool is_any_outstanding(const struct model *model)
 {
+    if (model->program->has_messages)
+        return true;
     for (uint32_t i = 0; i < model->count; i++)
         if (!model->requests[i].is_ended)
             return true;
@@ -163,6 +162,24 @@ static void judge_readiness(const struct model *model)
             wrong(model, "entry %u can go on, and the descriptor isn't readable", model->requests[i].index);
 }
 
+static bool is_vain_peek(const struct call *call)
+{
+    return call->is_getting && call->min_complete == 0 && call->accepted == call->to_submit && call->ready == 0;
+}
+
+/* In a peek that finds nothing a linked timeout may have cancelled its request, which ends in a later call. */
+static void note_unseen_fires(struct model *model)
+{
+    if (!is_vain_peek(model->call))
+        return;
+    for (struct request *request = model->requests; request < model->requests + model->count; request++) {
+        int64_t end = request->action->code == IORING_OP_LINK_TIMEOUT ? end_of_timeout(request) : -1;
+        request->may_have_fired |= end >= 0;
+        if (end > model->now)
+            model->slack = add_times(model->slack, end - model->now);
+    }
+}
+
 /* How far the policy has things go on. */
 static void judge_policy(struct model *model)
 {
@@ -171,10 +188,9 @@ static void judge_policy(struct model *model)
     if (is_policy(model, "lazy") && !call->is_getting && call->tail != call->tail_before)
         wrong(model, "a lazy ring goes on, and nobody waits");
     /* A peek that finds nothing lets time pass. */
-    bool is_peek = call->is_getting && call->min_complete == 0 && call->accepted == call->to_submit;
-    if (is_peek && call->ready == 0 && !has_overflowed && !is_seeded(model)) {
+    if (is_vain_peek(call) && !has_overflowed && !is_seeded(model)) {
         expect_stuck(model, "can go on, and a peek finds nothing");
-        if (has_timeouts(model) && !has_pipe_reads(model, true))
+        if (has_timeouts(model) && !has_linked_timeouts(model) && !has_pipe_reads(model, true))
             wrong(model, "a peek finds nothing, and a timeout runs");
     }
     if (is_policy(model, "order") && !has_overflowed && !(call->is_fired && call->min_complete == 0))
@@ -184,10 +200,14 @@ static void judge_policy(struct model *model)
 void judge_call(struct model *model)
 {
     judge_words(model);
+    model->has_overflowed = model->call->flags & IORING_SQ_CQ_OVERFLOW;
     if (model->is_kernel)
         return;
     judge_result(model);
     judge_flags(model);
     judge_readiness(model);
     judge_policy(model);
+    note_unseen_fires(model);
+    if (has_due_messages(model) && !(model->call->flags & IORING_SQ_CQ_OVERFLOW))
+        wrong(model, "a message isn't there");
 }

@@ -40,29 +40,40 @@ static unsigned weighed(const uint8_t *weights, unsigned count)
 
 static uint8_t any_code(bool is_plain)
 {
-    static const uint8_t codes[] = {IORING_OP_NOP, IORING_OP_READ, IORING_OP_WRITE, IORING_OP_READV, IORING_OP_WRITEV, IORING_OP_FSYNC, IORING_OP_TIMEOUT, IORING_OP_ASYNC_CANCEL, IORING_OP_CLOSE, IORING_OP_FALLOCATE, IORING_OP_FADVISE, IORING_OP_SYNC_FILE_RANGE};
-    static const uint8_t weights[] = {14, 18, 18, 12, 12, 6, 9, 8, 2, 4, 1, 1}, plain[] = {16, 20, 22, 14, 14, 8, 0, 3, 0, 0, 0, 0};
+    static const uint8_t codes[] = {IORING_OP_NOP, IORING_OP_READ, IORING_OP_WRITE, IORING_OP_READV, IORING_OP_WRITEV, IORING_OP_FSYNC, IORING_OP_TIMEOUT, IORING_OP_ASYNC_CANCEL, IORING_OP_CLOSE, IORING_OP_FALLOCATE, IORING_OP_FADVISE, IORING_OP_SYNC_FILE_RANGE,
+                                    IORING_OP_READ_FIXED, IORING_OP_WRITE_FIXED, IORING_OP_RECV, IORING_OP_SEND, IORING_OP_POLL_ADD, IORING_OP_POLL_REMOVE, IORING_OP_TIMEOUT_REMOVE, IORING_OP_MSG_RING};
+    static const uint8_t weights[] = {14, 18, 18, 12, 12, 6, 9, 8, 2, 4, 1, 1, 10, 10, 7, 7, 6, 2, 3, 7}, plain[] = {16, 20, 22, 14, 14, 8, 0, 3, 0, 0, 0, 0, 10, 10, 0, 0, 0, 0, 0, 0};
     return codes[weighed(is_plain ? plain : weights, sizeof codes)];
 }
 
-static bool is_transfer(uint8_t code)
+/* An operation that the ring has no use for becomes another. */
+static uint8_t fitting_code(const struct program *program, uint8_t ring, uint8_t code)
 {
-    return code == IORING_OP_READ || code == IORING_OP_WRITE || code == IORING_OP_READV || code == IORING_OP_WRITEV;
+    const struct ring_options *options = &program->rings[ring];
+    if (!options->has_registered && code == IORING_OP_READ_FIXED)
+        return IORING_OP_READ;
+    if (!options->has_registered && code == IORING_OP_WRITE_FIXED)
+        return IORING_OP_WRITE;
+    if (!options->has_sockets && code == IORING_OP_RECV && !one_in(8))
+        return IORING_OP_READ;
+    if (!options->has_sockets && code == IORING_OP_SEND && !one_in(8))
+        return IORING_OP_WRITE;
+    return code == IORING_OP_MSG_RING && !program->has_messages ? IORING_OP_NOP : code;
 }
 
-static bool is_vectored(uint8_t code)
+static bool is_transfer(const struct action *action)
 {
-    return code == IORING_OP_READV || code == IORING_OP_WRITEV;
+    return is_read(action) || is_write(action);
 }
 
-static enum object any_object(uint8_t code, bool is_plain, bool has_pipe)
+static enum object any_object(const struct action *action, bool is_plain, bool has_pipe)
 {
-    static const uint8_t weights[OBJECTS] = {40, 8, 35, 10, 0, 3, 3}, plain[OBJECTS] = {0, 0, 90, 0, 0, 0, 8};
-    enum object object = weighed(is_plain ? plain : weights, OBJECTS);
-    bool is_write = code == IORING_OP_WRITE || code == IORING_OP_WRITEV;
+    static const uint8_t weights[OBJECTS] = {40, 8, 35, 10, 0, 3, 3}, plain[OBJECTS] = {0, 0, 90, 0, 0, 0, 8}, waiting[OBJECTS] = {12, 0, 5, 70, 0, 5, 5};
+    bool is_waiting = is_of_sockets(action) || action->code == IORING_OP_POLL_ADD;
+    enum object object = weighed(is_plain ? plain : is_waiting ? waiting : weights, OBJECTS);
     if (object == PIPE_OUT && !has_pipe)
         return LOG;
-    return object == PIPE_OUT && is_write ? PIPE_IN : object;
+    return object == PIPE_OUT && is_write(action) ? PIPE_IN : object;
 }
 
 /* What a cell's entry reads or writes is its own, or that of the entry before it, to which it is linked. */
@@ -77,9 +88,9 @@ static void choose_place(struct action *action, const struct action *before)
 static void choose_sizes(struct action *action)
 {
     uint32_t left = action->object == CELLS ? CELL - (uint32_t)action->offset : 4 * 40;
-    action->vectors = is_vectored(action->code) ? (uint8_t)below(MOST_VECTORS + 1) : 1;
+    action->vectors = is_vectored(action) ? (uint8_t)below(MOST_VECTORS + 1) : 1;
     for (int i = 0; i < action->vectors; i++) {
-        uint32_t size = one_in(12) ? 0 : 1 + below(40);
+        uint32_t size = one_in(12) && !is_of_sockets(action) ? 0 : 1 + below(40);
         action->sizes[i] = (uint8_t)(size < left ? size : left);
         left -= action->sizes[i];
     }
@@ -105,7 +116,8 @@ static uint8_t any_flags(const struct action *action, uint16_t index, bool is_pl
         flags |= IOSQE_ASYNC;
     /* What ends unseen is to have no effect that others see. */
     bool is_sync = action->code == IORING_OP_FSYNC && (action->object == LOG || action->object == CELLS);
-    bool is_quiet = action->code == IORING_OP_NOP || is_sync || (is_transfer(action->code) && action->object == CELLS && action->cell == index) || (action->code == IORING_OP_TIMEOUT && !action->is_success);
+    bool is_own = is_transfer(action) && !is_of_sockets(action) && !is_selecting(action) && action->object == CELLS && action->cell == index;
+    bool is_quiet = action->code == IORING_OP_NOP || is_sync || is_own || (action->code == IORING_OP_TIMEOUT && !action->is_success);
     if (is_plain)
         is_quiet = action->code == IORING_OP_NOP && !flags && is_skipping;
     if (is_quiet && one_in(5))
@@ -118,10 +130,10 @@ static enum flaw any_flaw(const struct action *action, bool is_plain)
     if (!one_in(16))
         return NO_FLAW;
     enum flaw flaw = (enum flaw)(BAD_CODE + below(6));
-    bool has_pointer = (is_vectored(action->code) && action->vectors > 0) || action->code == IORING_OP_TIMEOUT;
+    bool has_time = action->code == IORING_OP_TIMEOUT || action->code == IORING_OP_LINK_TIMEOUT, has_pointer = (is_vectored(action) && action->vectors > 0) || has_time;
     /* A write of data that can't be read may lengthen its file all the same. */
-    bool has_data = action->code == IORING_OP_READ ? action->object <= CELLS : action->code == IORING_OP_WRITE && action->object == CELLS;
-    if ((flaw == BAD_POINTER && !has_pointer) || (flaw == BAD_TIME && action->code != IORING_OP_TIMEOUT) || (flaw == BAD_DATA && !has_data))
+    bool has_data = action->code == IORING_OP_READ ? action->object <= CELLS && !is_selecting(action) : action->code == IORING_OP_WRITE && action->object == CELLS;
+    if ((flaw == BAD_POINTER && !has_pointer) || (flaw == BAD_TIME && !has_time) || (flaw == BAD_DATA && !has_data))
         return BAD_CODE;
     return is_plain && (flaw == BAD_FLAG || flaw == BAD_PRIORITY) ? BAD_CODE : flaw;
 }
@@ -133,31 +145,72 @@ struct progress {
     bool is_skipping;
 };
 
+/* What is registered with the ring: its file, a buffer of its own or one that is provided. */
+static void choose_registered(struct action *action, uint16_t index, bool is_plain)
+{
+    bool is_on_file = is_transfer(action) || action->code == IORING_OP_FSYNC || action->code == IORING_OP_FALLOCATE || action->code == IORING_OP_POLL_ADD;
+    action->is_registered = is_on_file && one_in(3);
+    if (is_in_registered_memory(action)) {
+        action->object = action->object == OTHER_LOG ? LOG : action->object;
+        bool is_bad = one_in(12) && (action->object == LOG || action->object == CELLS);
+        action->buffer = is_bad ? (uint8_t)(one_in(2) ? !buffer_of(index) : 9) : buffer_of(index);
+    }
+    bool can_select = action->code == IORING_OP_READ ? action->object == LOG || action->object == CELLS || action->object == PIPE_OUT : action->code == IORING_OP_RECV && action->object == PIPE_OUT;
+    if (can_select && !is_plain && one_in(3)) {
+        action->flags = IOSQE_BUFFER_SELECT;
+        action->sizes[0] = (uint8_t)(1 + below(40));
+    }
+}
+
+/* Behind a link there may be a timeout for the request before it, short where that waits for what is real. */
+static uint8_t code_behind(const struct action *before, uint8_t code)
+{
+    bool is_linked = before && before->flags & (IOSQE_IO_LINK | IOSQE_IO_HARDLINK);
+    return (is_linked && one_in(5)) || one_in(200) ? IORING_OP_LINK_TIMEOUT : code;
+}
+
+static int64_t time_behind(const struct action *before, bool is_plain)
+{
+    if (is_plain)
+        return 3600000000000;
+    return before && before->object == PIPE_OUT && one_in(2) ? (int64_t)below(1500000) : any_time();
+}
+
+static uint16_t any_target(const struct program *program, const struct action *action, uint16_t index)
+{
+    if (action->code == IORING_OP_MSG_RING)
+        return (uint16_t)below(program->ring_count);
+    return (uint16_t)(program->is_plain || index == 0 || one_in(6) ? MOST_ACTIONS : index - 1 - below(index < 12 ? index : 12));
+}
+
 static void choose_entry(struct program *program, struct action *action, struct progress *progress)
 {
     uint16_t index = program->count;
     const struct action *before = progress->before[action->ring];
+    const struct ring_options *ring = &program->rings[action->ring];
     bool is_plain = program->is_plain;
     action->kind = PUT;
     action->cell = index;
-    action->code = any_code(is_plain);
-    action->object = any_object(action->code, is_plain, program->rings[action->ring].flags & IORING_SETUP_COOP_TASKRUN);
+    action->code = code_behind(before, fitting_code(program, action->ring, any_code(is_plain)));
+    action->object = any_object(action, is_plain, ring->flags & IORING_SETUP_COOP_TASKRUN);
     if (action->code == IORING_OP_CLOSE)
         action->object = OTHER_LOG;
-    if (is_transfer(action->code)) {
+    if (is_transfer(action)) {
         choose_place(action, before);
         choose_sizes(action);
     }
+    if (ring->has_registered)
+        choose_registered(action, index, is_plain);
     if (action->code == IORING_OP_FALLOCATE) {
         action->offset = (int32_t)below(300);
         action->sizes[0] = (uint8_t)below(200);
     }
-    action->is_impatient = action->object == PIPE_OUT && one_in(6);
-    action->time = any_time();
+    action->is_impatient = action->object == PIPE_OUT && is_read(action) && one_in(6);
+    action->time = action->code == IORING_OP_LINK_TIMEOUT ? time_behind(before, is_plain) : any_time();
     action->is_success = one_in(3);
-    action->target = (uint16_t)(is_plain || index == 0 || one_in(6) ? MOST_ACTIONS : index - 1 - below(index < 12 ? index : 12));
+    action->target = any_target(program, action, index);
     action->turn = one_in(5) ? (uint16_t)below(16) : 0;
-    action->flags = any_flags(action, index, is_plain, progress->is_skipping);
+    action->flags |= any_flags(action, index, is_plain, progress->is_skipping);
     action->flaw = any_flaw(action, is_plain);
     progress->before[action->ring] = action;
     progress->published[action->ring]++;
@@ -184,12 +237,14 @@ static void choose_call(struct program *program, struct action *action, struct p
 
 static void choose_action(struct program *program, struct progress *progress)
 {
-    static const enum action_kind kinds[] = {PUT, ENTER, REAP, PUT_WORD, FEED, END_FEED, FORK, REOPEN};
-    static const uint8_t weights[] = {60, 22, 12, 1, 4, 1, 1, 1}, plain[] = {60, 22, 12, 1, 0, 0, 0, 0};
+    static const enum action_kind kinds[] = {PUT, ENTER, REAP, PUT_WORD, FEED, END_FEED, FORK, REOPEN, PROVIDE, UPDATE};
+    static const uint8_t weights[] = {60, 22, 12, 1, 4, 1, 1, 1, 3, 2}, plain[] = {60, 22, 12, 1, 0, 0, 0, 0, 0, 0};
     struct action *action = &program->actions[program->count];
     *action = (struct action){.ring = (uint8_t)below(program->ring_count), .count = (uint16_t)(1 + below(8)), .turn = (uint16_t)below(3)};
-    enum action_kind kind = kinds[weighed(program->is_plain ? plain : weights, 8)];
-    if ((kind == FORK || kind == REOPEN) && (program->is_threaded || !one_in(2)))
+    enum action_kind kind = kinds[weighed(program->is_plain ? plain : weights, 10)];
+    if ((kind == FORK || kind == REOPEN) && (program->is_threaded || program->has_messages || !one_in(2)))
+        kind = REAP;
+    if ((kind == PROVIDE || kind == UPDATE) && !program->rings[action->ring].has_registered)
         kind = REAP;
     if (kind == PUT && progress->published[action->ring] >= program->rings[action->ring].entries)
         kind = ENTER;
@@ -218,6 +273,8 @@ static void choose_ring(struct program *program, struct ring_options *ring)
     if (!program->is_plain && one_in(3))
         ring->flags |= IORING_SETUP_COOP_TASKRUN;
     ring->is_polled = one_in(4);
+    ring->has_registered = one_in(2);
+    ring->has_sockets = !program->is_plain && one_in(3);
 }
 
 static void choose_faults(struct program *program)
@@ -225,11 +282,12 @@ static void choose_faults(struct program *program)
     bool is_seeded = strncmp(program->policy, "seed", 4) == 0;
     if (program->is_plain || one_in(2))
         return;
-    if (is_seeded && one_in(2)) {
+    /* A message takes a number at its ring, so which number another request has isn't known. */
+    if (is_seeded && (one_in(2) || program->has_messages)) {
         program->fault_rate = (uint16_t)(2 + below(9));
         return;
     }
-    program->fault_count = (uint8_t)(1 + below(MOST_FAULTS));
+    program->fault_count = program->has_messages ? 0 : (uint8_t)(1 + below(MOST_FAULTS));
     for (int i = 0; i < program->fault_count; i++)
         program->faults[i] = (struct fault){(uint8_t)below(program->ring_count), (uint8_t)(i * 8 + below(8)), (uint8_t)(1 + below(3))};
 }
@@ -248,6 +306,7 @@ void generate(struct program *program, uint64_t seed)
     program->is_ends = one_in(3);
     program->ring_count = (uint8_t)(one_in(3) ? 1 + below(MOST_RINGS) : 1);
     program->is_threaded = !program->is_plain && program->ring_count > 1 && one_in(2);
+    program->has_messages = !program->is_plain && !program->is_threaded && one_in(4);
     progress.is_skipping = one_in(2);
     for (int i = 0; i < program->ring_count; i++)
         choose_ring(program, &program->rings[i]);

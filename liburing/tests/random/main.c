@@ -3,6 +3,8 @@
  *   random [--alone] FIRST COUNT     runs the programs of these seeds, those that are plain on a real ring too, if there
  *                                    is one; with --alone on the layer alone. Of one that fails it prints what was seen,
  *                                    the program made short, and the words that run it again. Status 1: one failed
+ *   random --threads FIRST COUNT    the same on the layer alone, and of these programs only those whose rings have a thread
+ *                                    each: for the thread sanitizer, whose own thread the layer would take for another
  *   random --until-failed FIRST COUNT    the same on the layer alone, but ends with the first that fails
  *   random --show SEED               prints a program
  *   random --again SEED POLICY FAULTS NUMBERS    runs the actions of these numbers alone, separated by commas, under this
@@ -44,19 +46,22 @@ static void report(struct program *program, const char *name)
     print_again(program, name);
 }
 
-static int run_many(const char *name, uint64_t first, uint64_t count, bool is_until_failed)
+enum manner { BESIDE_KERNEL, ALONE, THREADS, UNTIL_FAILED };
+
+static int run_many(const char *name, uint64_t first, uint64_t count, enum manner manner)
 {
     static struct program program;
-    uint64_t failed = 0, run = 0, plain = 0, entries = 0;
+    uint64_t failed = 0, run = 0, entries = 0;
     while (run < count) {
         generate(&program, first + run++);
-        plain += program.is_plain;
+        if (manner == THREADS && !program.is_threaded)
+            continue;
         for (unsigned i = 0; i < program.count; i++)
             entries += program.actions[i].kind == PUT;
         if (is_right(&program, SECONDS))
             continue;
         failed++;
-        if (is_until_failed) {
+        if (manner == UNTIL_FAILED) {
             printf("program %" PRIu64 ": %s", run, last_said());
             break;
         }
@@ -112,11 +117,14 @@ int main(int argc, char **argv)
     }
     if (argc == 6 && is_word(argv, 1, "--again"))
         return run_again(argv + 2);
-    bool is_until_failed = argc == 4 && is_word(argv, 1, "--until-failed"), is_alone = argc == 4 && is_word(argv, 1, "--alone");
-    if (argc != 3 && !is_until_failed && !is_alone) {
-        fprintf(stderr, "random: [--alone] FIRST COUNT, --until-failed FIRST COUNT, --show SEED, or --again SEED POLICY FAULTS NUMBERS\n");
+    static const char *const manners[] = {[ALONE] = "--alone", [THREADS] = "--threads", [UNTIL_FAILED] = "--until-failed"};
+    enum manner manner = BESIDE_KERNEL;
+    for (int i = ALONE; argc == 4 && i <= UNTIL_FAILED; i++)
+        manner = is_word(argv, 1, manners[i]) ? (enum manner)i : manner;
+    if (argc != 3 && manner == BESIDE_KERNEL) {
+        fprintf(stderr, "random: [--alone | --threads] FIRST COUNT, --until-failed FIRST COUNT, --show SEED, or --again SEED POLICY FAULTS NUMBERS\n");
         return 2;
     }
-    has_kernel_rings = !is_until_failed && !is_alone && look_for_kernel_rings();
-    return run_many(argv[0], strtoull(argv[argc - 2], NULL, 10), strtoull(argv[argc - 1], NULL, 10), is_until_failed);
+    has_kernel_rings = manner == BESIDE_KERNEL && look_for_kernel_rings();
+    return run_many(argv[0], strtoull(argv[argc - 2], NULL, 10), strtoull(argv[argc - 1], NULL, 10), manner);
 }

@@ -29,6 +29,7 @@ struct things {
     bool is_fed_out;                    /* its end for writing is closed */
     bool is_closed;                     /* OTHER_LOG */
     struct vectors data[MOST_ACTIONS];
+    uint8_t provided[PROVIDED][PROVIDED_SIZE];
 };
 
 struct request {
@@ -36,7 +37,11 @@ struct request {
     uint16_t index;                     /* the action's */
     uint16_t group;
     bool is_ended, is_doomed;
-    bool is_cancelled;                  /* a cancel found it running */
+    bool is_cancelled;                  /* a cancel found it running, or its timeout did */
+    bool is_faulty;
+    bool is_loose;                      /* its file was found when it was accepted */
+    int32_t failure;                    /* with which it ends however it is carried out, or 0 */
+    bool has_fired, may_have_fired;     /* of a linked timeout: in a call that shows nothing of it */
     int64_t since;                      /* the virtual time at which it could start; negative: not yet */
 };
 
@@ -69,11 +74,26 @@ struct model {
     int32_t published[MOST_ACTIONS];    /* an action for each position, or negative: its word names no slot */
     uint32_t published_count, taken, dropped;
     int64_t now, slack;                 /* virtual time, and how much later it may be */
+    bool has_file;                      /* OTHER_LOG is registered */
+    uint8_t queue[PROVIDED];            /* the buffers that are provided, the next first */
+    uint32_t queue_length, queue_flags; /* and the flags of a completion that took one */
+    struct model *others[MOST_RINGS];   /* the models of all rings, which send messages to one another */
+    struct message *messages;           /* by the sender's action */
     bool is_late;                       /* what is seen next may have ended before this call */
+    bool has_overflowed;                /* completions that aren't seen yet are outside of the ring */
     struct call *call;
     struct things *things;
     const struct vectors *data;         /* the application's */
+    const uint8_t *provided;            /* the application's too, one buffer behind the other */
 };
+
+/* A message from one ring to another. */
+struct message {
+    bool is_sent, is_seen;
+    bool is_due;                        /* the other ring has it, and shows it */
+};
+
+enum { MESSAGE = 0x4000000 };           /* in the user data of one */
 
 /* ---- requests.c ---- */
 
@@ -84,7 +104,7 @@ _Noreturn void wrong(const struct model *model, const char *format, ...) __attri
 void take(struct model *model, uint32_t to_submit);
 
 /* The next completion of the ring, in order. */
-void see(struct model *model, uint64_t user_data, int32_t res);
+void see(struct model *model, uint64_t user_data, int32_t res, uint32_t flags);
 
 /* Nothing can go on but timeouts and what waits for a pipe. */
 void expect_stuck(struct model *model, const char *what);
@@ -95,11 +115,20 @@ uint32_t count_awaited(const struct model *model);
 /* Whether a read of the pipe is outstanding; or one that may have been started. */
 bool has_pipe_reads(const struct model *model, bool is_started);
 
-/* Whether a timeout runs. */
+/* Whether a timeout runs, or one that is linked behind a request that runs. */
 bool has_timeouts(const struct model *model);
+bool has_linked_timeouts(const struct model *model);
 
-/* Whether a request waits for its pipe, and whether it waits for no other request. */
+/* When a timeout, or a linked one, ends that runs; negative: it doesn't run. */
+int64_t end_of_timeout(const struct request *timeout);
+
+/* Whether one that drains, or a member of its chain, is outstanding; and whether a message is to be seen. */
+bool has_drains(const struct model *model);
+bool has_due_messages(const struct model *model);
+
+/* Whether a request waits for its pipe, whether it is on what may have to wait, and whether it waits for no other request. */
 bool is_blocked(const struct model *model, const struct request *request);
+bool is_stream(const struct model *model, const struct request *request);
 bool can_start(const struct model *model, const struct request *request);
 
 static inline uint64_t user_data_of(unsigned index)

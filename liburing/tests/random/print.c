@@ -14,8 +14,26 @@ static const char *code_name(uint8_t code)
         [IORING_OP_SYNC_FILE_RANGE] = "sync_file_range", [IORING_OP_TIMEOUT] = "timeout", [IORING_OP_ASYNC_CANCEL] = "cancel",
         [IORING_OP_FALLOCATE] = "fallocate", [IORING_OP_CLOSE] = "close", [IORING_OP_READ] = "read", [IORING_OP_WRITE] = "write",
         [IORING_OP_FADVISE] = "fadvise",
+        [IORING_OP_READ_FIXED] = "read_fixed", [IORING_OP_WRITE_FIXED] = "write_fixed", [IORING_OP_RECV] = "recv", [IORING_OP_SEND] = "send",
+        [IORING_OP_POLL_ADD] = "poll", [IORING_OP_POLL_REMOVE] = "removal of a poll", [IORING_OP_TIMEOUT_REMOVE] = "removal of a timeout",
+        [IORING_OP_LINK_TIMEOUT] = "linked timeout", [IORING_OP_MSG_RING] = "message",
     };
     return code < sizeof names / sizeof *names && names[code] ? names[code] : "operation";
+}
+
+static void print_transfer(FILE *out, const struct action *action)
+{
+    fprintf(out, " at %" PRId32, action->offset);
+    if (action->object == CELLS)
+        fprintf(out, " of cell %u", action->cell);
+    if (action->is_impatient)
+        fputs(" without waiting", out);
+    if (is_in_registered_memory(action))
+        fprintf(out, ", buffer %u", action->buffer);
+    if (is_selecting(action))
+        fputs(", into a provided buffer", out);
+    for (int i = 0; i < action->vectors; i++)
+        fprintf(out, "%s%u", i ? "+" : ", bytes ", action->sizes[i]);
 }
 
 static void print_entry(FILE *out, const struct action *action)
@@ -24,22 +42,16 @@ static void print_entry(FILE *out, const struct action *action)
     static const char *const flaws[] = {"", ", bad code", ", bad flag", ", bad priority", ", bad pointer", ", bad time", ", bad data"};
     fprintf(out, "put %s", code_name(action->code));
     switch (action->code) {
-    case IORING_OP_READ:
-    case IORING_OP_WRITE:
-    case IORING_OP_READV:
-    case IORING_OP_WRITEV:
-        fprintf(out, " of %s at %" PRId32, objects[action->object], action->offset);
-        if (action->object == CELLS)
-            fprintf(out, " of cell %u", action->cell);
-        if (action->is_impatient)
-            fputs(" without waiting", out);
-        for (int i = 0; i < action->vectors; i++)
-            fprintf(out, "%s%u", i ? "+" : ", bytes ", action->sizes[i]);
-        break;
     case IORING_OP_TIMEOUT:
+    case IORING_OP_LINK_TIMEOUT:
         fprintf(out, " of %" PRId64 " ns%s", action->time, action->is_success ? ", a success" : "");
         break;
+    case IORING_OP_MSG_RING:
+        fprintf(out, " to ring %u", action->target);
+        break;
     case IORING_OP_ASYNC_CANCEL:
+    case IORING_OP_POLL_REMOVE:
+    case IORING_OP_TIMEOUT_REMOVE:
         fprintf(out, " of %u", action->target);
         break;
     case IORING_OP_NOP:
@@ -47,6 +59,10 @@ static void print_entry(FILE *out, const struct action *action)
     default:
         fprintf(out, " of %s", objects[action->object]);
     }
+    if (is_read(action) || is_write(action))
+        print_transfer(out, action);
+    if (action->is_registered)
+        fputs(", registered", out);
     fputs(flaws[action->flaw], out);
     static const char letters[] = "FDLHAB S";
     fputs(", flags ", out);
@@ -92,6 +108,12 @@ static void print_action(FILE *out, const struct action *action)
     case REOPEN:
         fputs("close, and open another", out);
         break;
+    case PROVIDE:
+        fprintf(out, "provide %u buffers again", action->count);
+        break;
+    case UPDATE:
+        fputs("register the other log, or don't any more", out);
+        break;
     }
 }
 
@@ -107,7 +129,7 @@ void print_program(FILE *out, const struct program *program)
     fputc('\n', out);
     for (int i = 0; i < program->ring_count; i++) {
         const struct ring_options *ring = &program->rings[i];
-        fprintf(out, "  ring %d: %u entries, %u completions, flags %#x%s\n", i, ring->entries, ring->completions, ring->flags, ring->is_polled ? ", polls" : "");
+        fprintf(out, "  ring %d: %u entries, %u completions, flags %#x%s%s%s\n", i, ring->entries, ring->completions, ring->flags, ring->is_polled ? ", polls" : "", ring->has_registered ? ", with files and buffers" : "", ring->has_sockets ? ", sockets" : "");
     }
     for (int i = 0; i < program->count; i++) {
         if (program->actions[i].kind == NOTHING)

@@ -8,7 +8,12 @@
 #include <stdint.h>
 #include <stdio.h>
 
+#include <linux/io_uring.h>
+
 enum { MOST_ACTIONS = 160, MOST_RINGS = 3, MOST_FAULTS = 4, MOST_VECTORS = 4, CELL = 64 };
+
+/* The buffers that are provided with a ring, and the bytes of each. */
+enum { PROVIDED = 4, PROVIDED_SIZE = 24 };
 
 enum action_kind {
     NOTHING,    /* it was left out; the others keep their numbers */
@@ -19,7 +24,9 @@ enum action_kind {
     FEED,       /* writes `count` bytes to the pipe */
     END_FEED,   /* closes the pipe's end for writing */
     FORK,       /* has a child call on the ring, and then on one of its own */
-    REOPEN      /* closes the ring, whatever is outstanding, and makes another */
+    REOPEN,     /* closes the ring, whatever is outstanding, and makes another */
+    PROVIDE,    /* provides at most `count` of the buffers again that were taken */
+    UPDATE      /* takes OTHER_LOG out of the registered files, or puts it in again */
 };
 
 /* What an entry is about. Each ring has its own. */
@@ -27,7 +34,7 @@ enum object {
     LOG,        /* a file that is read and written in the order of completions, and that grows */
     OTHER_LOG,  /* another descriptor of the same file, which entries close */
     CELLS,      /* a file of fixed length in which each entry has a part of its own, so that order doesn't matter */
-    PIPE_OUT,   /* the end of a pipe that is read */
+    PIPE_OUT,   /* the end of a pipe, or of a pair of sockets, that is read */
     PIPE_IN,    /* and the one that is written */
     ZEROS,      /* /dev/zero */
     NO_FILE,    /* a descriptor that no file has */
@@ -55,11 +62,13 @@ struct action {
     uint8_t vectors;                /* how many; of a plain read or write one */
     uint8_t sizes[MOST_VECTORS];    /* the bytes of each */
     bool is_impatient;              /* a read of the pipe is asked not to wait */
+    bool is_registered;             /* its file is named by its number among the registered ones */
+    uint8_t buffer;                 /* of READ_FIXED and WRITE_FIXED: the registered buffer that it names */
     int32_t offset;                 /* of LOG, -1 for the file's position; of CELLS, within the cell */
     uint16_t cell;                  /* the action whose cell it reads or writes */
     int64_t time;                   /* of a timeout, in nanoseconds */
     bool is_success;                /* it may end with success */
-    uint16_t target;                /* of a cancel: the action whose entry it is to find */
+    uint16_t target;                /* of a cancel or a removal: the action whose entry it is to find; of a message: the ring */
     uint16_t turn;                  /* how far its slot is from the next in order, or of a word, from the last slot */
     /* A call. */
     int16_t excess;                 /* how many more it asks for than are published */
@@ -80,6 +89,8 @@ struct ring_options {
     uint16_t entries, completions;  /* completions: 0 for twice the entries */
     uint32_t flags;
     bool is_polled;
+    bool has_registered;            /* files, buffers and provided buffers */
+    bool has_sockets;               /* in the pipe's place */
 };
 
 struct program {
@@ -88,6 +99,7 @@ struct program {
     bool is_ends;           /* one choice for issuing and finishing */
     bool is_plain;          /* it asks for no more than the kernel promises */
     bool is_threaded;       /* each ring is used by a thread of its own */
+    bool has_messages;      /* rings send messages to one another */
     uint16_t fault_rate;
     uint8_t fault_count, ring_count;
     struct fault faults[MOST_FAULTS];
@@ -95,6 +107,45 @@ struct program {
     uint16_t count;
     struct action actions[MOST_ACTIONS];
 };
+
+/* Whether an entry reads into memory, writes from it, or does either with several vectors. */
+static inline bool is_read(const struct action *action)
+{
+    uint8_t code = action->code;
+    return code == IORING_OP_READ || code == IORING_OP_READV || code == IORING_OP_READ_FIXED || code == IORING_OP_RECV;
+}
+
+static inline bool is_write(const struct action *action)
+{
+    uint8_t code = action->code;
+    return code == IORING_OP_WRITE || code == IORING_OP_WRITEV || code == IORING_OP_WRITE_FIXED || code == IORING_OP_SEND;
+}
+
+static inline bool is_vectored(const struct action *action)
+{
+    return action->code == IORING_OP_READV || action->code == IORING_OP_WRITEV;
+}
+
+static inline bool is_in_registered_memory(const struct action *action)
+{
+    return action->code == IORING_OP_READ_FIXED || action->code == IORING_OP_WRITE_FIXED;
+}
+
+static inline bool is_of_sockets(const struct action *action)
+{
+    return action->code == IORING_OP_SEND || action->code == IORING_OP_RECV;
+}
+
+static inline bool is_selecting(const struct action *action)
+{
+    return action->flags & IOSQE_BUFFER_SELECT;
+}
+
+/* The registered buffer in which an action's memory lies: the first half of the actions have one, the others the other. */
+static inline uint8_t buffer_of(unsigned index)
+{
+    return index >= MOST_ACTIONS / 2;
+}
 
 /* ---- generate.c ---- */
 

@@ -4,6 +4,7 @@
 #include <errno.h>
 #include <inttypes.h>
 #include <linux/io_uring.h>
+#include <poll.h>
 #include <stdarg.h>
 #include <string.h>
 #include <unistd.h>
@@ -23,9 +24,23 @@ void wrong(const struct model *model, const char *format, ...)
 
 /* ---- acceptance ---- */
 
-static bool is_faulty(const struct action *action)
+/* A linked timeout wants a request before it that it limits, which isn't one itself. */
+static bool is_faulty(const struct model *model, const struct action *action, bool is_behind)
 {
-    return action->flaw != NO_FLAW && action->flaw != BAD_DATA;
+    const struct action *before = is_behind ? model->requests[model->count - 1].action : NULL;
+    bool has_place = before && (before->code != IORING_OP_LINK_TIMEOUT || before->flaw == BAD_CODE);
+    return (action->flaw != NO_FLAW && action->flaw != BAD_DATA) || (action->code == IORING_OP_LINK_TIMEOUT && !has_place);
+}
+
+/* What the start of a request finds out. */
+static int32_t failure_of(const struct model *model, const struct action *action, unsigned index)
+{
+    bool is_there = action->object != NO_FILE && action->object != PIPE_IN && (action->object != OTHER_LOG || model->has_file);
+    if (action->is_registered && !is_there)
+        return -EBADF;
+    if (action->code == IORING_OP_POLL_ADD && action->object == NO_FILE)
+        return -EBADF;
+    return is_in_registered_memory(action) && action->buffer != buffer_of(index) ? -EFAULT : 0;
 }
 
 static void accept_one(struct model *model, unsigned index, bool is_behind)
@@ -34,9 +49,10 @@ static void accept_one(struct model *model, unsigned index, bool is_behind)
     if (!is_behind)
         model->group_count++;
     uint16_t group = (uint16_t)(model->group_count - 1);
-    model->requests[model->count++] = (struct request){.action = action, .index = (uint16_t)index, .group = group, .since = -1};
+    bool is_fault = is_faulty(model, action, is_behind);
+    model->requests[model->count++] = (struct request){.action = action, .index = (uint16_t)index, .group = group, .since = -1, .is_faulty = is_fault, .failure = failure_of(model, action, index)};
     model->has_drain[group] |= (action->flags & IOSQE_IO_DRAIN) != 0;
-    model->has_fault[group] |= is_faulty(action);
+    model->has_fault[group] |= is_fault;
 }
 
 /* All members of a group with a fault are doomed. */
@@ -55,6 +71,19 @@ static void note_starts(struct model *model)
     }
 }
 
+/* One that is behind no link and no drain finds its file at once. */
+static void note_loose(struct model *model, uint32_t first)
+{
+    bool has_drain = false;
+    for (uint32_t i = 0; i < model->count; i++) {
+        struct request *request = &model->requests[i];
+        bool is_first = i == 0 || model->requests[i - 1].group != request->group;
+        has_drain |= !request->is_ended && model->has_drain[request->group];
+        if (i >= first)
+            request->is_loose = is_first && !has_drain;
+    }
+}
+
 void take(struct model *model, uint32_t to_submit)
 {
     uint32_t first = model->count;
@@ -68,20 +97,22 @@ void take(struct model *model, uint32_t to_submit)
         const struct action *action = &model->program->actions[index];
         accept_one(model, (unsigned)index, is_behind);
         is_behind = action->flags & LINKS;
-        if (is_faulty(action) && !is_all && !is_behind)
+        if (model->requests[model->count - 1].is_faulty && !is_all && !is_behind)
             break;
     }
     doom_faulty(model, first);
+    note_loose(model, first);
     note_starts(model);
     model->call->accepted = model->count - first;
 }
 
 /* ---- what may go on ---- */
 
-/* Whether a request waits for another that hasn't ended. In the kernel nobody waits for a faulty group that drains. */
+/* Whether a request waits for another that hasn't ended. In the kernel nobody waits for a faulty group that drains, nor
+ * for a linked timeout, which runs beside the request before it. */
 static bool waits_for(const struct model *model, const struct request *request, const struct request *other)
 {
-    if (other->is_ended || other >= request)
+    if (other->is_ended || other >= request || (model->is_kernel && other->action->code == IORING_OP_LINK_TIMEOUT))
         return false;
     bool is_drain = model->has_drain[other->group] && !(model->is_kernel && model->has_fault[other->group]);
     return other->group == request->group || is_drain || model->has_drain[request->group];
@@ -95,15 +126,34 @@ bool can_start(const struct model *model, const struct request *request)
     return true;
 }
 
-static bool is_pipe_read(const struct request *request)
+bool is_stream(const struct model *model, const struct request *request)
 {
-    return request->action->object == PIPE_OUT && (request->action->code == IORING_OP_READ || request->action->code == IORING_OP_READV);
+    const struct action *action = request->action;
+    bool is_pipe = action->object == PIPE_OUT || action->object == PIPE_IN;
+    if (request->failure != 0)
+        return false;
+    if (is_of_sockets(action))
+        return is_pipe && model->program->rings[model->ring].has_sockets;
+    if (action->code == IORING_OP_POLL_ADD)
+        return true;
+    return (is_read(action) || is_write(action)) && (is_pipe || action->object == ZEROS);
+}
+
+/* Whether a request takes what comes out of the pipe, or waits for it. */
+static bool is_pipe_read(const struct model *model, const struct request *request)
+{
+    const struct action *action = request->action;
+    return action->object == PIPE_OUT && (is_read(action) || action->code == IORING_OP_POLL_ADD) && is_stream(model, request);
 }
 
 bool is_blocked(const struct model *model, const struct request *request)
 {
     const struct things *things = model->things;
-    if (!is_pipe_read(request) || request->action->is_impatient || length_of(request->action) == 0 || request->is_cancelled || request->is_doomed)
+    const struct action *action = request->action;
+    if (!is_pipe_read(model, request) || action->is_impatient || request->is_cancelled || request->is_doomed)
+        return false;
+    /* One that is to take a provided buffer ends where there is none. */
+    if (is_selecting(action) ? model->queue_length == 0 : is_read(action) && length_of(action) == 0)
         return false;
     return things->read == things->written && !things->is_fed_out;
 }
@@ -130,7 +180,7 @@ bool has_pipe_reads(const struct model *model, bool is_started)
 {
     for (uint32_t i = 0; i < model->count; i++) {
         const struct request *request = &model->requests[i];
-        if (!request->is_ended && is_pipe_read(request) && (!is_started || can_start(model, request)))
+        if (!request->is_ended && is_pipe_read(model, request) && (!is_started || can_start(model, request)))
             return true;
     }
     return false;
@@ -141,7 +191,35 @@ bool has_timeouts(const struct model *model)
     for (uint32_t i = 0; i < model->count; i++)
         if (!model->requests[i].is_ended && is_timeout(&model->requests[i]) && can_start(model, &model->requests[i]))
             return true;
+    return has_linked_timeouts(model);
+}
+
+bool has_linked_timeouts(const struct model *model)
+{
+    for (uint32_t i = 0; i < model->count; i++)
+        if (model->requests[i].action->code == IORING_OP_LINK_TIMEOUT && end_of_timeout(&model->requests[i]) >= 0)
+            return true;
     return false;
+}
+
+/* The timeout that is linked behind a request, while neither has ended; or NULL. */
+static struct request *timeout_behind(struct model *model, const struct request *request)
+{
+    struct request *next = &model->requests[request - model->requests + 1];
+    bool is_behind = next < model->requests + model->count && next->group == request->group && next->action->code == IORING_OP_LINK_TIMEOUT;
+    return is_behind && !next->is_ended && !next->is_doomed ? next : NULL;
+}
+
+/* A linked timeout runs while the request before it does. */
+int64_t end_of_timeout(const struct request *timeout)
+{
+    const struct request *limited = timeout->action->code == IORING_OP_LINK_TIMEOUT ? timeout - 1 : timeout;
+    bool is_kind = limited != timeout || timeout->action->code == IORING_OP_TIMEOUT;
+    if (!is_kind || timeout->is_ended || timeout->is_doomed || timeout->has_fired || timeout->is_faulty)
+        return -1;
+    if (limited->is_ended || limited->is_doomed || limited->is_cancelled || limited->since < 0)
+        return -1;
+    return add_times(limited->since, timeout->action->time);
 }
 
 /* ---- ends ---- */
@@ -173,12 +251,19 @@ static void force(struct model *model, struct request *request, const char *why)
     end(model, request, carry_out(model, request, success_of(request)));
 }
 
+/* A timeout that is linked behind it may have cancelled it, unseen. */
+static bool may_have_been_cancelled(const struct model *model, const struct request *request)
+{
+    const struct request *next = request + 1;
+    return next < model->requests + model->count && next->group == request->group && next->may_have_fired;
+}
+
 /* Whether a request can end without waiting. */
 static bool can_end(const struct model *model, const struct request *request)
 {
     if (request->is_ended)
         return false;
-    return request->is_doomed || (can_start(model, request) && !is_timeout(request) && !is_blocked(model, request));
+    return request->is_doomed || (can_start(model, request) && !is_timeout(request) && !is_blocked(model, request) && !may_have_been_cancelled(model, request));
 }
 
 void expect_stuck(struct model *model, const char *what)
@@ -204,11 +289,11 @@ static bool is_in_order(const struct model *model)
     return !model->is_kernel && (strcmp(model->program->policy, "order") == 0 || strcmp(model->program->policy, "lazy") == 0);
 }
 
-static bool is_stream(const struct request *request)
+/* Whether a running request ends if it is cancelled. The pipe's end may have been closed. */
+static bool can_wait(const struct model *model, const struct request *target)
 {
-    const struct action *action = request->action;
-    bool is_transfer = action->code == IORING_OP_READ || action->code == IORING_OP_WRITE || action->code == IORING_OP_READV || action->code == IORING_OP_WRITEV;
-    return is_transfer && (action->object == PIPE_OUT || action->object == PIPE_IN || action->object == ZEROS);
+    bool is_closed = target->action->object == PIPE_IN && model->things->is_fed_out;
+    return (is_stream(model, target) && !is_closed) || is_timeout(target);
 }
 
 static void cancel(struct model *model, const struct request *cancel, int32_t res)
@@ -221,25 +306,113 @@ static void cancel(struct model *model, const struct request *cancel, int32_t re
     }
     if ((res != 0 && res != -EALREADY) || !target)
         wrong(model, "cancel %u ends with %" PRId32 ", and %s", cancel->index, res, target ? "has a target" : "has no target");
-    bool is_closed = target->action->object == PIPE_IN && model->things->is_fed_out;
-    bool is_waiting_kind = (is_stream(target) && !is_closed) || is_timeout(target);
-    /* One that runs and waits is seen as a success, unless a link or a skipped success stands on the core's answer. */
-    bool is_shown = is_waiting_kind && !(cancel->action->flags & (IOSQE_IO_LINK | IOSQE_IO_HARDLINK | IOSQE_CQE_SKIP_SUCCESS));
+    bool is_waiting_kind = can_wait(model, target);
     /* In order, all that comes before and may start has been started. */
     bool has_started = is_in_order(model) && target < cancel && can_start(model, target);
-    if (res == 0 && has_started && !is_shown)
+    if (res == 0 && has_started && !is_waiting_kind)
         wrong(model, "cancel %u finds entry %u before it was started", cancel->index, target->index);
     if (res == 0) {
         target->is_doomed = !has_started;
         target->is_cancelled = has_started;
         return;
     }
-    if (is_shown)
+    /* One that runs and waits is seen as a success. */
+    if (is_waiting_kind)
         wrong(model, "cancel %u ends with %" PRId32 ", and entry %u waits", cancel->index, res, target->index);
     force_before(model, target);
-    if (is_in_order(model) && (!is_waiting_kind || target > cancel))
+    if (is_in_order(model))
         wrong(model, "cancel %u finds entry %u running", cancel->index, target->index);
-    target->is_cancelled |= is_waiting_kind;
+}
+
+/* What a removal finds, or a cancel on whose success a link stands: one that runs and waits, or that could start; of a
+ * removal only one of its operation. */
+static bool is_found_by(const struct request *seeker, const struct request *request)
+{
+    uint8_t code = seeker->action->code;
+    if (request == seeker || request->index != seeker->action->target || request->is_ended || request->is_faulty)
+        return false;
+    if (code == IORING_OP_ASYNC_CANCEL)
+        return request->action->code != IORING_OP_ASYNC_CANCEL || request->action->flags & LINKS;
+    return request->action->code == (code == IORING_OP_POLL_REMOVE ? IORING_OP_POLL_ADD : IORING_OP_TIMEOUT);
+}
+
+static void remove_one(struct model *model, const struct request *removal, int32_t res)
+{
+    struct request *target = NULL;
+    for (struct request *request = model->requests; request < model->requests + model->count; request++)
+        if (is_found_by(removal, request))
+            target = request;
+    bool is_waiting_kind = target && can_wait(model, target);
+    if (res == -ENOENT) {
+        if (is_waiting_kind && can_start(model, target) && !target->is_doomed && !target->is_cancelled && !may_have_been_cancelled(model, target))
+            wrong(model, "removal %u doesn't find entry %u", removal->index, target->index);
+        return;
+    }
+    if (res != 0 || !target)
+        wrong(model, "removal %u ends with %" PRId32 ", and %s", removal->index, res, target ? "has a target" : "has no target");
+    /* One that is doomed waits for nobody. */
+    if (target->is_doomed)
+        return;
+    force_before(model, target);
+    target->is_cancelled = true;
+}
+
+/* ---- messages ---- */
+
+static struct model *receiver_of(const struct model *model, const struct request *request)
+{
+    return model->others[request->action->target];
+}
+
+bool has_drains(const struct model *model)
+{
+    for (uint32_t i = 0; i < model->count; i++)
+        if (!model->requests[i].is_ended && model->has_drain[model->requests[i].group])
+            return true;
+    return false;
+}
+
+/* A message was sent. It is posted at once, unless the other ring drains. */
+static void send_one(struct model *model, const struct request *request, int32_t res)
+{
+    struct message *message = &model->messages[request->index];
+    struct model *receiver = receiver_of(model, request);
+    if (res != 0)
+        wrong(model, "message %u ends with %" PRId32, request->index, res);
+    message->is_sent = true;
+    message->is_due = !model->is_late && !has_drains(receiver);
+    if (message->is_due && receiver == model && !message->is_seen)
+        wrong(model, "message %u isn't there", request->index);
+}
+
+static void see_message(struct model *model, unsigned index, int32_t res)
+{
+    const struct action *action = &model->program->actions[index];
+    if (!model->messages || index >= MOST_ACTIONS || action->kind != PUT || action->code != IORING_OP_MSG_RING || action->target != model->ring)
+        wrong(model, "a message of nobody is shown");
+    struct model *sender = model->others[action->ring];
+    struct message *message = &model->messages[index];
+    if (message->is_seen || res != (int32_t)index)
+        wrong(model, "message %u %s", index, message->is_seen ? "is shown again" : "is another");
+    for (struct request *request = sender->requests; request < sender->requests + sender->count; request++) {
+        if (request->index != index)
+            continue;
+        if (request->is_doomed || (request->is_ended && !message->is_sent))
+            wrong(model, "message %u is shown, and wasn't sent", index);
+        if (!sender->has_overflowed)
+            force_before(sender, request);
+        message->is_seen = true;
+        return;
+    }
+    wrong(model, "message %u is shown, and wasn't submitted", index);
+}
+
+bool has_due_messages(const struct model *model)
+{
+    for (unsigned i = 0; i < MOST_ACTIONS && model->messages; i++)
+        if (model->messages[i].is_due && !model->messages[i].is_seen && model->program->actions[i].target == model->ring)
+            return true;
+    return false;
 }
 
 /* ---- completions ---- */
@@ -249,7 +422,7 @@ static void expect_order(struct model *model, const struct request *seen)
 {
     bool has_pipes = has_pipe_reads(model, false);
     for (struct request *request = model->requests; request < seen; request++)
-        if (can_end(model, request) && !(has_pipes && is_stream(request)))
+        if (can_end(model, request) && !(has_pipes && is_stream(model, request)))
             force(model, request, "comes first in order");
 }
 
@@ -263,25 +436,57 @@ static struct request *outstanding(struct model *model, uint64_t user_data)
 
 static void end_doomed(struct model *model, struct request *request, int32_t res)
 {
-    int32_t wanted = -ECANCELED;
-    if (is_faulty(request->action))
+    int32_t wanted = request->has_fired ? -ETIME : -ECANCELED;
+    if (request->is_faulty)
         wanted = request->action->flaw == BAD_POINTER ? -EFAULT : -EINVAL;
     if (res != wanted)
         wrong(model, "entry %u ends with %" PRId32 ", and is to end with %" PRId32, request->index, res, wanted);
     end(model, request, false);
 }
 
-void see(struct model *model, uint64_t user_data, int32_t res)
+/* Whether the timeout that is linked behind a request has cancelled it. */
+static bool is_cut_off(struct model *model, struct request *request)
+{
+    struct request *timeout = timeout_behind(model, request);
+    bool is_waiting_kind = is_stream(model, request) || request->action->code == IORING_OP_TIMEOUT;
+    if (!timeout || !is_waiting_kind)
+        return false;
+    if (!timeout->may_have_fired)
+        fire(model, timeout);
+    timeout->has_fired = true;
+    return true;
+}
+
+static bool has_acted(struct model *model, const struct request *request, int32_t res)
+{
+    switch (request->action->code) {
+    case IORING_OP_ASYNC_CANCEL:
+        (request->action->flags & LINKS ? remove_one : cancel)(model, request, res);
+        return res == 0;
+    case IORING_OP_POLL_REMOVE:
+    case IORING_OP_TIMEOUT_REMOVE:
+        remove_one(model, request, res);
+        return res == 0;
+    case IORING_OP_MSG_RING:
+        send_one(model, request, res);
+        return true;
+    default:
+        return carry_out(model, request, res);
+    }
+}
+
+static void see_end(struct model *model, uint64_t user_data, int32_t res)
 {
     struct request *request = outstanding(model, user_data);
-    if (is_in_order(model) && request->action->code != IORING_OP_TIMEOUT && !is_pipe_read(request))
+    if (is_in_order(model) && request->action->code != IORING_OP_TIMEOUT && !is_pipe_read(model, request))
         expect_order(model, request);
     if (request->is_doomed) {
         end_doomed(model, request, res);
         return;
     }
     force_before(model, request);
-    if (request->is_cancelled && res == -ECANCELED) {
+    bool is_cut = !request->is_cancelled && res == -ECANCELED && is_cut_off(model, request);
+    if (is_cut || (request->is_cancelled && res == -ECANCELED)) {
         end(model, request, false);
         return;
     }
@@ -289,12 +494,19 @@ void see(struct model *model, uint64_t user_data, int32_t res)
         wrong(model, "entry %u ends with %" PRId32 " behind a cancel", request->index, res);
     if (request->action->code == IORING_OP_TIMEOUT && res == -ETIME)
         fire(model, request);
-    bool is_success = true;
-    if (request->action->code == IORING_OP_ASYNC_CANCEL)
-        cancel(model, request, res), is_success = res == 0;
-    else
-        is_success = carry_out(model, request, res);
+    bool is_success = has_acted(model, request, res);
     if (is_success && is_skipping(request))
         wrong(model, "entry %u succeeds with a completion that it skips", request->index);
     end(model, request, is_success);
+}
+
+void see(struct model *model, uint64_t user_data, int32_t res, uint32_t flags)
+{
+    model->queue_flags = 0;
+    if ((user_data & 0xffffffff) >= MESSAGE)
+        see_message(model, (unsigned)(user_data & 0xffffffff) - MESSAGE, res);
+    else
+        see_end(model, user_data, res);
+    if (flags != model->queue_flags)
+        wrong(model, "a completion with user data %#" PRIx64 " has flags %#" PRIx32 ", and is to have %#" PRIx32, user_data, flags, model->queue_flags);
 }

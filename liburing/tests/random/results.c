@@ -4,6 +4,7 @@
 #include <errno.h>
 #include <inttypes.h>
 #include <linux/io_uring.h>
+#include <poll.h>
 #include <string.h>
 
 uint8_t written_byte(unsigned index, uint32_t at)
@@ -14,21 +15,6 @@ uint8_t written_byte(unsigned index, uint32_t at)
 uint8_t fed_byte(uint32_t at)
 {
     return (uint8_t)(1 + at * 7 % 251);
-}
-
-static bool is_read(const struct action *action)
-{
-    return action->code == IORING_OP_READ || action->code == IORING_OP_READV;
-}
-
-static bool is_write(const struct action *action)
-{
-    return action->code == IORING_OP_WRITE || action->code == IORING_OP_WRITEV;
-}
-
-static bool is_stream(const struct action *action)
-{
-    return action->object == PIPE_OUT || action->object == PIPE_IN || action->object == ZEROS;
 }
 
 /* ---- transfers ---- */
@@ -108,10 +94,38 @@ static void write_bytes(struct model *model, const struct request *request, uint
         things->log_length = place.start + length;
 }
 
+/* A registered file stays open, whatever is closed: that it isn't there is found out at the start. */
 static bool is_no_file(const struct model *model, const struct action *action)
 {
     const struct things *things = model->things;
+    if (action->is_registered)
+        return false;
     return action->object == NO_FILE || (action->object == OTHER_LOG && things->is_closed) || (action->object == PIPE_IN && things->is_fed_out);
+}
+
+static bool has_sockets(const struct model *model)
+{
+    return model->program->rings[model->ring].has_sockets;
+}
+
+/* What a request moves at most: a provided buffer may be smaller than what it asks for. */
+static uint32_t most_of(const struct action *action)
+{
+    uint32_t length = length_of(action);
+    return is_selecting(action) && length > PROVIDED_SIZE ? PROVIDED_SIZE : length;
+}
+
+/* Puts what was read into the provided buffer that is next, and takes that. A socket that has no more to give takes none. */
+static void deliver_provided(struct model *model, const struct request *request, const uint8_t *bytes, uint32_t length)
+{
+    uint8_t buffer = model->queue[0];
+    if (length == 0 && is_of_sockets(request->action))
+        return;
+    memcpy(model->things->provided[buffer], bytes, length);
+    memmove(model->queue, model->queue + 1, --model->queue_length);
+    model->queue_flags = IORING_CQE_F_BUFFER | (uint32_t)buffer << IORING_CQE_BUFFER_SHIFT;
+    if (memcmp(model->things->provided[buffer], model->provided + buffer * PROVIDED_SIZE, PROVIDED_SIZE) != 0)
+        wrong(model, "entry %u has read something else into a provided buffer", request->index);
 }
 
 /* A transfer of the first `length` of its bytes. If `is_done`, it is carried out, else only its result is said. */
@@ -119,8 +133,12 @@ static int32_t transfer(struct model *model, const struct request *request, uint
 {
     const struct action *action = request->action;
     uint8_t bytes[MOST_VECTORS * 256];
+    if (is_selecting(action) && model->queue_length == 0)
+        return -ENOBUFS;
     if (is_no_file(model, action))
         return -EBADF;
+    if (is_of_sockets(action) && !is_stream(model, request))
+        return -ENOTSOCK;
     if (action->is_impatient && model->things->read == model->things->written && !model->things->is_fed_out)
         return length == 0 ? 0 : -EAGAIN;
     uint32_t moved = is_read(action) ? read_bytes(model, action, length, bytes) : length;
@@ -128,7 +146,9 @@ static int32_t transfer(struct model *model, const struct request *request, uint
         return -EFAULT;
     if (!is_done)
         return (int32_t)moved;
-    if (is_read(action))
+    if (is_selecting(action))
+        deliver_provided(model, request, bytes, moved);
+    else if (is_read(action))
         deliver(model, request, bytes, moved);
     else
         write_bytes(model, request, moved);
@@ -151,7 +171,7 @@ static int32_t call_file(struct model *model, const struct action *action, bool 
     case IORING_OP_FSYNC:
         return is_pipe || action->object == ZEROS ? -EINVAL : 0;
     case IORING_OP_FADVISE:
-        return is_pipe ? -ESPIPE : 0;
+        return is_pipe && !has_sockets(model) ? -ESPIPE : 0;
     case IORING_OP_SYNC_FILE_RANGE:
         return is_pipe || action->object == ZEROS ? -ESPIPE : 0;
     default:
@@ -161,57 +181,76 @@ static int32_t call_file(struct model *model, const struct action *action, bool 
     if (action->sizes[0] == 0)
         return -EINVAL;
     /* A descriptor for reading alone. */
-    if (is_pipe)
+    if (is_pipe && !has_sockets(model))
         return action->object == PIPE_OUT ? -EBADF : -ESPIPE;
-    if (action->object == ZEROS)
+    if (action->object == ZEROS || is_pipe)
         return -ENODEV;
     if (is_done && action->object != CELLS && things->log_length < end)
         things->log_length = end;
     return 0;
 }
 
+/* The events of a poll for what can be read. */
+static int32_t poll_file(const struct model *model, const struct action *action)
+{
+    const struct things *things = model->things;
+    if (action->object != PIPE_OUT)
+        return POLLIN;
+    bool has_bytes = things->read < things->written || (things->is_fed_out && has_sockets(model));
+    return (has_bytes ? POLLIN : 0) | (things->is_fed_out ? POLLHUP : 0);
+}
+
 static int32_t result_of(struct model *model, const struct request *request, uint32_t length, bool is_done)
 {
+    if (request->failure != 0)
+        return request->failure;
     switch (request->action->code) {
     case IORING_OP_NOP:
         return 0;
     case IORING_OP_TIMEOUT:
         return -ETIME;
-    case IORING_OP_READ:
-    case IORING_OP_WRITE:
-    case IORING_OP_READV:
-    case IORING_OP_WRITEV:
-        return transfer(model, request, length, is_done);
+    case IORING_OP_LINK_TIMEOUT:
+        return request->has_fired ? -ETIME : -ECANCELED;
+    case IORING_OP_POLL_ADD:
+        return poll_file(model, request->action);
     default:
-        return call_file(model, request->action, is_done);
+        break;
     }
+    bool is_transfer = is_read(request->action) || is_write(request->action);
+    return is_transfer ? transfer(model, request, length, is_done) : call_file(model, request->action, is_done);
 }
 
 int32_t success_of(const struct request *request)
 {
     bool is_transfer = is_read(request->action) || is_write(request->action);
-    return is_transfer ? (int32_t)length_of(request->action) : 0;
+    return is_transfer ? (int32_t)most_of(request->action) : 0;
 }
 
 static bool is_success(const struct request *request, int32_t res)
 {
     if (request->action->code == IORING_OP_TIMEOUT)
         return res == -ETIME && request->action->is_success;
-    return res >= 0 && res >= success_of(request);
+    if (request->action->code == IORING_OP_LINK_TIMEOUT)
+        return true;
+    /* A send or a receive of less is a success. */
+    return res >= 0 && (is_of_sockets(request->action) || res >= success_of(request));
 }
 
 /* ---- faults ---- */
 
-static bool can_have(const struct action *action, int fault)
+static bool can_have(const struct model *model, const struct request *request, int fault)
 {
-    bool is_transfer = is_read(action) || is_write(action), is_fallocate = action->code == IORING_OP_FALLOCATE;
+    const struct action *action = request->action;
+    bool is_transfer = (is_read(action) || is_write(action)) && !is_of_sockets(action), is_fallocate = action->code == IORING_OP_FALLOCATE;
+    if (fault != NO_FAULT && request->failure != 0)
+        return false;
     switch (fault) {
     case FAULT_EIO:
         return is_transfer || is_fallocate || action->code == IORING_OP_FSYNC;
     case FAULT_ENOSPC:
-        return is_write(action) || is_fallocate;
+        return (is_transfer && is_write(action)) || is_fallocate;
     case FAULT_SHORT:
-        return is_transfer && !is_stream(action) && length_of(action) > 1;
+        return is_transfer && !is_stream(model, request) && length_of(action) > 1;
     default:
         return true;
     }
@@ -223,7 +262,7 @@ static int listed_fault(const struct model *model, const struct request *request
     const struct program *program = model->program;
     long number = request - model->requests;
     for (int i = 0; i < program->fault_count && !model->is_kernel; i++)
-        if (program->faults[i].ring == model->layer_index && program->faults[i].number == number && can_have(request->action, program->faults[i].kind))
+        if (program->faults[i].ring == model->layer_index && program->faults[i].number == number && can_have(model, request, program->faults[i].kind))
             return program->faults[i].kind;
     return NO_FAULT;
 }
@@ -231,13 +270,13 @@ static int listed_fault(const struct model *model, const struct request *request
 /* Whether the result is that of the request with this fault. */
 static bool has_result(struct model *model, const struct request *request, int fault, int32_t res)
 {
-    uint32_t length = length_of(request->action);
-    if (!can_have(request->action, fault))
+    uint32_t length = most_of(request->action);
+    if (!can_have(model, request, fault))
         return false;
     if (fault == FAULT_EIO || fault == FAULT_ENOSPC)
         return res == (fault == FAULT_EIO ? -EIO : -ENOSPC);
     int32_t whole = result_of(model, request, fault == FAULT_SHORT ? length / 2 : length, false);
-    bool is_pipe_read = request->action->object == PIPE_OUT && is_read(request->action) && whole >= 0;
+    bool is_pipe_read = request->action->object == PIPE_OUT && (is_read(request->action) || request->action->code == IORING_OP_POLL_ADD) && whole >= 0;
     /* What comes late may have found less in its pipe, or nothing. */
     bool is_less = res > 0 ? res < whole : request->action->is_impatient && res == -EAGAIN;
     return res == whole || (is_pipe_read && model->is_late && is_less);
@@ -245,8 +284,8 @@ static bool has_result(struct model *model, const struct request *request, int f
 
 static void carry_out_with(struct model *model, const struct request *request, int fault, int32_t res)
 {
-    uint32_t length = length_of(request->action);
-    if (fault == FAULT_EIO || fault == FAULT_ENOSPC)
+    uint32_t length = most_of(request->action);
+    if (fault == FAULT_EIO || fault == FAULT_ENOSPC || request->action->code == IORING_OP_POLL_ADD)
         return;
     if (fault == FAULT_SHORT)
         length /= 2;

@@ -91,6 +91,12 @@ long enter_ring(const struct ring *ring, uint32_t to_submit, uint32_t min_comple
     return result < 0 ? -errno : result;
 }
 
+long register_at_ring(const struct ring *ring, unsigned code, const void *argument, unsigned count)
+{
+    long result = ring->way == KERNEL ? syscall(SYS_io_uring_register, ring->fd, code, argument, count) : wulgach_syscall(SYS_io_uring_register, ring->fd, code, argument, count);
+    return result < 0 ? -errno : result;
+}
+
 void publish(struct ring *ring, uint32_t word)
 {
     uint32_t *tail = word_at(ring->sq, ring->params.sq_off.tail);

@@ -31,6 +31,9 @@ void close_ring(struct ring *ring);
 /* One call. A limit is in nanoseconds, or negative; a mask that blocks nothing is given if `has_mask`. */
 long enter_ring(const struct ring *ring, uint32_t to_submit, uint32_t min_complete, bool is_getting, int64_t limit, bool has_mask);
 
+/* One call of io_uring_register. */
+long register_at_ring(const struct ring *ring, unsigned code, const void *argument, unsigned count);
+
 /* Publishes an index word. */
 void publish(struct ring *ring, uint32_t word);
 

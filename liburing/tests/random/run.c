@@ -70,13 +70,13 @@ static void see_all(struct world *world)
     if (tail - cq_head(&world->ring) > world->model.cq_entries)
         wrong(&world->model, "the completion ring's tail is %u", tail);
     while (world->seen != tail) {
-        if (world->seen >= MOST_ACTIONS)
+        if (world->seen >= 2 * MOST_ACTIONS)
             wrong(&world->model, "there are too many completions");
         struct completion shown = completion_at(&world->ring, world->seen);
         world->shown[world->seen++] = shown;
-        if (shown.flags != 0)
-            wrong(&world->model, "a completion has flags");
-        see(&world->model, shown.user_data, shown.res);
+        see(&world->model, shown.user_data, shown.res, shown.flags);
+        if (shown.flags & IORING_CQE_F_BUFFER)
+            world->is_provided[shown.flags >> IORING_CQE_BUFFER_SHIFT] = false;
         note_outcome(world, shown);
     }
 }
@@ -94,6 +94,15 @@ static void reap(struct world *world, uint32_t count)
 
 /* ---- calling ---- */
 
+/* What posts nothing may have ended, so that what waits for it runs. */
+static bool may_have_unseen_ends(const struct model *model)
+{
+    for (uint32_t i = 0; i < model->count; i++)
+        if (!model->requests[i].is_ended && model->requests[i].action->flags & IOSQE_CQE_SKIP_SUCCESS)
+            return true;
+    return false;
+}
+
 /* The limit that a call is given: where it would really sleep, a short one. A call that waits for one completion, which a
  * timeout will give, sleeps only for a pipe that is read already. */
 static int64_t limit_of(const struct world *world, const struct call *call, int64_t limit)
@@ -103,9 +112,10 @@ static int64_t limit_of(const struct world *world, const struct call *call, int6
         return -1;
     if (world->is_kernel)
         return KERNEL_WAIT;
+    bool is_empty = world->things.read == world->things.written && !world->things.is_fed_out;
     bool may_sleep = has_pipe_reads(model, false) || world->program->is_threaded;
     if (may_sleep && call->min_complete == 1 && call->ready == 0 && has_timeouts(model))
-        may_sleep = has_pipe_reads(model, true);
+        may_sleep = has_pipe_reads(model, true) || (has_pipe_reads(model, false) && is_empty && may_have_unseen_ends(model));
     return may_sleep && (limit < 0 || limit > SHORT_WAIT) ? SHORT_WAIT : limit;
 }
 
@@ -148,7 +158,7 @@ static void enter(struct world *world, uint32_t to_submit, uint32_t min_complete
     int64_t start = real_time();
     call.result = enter_ring(&world->ring, to_submit, min_complete, is_getting, call.limit, has_mask);
     if (may_sleep)
-        model->slack += real_time() - start;
+        model->slack = add_times(model->slack, real_time() - start);
     look(world, &call);
     see_all(world);
     judge_call(model);
@@ -194,9 +204,8 @@ static void act_reopen(struct world *world)
     const struct model *model = &world->model;
     if (sq_flags(&world->ring) & IORING_SQ_CQ_OVERFLOW)
         return;
-    for (uint32_t i = 0; i < model->count; i++)
-        if (!model->requests[i].is_ended && model->requests[i].action->flags & IOSQE_CQE_SKIP_SUCCESS)
-            return;
+    if (may_have_unseen_ends(model))
+        return;
     close_ring(&world->ring);
     make_world_ring(world);
 }
@@ -207,6 +216,29 @@ static bool has_pipe_writes(const struct world *world)
         if (!world->model.requests[i].is_ended && world->model.requests[i].action->object == PIPE_IN)
             return true;
     return false;
+}
+
+/* Only if it is known which buffers were taken. */
+static void act_provide(struct world *world, uint32_t count)
+{
+    if (sq_flags(&world->ring) & IORING_SQ_CQ_OVERFLOW)
+        return;
+    for (unsigned buffer = 0; buffer < PROVIDED && count > 0; buffer++)
+        count -= provide(world, buffer);
+}
+
+/* Only if no request waits that may find its file when it starts. */
+static void act_update(struct world *world)
+{
+    const struct model *model = &world->model;
+    if (sq_flags(&world->ring) & IORING_SQ_CQ_OVERFLOW)
+        return;
+    for (uint32_t i = 0; i < model->count; i++) {
+        const struct request *request = &model->requests[i];
+        if (!request->is_ended && request->action->is_registered && request->action->object == OTHER_LOG && !request->is_loose)
+            return;
+    }
+    update_files(world);
 }
 
 static void act(struct world *world, unsigned index)
@@ -238,6 +270,12 @@ static void act(struct world *world, unsigned index)
         break;
     case REOPEN:
         act_reopen(world);
+        break;
+    case PROVIDE:
+        act_provide(world, action->count);
+        break;
+    case UPDATE:
+        act_update(world);
         break;
     }
 }
@@ -286,6 +324,29 @@ static void run_threads(struct world *worlds, unsigned count)
         pthread_join(threads[i], NULL);
 }
 
+/* The models of all rings know one another. */
+static void let_talk(struct world *worlds, unsigned count)
+{
+    static struct message messages[MOST_ACTIONS];
+    memset(messages, 0, sizeof messages);
+    for (unsigned i = 0; i < count; i++) {
+        worlds[i].model.messages = messages;
+        for (unsigned other = 0; other < count; other++)
+            worlds[i].model.others[other] = &worlds[other].model;
+    }
+}
+
+/* Messages of a ring that came to rest later are seen now, unless one that posts nothing drains still. */
+static void judge_messages(struct world *world)
+{
+    finish(world);
+    for (unsigned i = 0; i < MOST_ACTIONS; i++) {
+        const struct message *message = &world->model.messages[i];
+        if (message->is_sent && !message->is_seen && !has_drains(&world->model) && world->program->actions[i].target == world->index)
+            wrong(&world->model, "message %u is lost", i);
+    }
+}
+
 void run_program(const struct program *program, bool is_kernel, struct outcome *outcome)
 {
     struct world *worlds = calloc(program->ring_count, sizeof *worlds);
@@ -295,17 +356,23 @@ void run_program(const struct program *program, bool is_kernel, struct outcome *
         worlds[i].index = i;
         worlds[i].is_kernel = is_kernel;
         worlds[i].outcome = outcome;
+        worlds[i].others = worlds;
         make_world(&worlds[i]);
     }
+    if (program->has_messages)
+        let_talk(worlds, program->ring_count);
     if (program->is_threaded)
         run_threads(worlds, program->ring_count);
     for (unsigned i = 0; i < program->count && !program->is_threaded; i++)
         act(&worlds[program->actions[i].ring], i);
+    for (unsigned i = 0; i < program->ring_count && !program->is_threaded; i++)
+        finish(&worlds[i]);
     for (unsigned i = 0; i < program->ring_count; i++) {
-        if (!program->is_threaded)
-            finish(&worlds[i]);
+        if (program->has_messages)
+            judge_messages(&worlds[i]);
         judge_world(&worlds[i]);
         free(worlds[i].is_used);
+        free(worlds[i].provided_ring);
     }
     free(worlds);
 }

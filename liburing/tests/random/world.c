@@ -4,13 +4,18 @@
 
 #include <errno.h>
 #include <fcntl.h>
+#include <poll.h>
 #include <stdlib.h>
 #include <string.h>
+#include <stddef.h>
 #include <sys/mman.h>
+#include <sys/socket.h>
 #include <unistd.h>
 
 /* Each ring's descriptors have numbers of their own, far from those that an open would take. */
 enum { FIRST_FD = 200, FDS_OF_RING = 16 };
+
+enum { GROUP = 5, SLOTS = 8 };
 
 enum { REFUSED_CODE = 250, REFUSED_FLAG = 128, REFUSED_PRIORITY = 0x9000, BAD_ADDRESS = 8, NO_FD = 199 };
 
@@ -33,7 +38,8 @@ static void make_files(struct world *world)
     world->fds[CELLS] = move(world, memfd_create("cells", 0), CELLS);
     world->fds[ZEROS] = move(world, open("/dev/zero", O_RDWR), ZEROS);
     world->fds[NO_FILE] = NO_FD;
-    if (pipe(ends) != 0)
+    bool has_sockets = world->program->rings[world->index].has_sockets;
+    if ((has_sockets ? socketpair(AF_UNIX, SOCK_STREAM, 0, ends) : pipe(ends)) != 0)
         wrong(&world->model, "no pipe");
     world->fds[PIPE_OUT] = move(world, ends[0], PIPE_OUT);
     world->fds[PIPE_IN] = move(world, dup(ends[1]), PIPE_IN);
@@ -42,6 +48,61 @@ static void make_files(struct world *world)
         things->cells[at] = (uint8_t)(0x21 + at % 90);
     if (pwrite(world->fds[CELLS], things->cells, sizeof things->cells, 0) != (ssize_t)sizeof things->cells)
         wrong(&world->model, "no file");
+}
+
+/* ---- what is registered ---- */
+
+bool provide(struct world *world, unsigned buffer)
+{
+    struct io_uring_buf_ring *ring = world->provided_ring;
+    struct model *model = &world->model;
+    if (world->is_provided[buffer])
+        return false;
+    world->is_provided[buffer] = true;
+    ring->bufs[ring->tail % SLOTS].addr = (uintptr_t)world->provided[buffer];
+    ring->bufs[ring->tail % SLOTS].len = PROVIDED_SIZE;
+    ring->bufs[ring->tail % SLOTS].bid = (uint16_t)buffer;
+    __atomic_store_n(&ring->tail, (uint16_t)(ring->tail + 1), __ATOMIC_RELEASE);
+    model->queue[model->queue_length++] = (uint8_t)buffer;
+    return true;
+}
+
+void update_files(struct world *world)
+{
+    struct model *model = &world->model;
+    int fd = model->has_file ? -1 : world->fds[OTHER_LOG];
+    struct io_uring_files_update update = {.offset = OTHER_LOG, .fds = (uintptr_t)&fd};
+    if (fd >= 0 && world->things.is_closed)
+        return;
+    long result = register_at_ring(&world->ring, IORING_REGISTER_FILES_UPDATE, &update, 1);
+    if (result != 1)
+        wrong(model, "an update of the files ends with %ld", result);
+    model->has_file = fd >= 0;
+}
+
+/* The files by their numbers; of the pipe's end that is written none, since it is to be closed. Few of the
+ * buffers are provided. */
+static void register_all(struct world *world)
+{
+    struct model *model = &world->model;
+    int fds[OBJECTS];
+    memcpy(fds, world->fds, sizeof fds);
+    fds[NO_FILE] = fds[PIPE_IN] = -1;
+    if (world->things.is_closed)
+        fds[OTHER_LOG] = -1;
+    model->has_file = fds[OTHER_LOG] >= 0;
+    struct iovec halves[] = {{world->data, sizeof world->data / 2}, {world->data + MOST_ACTIONS / 2, sizeof world->data / 2}};
+    free(world->provided_ring);
+    world->provided_ring = aligned_alloc(4096, 4096);
+    memset(world->provided_ring, 0, 4096);
+    memset(world->is_provided, 0, sizeof world->is_provided);
+    struct io_uring_buf_reg group = {.ring_addr = (uintptr_t)world->provided_ring, .ring_entries = SLOTS, .bgid = GROUP};
+    long files = register_at_ring(&world->ring, IORING_REGISTER_FILES, fds, OBJECTS), buffers = register_at_ring(&world->ring, IORING_REGISTER_BUFFERS, halves, 2);
+    long provided = register_at_ring(&world->ring, IORING_REGISTER_PBUF_RING, &group, 1);
+    if (files != 0 || buffers != 0 || provided != 0)
+        wrong(model, "registering ends with %ld, %ld and %ld", files, buffers, provided);
+    for (unsigned buffer = 0; buffer < world->program->seed % PROVIDED; buffer++)
+        provide(world, buffer);
 }
 
 /* The rings that the process has made, which the layer counts. */
@@ -54,7 +115,7 @@ void make_world_ring(struct world *world)
     int result = open_ring(&world->ring, way, options->entries, options->completions, options->flags);
     struct model *model = &world->model;
     memset(model, 0, sizeof *model);
-    *model = (struct model){.program = world->program, .ring = world->index, .is_kernel = world->is_kernel, .things = &world->things, .data = world->data};
+    *model = (struct model){.program = world->program, .ring = world->index, .is_kernel = world->is_kernel, .things = &world->things, .data = world->data, .provided = world->provided[0]};
     if (result < 0)
         wrong(model, "set-up ends with %d", result);
     model->layer_index = rings_made++;
@@ -68,6 +129,8 @@ void make_world_ring(struct world *world)
     free(world->is_used);
     world->is_used = calloc(model->sq_entries, sizeof *world->is_used);
     world->seen = 0;
+    if (options->has_registered)
+        register_all(world);
 }
 
 void make_world(struct world *world)
@@ -75,15 +138,14 @@ void make_world(struct world *world)
     memset(world->data, BLANK, sizeof world->data);
     for (unsigned index = 0; index < world->program->count; index++) {
         const struct action *action = &world->program->actions[index];
-        bool is_write = action->code == IORING_OP_WRITE || action->code == IORING_OP_WRITEV;
         uint32_t at = 0;
-        for (int i = 0; action->kind == PUT && is_write && i < action->vectors; i++)
+        for (int i = 0; action->kind == PUT && is_write(action) && i < action->vectors; i++)
             for (int byte = 0; byte < action->sizes[i]; byte++)
                 world->data[index].at[i][GUARD + byte] = written_byte(index, at++);
     }
     memcpy(world->things.data, world->data, sizeof world->data);
-    make_world_ring(world);
     make_files(world);
+    make_world_ring(world);
 }
 
 /* ---- entries ---- */
@@ -93,9 +155,17 @@ static void write_transfer(struct world *world, struct io_uring_sqe *entry, unsi
     const struct action *action = &world->program->actions[index];
     for (int i = 0; i < action->vectors; i++)
         world->vectors[index][i] = (struct iovec){world->data[index].at[i] + GUARD, action->sizes[i]};
-    bool is_vectored = action->code == IORING_OP_READV || action->code == IORING_OP_WRITEV;
-    entry->addr = (uintptr_t)(is_vectored ? (void *)world->vectors[index] : world->data[index].at[0] + GUARD);
-    entry->len = is_vectored ? action->vectors : action->sizes[0];
+    entry->addr = (uintptr_t)(is_vectored(action) ? (void *)world->vectors[index] : world->data[index].at[0] + GUARD);
+    entry->len = is_vectored(action) ? action->vectors : action->sizes[0];
+    entry->buf_index = is_in_registered_memory(action) ? action->buffer : 0;
+    if (is_selecting(action)) {
+        entry->addr = 0;
+        entry->buf_group = GROUP;
+    }
+    if (is_of_sockets(action)) {
+        entry->msg_flags = action->is_impatient ? MSG_DONTWAIT : 0;
+        return;
+    }
     uint64_t start = action->object == CELLS ? action->cell * (uint64_t)CELL : 0;
     entry->off = action->object == PIPE_OUT || action->object == PIPE_IN ? 0 : start + (uint64_t)(int64_t)action->offset;
     entry->rw_flags = action->is_impatient ? RWF_NOWAIT : 0;
@@ -111,7 +181,7 @@ static void write_timeout(struct world *world, struct io_uring_sqe *entry, unsig
         world->times[index].tv_sec = -1;
     entry->addr = (uintptr_t)&world->times[index];
     entry->len = 1;
-    entry->timeout_flags = action->is_success ? IORING_TIMEOUT_ETIME_SUCCESS : 0;
+    entry->timeout_flags = action->is_success && action->code == IORING_OP_TIMEOUT ? IORING_TIMEOUT_ETIME_SUCCESS : 0;
 }
 
 static void write_flaw(struct io_uring_sqe *entry, enum flaw flaw)
@@ -133,18 +203,27 @@ void write_entry(struct world *world, struct io_uring_sqe *entry, unsigned index
     entry->opcode = action->code;
     entry->flags = action->flags;
     entry->user_data = user_data_of(index);
-    entry->fd = world->fds[action->object];
-    switch (action->code) {
-    case IORING_OP_READ:
-    case IORING_OP_WRITE:
-    case IORING_OP_READV:
-    case IORING_OP_WRITEV:
+    entry->fd = action->is_registered ? (int)action->object : world->fds[action->object];
+    if (action->is_registered)
+        entry->flags |= IOSQE_FIXED_FILE;
+    if (is_read(action) || is_write(action))
         write_transfer(world, entry, index);
-        break;
+    switch (action->code) {
     case IORING_OP_TIMEOUT:
+    case IORING_OP_LINK_TIMEOUT:
         write_timeout(world, entry, index);
         break;
+    case IORING_OP_POLL_ADD:
+        entry->poll32_events = POLLIN;
+        break;
+    case IORING_OP_MSG_RING:
+        entry->fd = world->others[action->target].ring.fd;
+        entry->off = (uint64_t)0x77 << 32 | (MESSAGE + index);
+        entry->len = index;
+        break;
     case IORING_OP_ASYNC_CANCEL:
+    case IORING_OP_POLL_REMOVE:
+    case IORING_OP_TIMEOUT_REMOVE:
         entry->fd = 0;
         entry->addr = user_data_of(action->target);
         break;
@@ -235,6 +314,8 @@ void judge_world(struct world *world)
     bool is_open = fcntl(world->fds[OTHER_LOG], F_GETFD) >= 0;
     if (is_open == things->is_closed)
         wrong(&world->model, "a descriptor is %s at the end", is_open ? "open" : "closed");
+    if (memcmp(things->provided, world->provided, sizeof world->provided) != 0)
+        wrong(&world->model, "a provided buffer was written to that wasn't taken");
     memcpy(world->outcome->cells[world->index], things->cells, sizeof things->cells);
     close_ring(&world->ring);
 }

@@ -17,6 +17,9 @@ struct world {
     struct model model;
     struct things things;
     struct vectors data[MOST_ACTIONS];
+    uint8_t provided[PROVIDED][PROVIDED_SIZE];
+    struct io_uring_buf_ring *provided_ring;    /* where they are provided */
+    bool is_provided[PROVIDED];
     struct iovec vectors[MOST_ACTIONS][MOST_VECTORS];
     struct __kernel_timespec times[MOST_ACTIONS];
     int fds[OBJECTS];
@@ -24,7 +27,8 @@ struct world {
     bool *is_used;                      /* slots that a published position names */
     int32_t slots[MOST_ACTIONS];        /* the slot of each position, or negative */
     uint32_t seen;                      /* completions that the model has seen */
-    struct completion shown[MOST_ACTIONS];  /* what they were, by position */
+    struct completion shown[2 * MOST_ACTIONS];  /* what they were, by position */
+    struct world *others;               /* all rings of the program */
 };
 
 /* Makes the files, the pipe and the ring, and looks at them at the end. */
@@ -37,6 +41,12 @@ void write_entry(struct world *world, struct io_uring_sqe *entry, unsigned index
 
 /* Spoils what the application may reuse once a position is taken. */
 void spoil(struct world *world, uint32_t position);
+
+/* Provides a buffer again, if the application has it. */
+bool provide(struct world *world, unsigned buffer);
+
+/* Takes OTHER_LOG out of the registered files, or puts it in again. */
+void update_files(struct world *world);
 
 /* Writes bytes to the pipe, if its end is open. */
 void feed(struct world *world, uint32_t count);

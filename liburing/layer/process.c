@@ -1,0 +1,37 @@
+/* The kernel empties a page of the layer's in each child, however that was forked: so a number that stands in it is still
+ * this process's, and needn't be asked for at each call.
+ */
+#define _GNU_SOURCE
+#include "process.h"
+
+#include <sys/mman.h>
+#include <unistd.h>
+
+#ifndef MADV_WIPEONFORK
+#define MADV_WIPEONFORK 18
+#endif
+
+static pid_t *kept;     /* on that page, or NULL: then it is asked for each time */
+
+__attribute__((constructor)) static void make_page(void)
+{
+    size_t size = (size_t)sysconf(_SC_PAGESIZE);
+    void *page = mmap(NULL, size, PROT_READ | PROT_WRITE, MAP_PRIVATE | MAP_ANONYMOUS, -1, 0);
+    if (page == MAP_FAILED)
+        return;
+    if (madvise(page, size, MADV_WIPEONFORK) == 0)
+        kept = page;
+    else
+        munmap(page, size);
+}
+
+pid_t this_process(void)
+{
+    pid_t process = kept ? __atomic_load_n(kept, __ATOMIC_RELAXED) : 0;
+    if (process)
+        return process;
+    process = getpid();
+    if (kept)
+        __atomic_store_n(kept, process, __ATOMIC_RELAXED);
+    return process;
+}
