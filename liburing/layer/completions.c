@@ -8,8 +8,8 @@
 #include "eventfds.h"
 #include "fault.h"
 #include "ring.h"
-#include "rows.h"
 #include "steps.h"
+#include "whole_calls.h"
 
 #include <stdlib.h>
 #include <string.h>
@@ -102,7 +102,7 @@ void show_ends(struct ring *ring)
 static void reap(struct ring *ring, uint32_t count)
 {
     struct completions *completions = &ring->completions;
-    reap_row(ring, posted_at(completions, 0), count);
+    reap_oldest(ring, count);
     completions->first += count;
     completions->count -= count;
     completions->shown -= count;

@@ -12,10 +12,10 @@
 #include "process.h"
 #include "readiness.h"
 #include "ring.h"
-#include "rows.h"
 #include "server.h"
 #include "strict.h"
 #include "trace.h"
+#include "whole_calls.h"
 
 #include <errno.h>
 #include <fcntl.h>
@@ -56,7 +56,7 @@ void free_ring(struct ring *ring)
     wulgach_core_free(&ring->core);
     free_requests(&ring->requests);
     free_requests(&ring->staged);
-    free_rows(ring);
+    free_entries(ring);
     free_completions(&ring->completions);
     free_memory(&ring->memory);
     free_polled(ring);
@@ -104,7 +104,7 @@ static int fill_ring(struct ring *ring, struct wulgach_setup *setup, struct io_u
     note_ring();
     setup->sq = round_up(setup->sq);
     setup->cq = setup->has_cq ? round_up(setup->cq) : 2 * setup->sq;
-    if (!make_rows(ring, setup->sq))
+    if (!make_entries(ring, setup->sq))
         return -ENOMEM;
     int fd = is_polled ? make_polled(ring) : make_file();
     if (fd < 0)

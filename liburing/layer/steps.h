@@ -1,5 +1,5 @@
 /* The steps that the layer makes on a core, each by a function of its own, which demands an answer that the layer can
- * go on from. Only here and in rows.c is the core moved, so that each step stands in the trace.
+ * go on from. Only here and in whole_calls.c is the core moved, so that each step stands in the trace.
  */
 #ifndef STEPS_H
 #define STEPS_H

@@ -7,10 +7,10 @@
 #include "fault.h"
 #include "operations.h"
 #include "outlook.h"
-#include "rows.h"
 #include "rules.h"
 #include "strict.h"
 #include "trace.h"
+#include "whole_calls.h"
 
 #include <errno.h>
 #include <stdlib.h>
@@ -127,7 +127,7 @@ static int take_staged(struct ring *ring, uint32_t given)
     uint32_t count = (uint32_t)ring->staged.count;
     uint64_t accepted = ring->accepted;
     struct wulgach_answer answer;
-    if (!submit_row(ring, given, &answer))
+    if (!submit_staged(ring, given, &answer))
         return -EAGAIN;
     for (uint32_t i = 0; i < count; i++)
         accept_one(ring, ring->staged.rows[i], i > 0 ? ring->staged.rows[i - 1] : NULL);

@@ -175,7 +175,7 @@ static struct io_uring_sqe *put_at(struct ring *ring, unsigned slot, uint8_t cod
 }
 
 /* Many entries at once, whose words name slots in any order, one of them twice; and many completions reaped at once. */
-static void test_rows(void)
+static void test_whole_calls(void)
 {
     enum { COUNT = 100 };
     struct ring ring;
@@ -645,7 +645,7 @@ static void test_refused_memory(void)
 }
 
 /* What a call was refused memory for waits, and the next call takes it with what was published since: a chain goes over both. */
-static void test_refused_row(void)
+static void test_refused_call(void)
 {
     for (long turn = 0; turn < 80; turn++) {
         struct ring ring;
@@ -693,7 +693,7 @@ int main(int argc, char **argv)
     static const struct {
         const char *name;
         void (*run)(void);
-    } tests[] = {{"setup", test_setup}, {"calls", test_calls}, {"chain", test_chain}, {"skipped success", test_skipped_success}, {"faulty", test_faulty}, {"faulty link", test_faulty_link}, {"dropped word", test_dropped_word}, {"rows", test_rows}, {"overflow", test_overflow}, {"overflow flag", test_overflow_flag}, {"head before end", test_head_before_end}, {"some reaped", test_some_reaped}, {"peek beside one", test_peek_beside_one}, {"files", test_files}, {"waiting", test_waiting}, {"not waiting", test_not_waiting}, {"refusals", test_refusals}, {"timeouts", test_timeouts}, {"virtual time", test_virtual_time}, {"two rings", test_two_rings}, {"threads", test_threads}, {"shared ring", test_shared_ring}, {"refused memory", test_refused_memory}, {"refused row", test_refused_row}, {"refused reaps", test_refused_reaps}};
+    } tests[] = {{"setup", test_setup}, {"calls", test_calls}, {"chain", test_chain}, {"skipped success", test_skipped_success}, {"faulty", test_faulty}, {"faulty link", test_faulty_link}, {"dropped word", test_dropped_word}, {"whole calls", test_whole_calls}, {"overflow", test_overflow}, {"overflow flag", test_overflow_flag}, {"head before end", test_head_before_end}, {"some reaped", test_some_reaped}, {"peek beside one", test_peek_beside_one}, {"files", test_files}, {"waiting", test_waiting}, {"not waiting", test_not_waiting}, {"refusals", test_refusals}, {"timeouts", test_timeouts}, {"virtual time", test_virtual_time}, {"two rings", test_two_rings}, {"threads", test_threads}, {"shared ring", test_shared_ring}, {"refused memory", test_refused_memory}, {"refused call", test_refused_call}, {"refused reaps", test_refused_reaps}};
     (void)argv;
     if (argc > 1) {
         test = "injection";

@@ -1,7 +1,7 @@
-/* Makes rows of steps, and traces them. A request stands in the core in the slot of its place in the row, whatever the slot is in
- * which the application wrote it.
+/* Makes whole calls, and traces their steps. To the core an entry stands in the slot of its place in the call, whatever the slot
+ * is in which the application wrote it.
  */
-#include "rows.h"
+#include "whole_calls.h"
 #include "fault.h"
 #include "steps.h"
 #include "trace.h"
@@ -10,13 +10,13 @@
 #include <stdlib.h>
 #include <string.h>
 
-bool make_rows(struct ring *ring, uint32_t sq_entries)
+bool make_entries(struct ring *ring, uint32_t slots)
 {
-    ring->entries = calloc(sq_entries, sizeof *ring->entries);
+    ring->entries = calloc(slots, sizeof *ring->entries);
     return ring->entries;
 }
 
-void free_rows(struct ring *ring)
+void free_entries(struct ring *ring)
 {
     free(ring->entries);
 }
@@ -26,7 +26,7 @@ void note_entry(struct ring *ring, const struct request *request)
     write_token(&ring->entries[ring->staged.count], request);
 }
 
-/* Traces a step that was made in a row, with an answer that has one word at most. */
+/* Traces a step of a whole call, with an answer that has one word at most. */
 static void trace_made(struct ring *ring, uint32_t kind, uint32_t word, uint32_t answer_kind, uint32_t answer_word)
 {
     struct wulgach_step step;
@@ -71,8 +71,8 @@ static void trace_submission(struct ring *ring, uint32_t count, const struct wul
         trace_made(ring, WULGACH_BEGIN, count, answer->kind, 0);
 }
 
-/* The core has none of it, and each word names a slot: behind one that doesn't nothing more is staged. */
-static bool is_whole(const struct ring *ring, uint32_t given)
+/* Whether the core has none of it, and each word names a slot: behind one that doesn't nothing more is staged. */
+static bool can_be_whole(const struct ring *ring, uint32_t given)
 {
     return given == 0 && ring->staged.rows[ring->staged.count - 1];
 }
@@ -100,10 +100,10 @@ static bool submit_by_steps(struct ring *ring, uint32_t given, struct wulgach_an
     return true;
 }
 
-bool submit_row(struct ring *ring, uint32_t given, struct wulgach_answer *answer)
+bool submit_staged(struct ring *ring, uint32_t given, struct wulgach_answer *answer)
 {
     uint32_t count = (uint32_t)ring->staged.count;
-    int32_t error = is_whole(ring, given) ? wulgach_core_submit(&ring->core, ring->entries, count, answer) : -ENOMEM;
+    int32_t error = can_be_whole(ring, given) ? wulgach_core_submit(&ring->core, ring->entries, count, answer) : -ENOMEM;
     if (error == -ENOMEM)
         return submit_by_steps(ring, given, answer);
     demand(error == 0 && (answer->kind == WULGACH_TAKEN || answer->kind == WULGACH_AGAIN), "the core doesn't take what is staged");
@@ -114,49 +114,50 @@ bool submit_row(struct ring *ring, uint32_t given, struct wulgach_answer *answer
 
 /* ---- completions ---- */
 
-/* So many are reaped at once at most. */
+/* So many are reaped by one call at most. */
 enum { MOST_REAPED = 32 };
 
-static void trace_reaped(struct ring *ring, const struct posted *row, uint32_t count, uint32_t tail, uint32_t head)
+static void trace_reaped(struct ring *ring, const struct posted *posted, uint32_t count, uint32_t tail, uint32_t head)
 {
     const struct wulgach_step reap = {.kind = WULGACH_REAP};
     trace_made(ring, WULGACH_LOAD_CQ_TAIL, 0, WULGACH_TAIL, tail);
     for (uint32_t i = 0; i < count; i++)
-        trace_step(ring, &reap, &(struct wulgach_answer){.kind = WULGACH_REAPED, .number = row[i].token, .res = row[i].told});
+        trace_step(ring, &reap, &(struct wulgach_answer){.kind = WULGACH_REAPED, .number = posted[i].token, .res = posted[i].told});
     trace_made(ring, WULGACH_STORE_CQ_HEAD, 0, WULGACH_HEAD, head);
 }
 
-static void reap_by_steps(struct ring *ring, const struct posted *row, uint32_t count, uint32_t tail, uint32_t head)
+static void reap_by_steps(struct ring *ring, const struct posted *posted, uint32_t count, uint32_t tail, uint32_t head)
 {
     demand(load_cq_tail(ring) == tail, "the core's completion tail isn't the one that was shown");
     for (uint32_t i = 0; i < count; i++)
-        reap_one(ring, row[i].token, row[i].told);
+        reap_one(ring, posted[i].token, posted[i].told);
     demand(store_cq_head(ring) == head, "the core's completion head isn't the application's");
 }
 
 /* Reaps so many; `tail` is what is shown, and `head` where the core's head is to be then. */
-static void reap_some(struct ring *ring, const struct posted *row, uint32_t count, uint32_t tail, uint32_t head)
+static void reap_some(struct ring *ring, const struct posted *posted, uint32_t count, uint32_t tail, uint32_t head)
 {
     struct wulgach_completion reaped[MOST_REAPED];
     uint64_t found;
     int32_t error = wulgach_core_reap_all(&ring->core, reaped, count, &found);
     if (error == -ENOMEM) {
-        reap_by_steps(ring, row, count, tail, head);
+        reap_by_steps(ring, posted, count, tail, head);
         return;
     }
     demand(error == 0 && found == count, "the core has no completion to reap");
     for (uint32_t i = 0; i < count; i++)
-        demand(reaped[i].user_data == row[i].token && reaped[i].res == row[i].told, "the core's completion isn't the one that was shown");
+        demand(reaped[i].user_data == posted[i].token && reaped[i].res == posted[i].told, "the core's completion isn't the one that was shown");
     if (is_traced(ring))
-        trace_reaped(ring, row, count, tail, head);
+        trace_reaped(ring, posted, count, tail, head);
 }
 
-void reap_row(struct ring *ring, const struct posted *row, uint32_t count)
+void reap_oldest(struct ring *ring, uint32_t count)
 {
     const struct completions *completions = &ring->completions;
+    const struct posted *oldest = completions->queue + completions->first;
     uint32_t tail = completions->head + (uint32_t)completions->shown;
     for (uint32_t from = 0, some; from < count; from += some) {
         some = count - from < MOST_REAPED ? count - from : MOST_REAPED;
-        reap_some(ring, row + from, some, tail, completions->head + from + some);
+        reap_some(ring, oldest + from, some, tail, completions->head + from + some);
     }
 }
