@@ -38,6 +38,7 @@ struct request {
     uint16_t group;
     bool is_ended, is_doomed;
     bool is_cancelled;                  /* a cancel found it running, or its timeout did */
+    bool may_be_found_again;            /* by another cancel */
     bool is_faulty;
     bool is_loose;                      /* its file was found when it was accepted */
     int32_t failure;                    /* with which it ends however it is carried out, or 0 */

@@ -296,9 +296,20 @@ static bool can_wait(const struct model *model, const struct request *target)
     return (is_stream(model, target) && !is_closed) || is_timeout(target);
 }
 
+/* Whether a cancel found this one's request before, which may run still: until it has ended, it is found again. */
+static bool was_found_before(const struct model *model, const struct request *cancel)
+{
+    for (const struct request *request = model->requests; request < model->requests + model->count; request++)
+        if (request->index == cancel->action->target && !request->is_ended && request->may_be_found_again)
+            return true;
+    return false;
+}
+
 static void cancel(struct model *model, const struct request *cancel, int32_t res)
 {
     struct request *target = target_of(model, cancel);
+    if (!target && res == 0 && was_found_before(model, cancel))
+        return;
     if (res == -ENOENT) {
         if (target)
             force(model, target, "isn't found by a cancel");
@@ -314,6 +325,7 @@ static void cancel(struct model *model, const struct request *cancel, int32_t re
     if (res == 0) {
         target->is_doomed = !has_started;
         target->is_cancelled = has_started;
+        target->may_be_found_again = is_waiting_kind;
         return;
     }
     /* One that runs and waits is seen as a success. */
