@@ -647,7 +647,8 @@ static void test_refused_memory(void)
 /* What a call was refused memory for waits, and the next call takes it with what was published since: a chain goes over both. */
 static void test_refused_call(void)
 {
-    for (long turn = 0; turn < 80; turn++) {
+    bool is_refused = true;
+    for (long turn = 0; is_refused; turn++) {
         struct ring ring;
         int32_t results[3];
         make_ring(&ring, 4, 0, 0);
@@ -656,6 +657,7 @@ static void test_refused_call(void)
         allocations_left = turn / 2;
         refusals = 1 + turn % 2;
         long taken = enter(&ring, 2, 0, 0);
+        is_refused = allocations_left <= 0;
         allocations_left = -1;
         check(taken == -EAGAIN || taken == 1 || taken == 2);
         put_at(&ring, 0, IORING_OP_NOP, 2, 0);
@@ -672,7 +674,8 @@ static void test_refused_call(void)
 /* Memory is refused while what was reaped is heard: it is heard all the same. */
 static void test_refused_reaps(void)
 {
-    for (long allowed = 0; allowed < 10; allowed++) {
+    bool is_refused = true;
+    for (long allowed = 0; is_refused; allowed++) {
         struct ring ring;
         make_ring(&ring, 8, 0, 0);
         for (unsigned i = 0; i < 6; i++)
@@ -682,6 +685,7 @@ static void test_refused_reaps(void)
             reap(&ring);
         allocations_left = allowed;
         check(enter(&ring, 0, 0, IORING_ENTER_GETEVENTS) == 0);
+        is_refused = allocations_left <= 0;
         allocations_left = -1;
         check(count_ready(&ring) == 0 && is_at_rest(&ring));
         close_ring(&ring);
