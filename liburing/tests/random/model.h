@@ -88,6 +88,8 @@ struct model {
     const uint8_t *provided;            /* the application's too, one buffer behind the other */
 };
 
+enum { LINKS = IOSQE_IO_LINK | IOSQE_IO_HARDLINK };
+
 /* A message from one ring to another. */
 struct message {
     bool is_sent, is_seen;
@@ -123,10 +125,6 @@ bool has_linked_timeouts(const struct model *model);
 /* When a timeout, or a linked one, ends that runs; negative: it doesn't run. */
 int64_t end_of_timeout(const struct request *timeout);
 
-/* Whether one that drains, or a member of its chain, is outstanding; and whether a message is to be seen. */
-bool has_drains(const struct model *model);
-bool has_due_messages(const struct model *model);
-
 /* Whether a request waits for its pipe, whether it is on what may have to wait, and whether it waits for no other request. */
 bool is_blocked(const struct model *model, const struct request *request);
 bool is_stream(const struct model *model, const struct request *request);
@@ -136,6 +134,33 @@ static inline uint64_t user_data_of(unsigned index)
 {
     return (index + 1) * 0x0000000700000001u;
 }
+
+/* It isn't doomed, nor found by a cancel. */
+bool is_timeout(const struct request *request);
+
+/* A request must have ended by now, or all that one waits for: so they succeeded unseen. */
+void force(struct model *model, struct request *request, const char *why);
+void force_before(struct model *model, const struct request *request);
+
+/* A timeout that is linked behind it may have cancelled it, unseen. */
+bool may_have_been_cancelled(const struct model *model, const struct request *request);
+
+/* The policy is one that goes by the order of submission. */
+bool is_in_order(const struct model *model);
+
+/* ---- acts.c ---- */
+
+/* A cancel, a removal or a message has ended with this result. */
+void cancel(struct model *model, const struct request *cancel, int32_t res);
+void remove_one(struct model *model, const struct request *removal, int32_t res);
+void send_one(struct model *model, const struct request *request, int32_t res);
+
+/* Whether one that drains, or a member of its chain, is outstanding; and whether a message is to be seen. */
+bool has_drains(const struct model *model);
+bool has_due_messages(const struct model *model);
+
+/* A message is shown. */
+void see_message(struct model *model, unsigned index, int32_t res);
 
 /* ---- results.c ---- */
 

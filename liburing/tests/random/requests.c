@@ -9,8 +9,6 @@
 #include <string.h>
 #include <unistd.h>
 
-enum { LINKS = IOSQE_IO_LINK | IOSQE_IO_HARDLINK };
-
 void wrong(const struct model *model, const char *format, ...)
 {
     va_list arguments;
@@ -158,7 +156,7 @@ bool is_blocked(const struct model *model, const struct request *request)
     return things->read == things->written && !things->is_fed_out;
 }
 
-static bool is_timeout(const struct request *request)
+bool is_timeout(const struct request *request)
 {
     return request->action->code == IORING_OP_TIMEOUT && !request->is_doomed && !request->is_cancelled;
 }
@@ -233,9 +231,7 @@ static void end(struct model *model, struct request *request, bool is_success)
     note_starts(model);
 }
 
-static void force(struct model *model, struct request *request, const char *why);
-
-static void force_before(struct model *model, const struct request *request)
+void force_before(struct model *model, const struct request *request)
 {
     for (struct request *other = model->requests; other < request; other++)
         if (waits_for(model, request, other))
@@ -243,7 +239,7 @@ static void force_before(struct model *model, const struct request *request)
 }
 
 /* A request must have ended by now: so it succeeded unseen. */
-static void force(struct model *model, struct request *request, const char *why)
+void force(struct model *model, struct request *request, const char *why)
 {
     force_before(model, request);
     if (!is_skipping(request) || request->is_doomed)
@@ -252,7 +248,7 @@ static void force(struct model *model, struct request *request, const char *why)
 }
 
 /* A timeout that is linked behind it may have cancelled it, unseen. */
-static bool may_have_been_cancelled(const struct model *model, const struct request *request)
+bool may_have_been_cancelled(const struct model *model, const struct request *request)
 {
     const struct request *next = request + 1;
     return next < model->requests + model->count && next->group == request->group && next->may_have_fired;
@@ -273,161 +269,12 @@ void expect_stuck(struct model *model, const char *what)
             force(model, request, what);
 }
 
-/* ---- cancels ---- */
+/* ---- completions ---- */
 
-/* The request that a cancel chooses: the least that is neither doomed nor itself. */
-static struct request *target_of(struct model *model, const struct request *cancel)
-{
-    for (struct request *request = model->requests; request < model->requests + model->count; request++)
-        if (request != cancel && request->index == cancel->action->target && !request->is_ended && !request->is_doomed)
-            return request;
-    return NULL;
-}
-
-static bool is_in_order(const struct model *model)
+bool is_in_order(const struct model *model)
 {
     return !model->is_kernel && (strcmp(model->program->policy, "order") == 0 || strcmp(model->program->policy, "lazy") == 0);
 }
-
-/* Whether a running request ends if it is cancelled. The pipe's end may have been closed. */
-static bool can_wait(const struct model *model, const struct request *target)
-{
-    bool is_closed = target->action->object == PIPE_IN && model->things->is_fed_out;
-    return (is_stream(model, target) && !is_closed) || is_timeout(target);
-}
-
-/* Whether a cancel found this one's request before, which may run still: until it has ended, it is found again. */
-static bool was_found_before(const struct model *model, const struct request *cancel)
-{
-    for (const struct request *request = model->requests; request < model->requests + model->count; request++)
-        if (request->index == cancel->action->target && !request->is_ended && request->may_be_found_again)
-            return true;
-    return false;
-}
-
-static void cancel(struct model *model, const struct request *cancel, int32_t res)
-{
-    struct request *target = target_of(model, cancel);
-    if (!target && res == 0 && was_found_before(model, cancel))
-        return;
-    if (res == -ENOENT) {
-        if (target)
-            force(model, target, "isn't found by a cancel");
-        return;
-    }
-    if ((res != 0 && res != -EALREADY) || !target)
-        wrong(model, "cancel %u ends with %" PRId32 ", and %s", cancel->index, res, target ? "has a target" : "has no target");
-    bool is_waiting_kind = can_wait(model, target);
-    /* In order, all that comes before and may start has been started. */
-    bool has_started = is_in_order(model) && target < cancel && can_start(model, target);
-    if (res == 0 && has_started && !is_waiting_kind)
-        wrong(model, "cancel %u finds entry %u before it was started", cancel->index, target->index);
-    if (res == 0) {
-        target->is_doomed = !has_started;
-        target->is_cancelled = has_started;
-        target->may_be_found_again = is_waiting_kind;
-        return;
-    }
-    /* One that runs and waits is seen as a success. */
-    if (is_waiting_kind)
-        wrong(model, "cancel %u ends with %" PRId32 ", and entry %u waits", cancel->index, res, target->index);
-    force_before(model, target);
-    if (is_in_order(model))
-        wrong(model, "cancel %u finds entry %u running", cancel->index, target->index);
-}
-
-/* What a removal finds, or a cancel on whose success a link stands: one that runs and waits, or that could start; of a
- * removal only one of its operation. */
-static bool is_found_by(const struct request *seeker, const struct request *request)
-{
-    uint8_t code = seeker->action->code;
-    if (request == seeker || request->index != seeker->action->target || request->is_ended || request->is_faulty)
-        return false;
-    if (code == IORING_OP_ASYNC_CANCEL)
-        return request->action->code != IORING_OP_ASYNC_CANCEL || request->action->flags & LINKS;
-    return request->action->code == (code == IORING_OP_POLL_REMOVE ? IORING_OP_POLL_ADD : IORING_OP_TIMEOUT);
-}
-
-static void remove_one(struct model *model, const struct request *removal, int32_t res)
-{
-    struct request *target = NULL;
-    for (struct request *request = model->requests; request < model->requests + model->count; request++)
-        if (is_found_by(removal, request))
-            target = request;
-    bool is_waiting_kind = target && can_wait(model, target);
-    if (res == -ENOENT) {
-        if (is_waiting_kind && can_start(model, target) && !target->is_doomed && !target->is_cancelled && !may_have_been_cancelled(model, target))
-            wrong(model, "removal %u doesn't find entry %u", removal->index, target->index);
-        return;
-    }
-    if (res != 0 || !target)
-        wrong(model, "removal %u ends with %" PRId32 ", and %s", removal->index, res, target ? "has a target" : "has no target");
-    /* One that is doomed waits for nobody. */
-    if (target->is_doomed)
-        return;
-    force_before(model, target);
-    target->is_cancelled = true;
-}
-
-/* ---- messages ---- */
-
-static struct model *receiver_of(const struct model *model, const struct request *request)
-{
-    return model->others[request->action->target];
-}
-
-bool has_drains(const struct model *model)
-{
-    for (uint32_t i = 0; i < model->count; i++)
-        if (!model->requests[i].is_ended && model->has_drain[model->requests[i].group])
-            return true;
-    return false;
-}
-
-/* A message was sent. It is posted at once, unless the other ring drains. */
-static void send_one(struct model *model, const struct request *request, int32_t res)
-{
-    struct message *message = &model->messages[request->index];
-    struct model *receiver = receiver_of(model, request);
-    if (res != 0)
-        wrong(model, "message %u ends with %" PRId32, request->index, res);
-    message->is_sent = true;
-    message->is_due = !model->is_late && !has_drains(receiver);
-    if (message->is_due && receiver == model && !message->is_seen)
-        wrong(model, "message %u isn't there", request->index);
-}
-
-static void see_message(struct model *model, unsigned index, int32_t res)
-{
-    const struct action *action = &model->program->actions[index];
-    if (!model->messages || index >= MOST_ACTIONS || action->kind != PUT || action->code != IORING_OP_MSG_RING || action->target != model->ring)
-        wrong(model, "a message of nobody is shown");
-    struct model *sender = model->others[action->ring];
-    struct message *message = &model->messages[index];
-    if (message->is_seen || res != (int32_t)index)
-        wrong(model, "message %u %s", index, message->is_seen ? "is shown again" : "is another");
-    for (struct request *request = sender->requests; request < sender->requests + sender->count; request++) {
-        if (request->index != index)
-            continue;
-        if (request->is_doomed || (request->is_ended && !message->is_sent))
-            wrong(model, "message %u is shown, and wasn't sent", index);
-        if (!sender->has_overflowed)
-            force_before(sender, request);
-        message->is_seen = true;
-        return;
-    }
-    wrong(model, "message %u is shown, and wasn't submitted", index);
-}
-
-bool has_due_messages(const struct model *model)
-{
-    for (unsigned i = 0; i < MOST_ACTIONS && model->messages; i++)
-        if (model->messages[i].is_due && !model->messages[i].is_seen && model->program->actions[i].target == model->ring)
-            return true;
-    return false;
-}
-
-/* ---- completions ---- */
 
 /* In order, the least that can go on does. What has ended unseen is found so. */
 static void expect_order(struct model *model, const struct request *seen)
