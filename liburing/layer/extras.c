@@ -23,12 +23,14 @@ bool can_post_extra(struct ring *ring)
 void post_extra(struct ring *ring, uint64_t user_data, int32_t res, uint32_t flags)
 {
     int32_t ended;
+    struct wulgach_entry entry;
     struct request *request = make_request(&ring->requests);
     demand(request != NULL, "out of memory");
     request->entry.user_data = request->token = user_data;
     request->flags = flags;
+    write_token(&entry, request);
     load_head(ring);
-    fill_slot(ring, 0, request);
+    fill_slot(ring, 0, &entry);
     index_word(ring, 0);
     store_tail(ring);
     demand(begin_call(ring, 1), "out of memory");

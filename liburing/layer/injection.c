@@ -101,6 +101,8 @@ static enum injection roll_fault(struct ring *ring)
 enum injection injected(struct ring *ring, const struct request *request)
 {
     enum injection fault = NO_FAULT;
+    if (item_count == 0 && rate == 0)
+        return NO_FAULT;
     for (size_t i = 0; i < item_count; i++)
         if (items[i].ring == ring->index && items[i].number == request->number)
             fault = items[i].fault;

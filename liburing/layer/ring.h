@@ -55,6 +55,8 @@ struct ring {
     uint64_t passed_at;
     bool has_refusals;                  /* one of them may be remembered as refused */
     struct requests staged;             /* staged and not accepted; a word that names no slot has an empty place */
+    struct wulgach_entry *entries;      /* what the core is given of each of them: as many as there are slots */
+    uint32_t bad_word;                  /* the word of the last of them, if that names no slot */
     struct request **ways;              /* room for the ways of a choice: as many as there are requests */
     size_t ways_room;
     uint32_t returns;                   /* how often in a row the choice was to return */
@@ -64,6 +66,7 @@ struct ring {
     struct buffers buffers;
     struct group *groups;               /* of provided buffers */
     struct inbox inbox;
+    uint32_t head;                      /* the submission ring's, as the application was told it */
     uint32_t own_positions;             /* how many positions of the core's submission ring were the layer's own */
     int eventfd;                        /* registered: one of the layer's own; or negative */
     bool is_eventfd_async;              /* it is told only of what ends behind the call that submitted it */

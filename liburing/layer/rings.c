@@ -15,6 +15,7 @@
 #include "server.h"
 #include "strict.h"
 #include "trace.h"
+#include "whole_calls.h"
 
 #include <errno.h>
 #include <fcntl.h>
@@ -55,6 +56,7 @@ void free_ring(struct ring *ring)
     wulgach_core_free(&ring->core);
     free_requests(&ring->requests);
     free_requests(&ring->staged);
+    free_entries(ring);
     free_completions(&ring->completions);
     free_memory(&ring->memory);
     free_polled(ring);
@@ -102,6 +104,8 @@ static int fill_ring(struct ring *ring, struct wulgach_setup *setup, struct io_u
     note_ring();
     setup->sq = round_up(setup->sq);
     setup->cq = setup->has_cq ? round_up(setup->cq) : 2 * setup->sq;
+    if (!make_entries(ring, setup->sq))
+        return -ENOMEM;
     int fd = is_polled ? make_polled(ring) : make_file();
     if (fd < 0)
         return fd;

@@ -10,7 +10,7 @@
 static void make(struct ring *ring, const struct wulgach_step *step, struct wulgach_answer *answer)
 {
     demand(wulgach_core_step(&ring->core, step, answer) == 0, "the core refuses a step");
-    if (ring->trace || !ring->has_trace)
+    if (is_traced(ring))
         trace_step(ring, step, answer);
 }
 
@@ -36,30 +36,30 @@ enum { CORE_FLAGS = WULGACH_IO_DRAIN | WULGACH_IO_LINK | WULGACH_IO_HARDLINK | W
 /* No operation has this code: its request ends as faulty. */
 enum { REFUSED_CODE = 255 };
 
-static void write_token(uint64_t entry[16], const struct request *request)
+void write_token(struct wulgach_entry *entry, const struct request *request)
 {
     const struct io_uring_sqe *real = &request->entry;
     uint8_t flags = real->flags & CORE_FLAGS;
     switch (request->mapping) {
     case TOKEN:
-        wulgach_nop(entry, real->user_data, flags);
+        wulgach_nop(entry->words, real->user_data, flags);
         break;
     case CANCEL:
-        wulgach_cancel(entry, real->user_data, flags, real->addr);
+        wulgach_cancel(entry->words, real->user_data, flags, real->addr);
         break;
     case REFUSED:
-        wulgach_entry(entry, REFUSED_CODE, real->user_data, flags, 0);
+        wulgach_entry(entry->words, REFUSED_CODE, real->user_data, flags, 0);
         break;
     }
 }
 
-void fill_slot(struct ring *ring, uint32_t slot, const struct request *request)
+void fill_slot(struct ring *ring, uint32_t slot, const struct wulgach_entry *entry)
 {
     struct wulgach_step step;
     struct wulgach_answer answer;
     step.kind = WULGACH_FILL;
     step.word = slot;
-    write_token(step.entry, request);
+    memcpy(step.entry, entry->words, sizeof step.entry);
     make(ring, &step, &answer);
     demand(answer.kind == WULGACH_FILLED, "the core doesn't fill a slot");
 }

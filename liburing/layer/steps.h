@@ -1,5 +1,5 @@
 /* The steps that the layer makes on a core, each by a function of its own, which demands an answer that the layer can
- * go on from. This is the one file through which the core is moved, so that each step stands in the trace.
+ * go on from. Only here and in whole_calls.c is the core moved, so that each step stands in the trace.
  */
 #ifndef STEPS_H
 #define STEPS_H
@@ -8,8 +8,11 @@
 #include "ring.h"
 #include "wulgach.h"
 
+/* What the core is given of a request. */
+void write_token(struct wulgach_entry *entry, const struct request *request);
+
 /* The application's side. */
-void fill_slot(struct ring *ring, uint32_t slot, const struct request *request);
+void fill_slot(struct ring *ring, uint32_t slot, const struct wulgach_entry *entry);
 void index_word(struct ring *ring, uint32_t word);
 uint32_t store_tail(struct ring *ring);
 uint32_t load_head(struct ring *ring);

@@ -1,5 +1,5 @@
 /* Stages what the application has published, at the moment when the kernel would read it, and has the core take it in
- * one call. If memory is refused, what is staged stays so, and the next call goes on with it.
+ * one call. If memory is refused, what is staged stays so, and waits in the core: the next call goes on with it.
  */
 #include "submit.h"
 #include "account.h"
@@ -8,9 +8,9 @@
 #include "operations.h"
 #include "outlook.h"
 #include "rules.h"
-#include "steps.h"
 #include "strict.h"
 #include "trace.h"
+#include "whole_calls.h"
 
 #include <errno.h>
 #include <stdlib.h>
@@ -61,9 +61,10 @@ static bool stage(struct ring *ring, uint32_t word, struct request **row)
         *row = read_entry(ring, word);
         if (!*row)
             return false;
-        fill_slot(ring, word, *row);
+        note_entry(ring, *row);
+    } else {
+        ring->bad_word = word;
     }
-    index_word(ring, word);
     add_request(&ring->staged, *row);
     return true;
 }
@@ -72,9 +73,8 @@ static bool stage(struct ring *ring, uint32_t word, struct request **row)
 static bool stage_up_to(struct ring *ring, uint32_t count)
 {
     struct memory *memory = &ring->memory;
-    uint32_t head = load_head(ring) - ring->own_positions;
     for (uint32_t i = (uint32_t)ring->staged.count; i < count; i++) {
-        uint32_t word = load_word(&memory->array[(head + i) & (memory->sq_entries - 1)]);
+        uint32_t word = load_word(&memory->array[(ring->head + i) & (memory->sq_entries - 1)]);
         struct request *row;
         if (!stage(ring, word, &row))
             return false;
@@ -86,11 +86,9 @@ static bool stage_up_to(struct ring *ring, uint32_t count)
     return true;
 }
 
-/* Takes one position, and gives its request a number. */
+/* Gives the request of a position that was taken a number. */
 static void accept_one(struct ring *ring, struct request *request, const struct request *before)
 {
-    bool is_entry = take_position(ring);
-    demand(is_entry == (request != NULL), "the core drops another word");
     if (!request)
         return;
     request->number = ring->accepted++;
@@ -123,23 +121,24 @@ static void note_chains(struct ring *ring, size_t first)
     }
 }
 
-/* Has the core take what is staged. */
-static int take_staged(struct ring *ring)
+/* Has the core take what is staged; it has the first `given` of it already. */
+static int take_staged(struct ring *ring, uint32_t given)
 {
     uint32_t count = (uint32_t)ring->staged.count;
     uint64_t accepted = ring->accepted;
-    if (!begin_call(ring, count))
+    struct wulgach_answer answer;
+    if (!submit_staged(ring, given, &answer))
         return -EAGAIN;
     for (uint32_t i = 0; i < count; i++)
         accept_one(ring, ring->staged.rows[i], i > 0 ? ring->staged.rows[i - 1] : NULL);
     drop_requests(&ring->staged, count);
     note_chains(ring, ring->requests.count - (size_t)(ring->accepted - accepted));
     ring->has_changed = true;
-    struct wulgach_answer answer = end_call(ring);
     demand(answer.word == ring->accepted - accepted, "the core accepts another number of requests");
     note_accepted(ring, accepted);
+    ring->head = answer.head - ring->own_positions;
     store_word(&ring->memory.sq->dropped, answer.dropped);
-    store_word(&ring->memory.sq->head, answer.head - ring->own_positions);
+    store_word(&ring->memory.sq->head, ring->head);
     trace_callers(ring);
     for (size_t i = ring->requests.count - answer.word; i < ring->requests.count; i++) {
         trace_request(ring, ring->requests.rows[i]);
@@ -165,13 +164,13 @@ bool reserve_all(struct ring *ring, uint32_t count)
 int submit(struct ring *ring, uint32_t count)
 {
     struct sq_words *sq = ring->memory.sq;
-    uint32_t published = load_word(&sq->tail) - sq->head;
+    uint32_t published = load_word(&sq->tail) - ring->head, given = (uint32_t)ring->staged.count;
     if (published > ring->memory.sq_entries)
         published = ring->memory.sq_entries;
     if (count > published)
         count = published;
-    if (count < ring->staged.count)
-        count = (uint32_t)ring->staged.count;
+    if (count < given)
+        count = given;
     if (count == 0)
         return 0;
     if (!reserve_all(ring, count))
@@ -179,6 +178,5 @@ int submit(struct ring *ring, uint32_t count)
     bool is_all = stage_up_to(ring, count);
     if (!is_all && ring->staged.count == 0)
         return -EAGAIN;
-    store_tail(ring);
-    return take_staged(ring);
+    return take_staged(ring, given);
 }

@@ -188,5 +188,6 @@ void trace_request(struct ring *ring, const struct request *request)
 
 void trace_result(struct ring *ring, const struct request *request, int32_t res)
 {
-    trace_note(ring, "request %" PRIu64 " ends: %" PRId32, request->number, res);
+    if (ring->trace)
+        trace_note(ring, "request %" PRIu64 " ends: %" PRId32, request->number, res);
 }

@@ -7,11 +7,17 @@
 #define TRACE_H
 
 #include "requests.h"
+#include "ring.h"
 #include "wulgach.h"
 
-struct ring;
-
 void close_trace(struct ring *ring);
+
+/* Whether steps are to be traced, as far as is known: the first step opens the trace, if one is wanted. */
+static inline bool is_traced(const struct ring *ring)
+{
+    return ring->trace || !ring->has_trace;
+}
+
 void trace_step(struct ring *ring, const struct wulgach_step *step, const struct wulgach_answer *answer);
 void trace_request(struct ring *ring, const struct request *request);
 void trace_result(struct ring *ring, const struct request *request, int32_t res);

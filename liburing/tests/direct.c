@@ -166,6 +166,38 @@ static void test_dropped_word(void)
     close_ring(&ring);
 }
 
+/* Writes an entry to a slot, and publishes it. */
+static struct io_uring_sqe *put_at(struct ring *ring, unsigned slot, uint8_t code, uint64_t user_data, uint8_t flags)
+{
+    struct io_uring_sqe *entry = publish(ring, slot);
+    *entry = (struct io_uring_sqe){.opcode = code, .flags = flags, .fd = -1, .user_data = user_data};
+    return entry;
+}
+
+/* Many entries at once, whose words name slots in any order, one of them twice; and many completions reaped at once. */
+static void test_whole_calls(void)
+{
+    enum { COUNT = 100 };
+    struct ring ring;
+    make_ring(&ring, 128, 0, 0);
+    for (unsigned round = 0; round < 3; round++) {
+        unsigned seen[COUNT] = {0};
+        for (unsigned i = 0; i < COUNT; i++)
+            put_at(&ring, (7 * i + round) % 128, i % 3 ? IORING_OP_NOP : IORING_OP_FSYNC, i, 0);
+        publish(&ring, round);
+        check(enter(&ring, COUNT + 1, COUNT + 1, IORING_ENTER_GETEVENTS) == COUNT + 1);
+        while (count_ready(&ring) > 0) {
+            struct completion found = reap(&ring);
+            check(found.user_data < COUNT && found.res == (found.user_data % 3 ? 0 : -EBADF));
+            seen[found.user_data]++;
+        }
+        for (unsigned i = 0; i < COUNT; i++)
+            check(seen[i] == 1 + (i == 0));
+    }
+    check(enter(&ring, 0, 0, IORING_ENTER_GETEVENTS) == 0 && is_at_rest(&ring));
+    close_ring(&ring);
+}
+
 /* More completions than the ring has room for: none is lost, and they come in order. */
 static void test_overflow(void)
 {
@@ -548,11 +580,15 @@ static void test_injection(void)
 
 /* ---- memory that is refused ---- */
 
-static long allocations_left = -1;
+/* So many are allowed, or all if it is negative; then one is refused, or as many as `refusals` says. */
+static long allocations_left = -1, refusals;
 
 static bool is_allowed(void)
 {
-    return allocations_left < 0 || allocations_left-- > 0;
+    if (allocations_left < 0 || allocations_left-- > 0)
+        return true;
+    allocations_left = --refusals > 0 ? 0 : -1;
+    return false;
 }
 
 void *__real_malloc(size_t size);
@@ -608,12 +644,60 @@ static void test_refused_memory(void)
     }
 }
 
+/* What a call was refused memory for waits, and the next call takes it with what was published since: a chain goes over both. */
+static void test_refused_call(void)
+{
+    bool is_refused = true;
+    for (long turn = 0; is_refused; turn++) {
+        struct ring ring;
+        int32_t results[3];
+        make_ring(&ring, 4, 0, 0);
+        put_at(&ring, 2, IORING_OP_FSYNC, 0, IOSQE_IO_LINK);
+        put_at(&ring, 3, IORING_OP_NOP, 1, IOSQE_IO_LINK);
+        allocations_left = turn / 2;
+        refusals = 1 + turn % 2;
+        long taken = enter(&ring, 2, 0, 0);
+        is_refused = allocations_left <= 0;
+        allocations_left = -1;
+        check(taken == -EAGAIN || taken == 1 || taken == 2);
+        put_at(&ring, 0, IORING_OP_NOP, 2, 0);
+        long left = taken < 0 ? 3 : 3 - taken;
+        check(enter(&ring, (unsigned)left, 0, 0) == left);
+        reap_all(&ring, 3, results);
+        check(results[0] == -EBADF);
+        check(results[1] == (taken == 1 ? 0 : -ECANCELED));
+        check(results[2] == (taken < 0 ? -ECANCELED : 0));
+        close_ring(&ring);
+    }
+}
+
+/* Memory is refused while what was reaped is heard: it is heard all the same. */
+static void test_refused_reaps(void)
+{
+    bool is_refused = true;
+    for (long allowed = 0; is_refused; allowed++) {
+        struct ring ring;
+        make_ring(&ring, 8, 0, 0);
+        for (unsigned i = 0; i < 6; i++)
+            put(&ring, IORING_OP_NOP, i, 0);
+        check(enter(&ring, 6, 6, IORING_ENTER_GETEVENTS) == 6);
+        for (unsigned i = 0; i < 6; i++)
+            reap(&ring);
+        allocations_left = allowed;
+        check(enter(&ring, 0, 0, IORING_ENTER_GETEVENTS) == 0);
+        is_refused = allocations_left <= 0;
+        allocations_left = -1;
+        check(count_ready(&ring) == 0 && is_at_rest(&ring));
+        close_ring(&ring);
+    }
+}
+
 int main(int argc, char **argv)
 {
     static const struct {
         const char *name;
         void (*run)(void);
-    } tests[] = {{"setup", test_setup}, {"calls", test_calls}, {"chain", test_chain}, {"skipped success", test_skipped_success}, {"faulty", test_faulty}, {"faulty link", test_faulty_link}, {"dropped word", test_dropped_word}, {"overflow", test_overflow}, {"overflow flag", test_overflow_flag}, {"head before end", test_head_before_end}, {"some reaped", test_some_reaped}, {"peek beside one", test_peek_beside_one}, {"files", test_files}, {"waiting", test_waiting}, {"not waiting", test_not_waiting}, {"refusals", test_refusals}, {"timeouts", test_timeouts}, {"virtual time", test_virtual_time}, {"two rings", test_two_rings}, {"threads", test_threads}, {"shared ring", test_shared_ring}, {"refused memory", test_refused_memory}};
+    } tests[] = {{"setup", test_setup}, {"calls", test_calls}, {"chain", test_chain}, {"skipped success", test_skipped_success}, {"faulty", test_faulty}, {"faulty link", test_faulty_link}, {"dropped word", test_dropped_word}, {"whole calls", test_whole_calls}, {"overflow", test_overflow}, {"overflow flag", test_overflow_flag}, {"head before end", test_head_before_end}, {"some reaped", test_some_reaped}, {"peek beside one", test_peek_beside_one}, {"files", test_files}, {"waiting", test_waiting}, {"not waiting", test_not_waiting}, {"refusals", test_refusals}, {"timeouts", test_timeouts}, {"virtual time", test_virtual_time}, {"two rings", test_two_rings}, {"threads", test_threads}, {"shared ring", test_shared_ring}, {"refused memory", test_refused_memory}, {"refused call", test_refused_call}, {"refused reaps", test_refused_reaps}};
     (void)argv;
     if (argc > 1) {
         test = "injection";

@@ -1,0 +1,163 @@
+/* Makes whole calls, and traces their steps. To the core an entry stands in the slot of its place in the call, whatever the slot
+ * is in which the application wrote it.
+ */
+#include "whole_calls.h"
+#include "fault.h"
+#include "steps.h"
+#include "trace.h"
+
+#include <errno.h>
+#include <stdlib.h>
+#include <string.h>
+
+bool make_entries(struct ring *ring, uint32_t slots)
+{
+    ring->entries = calloc(slots, sizeof *ring->entries);
+    return ring->entries;
+}
+
+void free_entries(struct ring *ring)
+{
+    free(ring->entries);
+}
+
+void note_entry(struct ring *ring, const struct request *request)
+{
+    write_token(&ring->entries[ring->staged.count], request);
+}
+
+/* Traces a step of a whole call, with an answer that has one word at most. */
+static void trace_made(struct ring *ring, uint32_t kind, uint32_t word, uint32_t answer_kind, uint32_t answer_word)
+{
+    struct wulgach_step step;
+    step.kind = kind;
+    step.word = word;
+    trace_step(ring, &step, &(struct wulgach_answer){.kind = answer_kind, .word = answer_word});
+}
+
+/* ---- submissions ---- */
+
+static void trace_staged(struct ring *ring, uint32_t count)
+{
+    uint32_t head = ring->head + ring->own_positions;
+    trace_made(ring, WULGACH_LOAD_HEAD, 0, WULGACH_HEAD, head);
+    for (uint32_t i = 0; i < count; i++) {
+        struct wulgach_step fill = {.kind = WULGACH_FILL, .word = i};
+        memcpy(fill.entry, ring->entries[i].words, sizeof fill.entry);
+        trace_step(ring, &fill, &(struct wulgach_answer){.kind = WULGACH_FILLED});
+        trace_made(ring, WULGACH_INDEX, i, WULGACH_STAGED, 0);
+    }
+    trace_made(ring, WULGACH_STORE_TAIL, 0, WULGACH_TAIL, head + count);
+}
+
+static void trace_taken(struct ring *ring, uint32_t count, const struct wulgach_answer *end)
+{
+    const struct wulgach_step take = {.kind = WULGACH_TAKE}, last = {.kind = WULGACH_END};
+    trace_made(ring, WULGACH_BEGIN, count, WULGACH_CALL, count);
+    for (uint32_t i = 0; i < count; i++) {
+        struct wulgach_answer entry = {.kind = WULGACH_ENTRY};
+        memcpy(entry.entry, ring->entries[i].words, sizeof entry.entry);
+        trace_step(ring, &take, &entry);
+    }
+    trace_step(ring, &last, end);
+}
+
+static void trace_submission(struct ring *ring, uint32_t count, const struct wulgach_answer *answer)
+{
+    trace_staged(ring, count);
+    if (answer->kind == WULGACH_TAKEN)
+        trace_taken(ring, count, answer);
+    else
+        trace_made(ring, WULGACH_BEGIN, count, answer->kind, 0);
+}
+
+/* Whether the core has none of it, and each word names a slot: behind one that doesn't nothing more is staged. */
+static bool can_be_whole(const struct ring *ring, uint32_t given)
+{
+    return given == 0 && ring->staged.rows[ring->staged.count - 1];
+}
+
+static void stage_position(struct ring *ring, uint32_t place)
+{
+    bool has_slot = ring->staged.rows[place];
+    if (has_slot)
+        fill_slot(ring, place, &ring->entries[place]);
+    index_word(ring, has_slot ? place : ring->bad_word);
+}
+
+static bool submit_by_steps(struct ring *ring, uint32_t given, struct wulgach_answer *answer)
+{
+    uint32_t count = (uint32_t)ring->staged.count;
+    load_head(ring);
+    for (uint32_t i = given; i < count; i++)
+        stage_position(ring, i);
+    store_tail(ring);
+    if (!begin_call(ring, count))
+        return false;
+    for (uint32_t i = 0; i < count; i++)
+        demand(take_position(ring) == (ring->staged.rows[i] != NULL), "the core drops another word");
+    *answer = end_call(ring);
+    return true;
+}
+
+bool submit_staged(struct ring *ring, uint32_t given, struct wulgach_answer *answer)
+{
+    uint32_t count = (uint32_t)ring->staged.count;
+    int32_t error = can_be_whole(ring, given) ? wulgach_core_submit(&ring->core, ring->entries, count, answer) : -ENOMEM;
+    if (error == -ENOMEM)
+        return submit_by_steps(ring, given, answer);
+    demand(error == 0 && (answer->kind == WULGACH_TAKEN || answer->kind == WULGACH_AGAIN), "the core doesn't take what is staged");
+    if (is_traced(ring))
+        trace_submission(ring, count, answer);
+    return answer->kind == WULGACH_TAKEN;
+}
+
+/* ---- completions ---- */
+
+/* So many are reaped by one call at most. */
+enum { MOST_REAPED = 32 };
+
+static void trace_reaped(struct ring *ring, const struct posted *posted, uint32_t count, uint32_t tail, uint32_t head)
+{
+    const struct wulgach_step reap = {.kind = WULGACH_REAP};
+    trace_made(ring, WULGACH_LOAD_CQ_TAIL, 0, WULGACH_TAIL, tail);
+    for (uint32_t i = 0; i < count; i++)
+        trace_step(ring, &reap, &(struct wulgach_answer){.kind = WULGACH_REAPED, .number = posted[i].token, .res = posted[i].told});
+    trace_made(ring, WULGACH_STORE_CQ_HEAD, 0, WULGACH_HEAD, head);
+}
+
+static void reap_by_steps(struct ring *ring, const struct posted *posted, uint32_t count, uint32_t tail, uint32_t head)
+{
+    demand(load_cq_tail(ring) == tail, "the core's completion tail isn't the one that was shown");
+    for (uint32_t i = 0; i < count; i++)
+        reap_one(ring, posted[i].token, posted[i].told);
+    demand(store_cq_head(ring) == head, "the core's completion head isn't the application's");
+}
+
+/* Reaps so many; `tail` is what is shown, and `head` where the core's head is to be then. */
+static void reap_some(struct ring *ring, const struct posted *posted, uint32_t count, uint32_t tail, uint32_t head)
+{
+    struct wulgach_completion reaped[MOST_REAPED];
+    uint64_t found;
+    int32_t error = wulgach_core_reap_all(&ring->core, reaped, count, &found);
+    if (error == -ENOMEM) {
+        reap_by_steps(ring, posted, count, tail, head);
+        return;
+    }
+    demand(error == 0 && found == count, "the core has no completion to reap");
+    for (uint32_t i = 0; i < count; i++)
+        demand(reaped[i].user_data == posted[i].token && reaped[i].res == posted[i].told, "the core's completion isn't the one that was shown");
+    if (is_traced(ring))
+        trace_reaped(ring, posted, count, tail, head);
+}
+
+void reap_oldest(struct ring *ring, uint32_t count)
+{
+    const struct completions *completions = &ring->completions;
+    const struct posted *oldest = completions->queue + completions->first;
+    uint32_t tail = completions->head + (uint32_t)completions->shown;
+    for (uint32_t from = 0, some; from < count; from += some) {
+        some = count - from < MOST_REAPED ? count - from : MOST_REAPED;
+        reap_some(ring, oldest + from, some, tail, completions->head + from + some);
+    }
+}
