@@ -30,13 +30,12 @@ fn runs_two(core: &mut Core) -> bool {
     }
     let mut places = [Cqe::new(0, 0, [0; 64]); 3];
     let count = core.reap_all(&mut places);
-    is_taken
-        && count == 2
-        && places[0] == Cqe::new(7, 5, [0; 64])
-        && places[1] == Cqe::new(8, 5, [0; 64])
-        && places[2] == Cqe::new(0, 0, [0; 64])
-        && core.reap_all(&mut places) == 0
-        && core.counts().reaped == 2
+    let shown = &places[..];
+    let is_reaped = count == 2
+        && shown[0] == Cqe::new(7, 5, [0; 64])
+        && shown[1] == Cqe::new(8, 5, [0; 64])
+        && shown[2] == Cqe::new(0, 0, [0; 64]);
+    is_taken && is_reaped && core.reap_all(&mut places) == 0 && core.counts().reaped == 2
 }
 
 /// Which calls are refused before any step: one of more entries than slots, one behind a word that is staged, one beside an open call, and one of a closed ring.
