@@ -319,7 +319,7 @@ int32_t wulgach_core_issuable(struct wulgach_core *core, uint64_t *count);
  * one on, up to the one it finds. */
 int32_t wulgach_core_nth_issuable(struct wulgach_core *core, uint64_t index, uint64_t *number);
 
-/* Writes why request number, any number, stands as it does. Whoever asks why of the request that another waits for, and again of the one that this one waits for, is told of one that runs or can be issued. */
+/* Writes why request number, any number, stands as it does. Whoever asks why of the request that another waits for, and again of the one that this one waits for, is told of one that runs or can be issued. It takes as long however many requests are outstanding. */
 int32_t wulgach_core_why(struct wulgach_core *core, uint64_t number, struct wulgach_why *why);
 
 /* Frees the core, and leaves the place empty. */
