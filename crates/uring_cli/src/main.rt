@@ -1,6 +1,8 @@
 //! `uring`: the rings of io_uring, step by step, over lines of text.
 #![tactic(auto)]
 
+ghost use Rattle.std.specs.Prelude.{◌≤◌, length};
+
 mod fault;
 mod listing;
 mod outlet;
@@ -62,28 +64,27 @@ fn run<R: Threads + Wait + Copy + Send + 'static>(
     ended
 }
 
-/// The words that are options, and the lines behind a word `--` of `uring outcomes`.
-fn without_lines<'a, 'b>(words: &'b [&'a str]) -> (&'b [&'a str], &'b [&'a str]) {
+/// How many of these words are options: all, but of `uring outcomes` those before a word `--`, which the lines of a claim follow.
+fn count_options(words: &[&str]) -> usize
+    ensures { result ≤ length words.now }
+{
     if !matches!(words, [_, "outcomes", ..]) {
-        return (words, &[]);
+        return words.len();
     }
-    let at = place_of_dashes(words);
-    (
-        words.get(..at).unwrap_or_default(),
-        words.get(at.saturating_add(1)..).unwrap_or_default(),
-    )
-}
-
-/// The place of the first word `--`, or how many words there are.
-fn place_of_dashes(words: &[&str]) -> usize {
-    let mut at = 0_usize;
-    for word in words {
-        if *word == "--" {
+    for at in 0..words.len() {
+        if words[at] == "--" {
             return at;
         }
-        at = at.saturating_add(1);
     }
-    at
+    words.len()
+}
+
+/// The words after the one at this place.
+fn after<'a, 'b>(words: &'b [&'a str], place: usize) -> &'b [&'a str] {
+    if place < words.len() {
+        return &words[place + 1..];
+    }
+    &words[..0]
 }
 
 /// Does what these words ask for, and returns the exit status.
@@ -93,8 +94,9 @@ fn run_words<R: Threads + Wait + Copy + Send + 'static>(
     words: &[&str],
 ) -> Result<u8, Fault> {
     let alloc = rt.alloc();
-    let (words, lines) = without_lines(words);
-    match options(alloc, words)? {
+    let count = count_options(words);
+    let lines = after(words, count);
+    match options(alloc, &words[..count])? {
         Options::Play(setup, workers) => {
             let (mut input, mut output) = (rt.stdin(), Outlet::new(rt.stdout()));
             let played = play(threads, alloc, &mut input, &mut output, &setup, workers);
