@@ -59,12 +59,14 @@ static int read_waiting(struct waiting *waiting, uint32_t flags, const void *arg
     return copy_in(&waiting->signals, signals, signals_size);
 }
 
-/* Goes on behind a submission that nobody waits for. */
+/* Goes on behind a submission that nobody waits for. A program whose entries a thread takes may look at memory alone from now
+ * on, and one with an eventfd may sleep on it: then it goes on until nothing can without waiting. */
 static void go_on_alone(struct ring *ring)
 {
-    if (policy() == LAZY)
+    bool has_thread = ring->flags & IORING_SETUP_SQPOLL;
+    if (policy() == LAZY && !has_thread)
         return;
-    while (go_on(ring, ring->eventfd < 0) == WENT_ON)
+    while (go_on(ring, ring->eventfd < 0 && !has_thread) == WENT_ON)
         ;
 }
 

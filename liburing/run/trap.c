@@ -137,6 +137,12 @@ static bool catch_trap(void)
     return catch_for_good(answer);
 }
 
+/* A filter that stands already traps the setting of another, but ours. */
+bool add_filter(const struct sock_fprog *program)
+{
+    return syscall(SYS_prctl, PR_SET_SECCOMP, SECCOMP_MODE_FILTER, program, 0, 0, ASKS_KERNEL) == 0;
+}
+
 /* The three calls are trapped, and those that set a filter; and what would take SIGSYS away succeeds and does nothing: it can't be trapped, since a child
  * that the C library spawns does it with all signals blocked. A call with the 6th argument that none of them uses is our own,
  * to the kernel: SIGSYS is caught so, a strict layer asks the kernel for set-ups and its probe, and the program's filter is set. */
@@ -170,7 +176,7 @@ static bool set_trap(void)
         /* 23 */ BPF_STMT(BPF_RET | BPF_K, SECCOMP_RET_ALLOW),
     };
     struct sock_fprog program = {.len = sizeof lines / sizeof *lines, .filter = lines};
-    return prctl(PR_SET_NO_NEW_PRIVS, 1, 0, 0, 0) == 0 && prctl(PR_SET_SECCOMP, SECCOMP_MODE_FILTER, &program) == 0;
+    return prctl(PR_SET_NO_NEW_PRIVS, 1, 0, 0, 0) == 0 && add_filter(&program);
 }
 
 /* Memory that is shared with a file, and written: a mapping by our own call has its mark at the descriptor. */
@@ -192,7 +198,7 @@ static bool set_map_trap(void)
         /* 12 */ BPF_STMT(BPF_RET | BPF_K, SECCOMP_RET_ALLOW),
     };
     struct sock_fprog program = {.len = sizeof lines / sizeof *lines, .filter = lines};
-    return prctl(PR_SET_SECCOMP, SECCOMP_MODE_FILTER, &program) == 0;
+    return add_filter(&program);
 }
 
 /* SIGSYS is blocked where a parent that wasn't reached had blocked it. */
