@@ -50,6 +50,13 @@ static bool uses_buffer(const struct io_uring_sqe *entry)
     return is_transfer || (entry->opcode == IORING_OP_SEND_ZC && entry->ioprio & IORING_RECVSEND_FIXED_BUF);
 }
 
+/* Whether a transfer's descriptor is open for its direction: at a pipe's other end nothing would ever come. */
+static bool is_open_for(const struct request *request)
+{
+    int mode = fcntl(request->fd, F_GETFL) & O_ACCMODE;
+    return mode == O_RDWR || mode == (is_read(request) ? O_RDONLY : O_WRONLY);
+}
+
 /* A descriptor, or that of a registered file, which is kept. Negative if there is none. */
 static int find_fd(struct ring *ring, int fd, bool is_registered, struct file **file)
 {
@@ -74,4 +81,8 @@ void assign(struct ring *ring, struct request *request)
     else if (uses_buffer(entry))
         request->started = use_buffer(ring, entry->buf_index, request->vectors, &request->buffer);
     request->is_stream = request->started == 0 && is_stream(request);
+    if (request->is_stream && is_transfer(request) && !is_open_for(request)) {
+        request->started = -EBADF;
+        request->is_stream = false;
+    }
 }

@@ -26,7 +26,7 @@
 #include <sys/uio.h>
 #include <unistd.h>
 
-static bool is_read(const struct request *request)
+bool is_read(const struct request *request)
 {
     uint8_t code = request->entry.opcode;
     return code == IORING_OP_READ || code == IORING_OP_READV || code == IORING_OP_READ_FIXED;

@@ -27,6 +27,7 @@ int copy_behind(struct request *request, const struct request *before);
 /* Finds out what a request is carried out on: its file, its buffer, and whether it may have to wait. */
 void assign(struct ring *ring, struct request *request);
 
+bool is_read(const struct request *request);
 bool is_transfer(const struct request *request);
 bool is_splice(const struct request *request);
 

@@ -150,6 +150,27 @@ static void test_polls(void)
     close_ring(&ring);
 }
 
+/* A read of a pipe's end for writing, and the other way round, end at once, where a pipe may be a registered file too. */
+static void test_wrong_end(void)
+{
+    struct ring ring;
+    char text[4] = "pipe";
+    int ends[2];
+    check(pipe(ends) == 0);
+    make_ring(&ring, 8, 0, 0);
+    check(register_at(ring.fd, IORING_REGISTER_FILES, ends, 2) == 0);
+    for (int is_registered = 0; is_registered < 2; is_registered++) {
+        uint8_t flags = is_registered ? IOSQE_FIXED_FILE : 0;
+        put_transfer(&ring, IORING_OP_READ, 0, flags, is_registered ? 1 : ends[1], text, 4, 0);
+        check(result_of_one(&ring, 1) == -EBADF);
+        put_transfer(&ring, IORING_OP_WRITE, 0, flags, is_registered ? 0 : ends[0], text, 4, 0);
+        check(result_of_one(&ring, 1) == -EBADF);
+    }
+    close(ends[0]);
+    close(ends[1]);
+    close_ring(&ring);
+}
+
 static void test_splice(void)
 {
     struct ring ring;
@@ -189,6 +210,7 @@ int main(int count, char **words)
         {"timeouts", test_timeouts},
         {"cancels", test_cancels},
         {"polls", test_polls},
+        {"wrong end", test_wrong_end},
         {"splice", test_splice},
     };
     return run_tests(tests, sizeof tests / sizeof *tests, count > 1 ? words[1] : NULL);

@@ -1,0 +1,193 @@
+/* Tests of operations on names, attributes and tables, by direct calls: each does what the system call of its name does, and
+ * a chain of them goes on in order. All hold under every policy, which the environment says. They work in a folder of their own.
+ *
+ *   paths [NAME]             with a name: that test alone
+ */
+#define _GNU_SOURCE
+#include "engines.h"
+
+#include <linux/openat2.h>
+#include <sys/epoll.h>
+#include <sys/stat.h>
+#include <sys/xattr.h>
+
+static char folder[] = "/tmp/wulgach-paths-XXXXXX";
+static int root;
+
+static struct io_uring_sqe *put_path(struct ring *ring, uint8_t code, uint64_t user_data, const char *path)
+{
+    struct io_uring_sqe *entry = put(ring, code, user_data, 0);
+    entry->fd = root;
+    entry->addr = (uintptr_t)path;
+    return entry;
+}
+
+static struct io_uring_sqe *put_paths(struct ring *ring, uint8_t code, const char *path, const char *other)
+{
+    struct io_uring_sqe *entry = put_path(ring, code, 0, path);
+    entry->len = (uint32_t)root;
+    entry->addr2 = (uintptr_t)other;
+    return entry;
+}
+
+static bool is_there(const char *path)
+{
+    struct stat status;
+    return fstatat(root, path, &status, AT_SYMLINK_NOFOLLOW) == 0;
+}
+
+/* A folder, a file in it, two more names of the file, another name of one of these, and all taken away again. */
+static void test_names(void)
+{
+    struct ring ring;
+    struct statx told;
+    struct open_how how = {.flags = O_RDWR | O_CREAT | O_EXCL, .mode = 0600};
+    make_ring(&ring, 8, 0, 0);
+    put_path(&ring, IORING_OP_MKDIRAT, 0, "d")->len = 0700;
+    check(result_of_one(&ring, 1) == 0 && is_there("d"));
+    put_path(&ring, IORING_OP_MKDIRAT, 0, "d")->len = 0700;
+    check(result_of_one(&ring, 1) == -EEXIST);
+    struct io_uring_sqe *entry = put_path(&ring, IORING_OP_OPENAT2, 0, "d/file");
+    entry->off = (uintptr_t)&how;
+    entry->len = sizeof how;
+    int fd = result_of_one(&ring, 1);
+    check(fd >= 0 && write(fd, "five!", 5) == 5 && close(fd) == 0);
+    put_paths(&ring, IORING_OP_LINKAT, "d/file", "d/link");
+    check(result_of_one(&ring, 1) == 0);
+    entry = put_path(&ring, IORING_OP_SYMLINKAT, 0, "file");
+    entry->addr2 = (uintptr_t)"d/name";
+    check(result_of_one(&ring, 1) == 0 && is_there("d/name"));
+    put_paths(&ring, IORING_OP_RENAMEAT, "d/link", "d/other");
+    check(result_of_one(&ring, 1) == 0 && !is_there("d/link"));
+    entry = put_path(&ring, IORING_OP_STATX, 0, "d/other");
+    entry->len = STATX_BASIC_STATS;
+    entry->off = (uintptr_t)&told;
+    check(result_of_one(&ring, 1) == 0 && told.stx_size == 5 && told.stx_nlink == 2);
+    static const char *const gone[] = {"d/file", "d/name", "d/other", "d"};
+    for (size_t i = 0; i < 4; i++) {
+        put_path(&ring, IORING_OP_UNLINKAT, 0, gone[i])->unlink_flags = i == 3 ? AT_REMOVEDIR : 0;
+        check(result_of_one(&ring, 1) == 0 && !is_there(gone[i]));
+    }
+    put_path(&ring, IORING_OP_UNLINKAT, 0, "d");
+    check(result_of_one(&ring, 1) == -ENOENT);
+    close_ring(&ring);
+}
+
+/* A chain makes a folder, opens a file in it and takes both away; the first that fails ends it. (Linux 6.18 goes on.) */
+static void test_chain(void)
+{
+    struct ring ring;
+    int32_t results[4];
+    make_ring(&ring, 8, 0, 0);
+    for (int is_there_already = 0; is_there_already < 2; is_there_already++) {
+        struct io_uring_sqe *made = put_path(&ring, IORING_OP_MKDIRAT, 0, "c");
+        made->len = 0700;
+        struct io_uring_sqe *opened = put_path(&ring, IORING_OP_OPENAT, 1, "c/file");
+        opened->open_flags = O_RDWR | O_CREAT;
+        opened->len = 0600;
+        struct io_uring_sqe *gone = put_path(&ring, IORING_OP_UNLINKAT, 2, "c/file");
+        struct io_uring_sqe *last = put_path(&ring, IORING_OP_UNLINKAT, 3, "c");
+        last->unlink_flags = AT_REMOVEDIR;
+        made->flags = opened->flags = gone->flags = IOSQE_IO_LINK;
+        if (is_there_already)
+            check(mkdirat(root, "c", 0700) == 0);
+        check(enter(&ring, 4, 0, 0) == 4);
+        reap_all(&ring, 4, results);
+        check(results[0] == (is_there_already ? -EEXIST : 0));
+        check(is_there_already ? results[1] == -ECANCELED : close(results[1]) == 0);
+        check(results[2] == (is_there_already ? -ECANCELED : 0) && results[3] == results[2]);
+    }
+    check(unlinkat(root, "c", AT_REMOVEDIR) == 0);
+    close_ring(&ring);
+}
+
+/* Attributes of a file and of a name, where the file system has them; else each says what the system call says. */
+static void test_attributes(void)
+{
+    struct ring ring;
+    char value[8] = "";
+    int file = openat(root, "attributes", O_RDWR | O_CREAT, 0600);
+    char path[64];
+    snprintf(path, sizeof path, "%s/attributes", folder);
+    int32_t can_set = fsetxattr(file, "user.asked", "1", 1, 0) < 0 ? -errno : 0, length = can_set < 0 ? can_set : 5;
+    make_ring(&ring, 8, 0, 0);
+    for (int is_named = 0; is_named < 2; is_named++) {
+        for (int is_get = 0; is_get < 2; is_get++) {
+            uint8_t code = is_named ? (is_get ? IORING_OP_GETXATTR : IORING_OP_SETXATTR) : (is_get ? IORING_OP_FGETXATTR : IORING_OP_FSETXATTR);
+            struct io_uring_sqe *entry = put(&ring, code, 0, 0);
+            entry->fd = is_named ? 0 : file;
+            entry->addr = (uintptr_t)(is_named ? "user.second" : "user.first");
+            entry->addr2 = (uintptr_t)(is_get ? value : "value");
+            entry->addr3 = is_named ? (uintptr_t)path : 0;
+            entry->len = is_get ? sizeof value : 5;
+            check(result_of_one(&ring, 1) == (is_get ? length : can_set));
+            check(!is_get || can_set < 0 || memcmp(value, "value", 5) == 0);
+            memset(value, 0, is_get ? sizeof value : 0);
+        }
+    }
+    close(file);
+    check(unlinkat(root, "attributes", 0) == 0);
+    close_ring(&ring);
+}
+
+/* An epoll instance takes a descriptor, changes it, and lets it go. */
+static void test_epoll(void)
+{
+    struct ring ring;
+    struct epoll_event event = {.events = EPOLLIN, .data.u64 = 7}, found;
+    int ends[2], all = epoll_create1(EPOLL_CLOEXEC);
+    check(pipe(ends) == 0 && write(ends[1], "x", 1) == 1);
+    make_ring(&ring, 8, 0, 0);
+    static const struct {
+        int change;
+        int32_t res;
+        int ready;
+    } rows[] = {{EPOLL_CTL_MOD, -ENOENT, 0}, {EPOLL_CTL_ADD, 0, 1}, {EPOLL_CTL_ADD, -EEXIST, 1}, {EPOLL_CTL_DEL, 0, 0}, {EPOLL_CTL_DEL, -ENOENT, 0}};
+    for (size_t i = 0; i < sizeof rows / sizeof *rows; i++) {
+        put_transfer(&ring, IORING_OP_EPOLL_CTL, 0, 0, all, &event, (unsigned)rows[i].change, (uint64_t)ends[0]);
+        check(result_of_one(&ring, 1) == rows[i].res);
+        check(epoll_wait(all, &found, 1, 0) == rows[i].ready && (!rows[i].ready || found.data.u64 == 7));
+    }
+    put_transfer(&ring, IORING_OP_EPOLL_CTL, 0, 0, all, NULL, EPOLL_CTL_ADD, (uint64_t)ends[0]);
+    check(result_of_one(&ring, 1) == -EFAULT);
+    close(ends[0]);
+    close(ends[1]);
+    close(all);
+    close_ring(&ring);
+}
+
+/* Descriptors go into the table by an entry: into slots, or where there is room. */
+static void test_table(void)
+{
+    struct ring ring;
+    struct io_uring_rsrc_register sparse = {.nr = 2, .flags = IORING_RSRC_REGISTER_SPARSE};
+    int file = make_file(), list[2] = {file, file};
+    char text[4];
+    check(pwrite(file, "here", 4, 0) == 4);
+    make_ring(&ring, 8, 0, 0);
+    put_transfer(&ring, IORING_OP_FILES_UPDATE, 0, 0, -1, list, 1, 0);
+    check(result_of_one(&ring, 1) == -ENXIO);
+    check(register_at(ring.fd, IORING_REGISTER_FILES2, &sparse, sizeof sparse) == 0);
+    put_transfer(&ring, IORING_OP_FILES_UPDATE, 0, 0, -1, list, 1, 1);
+    check(result_of_one(&ring, 1) == 1);
+    put_transfer(&ring, IORING_OP_READ, 0, IOSQE_FIXED_FILE, 1, text, 4, 0);
+    check(result_of_one(&ring, 1) == 4 && memcmp(text, "here", 4) == 0);
+    put_transfer(&ring, IORING_OP_FILES_UPDATE, 0, 0, -1, list, 2, IORING_FILE_INDEX_ALLOC);
+    check(result_of_one(&ring, 1) == 1 && list[0] == 0);
+    put_transfer(&ring, IORING_OP_FILES_UPDATE, 0, 0, -1, list, 0, 0);
+    check(result_of_one(&ring, 1) == -EINVAL);
+    close(file);
+    close_ring(&ring);
+}
+
+int main(int count, char **words)
+{
+    static const struct named tests[] = {
+        {"names", test_names}, {"chain", test_chain}, {"attributes", test_attributes}, {"epoll", test_epoll}, {"table", test_table},
+    };
+    check(mkdtemp(folder) && (root = open(folder, O_PATH | O_DIRECTORY)) >= 0);
+    int status = run_tests(tests, sizeof tests / sizeof *tests, count > 1 ? words[1] : NULL);
+    close(root);
+    check(rmdir(folder) == 0);
+    return status;
+}
