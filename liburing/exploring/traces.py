@@ -1,5 +1,6 @@
 """The traces of the layer, beside `uring trace`."""
 
+import concurrent.futures
 import os
 import re
 import subprocess
@@ -47,19 +48,31 @@ def prove():
         subprocess.run([f"{TOP}/uring", "prove"], check=True)
 
 
+def each(look, paths):
+    """What a look at each trace says, two at once where there are as many processors."""
+    with concurrent.futures.ProcessPoolExecutor(min(2, len(os.sched_getaffinity(0)))) as pool:
+        yield from pool.map(look, paths)
+
+
+def compared(path):
+    """How many steps a trace has, and what is to be said of the first answer that differs, or nothing."""
+    words, steps, answers = read_trace(path)
+    done = subprocess.run([URING, "trace", *words], input=steps.encode(), stdout=subprocess.PIPE, check=True)
+    found = done.stdout.decode()
+    if found == answers:
+        return steps.count("\n"), None
+    rows = zip(steps.splitlines(), answers.splitlines(), found.splitlines())
+    first = next((f"{step}: {one} here, {other} there" for step, one, other in rows if one != other), "one has more answers")
+    return steps.count("\n"), f"{path}: the answers of uring trace differ\n{first}"
+
+
 def compare(options, program):
     lines = 0
     prove()
-    for path in options.traces:
-        words, steps, answers = read_trace(path)
-        done = subprocess.run([URING, "trace", *words], input=steps.encode(), stdout=subprocess.PIPE, check=True)
-        lines += steps.count("\n")
-        if done.stdout.decode() != answers:
-            print(f"{path}: the answers of uring trace differ")
-            for step, one, other in zip(steps.splitlines(), answers.splitlines(), done.stdout.decode().splitlines()):
-                if one != other:
-                    print(f"{step}: {one} here, {other} there")
-                    break
+    for steps, differs in each(compared, options.traces):
+        lines += steps
+        if differs:
+            print(differs)
             return 1
     print(f"{len(options.traces)} traces, {lines} steps: uring trace gives the same answers")
     return 0
@@ -73,13 +86,18 @@ def to_judge(path):
     return ["check", "--apart", *head.split()[1:]], f"# {head}\n{rest}", f"lawful: {steps} steps\n"
 
 
+def judged(path):
+    """What is to be said of a trace that isn't lawful, or nothing."""
+    words, lines, wanted = to_judge(path)
+    done = subprocess.run([URING, *words], input=lines.encode(), stdout=subprocess.PIPE)
+    return None if done.stdout.decode() == wanted else f"{path}: {done.stdout.decode()}"
+
+
 def judge(options, program):
     prove()
-    for path in options.traces:
-        words, lines, wanted = to_judge(path)
-        done = subprocess.run([URING, *words], input=lines.encode(), stdout=subprocess.PIPE)
-        if done.stdout.decode() != wanted:
-            print(f"{path}: {done.stdout.decode()}")
+    for unlawful in each(judged, options.traces):
+        if unlawful:
+            print(unlawful)
             return 1
     print(f"{len(options.traces)} traces are lawful")
     return 0
