@@ -320,6 +320,31 @@ static void test_sqpoll(void)
     close_ring(&ring);
 }
 
+/* Entries and completions of twice the size: each stands behind the other by so much. */
+static void test_large_cells(void)
+{
+    struct ring ring;
+    make_ring(&ring, 4, 0, IORING_SETUP_SQE128 | IORING_SETUP_CQE32);
+    const size_t entry_size = 2 * sizeof(struct io_uring_sqe), completion_size = 2 * sizeof(struct io_uring_cqe);
+    size_t entries_size = ring.params.sq_entries * entry_size, cq_size = ring.params.cq_off.cqes + ring.params.cq_entries * completion_size;
+    char *entries = map(&ring, entries_size, IORING_OFF_SQES), *cq = map(&ring, cq_size, IORING_OFF_CQ_RING);
+    for (unsigned i = 0; i < 10; i++) {
+        unsigned slot = i % ring.params.sq_entries;
+        struct io_uring_sqe *entry = (void *)(entries + slot * entry_size);
+        memset(entry, 0, entry_size);
+        entry->opcode = i % 2 ? IORING_OP_NOP : IORING_OP_LAST;
+        entry->user_data = i;
+        publish(&ring, slot);
+        check(enter(&ring, 1, 1, IORING_ENTER_GETEVENTS) == 1);
+        const struct io_uring_cqe *completion = (void *)(cq + ring.params.cq_off.cqes + i % ring.params.cq_entries * completion_size);
+        check(completion->user_data == i && completion->res == (i % 2 ? 0 : -EINVAL));
+        __atomic_store_n(cq_word(&ring, ring.params.cq_off.head), i + 1, __ATOMIC_RELEASE);
+    }
+    munmap(entries, entries_size);
+    munmap(cq, cq_size);
+    close_ring(&ring);
+}
+
 int main(int count, char **words)
 {
     static const struct named tests[] = {
@@ -333,6 +358,7 @@ int main(int count, char **words)
         {"restrictions", test_restrictions},
         {"rings by number", test_rings_by_number},
         {"sqpoll", test_sqpoll},
+        {"large cells", test_large_cells},
     };
     return run_tests(tests, sizeof tests / sizeof *tests, count > 1 ? words[1] : NULL);
 }
