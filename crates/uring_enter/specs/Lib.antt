@@ -1,0 +1,4 @@
+pub mod Reports
+pub mod Due
+pub mod After
+pub mod Laws
