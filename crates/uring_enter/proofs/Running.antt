@@ -3,11 +3,11 @@ use Rattle.std.proofs.Common.{◌≡◌, ℤ, pos, Bool, true, false, ◌&&◌, 
 use Rattle.uring_enter.specs.declared.asked.Asked.{Asked}
 use Rattle.uring_enter.specs.declared.command.Command.{Command}
 use Rattle.uring_enter.specs.declared.command.Command.TheVariants as command
-use Rattle.uring_enter.specs.declared.report.Sight.{Sight}
-use Rattle.uring_enter.specs.declared.report.Report.{Report}
-use Rattle.uring_enter.specs.declared.report.Report.TheVariants.{Heard, WrongHead, Taken, NotTaken, WentOn, Chosen, Stuck, Woken, TimedOut, Interrupted, Endless, Failed, Passed}
-use Rattle.uring_enter.specs.Reports.{waits, looks, is_enough}
-use Rattle.uring_enter.specs.Due.{due, is_answer, is_lazy, ended, waiting, going, stuck, hearing}
+use Rattle.uring_enter.specs.declared.reply.Sight.{Sight}
+use Rattle.uring_enter.specs.declared.reply.Reply.{Reply}
+use Rattle.uring_enter.specs.declared.reply.Reply.TheVariants.{Heard, WrongHead, Taken, NotTaken, WentOn, Chosen, Stuck, Woken, TimedOut, Interrupted, Endless, Failed, Passed}
+use Rattle.uring_enter.specs.Replies.{waits, looks, is_enough}
+use Rattle.uring_enter.specs.Due.{due, is_reply_to, is_lazy, ended, waiting, going, stuck, hearing}
 use Rattle.uring_enter.specs.Laws.{is_run, IsInVain, SleepsInVain, GivesUpInVain, saw_enough, MayEnd, EndsForAReason, SubmitsOnce}
 use Rattle.uring_enter.proofs.Commands.{true_is_not_false, if_false, if_true, IsElse, going_else, stuck_else, stuck_unless_waiting, hearing_else, going_waiting, stuck_waiting}
 
@@ -39,10 +39,10 @@ submitting_is_else : IsElse submits
 unfolding submits
 submitting_is_else = record { at_end = λ v. refl; at_going = λ b. refl; at_going_fully = refl }
 
-hearing_is_else : (sight : Sight) → IsElse (λ c. is_answer c (Heard sight))
+hearing_is_else : (sight : Sight) → IsElse (λ c. is_reply_to c (Heard sight))
 hearing_is_else sight = record { at_end = λ v. refl; at_going = λ b. refl; at_going_fully = refl }
 
-pub passing_is_else : IsElse (λ c. is_answer c Passed)
+pub passing_is_else : IsElse (λ c. is_reply_to c Passed)
 passing_is_else = record { at_end = λ v. refl; at_going = λ b. refl; at_going_fully = refl }
 
 no_sleep : (c : Command) → sleeps c ≡ false → c ≡ command.Sleep → ⊥
@@ -54,29 +54,29 @@ unfolding submits
 no_submission c is_not is = against (submits c) is_not (ap submits is)
 
 -- if one of two is a sleep, and the first isn't, the second was taken
-few_of : (b : Bool) (log : List Report) (v : ℤ)
+few_of : (b : Bool) (log : List Reply) (v : ℤ)
     → (if b then ended log v else command.Sleep) ≡ command.Sleep → b ≡ false
 few_of true log v is = cc
 few_of false log v is = refl
 
--- behind which reports the application is heard, but for a first time
-heard_behind : (a : Asked) (sight : Sight) (last : Report) (log : List Report)
-    → is_answer (due a (last ∷ log)) (Heard sight) ≡ true
+-- behind which replies the application is heard, but for a first time
+heard_behind : (a : Asked) (sight : Sight) (last : Reply) (log : List Reply)
+    → is_reply_to (due a (last ∷ log)) (Heard sight) ≡ true
     → due a (Heard sight ∷ last ∷ log) ≡ command.Sleep → IsInVain a (Heard sight ∷ last ∷ log)
 unfolding sleeps
 heard_behind a s (Stuck t) log answers is = (
-  stuck_unless_waiting (λ c. is_answer c (Heard s)) (hearing_is_else s) refl a log t answers,
+  stuck_unless_waiting (λ c. is_reply_to c (Heard s)) (hearing_is_else s) refl a log t answers,
   few_of (is_enough a log s) (Stuck t ∷ log) (pos 0) is,
 )
 heard_behind a s Woken log answers is = absurd (no_sleep _ (going_else sleeps sleeping_is_else a log true s) is)
 heard_behind a s (Heard t) log answers is =
-    absurd (against _ (hearing_else (λ c. is_answer c (Heard s)) (hearing_is_else s) refl refl a log t) answers)
+    absurd (against _ (hearing_else (λ c. is_reply_to c (Heard s)) (hearing_is_else s) refl refl a log t) answers)
 heard_behind a s (Taken n t) log answers is =
-    absurd (against _ (going_else (λ c. is_answer c (Heard s)) (hearing_is_else s) a (Taken n t ∷ log) false t) answers)
+    absurd (against _ (going_else (λ c. is_reply_to c (Heard s)) (hearing_is_else s) a (Taken n t ∷ log) false t) answers)
 heard_behind a s (NotTaken n t) log answers is =
-    absurd (against _ (going_else (λ c. is_answer c (Heard s)) (hearing_is_else s) a (NotTaken n t ∷ log) false t) answers)
+    absurd (against _ (going_else (λ c. is_reply_to c (Heard s)) (hearing_is_else s) a (NotTaken n t ∷ log) false t) answers)
 heard_behind a s (WentOn t) log answers is =
-    absurd (against _ (going_else (λ c. is_answer c (Heard s)) (hearing_is_else s) a log true t) answers)
+    absurd (against _ (going_else (λ c. is_reply_to c (Heard s)) (hearing_is_else s) a log true t) answers)
 heard_behind a s WrongHead log answers is = cc
 heard_behind a s Chosen log answers is = cc
 heard_behind a s (TimedOut t) log answers is = cc
@@ -107,7 +107,7 @@ sleeps_in_vain a (Endless ∷ log) run is = cc
 sleeps_in_vain a (Failed n ∷ log) run is = cc
 sleeps_in_vain a (Passed ∷ log) run is = cc
 
-given_up : (c : Command) → is_answer c Endless ≡ true → c ≡ command.Sleep
+given_up : (c : Command) → is_reply_to c Endless ≡ true → c ≡ command.Sleep
 given_up command.Sleep answers = refl
 given_up command.Submit answers = cc
 given_up command.PassTime answers = cc

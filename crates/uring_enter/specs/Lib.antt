@@ -1,4 +1,4 @@
-pub mod Reports
+pub mod Replies
 pub mod Due
 pub mod After
 pub mod Laws

@@ -1,19 +1,19 @@
 //! One call: what it keeps, and what it does next.
 
 ghost use Rattle.std.specs.Prelude.{◌≡◌, ◌↔◌, ℤ, pos, List, [], ◌∷◌, true, false, Ok, IsErr, IfOk, OnErr};
-ghost use Rattle.uring_enter.specs.Reports.{error, waits, looks, is_enough};
-ghost use Rattle.uring_enter.specs.Due.{due, is_answer, is_lazy, unless_ready, go_by, ended, waiting, looking, leaving, going, stuck, hearing};
+ghost use Rattle.uring_enter.specs.Replies.{error, waits, looks, is_enough};
+ghost use Rattle.uring_enter.specs.Due.{due, is_reply_to, is_lazy, unless_ready, go_by, ended, waiting, looking, leaving, going, stuck, hearing};
 ghost use Rattle.uring_enter.specs.After.{IsAfter, Keeps, before_of};
 
 use crate::asked::{Asked, Policy};
 use crate::command::Command;
-use crate::report::{Report, Sight};
+use crate::reply::{Reply, Sight};
 
-/// The report doesn't answer what the call wants. Nothing changes.
+/// The reply doesn't answer what the call wants. Nothing changes.
 #[derive(Clone, Copy, Debug, PartialEq, Eq)]
-pub struct WrongReport;
+pub struct WrongReply;
 
-/// What the last report was, as far as what comes next depends on it.
+/// What the last reply was, as far as what comes next depends on it.
 #[derive(Clone, Copy, Debug, PartialEq, Eq)]
 pub enum Before {
     /// There was none.
@@ -26,12 +26,12 @@ pub enum Before {
     Other,
 }
 
-/// One call of io_uring_enter(2): what it was asked for, and what it keeps of what was reported.
+/// One call of io_uring_enter(2): what it was asked for, and what it keeps of what was replied.
 #[derive(Clone, Copy, Debug, PartialEq, Eq)]
 pub struct Enter {
     pub asked: Asked,
     pub wanted: Command,
-    /// What the last report was.
+    /// What the last reply was.
     pub before: Before,
     /// What the submission came to.
     pub submitted: i64,
@@ -58,45 +58,45 @@ impl Enter {
 
     /// What the call wants.
     pub fn wanted(&self) -> Command
-        ensures { (a : Asked) (log : List Report) → IsAfter a log self.now → result ≡ due a log }
+        ensures { (a : Asked) (log : List Reply) → IsAfter a log self.now → result ≡ due a log }
     {
         self.wanted
     }
 
-    /// Takes a report of what became of it, and returns what the call wants then.
+    /// Takes a reply of what became of it, and returns what the call wants then.
     ///
-    /// `WrongReport`: it doesn't answer what the call wants. Nothing changes.
-    pub fn next(&mut self, report: Report) -> Result<Command, WrongReport>
-        ensures due { (a : Asked) (log : List Report) → IsAfter a log self.old
-            → IfOk result (λ command. command ≡ due a (report ∷ log)) }
-        ensures after { (a : Asked) (log : List Report) → IsAfter a log self.old
-            → IfOk result (λ _. IsAfter a (report ∷ log) self.new) }
-        ensures wrong { (a : Asked) (log : List Report) → IsAfter a log self.old
-            → IsErr result ↔ (is_answer (due a log) report ≡ false) }
+    /// `WrongReply`: it doesn't answer what the call wants. Nothing changes.
+    pub fn next(&mut self, reply: Reply) -> Result<Command, WrongReply>
+        ensures due { (a : Asked) (log : List Reply) → IsAfter a log self.old
+            → IfOk result (λ command. command ≡ due a (reply ∷ log)) }
+        ensures after { (a : Asked) (log : List Reply) → IsAfter a log self.old
+            → IfOk result (λ _. IsAfter a (reply ∷ log) self.new) }
+        ensures wrong { (a : Asked) (log : List Reply) → IsAfter a log self.old
+            → IsErr result ↔ (is_reply_to (due a log) reply ≡ false) }
         ensures kept { OnErr result (self.new ≡ self.old) }
     {
-        if !answers(self.wanted, report) {
-            return Err(WrongReport);
+        if !is_reply_to(self.wanted, reply) {
+            return Err(WrongReply);
         }
-        self.note_submission(report);
-        self.wanted = self.due(report);
-        self.before = kind(report);
+        self.note_submission(reply);
+        self.wanted = self.due(reply);
+        self.before = kind(reply);
         Ok(self.wanted)
     }
 
     /// Notes what the submission came to.
-    fn note_submission(&mut self, report: Report)
-        ensures keeps { (a : Asked) (log : List Report) → Keeps a log self.old
-            → Keeps a (report ∷ log) self.new }
+    fn note_submission(&mut self, reply: Reply)
+        ensures keeps { (a : Asked) (log : List Reply) → Keeps a log self.old
+            → Keeps a (reply ∷ log) self.new }
         ensures before { self.new.before ≡ self.old.before }
     {
-        match report {
-            Report::Taken(count, sight) => {
+        match reply {
+            Reply::Taken(count, sight) => {
                 self.submitted = count as i64;
                 self.took_all = count == self.asked.to_submit;
                 self.expired = sight.expired;
             }
-            Report::NotTaken(number, sight) => {
+            Reply::NotTaken(number, sight) => {
                 self.submitted = -(number as i64);
                 self.took_all = false;
                 self.expired = sight.expired;
@@ -105,30 +105,30 @@ impl Enter {
         }
     }
 
-    /// What comes after a report, which was noted.
-    fn due(&self, report: Report) -> Command
-        ensures { (a : Asked) (log : List Report) → Keeps a (report ∷ log) self.now
-            → self.now.before ≡ before_of log → result ≡ due a (report ∷ log) }
+    /// What comes after a reply, which was noted.
+    fn due(&self, reply: Reply) -> Command
+        ensures { (a : Asked) (log : List Reply) → Keeps a (reply ∷ log) self.now
+            → self.now.before ≡ before_of log → result ≡ due a (reply ∷ log) }
     {
-        match report {
-            Report::Heard(sight) => self.hearing(sight),
-            Report::Taken(_, sight) => self.going(false, sight),
-            Report::NotTaken(_, sight) => self.going(false, sight),
-            Report::WentOn(sight) => self.going(true, sight),
-            Report::Stuck(sight) => self.stuck(sight),
-            Report::Woken => Command::Hear(true),
-            Report::Chosen | Report::Passed => self.ended(0),
-            Report::TimedOut(sight) => self.ended(unless_ready(sight, 62)),
-            Report::Interrupted(sight) => self.ended(unless_ready(sight, 4)),
-            Report::Endless => self.ended(-35),
-            Report::Failed(number) => self.ended(-(number as i64)),
-            Report::WrongHead => self.ended(-77),
+        match reply {
+            Reply::Heard(sight) => self.hearing(sight),
+            Reply::Taken(_, sight) => self.going(false, sight),
+            Reply::NotTaken(_, sight) => self.going(false, sight),
+            Reply::WentOn(sight) => self.going(true, sight),
+            Reply::Stuck(sight) => self.stuck(sight),
+            Reply::Woken => Command::Hear(true),
+            Reply::Chosen | Reply::Passed => self.ended(0),
+            Reply::TimedOut(sight) => self.ended(unless_ready(sight, 62)),
+            Reply::Interrupted(sight) => self.ended(unless_ready(sight, 4)),
+            Reply::Endless => self.ended(-35),
+            Reply::Failed(number) => self.ended(-(number as i64)),
+            Reply::WrongHead => self.ended(-77),
         }
     }
 
     /// The application was heard.
     fn hearing(&self, sight: Sight) -> Command
-        ensures { (a : Asked) (log : List Report) → Keeps a log self.now
+        ensures { (a : Asked) (log : List Reply) → Keeps a log self.now
             → self.now.before ≡ before_of log → result ≡ hearing a log sight }
     {
         match self.before {
@@ -146,7 +146,7 @@ impl Enter {
 
     /// Going on, once the entries are submitted.
     fn going(&self, has_gone: bool, sight: Sight) -> Command
-        ensures { (a : Asked) (log : List Report) → Keeps a log self.now
+        ensures { (a : Asked) (log : List Reply) → Keeps a log self.now
             → result ≡ going a log has_gone sight }
     {
         if self.waits() {
@@ -160,7 +160,7 @@ impl Enter {
 
     /// Going on in a call that waits.
     fn waiting(&self, sight: Sight) -> Command
-        ensures { (a : Asked) (log : List Report) → Keeps a log self.now
+        ensures { (a : Asked) (log : List Reply) → Keeps a log self.now
             → result ≡ waiting a log sight }
     {
         let is_enough = self.is_enough(sight);
@@ -173,7 +173,7 @@ impl Enter {
 
     /// Going on in a call that looks whether there is a completion.
     fn looking(&self, has_gone: bool, sight: Sight) -> Command
-        ensures { (a : Asked) (log : List Report) → Keeps a log self.now
+        ensures { (a : Asked) (log : List Reply) → Keeps a log self.now
             → result ≡ looking a log has_gone sight }
     {
         let is_any = 0 < sight.ready;
@@ -186,7 +186,7 @@ impl Enter {
 
     /// Going on in a call that nobody waits for.
     fn leaving(&self) -> Command
-        ensures { (a : Asked) (log : List Report) → Keeps a log self.now
+        ensures { (a : Asked) (log : List Reply) → Keeps a log self.now
             → result ≡ leaving a log }
     {
         if self.is_lazy() {
@@ -198,7 +198,7 @@ impl Enter {
 
     /// Nothing can go on.
     fn stuck(&self, sight: Sight) -> Command
-        ensures { (a : Asked) (log : List Report) → Keeps a log self.now
+        ensures { (a : Asked) (log : List Reply) → Keeps a log self.now
             → result ≡ stuck a log sight }
     {
         if self.waits() {
@@ -212,7 +212,7 @@ impl Enter {
 
     /// The end of a call, with what became of its waiting.
     fn ended(&self, outcome: i64) -> Command
-        ensures { (a : Asked) (log : List Report) → Keeps a log self.now
+        ensures { (a : Asked) (log : List Reply) → Keeps a log self.now
             → result ≡ ended log outcome }
     {
         Command::Return(if self.submitted == 0 {
@@ -232,20 +232,20 @@ impl Enter {
     }
 
     fn waits(&self) -> bool
-        ensures { (a : Asked) (log : List Report) → Keeps a log self.now → result ≡ waits a log }
+        ensures { (a : Asked) (log : List Reply) → Keeps a log self.now → result ≡ waits a log }
     {
         self.asked.gets && self.took_all && 0 < self.asked.min_complete
     }
 
     fn looks(&self) -> bool
-        ensures { (a : Asked) (log : List Report) → Keeps a log self.now → result ≡ looks a log }
+        ensures { (a : Asked) (log : List Reply) → Keeps a log self.now → result ≡ looks a log }
     {
         self.asked.gets && self.took_all && self.asked.min_complete == 0
     }
 
     /// Whether there is enough for a call that waits.
     fn is_enough(&self, sight: Sight) -> bool
-        ensures { (a : Asked) (log : List Report) → Keeps a log self.now
+        ensures { (a : Asked) (log : List Reply) → Keeps a log self.now
             → result ≡ is_enough a log sight }
     {
         let enough = self.asked.min_complete.min(self.asked.cq);
@@ -264,49 +264,49 @@ fn go_by(policy: Policy, may_end: bool) -> Command
     }
 }
 
-/// Whether a report answers what a call wants.
-fn answers(wanted: Command, report: Report) -> bool
-    ensures { result ≡ is_answer wanted report }
+/// Whether a reply answers what a call wants.
+fn is_reply_to(wanted: Command, reply: Reply) -> bool
+    ensures { result ≡ is_reply_to wanted reply }
 {
     match wanted {
-        Command::Hear(_) => matches!(report, Report::Heard(_) | Report::WrongHead),
-        Command::Submit => matches!(report, Report::Taken(_, _) | Report::NotTaken(_, _)),
-        Command::GoOn(may_end) => goes(may_end, report),
-        Command::GoOnFully => matches!(report, Report::Stuck(_) | Report::WrongHead),
-        Command::Sleep => ends_sleep(report),
-        Command::PassTime => matches!(report, Report::Passed),
+        Command::Hear(_) => matches!(reply, Reply::Heard(_) | Reply::WrongHead),
+        Command::Submit => matches!(reply, Reply::Taken(_, _) | Reply::NotTaken(_, _)),
+        Command::GoOn(may_end) => goes(may_end, reply),
+        Command::GoOnFully => matches!(reply, Reply::Stuck(_) | Reply::WrongHead),
+        Command::Sleep => ends_sleep(reply),
+        Command::PassTime => matches!(reply, Reply::Passed),
         Command::Return(_) => false,
     }
 }
 
-/// Whether a report says what became of going on.
-fn goes(may_end: bool, report: Report) -> bool
-    ensures { result ≡ is_answer (Command.GoOn may_end) report }
+/// Whether a reply says what became of going on.
+fn goes(may_end: bool, reply: Reply) -> bool
+    ensures { result ≡ is_reply_to (Command.GoOn may_end) reply }
 {
-    match report {
-        Report::WentOn(_) | Report::Stuck(_) | Report::WrongHead => true,
-        Report::Chosen => may_end,
+    match reply {
+        Reply::WentOn(_) | Reply::Stuck(_) | Reply::WrongHead => true,
+        Reply::Chosen => may_end,
         _ => false,
     }
 }
 
-/// Whether a report says how a sleep has ended.
-fn ends_sleep(report: Report) -> bool
-    ensures { result ≡ is_answer Command.Sleep report }
+/// Whether a reply says how a sleep has ended.
+fn ends_sleep(reply: Reply) -> bool
+    ensures { result ≡ is_reply_to Command.Sleep reply }
 {
-    match report {
-        Report::Woken | Report::TimedOut(_) | Report::Interrupted(_) => true,
-        Report::Endless | Report::Failed(_) => true,
+    match reply {
+        Reply::Woken | Reply::TimedOut(_) | Reply::Interrupted(_) => true,
+        Reply::Endless | Reply::Failed(_) => true,
         _ => false,
     }
 }
 
-/// What the last report was, as far as what comes next depends on it.
-fn kind(report: Report) -> Before
-    ensures { (log : List Report) → result ≡ before_of (report ∷ log) }
+/// What the last reply was, as far as what comes next depends on it.
+fn kind(reply: Reply) -> Before
+    ensures { (log : List Reply) → result ≡ before_of (reply ∷ log) }
 {
-    match report {
-        Report::Woken => Before::Sleep,
+    match reply {
+        Reply::Woken => Before::Sleep,
         _ => Before::Other,
     }
 }

@@ -1,4 +1,4 @@
-//! What holds of every call, whatever is reported. Each law is the contract of a function that does nothing.
+//! What holds of every call, whatever is replied. Each law is the contract of a function that does nothing.
 
 ghost use Rattle.uring_enter.specs.Laws.{SleepsInVain, GivesUpInVain, EndsForAReason, SubmitsOnce};
 

@@ -15,7 +15,7 @@ pub struct Sight {
 
 /// What became of what a call wanted, and what is seen then.
 #[derive(Clone, Copy, Debug, PartialEq, Eq)]
-pub enum Report {
+pub enum Reply {
     /// What the application has reaped was heard.
     Heard(Sight),
 
