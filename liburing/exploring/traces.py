@@ -41,11 +41,15 @@ def read_trace(path):
     return split_trace(text)
 
 
+def prove():
+    """Builds the repository's program, if it isn't there, and none is given."""
+    if IS_REPOSITORY and not os.environ.get("URING"):
+        subprocess.run([f"{TOP}/uring", "prove"], check=True)
+
+
 def compare(options, program):
     lines = 0
-    if IS_REPOSITORY:
-        # (which builds the program, if it isn't there)
-        subprocess.run([f"{TOP}/uring", "prove"], check=True)
+    prove()
     for path in options.traces:
         words, steps, answers = read_trace(path)
         done = subprocess.run([URING, "trace", *words], input=steps.encode(), stdout=subprocess.PIPE, check=True)
@@ -70,8 +74,7 @@ def to_judge(path):
 
 
 def judge(options, program):
-    if IS_REPOSITORY:
-        subprocess.run([f"{TOP}/uring", "prove"], check=True)
+    prove()
     for path in options.traces:
         words, lines, wanted = to_judge(path)
         done = subprocess.run([URING, *words], input=lines.encode(), stdout=subprocess.PIPE)

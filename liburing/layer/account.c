@@ -2,6 +2,7 @@
 #define _GNU_SOURCE
 #include "account.h"
 #include "fault.h"
+#include "passing.h"
 
 #include <fcntl.h>
 #include <pthread.h>
@@ -45,7 +46,7 @@ static void map_account(void)
         return;
     int file = open(path, O_RDWR | O_CLOEXEC);
     demand(file >= 0 && ftruncate(file, ACCOUNT_SIZE) == 0, "the file of WULGACH_ACCOUNT can't be written");
-    void *at = mmap(NULL, ACCOUNT_SIZE, PROT_READ | PROT_WRITE, MAP_SHARED, file, 0);
+    void *at = map_passing(NULL, ACCOUNT_SIZE, PROT_READ | PROT_WRITE, MAP_SHARED, file, 0);
     demand(at != MAP_FAILED, "the file of WULGACH_ACCOUNT can't be mapped");
     close(file);
     struct account *made = at;

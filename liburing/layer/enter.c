@@ -171,21 +171,26 @@ static void see(struct ring *ring, struct wulgach_reply *reply)
     reply->is_due = has_expired(ring);
 }
 
-static enum wulgach_policy policy_of_calls(void)
+/* A program whose entries a thread takes may look at memory alone from now on: so a call that gets no events isn't lazy there. */
+static enum wulgach_policy policy_of_call(bool has_thread, bool gets)
 {
-    return policy() == IN_ORDER ? WULGACH_IN_ORDER : policy() == LAZY ? WULGACH_LAZY : WULGACH_BY_CHOICE;
+    if (policy() == LAZY)
+        return has_thread && !gets ? WULGACH_IN_ORDER : WULGACH_LAZY;
+    return policy() == IN_ORDER ? WULGACH_IN_ORDER : WULGACH_BY_CHOICE;
 }
 
 /* Carries a call out: what it does next, when it sleeps and what it returns is the library's decision. */
 static int carry_call_out(struct ring *ring, struct waiting *waiting, uint32_t flags)
 {
+    bool has_thread = ring->flags & IORING_SETUP_SQPOLL, gets = flags & IORING_ENTER_GETEVENTS;
     struct wulgach_asked asked = {
         .to_submit = waiting->to_submit,
         .min_complete = waiting->min_complete,
         .cq = ring->memory.cq_entries,
-        .policy = policy_of_calls(),
-        .gets = flags & IORING_ENTER_GETEVENTS,
-        .may_leave = ring->eventfd < 0,
+        .policy = policy_of_call(has_thread, gets),
+        .gets = gets,
+        /* One with an eventfd may sleep on it. */
+        .may_leave = ring->eventfd < 0 && !has_thread,
     };
     struct wulgach_enter call;
     struct wulgach_command command;

@@ -5,8 +5,8 @@
  */
 #include "extras.h"
 #include "descriptors.h"
+#include "ends.h"
 #include "fault.h"
-#include "progress.h"
 #include "ring.h"
 #include "steps.h"
 #include "submit.h"

@@ -1,7 +1,7 @@
 /* Makes ring memory: the submission ring's words and array at IORING_OFF_SQ_RING, the completion ring's words and
- * completions at IORING_OFF_CQ_RING, and the entry table at IORING_OFF_SQES. Each is mapped by itself: without the feature
- * SINGLE_MMAP a program does so, and one that never asks for it does so too. It is a memfd, which is sparse and as long as
- * the last offset demands, or memory without a file.
+ * completions at IORING_OFF_CQ_RING, and the entry table at IORING_OFF_SQES. It is a memfd, which is sparse and as long as the
+ * last offset demands, and of which each is mapped by itself: without the feature SINGLE_MMAP a program does so, and one that
+ * never asks for it does so too. Or it is memory without a file, and then both rings stand at both offsets, as in the kernel.
  */
 #define _GNU_SOURCE
 #include "memory.h"
@@ -39,10 +39,19 @@ static int lengthen(int fd, uint64_t length)
     return result;
 }
 
+/* The bytes of the mapping at the first offset. */
+static size_t first_size(const struct memory *memory)
+{
+    return memory->is_single ? memory->sq_size + memory->cq_size : memory->sq_size;
+}
+
 static int map_all(struct memory *memory, int fd)
 {
-    memory->sq = map(fd, memory->sq_size, IORING_OFF_SQ_RING);
-    memory->cq = map(fd, memory->cq_size, IORING_OFF_CQ_RING);
+    memory->sq = map(fd, first_size(memory), IORING_OFF_SQ_RING);
+    if (!memory->is_single)
+        memory->cq = map(fd, memory->cq_size, IORING_OFF_CQ_RING);
+    else if (memory->sq)
+        memory->cq = (struct cq_words *)((char *)memory->sq + memory->sq_size);
     memory->entries = map(fd, memory->entries_size, IORING_OFF_SQES);
     if (!memory->sq || !memory->cq || !memory->entries) {
         return -errno;
@@ -54,6 +63,7 @@ static int map_all(struct memory *memory, int fd)
 
 static void tell_offsets(struct io_uring_params *params, const struct memory *memory)
 {
+    uint32_t cq = memory->is_single ? (uint32_t)memory->sq_size : 0;
     params->sq_entries = memory->sq_entries;
     params->cq_entries = memory->cq_entries;
     params->sq_off = (struct io_sqring_offsets){
@@ -66,21 +76,28 @@ static void tell_offsets(struct io_uring_params *params, const struct memory *me
         .array = BEHIND_WORDS,
     };
     params->cq_off = (struct io_cqring_offsets){
-        .head = offsetof(struct cq_words, head),
-        .tail = offsetof(struct cq_words, tail),
-        .ring_mask = offsetof(struct cq_words, mask),
-        .ring_entries = offsetof(struct cq_words, entries),
-        .overflow = offsetof(struct cq_words, overflow),
-        .flags = offsetof(struct cq_words, flags),
-        .cqes = BEHIND_WORDS,
+        .head = cq + offsetof(struct cq_words, head),
+        .tail = cq + offsetof(struct cq_words, tail),
+        .ring_mask = cq + offsetof(struct cq_words, mask),
+        .ring_entries = cq + offsetof(struct cq_words, entries),
+        .overflow = cq + offsetof(struct cq_words, overflow),
+        .flags = cq + offsetof(struct cq_words, flags),
+        .cqes = cq + BEHIND_WORDS,
     };
+}
+
+/* The completion ring begins on a cache line. */
+static size_t round_to_line(size_t size)
+{
+    return (size + BEHIND_WORDS - 1) / BEHIND_WORDS * BEHIND_WORDS;
 }
 
 int make_memory(struct memory *memory, int fd, uint32_t sq_entries, uint32_t cq_entries, struct io_uring_params *params)
 {
     memory->sq_entries = sq_entries;
     memory->cq_entries = cq_entries;
-    memory->sq_size = BEHIND_WORDS + sq_entries * sizeof(uint32_t);
+    memory->is_single = fd < 0;
+    memory->sq_size = BEHIND_WORDS + round_to_line(sq_entries * sizeof(uint32_t));
     memory->entry_cells = params->flags & IORING_SETUP_SQE128 ? 2 : 1;
     memory->completion_cells = params->flags & IORING_SETUP_CQE32 ? 2 : 1;
     memory->cq_size = BEHIND_WORDS + cq_entries * memory->completion_cells * sizeof(struct io_uring_cqe);
@@ -107,11 +124,11 @@ int make_file(void)
 /* A shared mapping of no size that is moved is mapped once more, and stays. */
 void *map_again(const struct memory *memory, size_t size, uint64_t offset)
 {
-    void *at = offset == IORING_OFF_SQ_RING ? (void *)memory->sq : offset == IORING_OFF_CQ_RING ? (void *)memory->cq : memory->entries;
-    size_t most = offset == IORING_OFF_SQ_RING ? memory->sq_size : offset == IORING_OFF_CQ_RING ? memory->cq_size : memory->entries_size;
+    bool is_rings = offset == IORING_OFF_SQ_RING || offset == IORING_OFF_CQ_RING;
+    void *at = is_rings ? (void *)memory->sq : memory->entries;
+    size_t most = is_rings ? first_size(memory) : memory->entries_size;
     size_t page = (size_t)sysconf(_SC_PAGESIZE);
-    bool is_part = offset == IORING_OFF_SQ_RING || offset == IORING_OFF_CQ_RING || offset == IORING_OFF_SQES;
-    if (is_part && size > 0 && size <= (most + page - 1) / page * page)
+    if ((is_rings || offset == IORING_OFF_SQES) && size > 0 && size <= (most + page - 1) / page * page)
         return mremap(at, 0, size, MREMAP_MAYMOVE);
     errno = EINVAL;
     return MAP_FAILED;
@@ -125,7 +142,8 @@ static void unmap(void *at, size_t size)
 
 void free_memory(struct memory *memory)
 {
-    unmap(memory->sq, memory->sq_size);
-    unmap(memory->cq, memory->cq_size);
+    unmap(memory->sq, first_size(memory));
+    if (!memory->is_single)
+        unmap(memory->cq, memory->cq_size);
     unmap(memory->entries, memory->entries_size);
 }

@@ -5,6 +5,7 @@
 #define MEMORY_H
 
 #include <linux/io_uring.h>
+#include <stdbool.h>
 #include <stddef.h>
 #include <stdint.h>
 
@@ -25,17 +26,18 @@ struct memory {
     struct io_uring_sqe *entries;       /* the entry table, of sq_entries slots */
     uint32_t entry_cells, completion_cells; /* how many cells an entry and a completion take: 1, or 2 where they are large */
     uint32_t sq_entries, cq_entries;    /* as the layer made them: the application can write to the words */
-    size_t sq_size, cq_size, entries_size;  /* of the three mappings, in bytes */
+    size_t sq_size, cq_size, entries_size;  /* in bytes */
+    bool is_single;                     /* both rings stand in one mapping, the completion ring behind the other */
 };
 
 /* A memfd. Returns it, or the negative of an error number. */
 int make_file(void);
 
-/* Makes the memory of rings of these sizes, both powers of two, in a memfd, or without a file if `fd` is negative, and
- * tells the parameters where everything stands. Returns 0 or the negative of an error number. */
+/* Makes the memory of rings of these sizes, both powers of two, in a memfd, or without a file and in a single mapping if `fd`
+ * is negative, and tells the parameters where everything stands. Returns 0 or the negative of an error number. */
 int make_memory(struct memory *memory, int fd, uint32_t sq_entries, uint32_t cq_entries, struct io_uring_params *params);
 
-/* Maps a part of the memory once more, as mmap would at this offset. */
+/* Maps a part of memory without a file once more, as mmap would at this offset. */
 void *map_again(const struct memory *memory, size_t size, uint64_t offset);
 
 void free_memory(struct memory *memory);

@@ -8,6 +8,7 @@
 #include "eventfds.h"
 #include "groups.h"
 #include "injection.h"
+#include "passing.h"
 #include "policy.h"
 #include "process.h"
 #include "readiness.h"
@@ -146,7 +147,7 @@ static int make_ring(struct ring **made, uint32_t entries, struct io_uring_param
     start_clock(ring);
     ring->flags = params->flags;
     note_issuer(ring);
-    params->features = FEATURES;
+    params->features = FEATURES | (is_polled ? IORING_FEAT_SINGLE_MMAP : 0);
     show(ring);
     *made = ring;
     return 0;
@@ -180,7 +181,7 @@ void *map_file(void *at, size_t size, int protection, int flags, int fd, int64_t
 {
     struct ring *ring = lock_ring(fd);
     bool is_polled = ring && ring->ready_fd >= 0;
-    void *mapped = is_polled ? map_again(&ring->memory, size, (uint64_t)offset) : mmap(at, size, protection, flags, fd, (off_t)offset);
+    void *mapped = is_polled ? map_again(&ring->memory, size, (uint64_t)offset) : map_passing(at, size, protection, flags, fd, offset);
     if (ring)
         unlock_ring(ring);
     return mapped;

@@ -203,22 +203,11 @@ static long call_msync(const long words[6])
     return result;
 }
 
-/* Here the 6th argument is whole; of the descriptor only the lower half is read, so that the upper one has the mark. */
-static long map_memory(const long words[6])
-{
-    long result;
-    register long fourth __asm__("r10") = words[3];
-    register long fifth __asm__("r8") = (long)(PASSES << 32 | (uint32_t)words[4]);
-    register long sixth __asm__("r9") = words[5];
-    __asm__ volatile("syscall\n\txor %%r8d, %%r8d" : "=a"(result), "+r"(fifth) : "a"((long)SYS_mmap), "D"(words[0]), "S"(words[1]), "d"(words[2]), "r"(fourth), "r"(sixth) : "rcx", "r11", "memory");
-    return result;
-}
-
 long call_map(long call, const long words[6])
 {
     if (call == SYS_msync)
         return call_msync(words);
-    long memory = map_memory(words);
+    long memory = pass_mmap(words[0], words[1], words[2], words[3], words[4], words[5]);
     if (is_address(memory) && words[2] & PROT_WRITE && !(words[3] & MAP_ANONYMOUS))
         add_map((char *)memory, (size_t)words[1], (int)words[4], words[5]);
     return memory;

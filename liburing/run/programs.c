@@ -94,9 +94,9 @@ static void look_at(const char *path)
     int kept = errno, file = open(path, O_RDONLY | O_CLOEXEC);
     if (file >= 0) {
         if (is_static(file))
-            say("it is linked statically and can't be reached: SIGSYS ends it if it calls io_uring", path);
+            say("it is linked statically and can't be reached: SIGSYS ends it if it calls io_uring, or writes to memory that it shares with a file", path);
         else if (changes_user(file))
-            say("it changes its user and can't be reached: SIGSYS ends it if it calls io_uring", path);
+            say("it changes its user and can't be reached: SIGSYS ends it if it calls io_uring, or writes to memory that it shares with a file", path);
         close(file);
     }
     errno = kept;
@@ -141,7 +141,7 @@ SEEN int fexecve(int file, char *const *words, char *const *surrounding)
     int (*call)(int, char *const *, char *const *);
     *(void **)&call = next("fexecve");
     if (is_static(file))
-        say("it is linked statically and can't be reached: SIGSYS ends it if it calls io_uring", "a program");
+        say("it is linked statically and can't be reached: SIGSYS ends it if it calls io_uring, or writes to memory that it shares with a file", "a program");
     char *room[count_of(surrounding) + MOST_VARIABLES + 1];
     return call(file, words, with_ours(surrounding, room));
 }

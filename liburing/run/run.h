@@ -20,6 +20,11 @@ int real_sigmask(int how, const sigset_t *set, sigset_t *before);
 /* Catches SIGSYS, whoever has a filter already. */
 bool catch_for_good(void (*handler)(int, siginfo_t *, void *));
 
+struct sock_fprog;
+
+/* Adds a filter of our own for system calls. The kernel was told before that the process takes no new privileges. */
+bool add_filter(const struct sock_fprog *program);
+
 /* Whether a signal came on a stack of its own, which may be small; and calling a function on one that is large. */
 bool is_on_signal_stack(const ucontext_t *at);
 void call_on_own_stack(const ucontext_t *at, void (*function)(void *), void *argument);

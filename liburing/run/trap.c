@@ -1,7 +1,8 @@
 /* Preloaded into a program by `uring-run`: the program's calls of io_uring, however it makes them, are trapped before
- * they reach the kernel, and the layer answers them.
+ * they reach the kernel, and the layer answers them. So is mmap where it shares memory with a file, which may be a ring: its
+ * descriptor is one that polls, and has no memory that the kernel could map.
  *
- * A filter of seccomp turns the three calls into the signal SIGSYS, which is raised in the thread that made the call, at
+ * A filter of seccomp turns these calls into the signal SIGSYS, which is raised in the thread that made the call, at
  * the call. Its handler hands the registers to the layer and puts the result where the call would have left it. So
  * SIGSYS must be neither blocked nor caught by the program: signals.c sees to that. Children inherit the filter, and
  * need this library too: programs.c sees to that.
@@ -9,9 +10,11 @@
 #define _GNU_SOURCE
 #include "files.h"
 #include "../layer/log.h"
+#include "../layer/passing.h"
 #include "run.h"
 
 #include <errno.h>
+#include <linux/audit.h>
 #include <linux/filter.h>
 #include <linux/io_uring.h>
 #include <linux/seccomp.h>
@@ -22,12 +25,14 @@
 #include <stdio.h>
 #include <stdlib.h>
 #include <string.h>
+#include <sys/mman.h>
 #include <sys/prctl.h>
 #include <sys/syscall.h>
 #include <ucontext.h>
 #include <unistd.h>
 
-long wulgach_syscall(long call, ...);
+long wulgach_polled_syscall(long call, ...);
+void *wulgach_mmap(void *at, size_t size, int protection, int flags, int fd, off_t offset);
 
 /* The code of a SIGSYS that a filter raised: the kernel's header has it as SYS_SECCOMP, and can't stand beside the C
  * library's. */
@@ -57,20 +62,47 @@ static long set_filter(long call, const greg_t *registers)
     return syscall(call, (long)registers[REG_RDI], (long)registers[REG_RSI], (long)registers[REG_RDX], (long)registers[REG_R10], (long)registers[REG_R8], ASKS_KERNEL);
 }
 
-/* Puts the result of a trapped call where the call would have left it. */
-static void serve(ucontext_t *at, long call)
+/* Memory of a file, or of a ring, which the kernel says it can't map. */
+static long map_shared(const long words[6])
 {
-    greg_t *registers = at->uc_mcontext.gregs;
-    if (serve_file_call(call, (const long[]){registers[REG_RDI], registers[REG_RSI], registers[REG_RDX], registers[REG_R10], registers[REG_R8], registers[REG_R9]}, (long *)&registers[REG_RAX]))
-        return;
-    long first = registers[REG_RDI], second = registers[REG_RSI];
-    bool is_filter = call == SYS_seccomp || call == SYS_prctl;
-    long result = is_filter ? set_filter(call, registers) : wulgach_syscall(call, first, second, (long)registers[REG_RDX], (long)registers[REG_R10], (long)registers[REG_R8], (long)registers[REG_R9]);
+    long memory;
+    if (!is_logging() || !serve_file_call(SYS_mmap, words, &memory))
+        memory = pass_mmap(words[0], words[1], words[2], words[3], words[4], words[5]);
+    if (memory != -ENODEV)
+        return memory;
+    void *ring = wulgach_mmap((void *)words[0], (size_t)words[1], (int)words[2], (int)words[3], (int)words[4], (off_t)words[5]);
+    return ring == MAP_FAILED ? -errno : (long)ring;
+}
+
+static long call_layer(long call, const long words[6])
+{
+    long result = wulgach_polled_syscall(call, words[0], words[1], words[2], words[3], words[4], words[5]);
     if (result == -1)
         result = -errno;
     if (call == SYS_io_uring_setup)
-        tell_of_setup((const struct io_uring_params *)second, result);
-    registers[REG_RAX] = result;
+        tell_of_setup((const struct io_uring_params *)words[1], result);
+    return result;
+}
+
+/* The result of a trapped call. */
+static long serve(long call, const greg_t *registers)
+{
+    const long words[6] = {registers[REG_RDI], registers[REG_RSI], registers[REG_RDX], registers[REG_R10], registers[REG_R8], registers[REG_R9]};
+    long result;
+    switch (call) {
+    case SYS_io_uring_setup:
+    case SYS_io_uring_enter:
+    case SYS_io_uring_register:
+        return call_layer(call, words);
+    case SYS_mmap:
+        return map_shared(words);
+    case SYS_seccomp:
+    case SYS_prctl:
+        result = set_filter(call, registers);
+        return result == -1 ? -errno : result;
+    default:
+        return serve_file_call(call, words, &result) ? result : -ENOSYS;
+    }
 }
 
 struct trapped {
@@ -78,10 +110,12 @@ struct trapped {
     long call;
 };
 
+/* The result is put where the call would have left it. */
 static void serve_trapped(void *argument)
 {
     const struct trapped *trapped = argument;
-    serve(trapped->at, trapped->call);
+    greg_t *registers = trapped->at->uc_mcontext.gregs;
+    registers[REG_RAX] = serve(trapped->call, registers);
 }
 
 static void answer(int number, siginfo_t *info, void *context)
@@ -101,6 +135,12 @@ static void answer(int number, siginfo_t *info, void *context)
 static bool catch_trap(void)
 {
     return catch_for_good(answer);
+}
+
+/* A filter that stands already traps the setting of another, but ours. */
+bool add_filter(const struct sock_fprog *program)
+{
+    return syscall(SYS_prctl, PR_SET_SECCOMP, SECCOMP_MODE_FILTER, program, 0, 0, ASKS_KERNEL) == 0;
 }
 
 /* The three calls are trapped, and those that set a filter; and what would take SIGSYS away succeeds and does nothing: it can't be trapped, since a child
@@ -136,7 +176,29 @@ static bool set_trap(void)
         /* 23 */ BPF_STMT(BPF_RET | BPF_K, SECCOMP_RET_ALLOW),
     };
     struct sock_fprog program = {.len = sizeof lines / sizeof *lines, .filter = lines};
-    return prctl(PR_SET_NO_NEW_PRIVS, 1, 0, 0, 0) == 0 && prctl(PR_SET_SECCOMP, SECCOMP_MODE_FILTER, &program) == 0;
+    return prctl(PR_SET_NO_NEW_PRIVS, 1, 0, 0, 0) == 0 && add_filter(&program);
+}
+
+/* Memory that is shared with a file, and written: a mapping by our own call has its mark at the descriptor. */
+static bool set_map_trap(void)
+{
+    struct sock_filter lines[] = {
+        /* 0 */ BPF_STMT(BPF_LD | BPF_W | BPF_ABS, offsetof(struct seccomp_data, arch)),
+        /* 1 */ BPF_JUMP(BPF_JMP | BPF_JEQ | BPF_K, AUDIT_ARCH_X86_64, 0, 10),
+        /* 2 */ BPF_STMT(BPF_LD | BPF_W | BPF_ABS, offsetof(struct seccomp_data, nr)),
+        /* 3 */ BPF_JUMP(BPF_JMP | BPF_JEQ | BPF_K, SYS_mmap, 0, 8),
+        /* 4 */ BPF_STMT(BPF_LD | BPF_W | BPF_ABS, offsetof(struct seccomp_data, args[2])),
+        /* 5 */ BPF_JUMP(BPF_JMP | BPF_JSET | BPF_K, PROT_WRITE, 0, 6),
+        /* 6 */ BPF_STMT(BPF_LD | BPF_W | BPF_ABS, offsetof(struct seccomp_data, args[3])),
+        /* 7 */ BPF_JUMP(BPF_JMP | BPF_JSET | BPF_K, MAP_ANONYMOUS, 4, 0),
+        /* 8 */ BPF_JUMP(BPF_JMP | BPF_JSET | BPF_K, MAP_SHARED, 0, 3),
+        /* 9 */ BPF_STMT(BPF_LD | BPF_W | BPF_ABS, offsetof(struct seccomp_data, args[4]) + 4),
+        /* 10 */ BPF_JUMP(BPF_JMP | BPF_JEQ | BPF_K, (uint32_t)PASSES, 1, 0),
+        /* 11 */ BPF_STMT(BPF_RET | BPF_K, SECCOMP_RET_TRAP),
+        /* 12 */ BPF_STMT(BPF_RET | BPF_K, SECCOMP_RET_ALLOW),
+    };
+    struct sock_fprog program = {.len = sizeof lines / sizeof *lines, .filter = lines};
+    return add_filter(&program);
 }
 
 /* SIGSYS is blocked where a parent that wasn't reached had blocked it. */
@@ -173,7 +235,7 @@ static void __attribute__((constructor)) begin(void)
 {
     unblock_trap();
     bool is_set = is_trapped(), has_log = is_logging();
-    if (!catch_trap() || !(is_set || (set_trap() && (!has_log || trap_files())))) {
+    if (!catch_trap() || !(is_set || (set_trap() && set_map_trap() && (!has_log || trap_files())))) {
         say("the calls can't be trapped here: the kernel refuses the filter", "");
         _exit(125);
     }

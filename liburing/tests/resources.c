@@ -312,6 +312,11 @@ static void test_sqpoll(void)
     check(enter(&ring, 2, 2, IORING_ENTER_GETEVENTS | IORING_ENTER_SQ_WAKEUP) == 2);
     reap_all(&ring, 2, results);
     check(results[0] == 0 && results[1] == 0 && flags_of(&ring) & IORING_SQ_NEED_WAKEUP);
+    /* Behind a call that wakes it, memory alone is looked at. */
+    put(&ring, IORING_OP_NOP, 0, IOSQE_IO_LINK);
+    put(&ring, IORING_OP_NOP, 1, 0);
+    check(enter(&ring, 0, 0, IORING_ENTER_SQ_WAKEUP) == 0);
+    check(count_ready(&ring) == 2 && reap(&ring).user_data == 0 && reap(&ring).user_data == 1);
     close_ring(&ring);
 }
 

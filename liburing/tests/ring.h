@@ -103,7 +103,7 @@ static inline void make_ring(struct ring *ring, unsigned entries, unsigned compl
     ring->sq_size = ring->params.sq_off.array + ring->params.sq_entries * sizeof(unsigned);
     ring->cq_size = ring->params.cq_off.cqes + ring->params.cq_entries * sizeof(struct io_uring_cqe);
 #ifndef IS_ALSO_REAL
-    check(!(ring->params.features & IORING_FEAT_SINGLE_MMAP));
+    check(!(ring->params.features & IORING_FEAT_SINGLE_MMAP) == !getenv("WULGACH_TEST_POLLED"));
 #endif
     ring->sq = map(ring, ring->sq_size, IORING_OFF_SQ_RING);
     ring->cq = map(ring, ring->cq_size, IORING_OFF_CQ_RING);

@@ -1,7 +1,7 @@
 /* A program that is linked with nothing of ours and calls io_uring by the processor's own instruction. Run by uring-run
- * its rings are the layer's, which it sees by their descriptors: those are memory.
+ * its rings are the layer's, which it sees by their descriptors: those are epoll instances.
  *
- *   trapped nop | blocked | threads | fork | vfork | exec | list | spawn | shell | sqpoll | filter | static PROGRAM
+ *   trapped nop | shared | blocked | threads | fork | vfork | exec | list | spawn | shell | sqpoll | filter | static PROGRAM
  *
  * Status 0: all was as it is to be. Else the number of the line that wasn't.
  */
@@ -10,13 +10,16 @@
 #include <linux/filter.h>
 #include <linux/io_uring.h>
 #include <linux/seccomp.h>
+#include <poll.h>
 #include <pthread.h>
 #include <signal.h>
 #include <spawn.h>
+#include <stdbool.h>
 #include <stdint.h>
 #include <stdio.h>
 #include <stdlib.h>
 #include <string.h>
+#include <sys/epoll.h>
 #include <sys/mman.h>
 #include <sys/prctl.h>
 #include <sys/syscall.h>
@@ -39,26 +42,43 @@ static long call(long number, long a, long b, long c, long d, long e, long f)
     return result;
 }
 
-static void want_memory(int ring)
+static void want_layer(int ring)
 {
     char name[64], target[64] = {0};
     snprintf(name, sizeof name, "/proc/self/fd/%d", ring);
-    WANT(readlink(name, target, sizeof target - 1) > 0 && strstr(target, "memfd:"));
+    WANT(readlink(name, target, sizeof target - 1) > 0 && strstr(target, "[eventpoll]"));
 }
 
-/* A no-op through both rings. */
+static void *map(size_t size, int fd, uint64_t offset)
+{
+    long at = call(SYS_mmap, 0, (long)size, PROT_READ | PROT_WRITE, MAP_SHARED, fd, (long)offset);
+    return at < 0 && at > -4096 ? NULL : (void *)at;
+}
+
+/* Whether a descriptor is readable, for an epoll instance too. */
+static void want_readable(int fd, bool is_readable)
+{
+    struct pollfd polled = {.fd = fd, .events = POLLIN};
+    struct epoll_event event = {.events = EPOLLIN};
+    int all = epoll_create1(0);
+    WANT(all >= 0 && epoll_ctl(all, EPOLL_CTL_ADD, fd, &event) == 0);
+    WANT(poll(&polled, 1, 0) == is_readable && epoll_wait(all, &event, 1, 0) == is_readable);
+    WANT(close(all) == 0);
+}
+
+/* A no-op through both rings, which stand in one mapping. */
 static void no_op(void)
 {
     struct io_uring_params params = {0};
     int ring = (int)call(SYS_io_uring_setup, 4, (long)&params, 0, 0, 0, 0);
     WANT(ring >= 0);
-    want_memory(ring);
-    size_t sq_size = params.sq_off.array + params.sq_entries * sizeof(uint32_t);
-    size_t cq_size = params.cq_off.cqes + params.cq_entries * sizeof(struct io_uring_cqe);
-    char *sq = mmap(NULL, sq_size, PROT_READ | PROT_WRITE, MAP_SHARED, ring, IORING_OFF_SQ_RING);
-    char *cq = mmap(NULL, cq_size, PROT_READ | PROT_WRITE, MAP_SHARED, ring, IORING_OFF_CQ_RING);
-    struct io_uring_sqe *entries = mmap(NULL, params.sq_entries * sizeof *entries, PROT_READ | PROT_WRITE, MAP_SHARED, ring, IORING_OFF_SQES);
-    WANT(sq != MAP_FAILED && cq != MAP_FAILED && entries != MAP_FAILED);
+    want_layer(ring);
+    want_readable(ring, false);
+    WANT(params.features & IORING_FEAT_SINGLE_MMAP);
+    size_t size = params.cq_off.cqes + params.cq_entries * sizeof(struct io_uring_cqe);
+    char *sq = map(size, ring, IORING_OFF_SQ_RING), *cq = map(size, ring, IORING_OFF_CQ_RING);
+    struct io_uring_sqe *entries = map(params.sq_entries * sizeof *entries, ring, IORING_OFF_SQES);
+    WANT(sq && cq && entries && !map(size, ring, 4096));
     entries[0] = (struct io_uring_sqe){.opcode = IORING_OP_NOP, .user_data = 77};
     *(uint32_t *)(sq + params.sq_off.array) = 0;
     __atomic_store_n((uint32_t *)(sq + params.sq_off.tail), 1, __ATOMIC_RELEASE);
@@ -68,8 +88,25 @@ static void no_op(void)
     WANT(__atomic_load_n((uint32_t *)(cq + params.cq_off.tail), __ATOMIC_ACQUIRE) == 1);
     struct io_uring_cqe *completion = (struct io_uring_cqe *)(cq + params.cq_off.cqes);
     WANT(completion->user_data == 77 && completion->res == 0);
+    WANT(memcmp(sq + params.cq_off.cqes, completion, sizeof *completion) == 0);
+    want_readable(ring, true);
     WANT(call(SYS_io_uring_enter, -1, 0, 0, 0, 0, 0) == -EBADF);
     WANT(close(ring) == 0);
+}
+
+/* Memory that is shared with files, and written, goes to the kernel. */
+static void shared(void)
+{
+    char letter;
+    int file = memfd_create("shared", 0), all = epoll_create1(0);
+    WANT(file >= 0 && ftruncate(file, 8192) == 0);
+    char *memory = mmap(NULL, 4096, PROT_READ | PROT_WRITE, MAP_SHARED | MAP_POPULATE, file, 4096);
+    WANT(memory != MAP_FAILED);
+    *memory = 's';
+    WANT(pread(file, &letter, 1, 4096) == 1 && letter == 's');
+    WANT(mmap(NULL, 4096, PROT_READ | PROT_WRITE, MAP_SHARED, all, 0) == MAP_FAILED && errno == ENODEV);
+    WANT(mmap(NULL, 4096, PROT_READ | PROT_WRITE, MAP_SHARED, -1, 0) == MAP_FAILED && errno == EBADF);
+    no_op();
 }
 
 static void on_signal(int number)
@@ -183,6 +220,8 @@ int main(int argc, char **argv)
     WANT(readlink("/proc/self/exe", self, sizeof self - 1) > 0);
     if (strcmp(name, "nop") == 0)
         no_op();
+    else if (strcmp(name, "shared") == 0)
+        shared();
     else if (strcmp(name, "blocked") == 0)
         blocked();
     else if (strcmp(name, "threads") == 0)

@@ -1,0 +1,28 @@
+/* The end of a request: what it makes of others, and what is seen of it. */
+#ifndef ENDS_H
+#define ENDS_H
+
+#include "ring.h"
+
+#include <errno.h>
+
+/* What a core is told of a success and of a failure. Which failure it was stays in the layer: a chain doesn't ask. The
+ * failure's number is what `uring trace` gives for an fsync of a descriptor that no file has. */
+enum { TOLD_SUCCESS = 0, TOLD_FAILURE = -EBADF };
+
+/* The core isn't to be asked for a request again before another has ended. */
+void note_refusal(struct ring *ring, struct request *request);
+
+/* Of the requests from a place on it isn't known any more that they can't be finished. */
+void look_again(struct ring *ring, size_t place);
+
+/* A request has ended: its completion is queued, and who was refused may be ready now. */
+void end_of(struct ring *ring, struct request *request, int32_t res, int32_t told);
+
+/* What the application sees of a request that the core ends without letting it start. */
+int32_t shown_of(struct ring *ring, const struct request *request, int32_t res);
+
+/* A no-op of the layer's own has ended on the core: the application sees this result. */
+void end_extra(struct ring *ring, struct request *request, int32_t res);
+
+#endif

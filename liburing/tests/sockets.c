@@ -1,0 +1,258 @@
+/* Tests of operations on sockets, by direct calls: those that end once, those that go on, what doesn't wait, and sends that
+ * needn't copy. All hold under every policy, which the environment says.
+ *
+ *   sockets [NAME]           with a name: that test alone
+ */
+#define _GNU_SOURCE
+#include "engines.h"
+
+#include <sys/socket.h>
+#include <sys/uio.h>
+
+static void make_pair(int *ends)
+{
+    check(socketpair(AF_UNIX, SOCK_STREAM, 0, ends) == 0);
+}
+
+static void test_sockets(void)
+{
+    struct ring ring;
+    struct sockaddr_un {
+        sa_family_t family;
+        char path[16];
+    } address = {AF_UNIX, "\0engines"};
+    char text[8] = "";
+    int listener = socket(AF_UNIX, SOCK_STREAM, 0), caller = socket(AF_UNIX, SOCK_STREAM, 0);
+    memcpy(address.path + 8, &(pid_t){getpid()}, sizeof(pid_t));
+    check(bind(listener, (void *)&address, sizeof address) == 0 && listen(listener, 4) == 0);
+    make_ring(&ring, 8, 0, 0);
+    put_plain(&ring, IORING_OP_ACCEPT, 0, listener);
+    struct io_uring_sqe *entry = put_plain(&ring, IORING_OP_CONNECT, 1, caller);
+    entry->addr = (uintptr_t)&address;
+    entry->off = sizeof address;
+    int32_t results[4];
+    check(enter(&ring, 2, 0, 0) == 2);
+    reap_all(&ring, 2, results);
+    check(results[0] >= 0 && results[1] == 0);
+    int callee = results[0];
+    put_transfer(&ring, IORING_OP_RECV, 0, 0, callee, text, 8, 0);
+    check(enter(&ring, 1, 0, 0) == 1);
+    check(enter_for(&ring, 1, 1000) == -ETIME);
+    struct iovec vector = {"message", 7};
+    struct msghdr message = {.msg_iov = &vector, .msg_iovlen = 1};
+    put_transfer(&ring, IORING_OP_SENDMSG, 1, 0, caller, &message, 1, 0);
+    check(enter(&ring, 1, 0, 0) == 1);
+    reap_all(&ring, 2, results);
+    check(results[0] == 7 && results[1] == 7 && memcmp(text, "message", 7) == 0);
+    put_transfer(&ring, IORING_OP_SHUTDOWN, 0, 0, caller, NULL, SHUT_WR, 0);
+    check(result_of_one(&ring, 1) == 0);
+    put_transfer(&ring, IORING_OP_RECV, 0, 0, callee, text, 8, 0);
+    check(result_of_one(&ring, 1) == 0);
+    put_transfer(&ring, IORING_OP_SEND, 0, 0, make_file(), text, 8, 0);
+    check(result_of_one(&ring, 1) == -ENOTSOCK);
+    close(listener);
+    close(caller);
+    close(callee);
+    close_ring(&ring);
+}
+
+/* What doesn't wait though nothing is there: a receive that says so, also of all that it asks for; and a call of sockets on a
+ * pipe. */
+static void test_no_waiting(void)
+{
+    struct ring ring;
+    int ends[2], pipes[2];
+    char text[8] = "";
+    make_pair(ends);
+    check(pipe(pipes) == 0);
+    make_ring(&ring, 8, 0, 0);
+    put_transfer(&ring, IORING_OP_RECV, 0, 0, ends[0], text, 8, 0)->msg_flags = MSG_DONTWAIT;
+    check(result_of_one(&ring, 1) == -EAGAIN);
+    check(send(ends[1], "four", 4, 0) == 4);
+    put_transfer(&ring, IORING_OP_RECV, 0, 0, ends[0], text, 8, 0)->msg_flags = MSG_DONTWAIT | MSG_WAITALL;
+    check(result_of_one(&ring, 1) == 4 && memcmp(text, "four", 4) == 0);
+    put_transfer(&ring, IORING_OP_RECV, 0, 0, pipes[0], text, 8, 0);
+    check(result_of_one(&ring, 1) == -ENOTSOCK);
+    put_plain(&ring, IORING_OP_ACCEPT, 0, pipes[0]);
+    check(result_of_one(&ring, 1) == -ENOTSOCK);
+    for (int i = 0; i < 2; i++) {
+        close(ends[i]);
+        close(pipes[i]);
+    }
+    close_ring(&ring);
+}
+
+/* The last completion of one that is cancelled has no buffer. */
+static void want_cancelled(struct ring *ring, const int *ends, void *memory)
+{
+    struct io_uring_sqe *provide = put_plain(ring, IORING_OP_PROVIDE_BUFFERS, 0, 1);
+    provide->addr = (uintptr_t)memory;
+    provide->len = 16;
+    check(result_of_one(ring, 1) == 0);
+    struct io_uring_sqe *entry = put(ring, IORING_OP_RECV, 1, IOSQE_BUFFER_SELECT);
+    entry->fd = ends[0];
+    entry->ioprio = IORING_RECV_MULTISHOT;
+    check(enter(ring, 1, 0, 0) == 1);
+    check(next_of(ring).flags == (IORING_CQE_F_MORE | IORING_CQE_F_BUFFER));
+    put(ring, IORING_OP_ASYNC_CANCEL, 2, IOSQE_CQE_SKIP_SUCCESS)->addr = 1;
+    check(enter(ring, 1, 0, 0) == 1);
+    struct seen last = next_of(ring);
+    check(last.user_data == 1 && last.res == -ECANCELED && last.flags == 0);
+}
+
+/* A receive that goes on takes a buffer for each piece, and ends where there is none. */
+static void test_multishot_receive(void)
+{
+    struct ring ring;
+    static char memory[2][16];
+    int ends[2];
+    make_pair(ends);
+    make_ring(&ring, 8, 0, 0);
+    struct io_uring_sqe *provide = put_plain(&ring, IORING_OP_PROVIDE_BUFFERS, 0, 2);
+    provide->addr = (uintptr_t)memory;
+    provide->len = 16;
+    check(result_of_one(&ring, 1) == 0);
+    struct io_uring_sqe *entry = put(&ring, IORING_OP_RECV, 1, IOSQE_BUFFER_SELECT);
+    entry->fd = ends[0];
+    entry->ioprio = IORING_RECV_MULTISHOT;
+    check(enter(&ring, 1, 0, 0) == 1);
+    for (uint32_t i = 0; i < 2; i++) {
+        check(enter_for(&ring, 1, 1000) == -ETIME);
+        check(send(ends[1], "piece", 5, 0) == 5);
+        struct seen found = next_of(&ring);
+        check(found.res == 5 && found.flags == (IORING_CQE_F_MORE | IORING_CQE_F_BUFFER | i << IORING_CQE_BUFFER_SHIFT));
+    }
+    check(send(ends[1], "piece", 5, 0) == 5);
+    struct seen last = next_of(&ring);
+    check(last.res == -ENOBUFS && last.flags == 0);
+    want_cancelled(&ring, ends, memory);
+    close(ends[0]);
+    close(ends[1]);
+    close_ring(&ring);
+}
+
+/* An accept that goes on puts each socket where there is room, and ends if there is none. */
+static void test_multishot_accept(void)
+{
+    struct ring ring;
+    struct sockaddr_un {
+        sa_family_t family;
+        char path[16];
+    } address = {AF_UNIX, "\0accepts"};
+    struct io_uring_rsrc_register sparse = {.nr = 2, .flags = IORING_RSRC_REGISTER_SPARSE};
+    int listener = socket(AF_UNIX, SOCK_STREAM, 0), callers[3];
+    memcpy(address.path + 8, &(pid_t){getpid()}, sizeof(pid_t));
+    check(bind(listener, (void *)&address, sizeof address) == 0 && listen(listener, 4) == 0);
+    make_ring(&ring, 8, 0, 0);
+    check(register_at(ring.fd, IORING_REGISTER_FILES2, &sparse, sizeof sparse) == 0);
+    struct io_uring_sqe *entry = put_plain(&ring, IORING_OP_ACCEPT, 1, listener);
+    entry->ioprio = IORING_ACCEPT_MULTISHOT;
+    entry->file_index = IORING_FILE_INDEX_ALLOC;
+    check(enter(&ring, 1, 0, 0) == 1);
+    for (int i = 0; i < 3; i++) {
+        callers[i] = socket(AF_UNIX, SOCK_STREAM, 0);
+        check(connect(callers[i], (void *)&address, sizeof address) == 0);
+        struct seen found = next_of(&ring);
+        check(found.res == (i < 2 ? i : -ENFILE) && found.flags == (i < 2 ? IORING_CQE_F_MORE : 0));
+    }
+    for (int i = 0; i < 3; i++)
+        close(callers[i]);
+    close(listener);
+    close_ring(&ring);
+}
+
+/* A send that needn't copy has two completions: what was sent, and that its memory is free. */
+static void test_zero_copy(void)
+{
+    struct ring ring;
+    static char memory[16] = "zero", text[16];
+    struct iovec vector = {memory, 16}, piece = {memory, 4};
+    struct msghdr message = {.msg_iov = &piece, .msg_iovlen = 1};
+    int ends[2];
+    make_pair(ends);
+    make_ring(&ring, 8, 0, 0);
+    check(register_at(ring.fd, IORING_REGISTER_BUFFERS, &vector, 1) == 0);
+    for (int i = 0; i < 3; i++) {
+        struct io_uring_sqe *entry = put_transfer(&ring, i == 2 ? IORING_OP_SENDMSG_ZC : IORING_OP_SEND_ZC, 7, IOSQE_IO_LINK, ends[0], i == 2 ? (void *)&message : (void *)memory, 4, 0);
+        entry->ioprio = (uint16_t)(i == 1 ? IORING_RECVSEND_FIXED_BUF : i == 2 ? IORING_SEND_ZC_REPORT_USAGE : 0);
+        put(&ring, IORING_OP_NOP, 8, 0);
+        check(enter(&ring, 2, 0, 0) == 2);
+        struct seen first = next_of(&ring), second = next_of(&ring), third = next_of(&ring);
+        check(first.user_data == 7 && first.res == 4 && first.flags == IORING_CQE_F_MORE);
+        check(second.user_data == 7 && second.res == (i == 2 ? (int32_t)IORING_NOTIF_USAGE_ZC_COPIED : 0) && second.flags == IORING_CQE_F_NOTIF);
+        check(third.user_data == 8 && third.res == 0);
+        check(read(ends[1], text, 16) == 4 && memcmp(text, "zero", 4) == 0);
+    }
+    put_transfer(&ring, IORING_OP_SEND_ZC, 0, IOSQE_CQE_SKIP_SUCCESS, ends[0], memory, 4, 0);
+    check(result_of_one(&ring, 1) == -EINVAL);
+    struct io_uring_sqe *outside = put_transfer(&ring, IORING_OP_SEND_ZC, 0, 0, ends[0], text, 4, 0);
+    outside->ioprio = IORING_RECVSEND_FIXED_BUF;
+    check(enter(&ring, 1, 0, 0) == 1);
+    check(next_of(&ring).res == -EFAULT && next_of(&ring).flags == IORING_CQE_F_NOTIF);
+    /* Beside a drain there is no second one. */
+    put_transfer(&ring, IORING_OP_SEND_ZC, 0, 0, ends[0], memory, 4, 0);
+    put(&ring, IORING_OP_NOP, 1, IOSQE_IO_DRAIN);
+    int32_t results[2];
+    check(enter(&ring, 2, 0, 0) == 2);
+    reap_all(&ring, 2, results);
+    check(results[0] == 4 && results[1] == 0);
+    close(ends[0]);
+    close(ends[1]);
+    close_ring(&ring);
+}
+
+/* A receive of messages that goes on: each buffer has sizes and flags, room for an address and control data, and the bytes. */
+static void test_multishot_messages(void)
+{
+    struct ring ring;
+    static char memory[3][64];
+    struct msghdr message = {.msg_namelen = 16, .msg_controllen = 8};
+    struct io_uring_recvmsg_out told;
+    enum { IN_FRONT = sizeof told + 16 + 8 };
+    int ends[2];
+    check(socketpair(AF_UNIX, SOCK_DGRAM, 0, ends) == 0);
+    make_ring(&ring, 8, 0, 0);
+    struct io_uring_sqe *provide = put_plain(&ring, IORING_OP_PROVIDE_BUFFERS, 0, 3);
+    provide->addr = (uintptr_t)memory;
+    provide->len = IN_FRONT + 4;
+    check(result_of_one(&ring, 1) == 0);
+    for (int is_selecting = 0; is_selecting < 2; is_selecting++) {
+        struct io_uring_sqe *entry = put_transfer(&ring, IORING_OP_RECVMSG, 0, is_selecting ? IOSQE_BUFFER_SELECT : 0, ends[0], &message, 1, 0);
+        entry->ioprio = IORING_RECV_MULTISHOT;
+        entry->msg_flags = MSG_TRUNC;
+        if (!is_selecting)
+            check(result_of_one(&ring, 1) == -EINVAL);
+    }
+    check(enter(&ring, 1, 0, 0) == 1);
+    for (uint32_t i = 0; i < 4; i++) {
+        check(i < 3 ? enter_for(&ring, 1, 1000) == -ETIME : true);
+        check(send(ends[1], "longer", i == 0 ? 3 : 6, 0) > 0);
+        struct seen found = next_of(&ring);
+        if (i == 3) {
+            check(found.res == -ENOBUFS && found.flags == 0);
+            break;
+        }
+        const char *at = memory[0] + i * (IN_FRONT + 4);
+        memcpy(&told, at, sizeof told);
+        check(found.res == (i == 0 ? IN_FRONT + 3 : IN_FRONT + 4));
+        check(found.flags == (IORING_CQE_F_MORE | IORING_CQE_F_BUFFER | i << IORING_CQE_BUFFER_SHIFT));
+        check(told.payloadlen == (i == 0 ? 3 : 6) && !(told.flags & MSG_TRUNC) == (i == 0));
+        check(memcmp(at + IN_FRONT, "longer", i == 0 ? 3 : 4) == 0);
+    }
+    close(ends[0]);
+    close(ends[1]);
+    close_ring(&ring);
+}
+
+int main(int count, char **words)
+{
+    static const struct named tests[] = {
+        {"sockets", test_sockets},
+        {"no waiting", test_no_waiting},
+        {"multishot receive", test_multishot_receive},
+        {"multishot accept", test_multishot_accept},
+        {"zero copy", test_zero_copy},
+        {"multishot messages", test_multishot_messages},
+    };
+    return run_tests(tests, sizeof tests / sizeof *tests, count > 1 ? words[1] : NULL);
+}
