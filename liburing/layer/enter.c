@@ -6,6 +6,7 @@
 #include "copying.h"
 #include "descriptors.h"
 #include "enrolling.h"
+#include "fault.h"
 #include "outlook.h"
 #include "policy.h"
 #include "progress.h"
@@ -17,6 +18,7 @@
 #include "times.h"
 #include "trace.h"
 #include "waiting.h"
+#include "wulgach_enter.h"
 
 #include <errno.h>
 #include <fcntl.h>
@@ -24,11 +26,12 @@
 #include <signal.h>
 #include <stdio.h>
 
-/* What the application waits for: so many completions, or, as in the kernel, a timeout that ends meanwhile. */
+/* What the application asks for. */
 struct waiting {
-    uint32_t min_complete;
-    uint64_t expired;       /* how many timeouts had ended before */
+    uint32_t to_submit, min_complete;
+    bool is_looking;        /* it gets events, and waits for none */
     int64_t limit;          /* in nanoseconds, or negative */
+    int64_t deadline;       /* in the ring's time, or negative */
     sigset_t signals;       /* the mask while the call sleeps */
 };
 
@@ -59,83 +62,17 @@ static int read_waiting(struct waiting *waiting, uint32_t flags, const void *arg
     return copy_in(&waiting->signals, signals, signals_size);
 }
 
-/* Goes on behind a submission that nobody waits for. A program whose entries a thread takes may look at memory alone from now
- * on, and one with an eventfd may sleep on it: then it goes on until nothing can without waiting. */
-static void go_on_alone(struct ring *ring)
-{
-    bool has_thread = ring->flags & IORING_SETUP_SQPOLL;
-    if (policy() == LAZY && !has_thread)
-        return;
-    while (go_on(ring, ring->eventfd < 0 && !has_thread) == WENT_ON)
-        ;
-}
-
-/* Goes on for an application that looks whether there is anything: by one thing at least, if there is nothing yet. */
-static void go_on_for_peek(struct ring *ring)
-{
-    bool is_lazy = policy() == LAZY, is_any = count_ready(ring) > 0;
-    if (!is_any)
-        record_break();
-    enum progress progress = is_lazy && is_any ? MAY_RETURN : go_on(ring, is_any);
-    while (progress == WENT_ON && !(is_lazy && count_ready(ring) > 0))
-        progress = go_on(ring, !is_lazy);
-    if (progress == STUCK && count_ready(ring) == 0)
-        pass_time(ring);
-}
-
 static void say_stuck(struct ring *ring, uint32_t min_complete)
 {
     fprintf(stderr, "wulgach: ring %u waits for %u completions, %u are there, and nothing can go on\n", (unsigned)ring->index, (unsigned)min_complete, (unsigned)count_ready(ring));
 }
 
 /* The application stored a completion head past the tail: its calls end so until it stores another. */
-static int refuse_head(struct ring *ring)
+static void complain_of_head(struct ring *ring)
 {
     if (!ring->has_complained)
         fprintf(stderr, "wulgach: ring %u has a completion head past its tail\n", (unsigned)ring->index);
     ring->has_complained = true;
-    return -EBADFD;
-}
-
-static bool has_enough(struct ring *ring, const struct waiting *waiting)
-{
-    uint32_t most = ring->memory.cq_entries, enough = waiting->min_complete < most ? waiting->min_complete : most;
-    return count_ready(ring) >= enough || (ring->expired != waiting->expired && !has_expired(ring));
-}
-
-/* Nothing can go on: waits, unless enough completions are shown. Returns 1 if they are, 0 if something may go on, or the
- * negative of an error number. */
-static int wait_for_more(struct ring *ring, const struct waiting *waiting, int64_t deadline)
-{
-    if (!hear(ring, true))
-        return refuse_head(ring);
-    if (has_enough(ring, waiting))
-        return 1;
-    show_readiness(ring);
-    int result = wait_for_any(ring, deadline, &waiting->signals);
-    if (result == -EDEADLK)
-        say_stuck(ring, waiting->min_complete);
-    if (result < 0)
-        return result;
-    return hear(ring, true) ? 0 : refuse_head(ring);
-}
-
-/* Goes on until enough completions are shown. In order things go on until none can, whether or not it is enough. */
-static int go_on_until(struct ring *ring, struct waiting *waiting)
-{
-    int64_t deadline = waiting->limit < 0 ? -1 : add_times(ring->now, waiting->limit);
-    waiting->expired = ring->expired;
-    for (;;) {
-        bool is_enough = policy() != IN_ORDER && has_enough(ring, waiting);
-        enum progress progress = is_enough && policy() == LAZY ? MAY_RETURN : go_on(ring, is_enough);
-        if (progress == MAY_RETURN)
-            return 0;
-        if (progress == WENT_ON && hear(ring, false))
-            continue;
-        int result = progress == WENT_ON ? refuse_head(ring) : wait_for_more(ring, waiting, deadline);
-        if (result != 0)
-            return result < 0 ? result : 0;
-    }
 }
 
 /* What the thread that takes entries would take: all that is published, with faults among them. */
@@ -148,34 +85,141 @@ static int submit_published(struct ring *ring, uint32_t to_submit)
     return submitted < 0 ? submitted : (int)to_submit;
 }
 
-static int enter_ring(struct ring *ring, uint32_t to_submit, uint32_t flags, struct waiting *waiting)
+/* ---- what a call wants, and what becomes of it ---- */
+
+/* Submits, and says what came of it. The caller's time counts from then on. */
+static enum wulgach_reply_kind submit_entries(struct ring *ring, struct waiting *waiting, struct wulgach_reply *reply)
 {
-    bool is_getting = flags & IORING_ENTER_GETEVENTS;
+    int submitted = ring->flags & IORING_SETUP_SQPOLL ? submit_published(ring, waiting->to_submit) : submit(ring, waiting->to_submit);
+    waiting->deadline = waiting->limit < 0 ? -1 : add_times(ring->now, waiting->limit);
+    if (waiting->is_looking && count_ready(ring) == 0)
+        record_break();
+    reply->number = (uint32_t)(submitted < 0 ? -submitted : submitted);
+    return submitted < 0 ? WULGACH_NOT_TAKEN : WULGACH_WAS_TAKEN;
+}
+
+static enum wulgach_reply_kind hear_application(struct ring *ring, bool is_flushing)
+{
+    return hear(ring, is_flushing) ? WULGACH_HEARD : WULGACH_WRONG_HEAD;
+}
+
+static enum wulgach_reply_kind go_on_once(struct ring *ring, bool may_end)
+{
+    switch (go_on(ring, may_end)) {
+    case MAY_RETURN:
+        return WULGACH_CHOSEN;
+    case STUCK:
+        return WULGACH_STUCK;
+    default:
+        return hear(ring, false) ? WULGACH_WENT_ON : WULGACH_WRONG_HEAD;
+    }
+}
+
+static enum wulgach_reply_kind go_on_fully(struct ring *ring)
+{
+    enum wulgach_reply_kind kind;
+    do
+        kind = go_on_once(ring, false);
+    while (kind == WULGACH_WENT_ON);
+    return kind;
+}
+
+static enum wulgach_reply_kind sleep_on(struct ring *ring, const struct waiting *waiting, struct wulgach_reply *reply)
+{
+    show_readiness(ring);
+    int result = wait_for_any(ring, waiting->deadline, &waiting->signals);
+    switch (result) {
+    case 0:
+        return WULGACH_WOKEN;
+    case -ETIME:
+        return WULGACH_TIMED_OUT;
+    case -EINTR:
+        return WULGACH_INTERRUPTED;
+    case -EDEADLK:
+        say_stuck(ring, waiting->min_complete);
+        return WULGACH_ENDLESS;
+    default:
+        reply->number = (uint32_t)-result;
+        return WULGACH_FAILED;
+    }
+}
+
+/* Does what a call wants, and says what became of it. */
+static enum wulgach_reply_kind do_wanted(struct ring *ring, struct waiting *waiting, const struct wulgach_command *command, struct wulgach_reply *reply)
+{
+    switch (command->kind) {
+    case WULGACH_HEAR:
+        return hear_application(ring, command->flag);
+    case WULGACH_SUBMIT:
+        return submit_entries(ring, waiting, reply);
+    case WULGACH_GO_ON:
+        return go_on_once(ring, command->flag);
+    case WULGACH_GO_ON_FULLY:
+        return go_on_fully(ring);
+    case WULGACH_SLEEP:
+        return sleep_on(ring, waiting, reply);
+    default:
+        pass_time(ring);
+        return WULGACH_PASSED;
+    }
+}
+
+static void see(struct ring *ring, struct wulgach_reply *reply)
+{
+    reply->ready = count_ready(ring);
+    reply->expired = ring->expired;
+    reply->is_due = has_expired(ring);
+}
+
+/* A program whose entries a thread takes may look at memory alone from now on: so a call that gets no events isn't lazy there. */
+static enum wulgach_policy policy_of_call(bool has_thread, bool gets)
+{
+    if (policy() == LAZY)
+        return has_thread && !gets ? WULGACH_IN_ORDER : WULGACH_LAZY;
+    return policy() == IN_ORDER ? WULGACH_IN_ORDER : WULGACH_BY_CHOICE;
+}
+
+/* Carries a call out: what it does next, when it sleeps and what it returns is the library's decision. */
+static int carry_call_out(struct ring *ring, struct waiting *waiting, uint32_t flags)
+{
+    bool has_thread = ring->flags & IORING_SETUP_SQPOLL, gets = flags & IORING_ENTER_GETEVENTS;
+    struct wulgach_asked asked = {
+        .to_submit = waiting->to_submit,
+        .min_complete = waiting->min_complete,
+        .cq = ring->memory.cq_entries,
+        .policy = policy_of_call(has_thread, gets),
+        .gets = gets,
+        /* One with an eventfd may sleep on it. */
+        .may_leave = ring->eventfd < 0 && !has_thread,
+    };
+    struct wulgach_enter call;
+    struct wulgach_command command;
+    demand(wulgach_enter_begin(&call, &asked, &command) == 0, "a call can't begin");
+    while (command.kind != WULGACH_RETURN) {
+        struct wulgach_reply reply = {0};
+        reply.kind = do_wanted(ring, waiting, &command, &reply);
+        if (reply.kind == WULGACH_WRONG_HEAD)
+            complain_of_head(ring);
+        see(ring, &reply);
+        demand(wulgach_enter_next(&call, &reply, &command) == 0, "a call doesn't take a reply");
+    }
+    return (int)command.result;
+}
+
+static int enter_ring(struct ring *ring, uint32_t flags, struct waiting *waiting)
+{
     if (ring->is_disabled)
         return -EBADFD;
-    if (is_submission_of_another(ring, to_submit))
+    if (is_submission_of_another(ring, waiting->to_submit))
         return -EEXIST;
     ring->call_number++;
     ring->moment++;
     pass_real_time(ring);
-    if (!hear(ring, is_getting))
-        return refuse_head(ring);
-    int submitted = ring->flags & IORING_SETUP_SQPOLL ? submit_published(ring, to_submit) : submit(ring, to_submit);
-    int result = 0;
-    /* The kernel doesn't wait if it couldn't submit all. */
-    if (submitted < 0 || !is_getting || (uint32_t)submitted != to_submit)
-        go_on_alone(ring);
-    else if (waiting->min_complete == 0)
-        go_on_for_peek(ring);
-    else
-        result = go_on_until(ring, waiting);
-    /* As the kernel has it: with a completion in hand a limit or a signal is no error. */
-    if ((result == -ETIME || result == -EINTR) && count_ready(ring) > 0)
-        result = 0;
+    int result = carry_call_out(ring, waiting, flags);
     hold_files(ring);
     show_readiness(ring);
     show(ring);
-    return submitted != 0 ? submitted : result;
+    return result;
 }
 
 enum { SERVED_FLAGS = IORING_ENTER_GETEVENTS | IORING_ENTER_SQ_WAKEUP | IORING_ENTER_SQ_WAIT | IORING_ENTER_EXT_ARG | IORING_ENTER_REGISTERED_RING };
@@ -190,7 +234,7 @@ int enter(int fd, uint32_t to_submit, uint32_t min_complete, uint32_t flags, con
     if (!ring)
         return fcntl(fd, F_GETFD) < 0 ? -EBADF : -EOPNOTSUPP;
     ring->called_fd = fd;
-    struct waiting waiting = {.min_complete = min_complete};
+    struct waiting waiting = {.to_submit = to_submit, .min_complete = min_complete, .is_looking = flags & IORING_ENTER_GETEVENTS && min_complete == 0};
     sigset_t all;
     sigfillset(&all);
     /* Operations are carried out here, where the kernel's would be out of a signal's reach. */
@@ -198,7 +242,7 @@ int enter(int fd, uint32_t to_submit, uint32_t min_complete, uint32_t flags, con
     sigset_t own = waiting.signals;
     int result = read_waiting(&waiting, flags, argument, size);
     if (result == 0)
-        result = enter_ring(ring, to_submit, flags, &waiting);
+        result = enter_ring(ring, flags, &waiting);
     unlock_ring(ring);
     pthread_sigmask(SIG_SETMASK, &own, NULL);
     return result;

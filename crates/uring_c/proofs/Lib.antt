@@ -3,3 +3,4 @@ pub mod MachineBox
 pub mod VolumeBox
 pub mod Refusals
 pub mod Holding
+mod EnterBack

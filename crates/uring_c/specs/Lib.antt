@@ -1,3 +1,4 @@
+pub mod EnterForm
 pub mod Slots
 pub mod Boxes
 pub mod Places

@@ -9,6 +9,8 @@ mod core_exports;
 mod core_memory;
 mod core_place;
 mod count_words;
+mod enter_exports;
+mod enter_words;
 mod machine_calls;
 mod machine_exports;
 mod machine_memory;

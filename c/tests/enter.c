@@ -1,0 +1,149 @@
+/* Calls of io_uring_enter(2), each with the commands that the manual page calls for, written by hand: what is replied, and what the call
+ * wants then. */
+#include "wulgach_enter.h"
+
+#include <stdio.h>
+#include <stdlib.h>
+#include <string.h>
+
+enum { MOST = 8 };
+
+struct turn {
+    uint32_t kind;          /* the reply, */
+    uint32_t number, ready; /* with what it tells */
+    uint64_t expired;
+    bool is_due;
+    uint32_t wanted;        /* and what the call wants then, */
+    int64_t value;          /* with the flag or the result */
+};
+
+struct row {
+    const char *name;
+    struct wulgach_asked asked;
+    struct turn turns[MOST];
+};
+
+#define GETS(to_submit, min_complete, policy) {to_submit, min_complete, 2, policy, true, true}
+
+static const struct row rows[] = {
+    {"a call that waits returns with enough", GETS(1, 1, WULGACH_IN_ORDER), {
+        {WULGACH_HEARD, .wanted = WULGACH_SUBMIT},
+        {WULGACH_WAS_TAKEN, 1, .wanted = WULGACH_GO_ON_FULLY},
+        {WULGACH_STUCK, .ready = 1, .wanted = WULGACH_HEAR, .value = 1},
+        {WULGACH_HEARD, .ready = 1, .wanted = WULGACH_RETURN, .value = 1}}},
+    {"it doesn't wait if a part was submitted", GETS(2, 1, WULGACH_IN_ORDER), {
+        {WULGACH_HEARD, .wanted = WULGACH_SUBMIT},
+        {WULGACH_WAS_TAKEN, 1, .wanted = WULGACH_GO_ON_FULLY},
+        {WULGACH_STUCK, .wanted = WULGACH_RETURN, .value = 1}}},
+    {"it waits for no more than the ring can show", GETS(0, 5, WULGACH_IN_ORDER), {
+        {WULGACH_HEARD, .wanted = WULGACH_SUBMIT},
+        {WULGACH_WAS_TAKEN, 0, .wanted = WULGACH_GO_ON_FULLY},
+        {WULGACH_STUCK, .ready = 2, .wanted = WULGACH_HEAR, .value = 1},
+        {WULGACH_HEARD, .ready = 2, .wanted = WULGACH_RETURN}}},
+    {"a sleep goes on, and a limit is an error without a completion", GETS(0, 1, WULGACH_BY_CHOICE), {
+        {WULGACH_HEARD, .wanted = WULGACH_SUBMIT},
+        {WULGACH_WAS_TAKEN, 0, .wanted = WULGACH_GO_ON},
+        {WULGACH_STUCK, .wanted = WULGACH_HEAR, .value = 1},
+        {WULGACH_HEARD, .wanted = WULGACH_SLEEP},
+        {WULGACH_WOKEN, .wanted = WULGACH_HEAR, .value = 1},
+        {WULGACH_HEARD, .wanted = WULGACH_GO_ON},
+        {WULGACH_STUCK, .wanted = WULGACH_HEAR, .value = 1}}},
+    {"a limit is an error", GETS(0, 1, WULGACH_IN_ORDER), {
+        {WULGACH_HEARD, .wanted = WULGACH_SUBMIT},
+        {WULGACH_WAS_TAKEN, 0, .wanted = WULGACH_GO_ON_FULLY},
+        {WULGACH_STUCK, .wanted = WULGACH_HEAR, .value = 1},
+        {WULGACH_HEARD, .wanted = WULGACH_SLEEP},
+        {WULGACH_TIMED_OUT, .wanted = WULGACH_RETURN, .value = -62}}},
+    {"a signal is none beside a completion", GETS(0, 2, WULGACH_IN_ORDER), {
+        {WULGACH_HEARD, .wanted = WULGACH_SUBMIT},
+        {WULGACH_WAS_TAKEN, 0, .wanted = WULGACH_GO_ON_FULLY},
+        {WULGACH_STUCK, .wanted = WULGACH_HEAR, .value = 1},
+        {WULGACH_HEARD, .wanted = WULGACH_SLEEP},
+        {WULGACH_INTERRUPTED, .ready = 1, .wanted = WULGACH_RETURN, .value = 0}}},
+    {"nothing can ever come", GETS(0, 1, WULGACH_IN_ORDER), {
+        {WULGACH_HEARD, .wanted = WULGACH_SUBMIT},
+        {WULGACH_WAS_TAKEN, 0, .wanted = WULGACH_GO_ON_FULLY},
+        {WULGACH_STUCK, .wanted = WULGACH_HEAR, .value = 1},
+        {WULGACH_HEARD, .wanted = WULGACH_SLEEP},
+        {WULGACH_ENDLESS, .wanted = WULGACH_RETURN, .value = -35}}},
+    {"a timeout that ends meanwhile is enough, once no other is due", GETS(0, 1, WULGACH_BY_CHOICE), {
+        {WULGACH_HEARD, .expired = 3, .wanted = WULGACH_SUBMIT},
+        {WULGACH_WAS_TAKEN, 0, .expired = 3, .wanted = WULGACH_GO_ON},
+        {WULGACH_WENT_ON, .expired = 4, .is_due = true, .wanted = WULGACH_GO_ON},
+        {WULGACH_WENT_ON, .expired = 4, .wanted = WULGACH_GO_ON, .value = 1},
+        {WULGACH_CHOSEN, .wanted = WULGACH_RETURN}}},
+    {"lazily a call goes on no further than enough", GETS(0, 1, WULGACH_LAZY), {
+        {WULGACH_HEARD, .wanted = WULGACH_SUBMIT},
+        {WULGACH_WAS_TAKEN, 0, .wanted = WULGACH_GO_ON},
+        {WULGACH_WENT_ON, .ready = 1, .wanted = WULGACH_RETURN}}},
+    {"a look that finds nothing lets time pass", GETS(0, 0, WULGACH_IN_ORDER), {
+        {WULGACH_HEARD, .wanted = WULGACH_SUBMIT},
+        {WULGACH_WAS_TAKEN, 0, .wanted = WULGACH_GO_ON_FULLY},
+        {WULGACH_STUCK, .wanted = WULGACH_PASS_TIME},
+        {WULGACH_PASSED, .wanted = WULGACH_RETURN}}},
+    {"an error of the submission is returned", GETS(1, 1, WULGACH_LAZY), {
+        {WULGACH_HEARD, .wanted = WULGACH_SUBMIT},
+        {WULGACH_NOT_TAKEN, 11, .wanted = WULGACH_RETURN, .value = -11}}},
+    {"a wrong head submits nothing", GETS(1, 1, WULGACH_IN_ORDER), {
+        {WULGACH_WRONG_HEAD, .wanted = WULGACH_RETURN, .value = -77}}},
+    {"a call that gets no events doesn't wait", {1, 1, 2, WULGACH_BY_CHOICE, false, false}, {
+        {WULGACH_HEARD, .wanted = WULGACH_SUBMIT},
+        {WULGACH_WAS_TAKEN, 1, .wanted = WULGACH_GO_ON},
+        {WULGACH_WENT_ON, .wanted = WULGACH_GO_ON},
+        {WULGACH_STUCK, .wanted = WULGACH_RETURN, .value = 1}}},
+};
+
+static const char *running;
+
+static void check(bool is_right, const char *what)
+{
+    if (!is_right) {
+        fprintf(stderr, "enter: %s: %s\n", running, what);
+        exit(1);
+    }
+}
+
+static int64_t value_of(const struct wulgach_command *command)
+{
+    return command->kind == WULGACH_RETURN ? command->result : command->flag;
+}
+
+/* A reply that doesn't fit is refused, and changes nothing. */
+static void refuse(const struct wulgach_enter *call, uint32_t kind)
+{
+    struct wulgach_enter tried = *call;
+    struct wulgach_command command = {-1, 99, true};
+    const struct wulgach_reply reply = {.kind = kind};
+    check(wulgach_enter_next(&tried, &reply, &command) == -22, "a reply is taken that doesn't fit");
+    check(command.kind == 99 && command.result == -1, "a refusal writes a command");
+    check(tried.before == call->before && tried.submitted == call->submitted && tried.wanted.kind == call->wanted.kind, "a refusal changes the call");
+}
+
+static void run(const struct row *row)
+{
+    struct wulgach_enter call;
+    struct wulgach_command command;
+    running = row->name;
+    check(wulgach_enter_begin(&call, &row->asked, &command) == 0, "it doesn't begin");
+    check(command.kind == WULGACH_HEAR && command.flag == row->asked.gets, "the application isn't heard first");
+    for (const struct turn *turn = row->turns; turn < row->turns + MOST && (turn->kind || turn->wanted); turn++) {
+        const struct wulgach_reply reply = {turn->expired, turn->kind, turn->number, turn->ready, turn->is_due};
+        refuse(&call, command.kind == WULGACH_HEAR ? WULGACH_PASSED : WULGACH_HEARD);
+        refuse(&call, WULGACH_PASSED + 1);
+        check(wulgach_enter_next(&call, &reply, &command) == 0, "a reply isn't taken");
+        check(command.kind == turn->wanted && value_of(&command) == turn->value, "it wants something else");
+    }
+}
+
+int main(void)
+{
+    struct wulgach_enter call = {.before = 7};
+    struct wulgach_command command = {.kind = 99};
+    const struct wulgach_asked asked = {.policy = 3};
+    for (size_t i = 0; i < sizeof rows / sizeof *rows; i++)
+        run(&rows[i]);
+    running = "a policy that there isn't";
+    check(wulgach_enter_begin(&call, &asked, &command) == -22 && call.before == 7 && command.kind == 99, "it begins");
+    printf("enter: %zu calls\n", sizeof rows / sizeof *rows);
+    return 0;
+}

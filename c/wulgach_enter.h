@@ -1,0 +1,101 @@
+/* Wulgach: one call of io_uring_enter(2), as decisions, for whoever keeps a ring as the kernel does: what the call does next, when it
+ * may sleep and what it returns. The functions are in the library of wulgach.h, and proved as those are. The layer under liburing
+ * calls them.
+ */
+#ifndef WULGACH_ENTER_H
+#define WULGACH_ENTER_H
+
+#include <stdbool.h>
+#include <stdint.h>
+
+#ifdef __cplusplus
+extern "C" {
+#endif
+
+/* What goes on while a call of io_uring_enter(2) is made, where more than one thing may. */
+enum wulgach_policy {
+    WULGACH_IN_ORDER = 0,   /* the least request that can go on, until none can */
+    WULGACH_LAZY = 1,       /* the same, but nothing before the application waits or looks, and no more than it waits for */
+    WULGACH_BY_CHOICE = 2   /* something is chosen each time; where the call may end, that is among the choices */
+};
+
+/* What a call of io_uring_enter(2) is asked for. */
+struct wulgach_asked {
+    uint32_t to_submit;
+    uint32_t min_complete;
+    uint32_t cq;        /* the entries of the completion ring: a call waits for no more */
+    uint32_t policy;    /* enum wulgach_policy */
+    bool gets;          /* IORING_ENTER_GETEVENTS */
+    bool may_leave;     /* a call that nobody waits for may end before all has gone on */
+};
+
+enum wulgach_command_kind {
+    WULGACH_HEAR = 0,           /* hear what the application has reaped; flag: what has overflowed comes into the ring */
+    WULGACH_SUBMIT = 1,         /* submit as many entries as were asked for */
+    WULGACH_GO_ON = 2,          /* go on with one request, and hear; flag: that the call ends may be chosen in its place */
+    WULGACH_GO_ON_FULLY = 3,    /* go on until nothing can, and hear */
+    WULGACH_SLEEP = 4,          /* sleep until something may go on, a signal comes, or the caller's time is over */
+    WULGACH_PASS_TIME = 5,      /* let the next timeout end, if there is one */
+    WULGACH_RETURN = 6          /* return result */
+};
+
+/* What a call wants of its caller. */
+struct wulgach_command {
+    int64_t result;     /* RETURN: how many entries were submitted, or the negative of an error number */
+    uint32_t kind;      /* enum wulgach_command_kind */
+    bool flag;          /* HEAR, GO_ON */
+};
+
+enum wulgach_reply_kind {
+    WULGACH_HEARD = 0,
+    WULGACH_WRONG_HEAD = 1,     /* of hearing and going on: the application has stored a head past the tail */
+    WULGACH_WAS_TAKEN = 2,      /* so many entries were taken: number */
+    WULGACH_NOT_TAKEN = 3,      /* none was, with the negative of this error number */
+    WULGACH_WENT_ON = 4,
+    WULGACH_CHOSEN = 5,         /* that the call ends was chosen, where that was offered */
+    WULGACH_STUCK = 6,          /* nothing can go on without waiting */
+    WULGACH_WOKEN = 7,          /* of a sleep: something may go on */
+    WULGACH_TIMED_OUT = 8,      /* the caller's time is over */
+    WULGACH_INTERRUPTED = 9,    /* a signal came */
+    WULGACH_ENDLESS = 10,       /* nothing that is awaited can ever come */
+    WULGACH_FAILED = 11,        /* the sleep failed, with the negative of this error number */
+    WULGACH_PASSED = 12
+};
+
+/* What became of what a call wanted. What is seen then has a meaning in HEARD, WAS_TAKEN, NOT_TAKEN, WENT_ON, STUCK, TIMED_OUT and
+ * INTERRUPTED. */
+struct wulgach_reply {
+    uint64_t expired;   /* seen: how many timeouts of the ring have ended so far, */
+    uint32_t kind;      /* enum wulgach_reply_kind */
+    uint32_t number;    /* WAS_TAKEN, NOT_TAKEN, FAILED */
+    uint32_t ready;     /* how many completions can be reaped, */
+    bool is_due;        /* and whether the time of another timeout is over, which hasn't ended yet */
+};
+
+/* A call. The library keeps nothing of it: it is the caller's memory, and its fields are the library's. */
+struct wulgach_enter {
+    struct wulgach_asked asked;
+    struct wulgach_command wanted;
+    int64_t submitted;
+    uint64_t expired;
+    uint32_t before;
+    bool took_all;
+};
+
+/* Begins a call of io_uring_enter(2), and writes what it wants first. -22 exactly if there is no such policy; then nothing is
+ * written. Whoever keeps a ring does what the call wants, and replies with what became of it, until it is to return.
+ *
+ * A call hears the application first, and submits once. It waits only if it gets events, for one at least, and all was submitted;
+ * then it sleeps only where nothing can go on and there isn't enough, and ends only if there is enough, its sleep has failed, or
+ * the application's head is wrong. */
+int32_t wulgach_enter_begin(struct wulgach_enter *call, const struct wulgach_asked *asked, struct wulgach_command *command);
+
+/* Takes a reply, and writes what the call wants then. -22 exactly if the reply doesn't answer what it wanted; then nothing is
+ * written. */
+int32_t wulgach_enter_next(struct wulgach_enter *call, const struct wulgach_reply *reply, struct wulgach_command *command);
+
+#ifdef __cplusplus
+}
+#endif
+
+#endif

@@ -1,0 +1,4 @@
+mod Next
+mod Commands
+mod Running
+mod Ending

@@ -1,0 +1,35 @@
+-- What comes next, behind some replies.
+use Rattle.std.proofs.Common.{◌≡◌, ℕ, pos, true, false, List, [], ◌∷◌, refl}
+use Rattle.uring_enter.specs.declared.asked.Asked.{Asked}
+use Rattle.uring_enter.specs.declared.command.Command.TheVariants as command
+use Rattle.uring_enter.specs.declared.enter.Before.TheVariants.{Other}
+use Rattle.uring_enter.specs.declared.reply.Sight.{Sight}
+use Rattle.uring_enter.specs.declared.reply.Reply.{Reply}
+use Rattle.uring_enter.specs.declared.reply.Reply.TheVariants.{Woken, Taken, NotTaken}
+use Rattle.uring_enter.specs.Replies.{is_enough}
+use Rattle.uring_enter.specs.Due.{hearing, ended, due, going}
+use Rattle.uring_enter.specs.After.{before_of}
+
+-- the application was heard behind anything but a sleep
+pub heard_enough : (a : Asked) (log : List Reply) (sight : Sight)
+    → Other ≡ before_of log → is_enough a log sight ≡ true
+    → hearing a log sight ≡ ended log (pos 0)
+heard_enough a [] sight other enough = cc
+heard_enough a (Woken ∷ log) sight other enough = cc
+heard_enough a (last ∷ log) sight other enough = rw enough refl
+
+pub heard_too_few : (a : Asked) (log : List Reply) (sight : Sight)
+    → Other ≡ before_of log → is_enough a log sight ≡ false
+    → hearing a log sight ≡ command.Sleep
+heard_too_few a [] sight other few = cc
+heard_too_few a (Woken ∷ log) sight other few = cc
+heard_too_few a (last ∷ log) sight other few = rw few refl
+
+-- what comes once the entries are submitted
+pub due_taken : (a : Asked) (log : List Reply) (reply : Reply) (count : ℕ) (sight : Sight)
+    → reply ≡ Taken count sight → due a (reply ∷ log) ≡ going a (reply ∷ log) false sight
+due_taken a log reply count sight is = rw is refl
+
+pub due_not_taken : (a : Asked) (log : List Reply) (reply : Reply) (number : ℕ) (sight : Sight)
+    → reply ≡ NotTaken number sight → due a (reply ∷ log) ≡ going a (reply ∷ log) false sight
+due_not_taken a log reply number sight is = rw is refl

@@ -1,0 +1,4 @@
+pub mod Replies
+pub mod Due
+pub mod After
+pub mod Laws

@@ -1,0 +1,36 @@
+//! What a call is asked for.
+
+/// What goes on while a call is made, where more than one thing may.
+#[derive(Clone, Copy, Debug, PartialEq, Eq)]
+pub enum Policy {
+    /// The least request that can go on, until none can. Our own rule.
+    InOrder,
+
+    /// The same, but nothing goes on before the application waits or looks, and no more than it waits for. Our own rule.
+    Lazy,
+
+    /// Something is chosen each time. Where the call may end, that it ends is among the choices. Our own rule.
+    ByChoice,
+}
+
+/// The arguments of a call, and the ring that it is made on.
+#[derive(Clone, Copy, Debug, PartialEq, Eq)]
+pub struct Asked {
+    /// How many entries are to be submitted. io_uring_enter(2), to_submit.
+    pub to_submit: u32,
+
+    /// For how many completions it waits, if it gets events. io_uring_enter(2), min_complete.
+    pub min_complete: u32,
+
+    /// The entries of the completion ring. It can't show more at once, so a call waits for no more.
+    pub cq: u32,
+
+    /// Whether it gets events. io_uring_enter(2), IORING_ENTER_GETEVENTS.
+    pub gets: bool,
+
+    /// What goes on meanwhile.
+    pub policy: Policy,
+
+    /// Whether a call that nobody waits for may end before all has gone on. Where completions are told to an eventfd, it may not. Our own rule.
+    pub may_leave: bool,
+}
