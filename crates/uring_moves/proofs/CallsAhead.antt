@@ -1,5 +1,5 @@
 -- A call that is accepted before another move is made: the move can be made as well, and leads to the same, if no cancel names an entry of the call.
-use Rattle.std.proofs.Common.{◌≡◌, ℕ, zero, suc, ◌+◌, ◌-◌, ◌<◌, ◌≤◌, ℤ, Bool, true, false, not, ◌&&◌, ◌||◌, ◌==◌, nat_lt, List, [], ◌∷◌, ◌++◌, length, get_or, Option, Some, None, if◌then◌else◌, refl, sym, subst, ap, ap₂, ◌∙◌, ◌⊎◌, inl, inr, arith, append-nil}
+use Rattle.std.proofs.Common.{◌≡◌, ℕ, zero, suc, ◌-◌, ◌<◌, ◌≤◌, ℤ, Bool, true, false, not, ◌&&◌, ◌||◌, ◌==◌, nat_lt, List, [], ◌∷◌, ◌++◌, length, Option, Some, None, if◌then◌else◌, refl, sym, ap, ap₂, ◌∙◌, ◌⊎◌, inl, inr, arith, append-nil}
 use Rattle.std.specs.Prelude.{neg_ℤ}
 use Rattle.std.specs.List.{list_any}
 use Rattle.std.specs.Option.{option_to_list}
@@ -16,7 +16,6 @@ use Rattle.uring_files.specs.Operations.{after, result_of}
 use Rattle.uring_core.proofs.Groups.{longer, entry_kept, doom_kept}
 use Rattle.uring_moves.specs.Moments.{Moment, started, ended_at_once, issued, finished, is_finishable, moved, posted_with}
 use Rattle.uring_moves.specs.Direct.{AreUnnamed}
-use Rattle.uring_moves.specs.declared.move_of_calls.Move.{Move}
 use Rattle.uring_moves.specs.declared.move_of_calls.Move.TheVariants as move
 use Rattle.uring_moves.proofs.MovesLead.{can_then, if_so, if_not}
 use Rattle.uring_moves.proofs.Prompting.{waits_called, candidate_names, can_of}

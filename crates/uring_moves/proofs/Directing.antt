@@ -1,17 +1,15 @@
 -- The law `direct_moves_lead`: prompt moves are followed by direct ones, which run ahead of them by calls that no cancel tells of.
-use Rattle.std.proofs.Common.{◌≡◌, ℕ, zero, suc, ◌<◌, Bool, true, false, not, ◌&&◌, List, [], ◌∷◌, length, Option, Some, None, if◌then◌else◌, refl, sym, subst, ap, ◌∙◌, ◌⊎◌, inl, inr, arith}
-use Rattle.std.specs.Prelude.{All, unwrap_or}
+use Rattle.std.proofs.Common.{◌≡◌, ℕ, zero, suc, ◌<◌, Bool, true, false, not, List, [], ◌∷◌, length, Option, Some, None, if◌then◌else◌, refl, sym, subst, ap, ◌∙◌, ◌⊎◌, inl, inr}
 use Rattle.std.specs.Option.{option_and_then}
 use Rattle.std.proofs.lemmas.Bool.{and_parts, both_ways, cases_Bool}
 use Rattle.std.proofs.lemmas.List.Elements.{All-nil, All-cons, All-head, All-tail}
-use Rattle.uring_entry.specs.Setup.{Setup}
 use Rattle.uring_entry.specs.Layout.{Sqe, user_data_of}
 use Rattle.uring_entry.specs.Preparation.{is_cancel}
-use Rattle.uring_entry.specs.Requests.{entry_of, has_started, has_ended, is_running, is_doomed, is_issuable, doomed_result, cancel_result}
+use Rattle.uring_entry.specs.Requests.{entry_of, has_started, has_ended, is_doomed, is_issuable, doomed_result, cancel_result}
 use Rattle.uring_core.proofs.Groups.{entry_kept}
 use Rattle.uring_moves.specs.Moments.{Moment, starting, started, ended_at_once, issued, finished, is_finishable, accepted, moved, after_moves}
 use Rattle.uring_moves.specs.Outcomes.{IsOver}
-use Rattle.uring_moves.specs.Prompt.{is_named, IsPrompt, ArePrompt}
+use Rattle.uring_moves.specs.Prompt.{IsPrompt, ArePrompt}
 use Rattle.uring_moves.specs.Direct.{AreUnnamed, IsNextUnnamed, IsDirect, AreDirect, DirectMovesLead}
 use Rattle.uring_moves.specs.declared.move_of_calls.Move.{Move}
 use Rattle.uring_moves.specs.declared.move_of_calls.Move.TheVariants as move
