@@ -10,6 +10,8 @@ pub mod MovesLead
 -- What is so of each moment:
 pub mod SoundMoments
 pub mod Prompting
+pub mod CallsAhead
+pub mod Directing
 -- The laws:
 pub mod OutcomeLaws
 -- The definitions, computed on small cases:

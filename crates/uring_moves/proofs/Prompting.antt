@@ -52,7 +52,7 @@ candidate_as_if : (r : Requests) (s : List ℕ) (n k : ℕ)
 candidate_as_if r s n k =
     ap (λ b. is_outstanding r k && not (k == n) && (user_data_of (entry_of r k) == addr_of (entry_of r n)) && not b) (doomed_as_if r s k)
 
-candidate_names : (r : Requests) (n k : ℕ) → is_candidate r n k ≡ true
+pub candidate_names : (r : Requests) (n k : ℕ) → is_candidate r n k ≡ true
     → user_data_of (entry_of r k) ≡ addr_of (entry_of r n)
 candidate_names r n k can =
     let p = and_parts (is_outstanding r k && not (k == n) && (user_data_of (entry_of r k) == addr_of (entry_of r n))) (not (is_doomed r k)) can in
@@ -143,7 +143,7 @@ ready_ended r q n more same ready =
             free_before true was free_then = absurd (both_ways (has_ended q k) is (more k was))
             free_before false was free_then = free_then
 
-waits_called : (r : Requests) (entries : List Sqe) (n k : ℕ)
+pub waits_called : (r : Requests) (entries : List Sqe) (n k : ℕ)
     → (length r.accepted ≡ 0) ⊎ (list_any (λ c. c == length r.accepted) r.cuts ≡ true)
     → n < length r.accepted → k < n → waits_for (with_call r entries) n k ≡ waits_for r n k
 waits_called r entries n k cut within low =
@@ -161,11 +161,11 @@ ready_started r n k = refl
 
 -- What is so of the moments that are followed.
 
-record IsCalm (named : ℕ → Bool) (m : Moment) : Type 0 where
-  sound : IsSoundMoment m.requests
-  ready : (n : ℕ) → is_running m.requests n ≡ true → is_ready m.requests n ≡ true
-  are_named : (n : ℕ) → is_cancel (entry_of m.requests n) ≡ true → named (addr_of (entry_of m.requests n)) ≡ true
-  will_be : AreNamed named m.left
+pub record IsCalm (named : ℕ → Bool) (m : Moment) : Type 0 where
+  pub sound : IsSoundMoment m.requests
+  pub ready : (n : ℕ) → is_running m.requests n ≡ true → is_ready m.requests n ≡ true
+  pub are_named : (n : ℕ) → is_cancel (entry_of m.requests n) ≡ true → named (addr_of (entry_of m.requests n)) ≡ true
+  pub will_be : AreNamed named m.left
 
 abbrev IsAmong : List ℕ → ℕ → Type 0
 IsAmong starts n = list_any (λ k. k == n) starts ≡ true
@@ -532,31 +532,50 @@ finish_calm named m next n calm can is =
       will_be = calm.will_be;
     })
 
-record IsFollowedCalmly (named : ℕ → Bool) (g : Setup) (calls : List (List Sqe)) (m : Moment) : Type 0 where
-  calm : IsCalm named m
-  followed : IsFollowed named g calls m
-
-can_of : (can : Bool) (m next : Moment) → (if can then Some m else None) ≡ Some next
+pub can_of : (can : Bool) (m next : Moment) → (if can then Some m else None) ≡ Some next
     → (can ≡ true) × (m ≡ next)
 can_of true m next e = (refl, ap (λ o. unwrap_or o next) e)
 can_of false m next e = absurd cc
 
+pub one_calm : (named : ℕ → Bool) (m next : Moment) (x : Move) → IsCalm named m → moved m x ≡ Some next
+    → IsCalm named next
+one_calm named m next move.Accept calm e = accept_calm named m next calm e
+one_calm named m next (move.Issue n) calm e =
+    let p = can_of (is_issuable m.requests n) (issued m n) next e in
+    issue_calm named m next n calm p.0 p.1
+one_calm named m next (move.Finish n) calm e =
+    let p = can_of (is_finishable m.requests n) (finished m n) next e in
+    finish_calm named m next n calm p.0 p.1
+
+pub first_calm : (named : ℕ → Bool) (g : Setup) (calls : List (List Sqe)) → AreNamed named calls
+    → IsCalm named (starting g calls)
+first_calm named g calls names = record {
+  sound = first_moment;
+  ready = λ n running. absurd cc;
+  are_named = λ n no. absurd cc;
+  will_be = names;
+}
+
+record IsFollowedCalmly (named : ℕ → Bool) (g : Setup) (calls : List (List Sqe)) (m : Moment) : Type 0 where
+  calm : IsCalm named m
+  followed : IsFollowed named g calls m
+
 one_followed : (named : ℕ → Bool) (g : Setup) (calls : List (List Sqe)) (m next : Moment) (x : Move)
     → IsFollowedCalmly named g calls m → moved m x ≡ Some next → IsFollowedCalmly named g calls next
 one_followed named g calls m next move.Accept f e = record {
-  calm = accept_calm named m next f.calm e;
+  calm = one_calm named m next move.Accept f.calm e;
   followed = accept_followed named g calls m next f.followed (subst (IsCalm named) f.followed.is f.calm) (subst (λ y. moved y move.Accept ≡ Some next) f.followed.is e);
 }
 one_followed named g calls m next (move.Issue n) f e =
     let p = can_of (is_issuable m.requests n) (issued m n) next e in
     record {
-      calm = issue_calm named m next n f.calm p.0 p.1;
+      calm = one_calm named m next (move.Issue n) f.calm e;
       followed = issue_followed named g calls m next n f.followed (subst (IsCalm named) f.followed.is f.calm) (subst (λ (y : Moment). is_issuable y.requests n ≡ true) f.followed.is p.0) (subst (λ y. issued y n ≡ next) f.followed.is p.1);
     }
 one_followed named g calls m next (move.Finish n) f e =
     let p = can_of (is_finishable m.requests n) (finished m n) next e in
     record {
-      calm = finish_calm named m next n f.calm p.0 p.1;
+      calm = one_calm named m next (move.Finish n) f.calm e;
       followed = finish_followed named g calls m next n f.followed (subst (IsCalm named) f.followed.is f.calm) (subst (λ (y : Moment). is_finishable y.requests n ≡ true) f.followed.is p.0) (subst (λ y. finished y n ≡ next) f.followed.is p.1);
     }
 
@@ -573,7 +592,7 @@ all_followed named g calls (first ∷ later) m last f e =
 pub prompt_moves_lead : PromptMovesLead
 prompt_moves_lead g calls named posted files names to =
     let begun : IsFollowedCalmly named g calls (starting g calls) = record {
-      calm = record { sound = first_moment; ready = λ n running. absurd cc; are_named = λ n no. absurd cc; will_be = names };
+      calm = first_calm named g calls names;
       followed = record { moves = []; there = starting g calls; leads = refl; prompt = tt; idle = λ n quiet. refl; starts = []; is = refl; fewer = λ n no. no; named_too = λ n names no. no };
     } in
     let f = (all_followed named g calls to.moves (starting g calls) to.last begun to.leads).followed in

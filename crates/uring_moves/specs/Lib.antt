@@ -2,3 +2,4 @@ pub mod Moments
 pub mod Outcomes
 pub mod Laws
 pub mod Prompt
+pub mod Direct

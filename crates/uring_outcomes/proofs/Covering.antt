@@ -10,9 +10,10 @@ use Rattle.uring_entry.specs.Setup.{Setup}
 use Rattle.uring_entry.specs.Layout.{Sqe}
 use Rattle.uring_moves.specs.Moments.{Moment, starting, moved, after_moves}
 use Rattle.uring_moves.specs.Outcomes.{IsOver}
-use Rattle.uring_moves.specs.Prompt.{IsPrompt, ArePrompt, AreNamed}
+use Rattle.uring_moves.specs.Prompt.{AreNamed}
+use Rattle.uring_moves.specs.Direct.{IsDirect, AreDirect}
 use Rattle.uring_moves.specs.declared.move_of_calls.Move.{Move}
-use Rattle.uring_moves.proofs.Prompting.{prompt_moves_lead}
+use Rattle.uring_moves.proofs.Directing.{direct_moves_lead}
 use Rattle.uring_outcomes.specs.Outcomes.{Ending, CanEnd, AreEndings, AreAllEndings, AreOnce}
 use Rattle.uring_outcomes.specs.Runs.{among}
 use Rattle.uring_outcomes.specs.Walks.{ending_of, BeginsIn, IsCovered, HasNoted, AddsOnce, IsWalk, TakesPath, HasLonger}
@@ -50,16 +51,16 @@ same_some : (m n : Moment) → Some m ≡ Some n → m ≡ n
 same_some m n e = cc
 
 -- the move behind a path is names where it is made
-prompt_behind : (names : List ℕ) (path : List Move) (x : Move) (later : List Move) (start m : Moment)
-    → after_moves start path ≡ Some m → ArePrompt (among names) start (path ++ x ∷ later)
-    → IsPrompt (among names) m x
-prompt_behind names [] x later start m leads prompt =
-    subst (λ y. IsPrompt (among names) y x) (same_some start m leads) prompt.0
-prompt_behind names (first ∷ path) x later start m leads prompt =
-    by_first (moved start first) refl leads (λ next. prompt_behind names path x later next m) where
-      by_first : (next : Option Moment) → moved start first ≡ next → option_and_then (λ n. after_moves n path) next ≡ Some m → ((n : Moment) → after_moves n path ≡ Some m → ArePrompt (among names) n (path ++ x ∷ later) → IsPrompt (among names) m x) → IsPrompt (among names) m x
+direct_behind : (names : List ℕ) (path : List Move) (x : Move) (later : List Move) (start m : Moment)
+    → after_moves start path ≡ Some m → AreDirect (among names) start (path ++ x ∷ later)
+    → IsDirect (among names) m x
+direct_behind names [] x later start m leads direct =
+    subst (λ y. IsDirect (among names) y x) (same_some start m leads) direct.0
+direct_behind names (first ∷ path) x later start m leads direct =
+    by_first (moved start first) refl leads (λ next. direct_behind names path x later next m) where
+      by_first : (next : Option Moment) → moved start first ≡ next → option_and_then (λ n. after_moves n path) next ≡ Some m → ((n : Moment) → after_moves n path ≡ Some m → AreDirect (among names) n (path ++ x ∷ later) → IsDirect (among names) m x) → IsDirect (among names) m x
       by_first None is e go_on = absurd cc
-      by_first (Some next) is e go_on = go_on next e (prompt.1 next is)
+      by_first (Some next) is e go_on = go_on next e (direct.1 next is)
 
 -- A path is taken.
 
@@ -68,7 +69,7 @@ goes_on : (g : Setup) (calls : List (List Sqe)) (names : List ℕ) (path : List 
     → after_moves (starting g calls) path ≡ Some m
     → HasLonger names m path todo after
     → (IsOver m → Contains found (ending_of m))
-    → ArePrompt (among names) (starting g calls) (path ++ rest)
+    → AreDirect (among names) (starting g calls) (path ++ rest)
     → after_moves (starting g calls) (path ++ rest) ≡ Some last → IsOver last
     → Contains found (ending_of last) ⊎ BeginsIn after (path ++ rest)
 goes_on g calls names path m last todo after found [] leads longer noted wanted ends over =
@@ -82,7 +83,7 @@ goes_on g calls names path m last todo after found (x ∷ later) leads longer no
       by_next : (next : Option Moment) → moved m x ≡ next → option_and_then (λ n. after_moves n later) next ≡ Some last → Contains found (ending_of last) ⊎ BeginsIn after (path ++ x ∷ later)
       by_next None is e = absurd cc
       by_next (Some next) is e =
-          let among : Contains longer.moves x = longer.next x next is (prompt_behind names path x later (starting g calls) m leads wanted) in
+          let among : Contains longer.moves x = longer.next x next is (direct_behind names path x later (starting g calls) m leads wanted) in
           let added : Contains (map (λ y. path ++ y ∷ []) longer.moves) (path ++ x ∷ []) = contains_map (λ y. path ++ y ∷ []) longer.moves x among in
           inr (record {
             path = path ++ x ∷ [];
@@ -113,7 +114,7 @@ covered_on g calls names path m todo after found noted leads longer n covered mo
         | inr this ↦
             let is : moves ≡ path ++ b.rest = b.is ∙ ap (λ p. p ++ b.rest) (sym this) in
             subst (λ xs. Contains noted (ending_of last) ⊎ BeginsIn after xs) (sym is)
-            (goes_on g calls names path m last todo after noted b.rest leads longer n.noted (subst (ArePrompt (among names) (starting g calls)) is wanted) (sym (ap (after_moves (starting g calls)) is) ∙ ends) over)
+            (goes_on g calls names path m last todo after noted b.rest leads longer n.noted (subst (AreDirect (among names) (starting g calls)) is wanted) (sym (ap (after_moves (starting g calls)) is) ∙ ends) over)
       ]
     ]
 
@@ -178,11 +179,11 @@ at_first g calls names = record {
 
 -- what names moves lead to is among those found
 found_by : (g : Setup) (calls : List (List Sqe)) (names : List ℕ) (found : List Ending) (e : Ending) (to : CanEnd g calls e)
-    → IsCovered g calls names [] found → ArePrompt (among names) (starting g calls) to.moves
+    → IsCovered g calls names [] found → AreDirect (among names) (starting g calls) to.moves
     → Contains found e
-found_by g calls names found e to covered prompted =
+found_by g calls names found e to covered directed =
     let same : ending_of to.last ≡ e = ap₂ (λ posted files. record { posted = posted; files = files }) to.posts to.leaves in
-    elim (covered to.moves to.last prompted to.leads to.over) [
+    elim (covered to.moves to.last directed to.leads to.over) [
       | inl there ↦ subst (Contains found) same there
       | inr b ↦ absurd (none_there b.path b.there)
     ]
@@ -193,7 +194,7 @@ pub all_found : (g : Setup) (calls : List (List Sqe)) (names : List ℕ) (found 
 all_found g calls names found named walk e = (walk.right e, λ to. there to) where
   there : CanEnd g calls e → Contains found e
   there to =
-      let q = prompt_moves_lead g calls (among names) e.posted e.files named to in
+      let q = direct_moves_lead g calls (among names) e.posted e.files named to in
       found_by g calls names found e q.0 walk.covered q.1
 
 -- An ending is noted.

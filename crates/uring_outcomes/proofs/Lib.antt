@@ -5,6 +5,7 @@ pub mod Moving
 pub mod RunSteps
 -- Moves made one after the other, and what can be made next:
 pub mod Replaying
+pub mod NextCalls
 -- Paths, and what was found:
 pub mod Covering
 pub mod Walking

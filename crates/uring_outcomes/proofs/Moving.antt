@@ -126,17 +126,22 @@ told_if_outstanding r n is none = entry_there (is_outstanding r n) (entry_of r n
 
 -- The next call.
 
-pub accept_moves : (calls : List (Vec Sqe Global)) (m : Moment) (k : ℕ) (call : Vec Sqe Global)
+-- the calls that are left, if there is one at this place
+pub next_left : (calls : List (Vec Sqe Global)) (m : Moment) (k : ℕ) (call : Vec Sqe Global)
     → m.left ≡ drop k (entries_of calls) → k < length calls → call ≡ get_or calls k call
-    → moved m move.Accept
-    ≡ Some (record m { requests = with_call m.requests call.items; left = drop (k + 1) (entries_of calls) })
-accept_moves calls m k call left low is =
+    → m.left ≡ call.items ∷ drop (k + 1) (entries_of calls)
+next_left calls m k call left low is =
     let all : List (List Sqe) = entries_of calls in
     let within : k < length all = omega (arith, length-map calls (λ (v : Vec Sqe Global). v.items)) in
     let there : get_or all k call.items ≡ call.items = get_or-map (λ (v : Vec Sqe Global). v.items) calls k call ∙ ap (λ (v : Vec Sqe Global). v.items) (sym is) in
     let next : suc k ≡ k + 1 = omega arith in
-    let split : m.left ≡ call.items ∷ drop (k + 1) all = left ∙ drop-cons all k call.items within ∙ ap (λ e. e ∷ drop (suc k) all) there ∙ ap (λ j. call.items ∷ drop j all) next in
-    ap (accepted m) split
+    left ∙ drop-cons all k call.items within ∙ ap (λ e. e ∷ drop (suc k) all) there ∙ ap (λ j. call.items ∷ drop j all) next
+
+pub accept_moves : (calls : List (Vec Sqe Global)) (m : Moment) (k : ℕ) (call : Vec Sqe Global)
+    → m.left ≡ drop k (entries_of calls) → k < length calls → call ≡ get_or calls k call
+    → moved m move.Accept
+    ≡ Some (record m { requests = with_call m.requests call.items; left = drop (k + 1) (entries_of calls) })
+accept_moves calls m k call left low is = ap (accepted m) (next_left calls m k call left low is)
 
 -- none is left behind the last
 pub none_left : (calls : List (Vec Sqe Global)) (m : Moment) (k : ℕ) → m.left ≡ drop k (entries_of calls)

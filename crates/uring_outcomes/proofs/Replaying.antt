@@ -11,7 +11,8 @@ use Rattle.uring_moves.specs.Moments.{Moment, is_finishable, moved, after_moves}
 use Rattle.uring_moves.specs.declared.move_of_calls.Move.{Move}
 use Rattle.uring_moves.specs.declared.move_of_calls.Move.TheVariants as move
 use Rattle.uring_moves.proofs.MovesLead.{one_move_more}
-use Rattle.uring_outcomes.specs.Runs.{StandsAt, Stands, MadeAs, LedTo, HasNext, IsQuiet, HasBelow}
+use Rattle.uring_moves.specs.Direct.{IsNextUnnamed}
+use Rattle.uring_outcomes.specs.Runs.{among, StandsAt, Stands, MadeAs, LedTo, HasNext, IsQuiet, HasBelow}
 use Rattle.uring_outcomes.specs.declared.run.Run.{Run}
 use Rattle.uring_outcomes.proofs.Covering.{moves_behind}
 use Rattle.uring_outcomes.proofs.Moving.{made_so, not_made, issue_can, finish_can, issuable_accepted, finishable_tells}
@@ -136,14 +137,18 @@ has_all m count xs all accepts below (move.Finish n) next is =
     let low : n < length m.requests.accepted = (finishable_tells m.requests n can).0 in
     below.finishes n (omega arith) can
 
--- every move that can be made is among these, and so each prompt one
+-- every move that can be made is among these, and so each direct one
 pub next_any : (names : List ℕ) (m : Moment) (xs : List Move)
     → ((x : Move) (next : Moment) → moved m x ≡ Some next → Contains xs x) → HasNext names m xs
 next_any names m xs all x next is wanted = all x next is
 
--- while a request runs that isn't named, only its finish is prompt
-pub next_finish : (names : List ℕ) (m : Moment) (n : ℕ) (xs : List Move) → IsQuiet names m n
-    → xs ≡ move.Finish n ∷ [] → HasNext names m xs
-next_finish names m n xs quiet is x next made wanted =
-    let finishes : x ≡ move.Finish n = wanted n quiet.runs quiet.unnamed in
-    subst (λ ys. Contains ys x) (sym is) (0, omega arith, sym finishes)
+-- if the next call is unnamed, only its acceptance is direct
+pub next_accept : (names : List ℕ) (m : Moment) → IsNextUnnamed (among names) m
+    → HasNext names m (move.Accept ∷ [])
+next_accept names m unnamed x next made wanted = (0, omega arith, sym (wanted.accepts unnamed))
+
+-- and else, while a request runs that isn't named, only its finish is
+pub next_finish : (names : List ℕ) (m : Moment) (n : ℕ) → IsQuiet names m n
+    → (IsNextUnnamed (among names) m → ⊥) → HasNext names m (move.Finish n ∷ [])
+next_finish names m n quiet named x next made wanted =
+    (0, omega arith, sym (wanted.prompt named n quiet.runs quiet.unnamed))

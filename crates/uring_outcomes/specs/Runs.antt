@@ -8,7 +8,8 @@ use Rattle.uring_entry.specs.Layout.{Sqe}
 use Rattle.uring_entry.specs.Requests.{is_issuable, is_running}
 use Rattle.uring_dispatch.specs.Dispatch.{ShowsRequests}
 use Rattle.uring_moves.specs.Moments.{Moment, starting, is_finishable, moved, after_moves}
-use Rattle.uring_moves.specs.Prompt.{IsPrompt, is_named}
+use Rattle.uring_moves.specs.Prompt.{is_named}
+use Rattle.uring_moves.specs.Direct.{IsDirect}
 use Rattle.uring_moves.specs.declared.move_of_calls.Move.{Move}
 use Rattle.uring_moves.specs.declared.move_of_calls.Move.TheVariants as move
 use Rattle.uring_outcomes.specs.declared.run.Run.{Run}
@@ -53,10 +54,10 @@ pub record LedTo (calls : List (List Sqe)) (from : Moment) (moves : List Move) (
 abbrev pub among : List ℕ → ℕ → Bool
 among names u = list_any (λ name. nat_eq name u) names
 
--- each prompt move that can be made next is among these, if cancels name these user data
+-- each direct move that can be made next is among these, if cancels name these user data
 abbrev pub HasNext : List ℕ → Moment → List Move → Type 0
 HasNext names m xs = (x : Move) (next : Moment) → moved m x ≡ Some next
-    → IsPrompt (among names) m x → Contains xs x
+    → IsDirect (among names) m x → Contains xs x
 
 -- a request that runs, and has none of these user data
 pub record IsQuiet (names : List ℕ) (m : Moment) (n : ℕ) : Type 0 where

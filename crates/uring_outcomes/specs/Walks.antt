@@ -7,7 +7,7 @@ use Rattle.uring_entry.specs.Setup.{Setup}
 use Rattle.uring_entry.specs.Layout.{Sqe}
 use Rattle.uring_moves.specs.Moments.{Moment, starting, after_moves}
 use Rattle.uring_moves.specs.Outcomes.{IsOver}
-use Rattle.uring_moves.specs.Prompt.{ArePrompt}
+use Rattle.uring_moves.specs.Direct.{AreDirect}
 use Rattle.uring_moves.specs.declared.move_of_calls.Move.{Move}
 use Rattle.uring_outcomes.specs.Outcomes.{Ending, AreEndings, AreOnce}
 use Rattle.uring_outcomes.specs.Runs.{among, HasNext, LedTo}
@@ -29,10 +29,10 @@ pub record BeginsIn (todo : List (List Move)) (moves : List Move) : Type 0 where
   pub there : Contains todo path
   pub is : moves ≡ path ++ rest
 
--- Each list of moves that leads to an end has its ending among those found, or begins with a path that is still to be taken. Only prompt ones are asked for, where cancels name these user data.
+-- Each list of moves that leads to an end has its ending among those found, or begins with a path that is still to be taken. Only direct ones are asked for, where cancels name these user data.
 abbrev pub IsCovered : Setup → List (List Sqe) → List ℕ → List (List Move) → List Ending → Type 0
 IsCovered g calls names todo found = (moves : List Move) (last : Moment)
-    → ArePrompt (among names) (starting g calls) moves
+    → AreDirect (among names) (starting g calls) moves
     → after_moves (starting g calls) moves ≡ Some last → IsOver last
     → Contains found (ending_of last) ⊎ BeginsIn todo moves
 

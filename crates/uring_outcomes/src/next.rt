@@ -1,12 +1,13 @@
 //! The moves that can be made next.
 
-ghost use Rattle.std.specs.Prelude.{◌≡◌, [], true, List, IfOk, OnOk, MatchOption, Contains, Some};
+ghost use Rattle.std.specs.Prelude.{◌≡◌, ◌↔◌, ◌∷◌, [], true, List, IfOk, IsTrue, OnOk, MatchOption, Contains, Some};
 ghost use Rattle.uring_entry.specs.Layout.{Sqe};
 ghost use Rattle.uring_entry.specs.Requests.{is_issuable, is_running};
 ghost use Rattle.uring_moves.specs.Moments.{Moment, moved, is_finishable};
+ghost use Rattle.uring_moves.specs.Direct.{AreUnnamed, IsNextUnnamed};
 ghost use Rattle.uring_moves.specs.declared.move_of_calls.Move.TheVariants as move;
 ghost use Rattle.uring_moves.specs.declared.move_of_calls.Move.{Move};
-ghost use Rattle.uring_outcomes.specs.Runs.{entries_of, Stands, StandsAt, HasNext, IsQuiet, HasBelow};
+ghost use Rattle.uring_outcomes.specs.Runs.{among, entries_of, Stands, StandsAt, HasNext, IsQuiet, HasBelow};
 
 use crate::fault::WalkFault;
 use crate::run::Run;
@@ -14,7 +15,7 @@ use std::alloc::Global;
 use uring_entry::Sqe;
 use uring_moves::Move;
 
-/// The prompt moves that can be made next, with others, if cancels name these user data: while a request runs that none names, its finish alone.
+/// The direct moves that can be made next, with others, if cancels name these user data: the acceptance of the next call alone, if none names an entry of it; and else, while a request runs that none names, its finish alone.
 pub(crate) fn next_moves(
     alloc: Global,
     run: &Run,
@@ -35,7 +36,7 @@ pub(crate) fn next_moves(
     }
 }
 
-/// Adds the prompt moves that can be made next to none.
+/// Adds the direct moves that can be made next to none.
 fn add_next(
     run: &Run,
     calls: &[Vec<Sqe>],
@@ -47,11 +48,50 @@ fn add_next(
     ensures { (m : Moment) → StandsAt (entries_of calls.now) run.now m
         → OnOk result (HasNext names.now m moves.new.items) }
 {
-    let Some(number) = first_quiet(run, names) else {
+    let Some(only) = only_move(run, calls, names) else {
         return add_all(run, calls, moves);
     };
-    moves.push(Move::Finish { number })?;
+    moves.push(only)?;
     Ok(())
+}
+
+/// The only direct move that can be made next, if what can be made needn't be looked for.
+fn only_move(run: &Run, calls: &[Vec<Sqe>], names: &[u64]) -> Option<Move>
+    requires { Stands (entries_of calls.now) run.now }
+    ensures { (m : Moment) → StandsAt (entries_of calls.now) run.now m
+        → MatchOption result (Unit {0}) (λ x. HasNext names.now m (x ∷ [])) }
+{
+    if is_next_unnamed(run, calls, names) {
+        return Some(Move::Accept);
+    }
+    match first_quiet(run, names) {
+        Some(number) => Some(Move::Finish { number }),
+        None => None,
+    }
+}
+
+/// Whether a call is left, and none of the next call's entries has one of these user data.
+fn is_next_unnamed(run: &Run, calls: &[Vec<Sqe>], names: &[u64]) -> bool
+    requires { Stands (entries_of calls.now) run.now }
+    ensures { (m : Moment) → StandsAt (entries_of calls.now) run.now m
+        → IsTrue result ↔ IsNextUnnamed (among names.now) m }
+{
+    match calls.get(run.next_call) {
+        Some(call) => are_unnamed(call.as_slice(), names),
+        None => false,
+    }
+}
+
+/// Whether none of these entries has one of these user data.
+fn are_unnamed(entries: &[Sqe], names: &[u64]) -> bool
+    ensures { IsTrue result ↔ AreUnnamed (among names.now) entries.now }
+{
+    for entry in entries {
+        if names.contains(&entry.user_data()) {
+            return false;
+        }
+    }
+    true
 }
 
 /// A request that runs and has none of these user data, if there is one.
