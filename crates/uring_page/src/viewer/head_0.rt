@@ -15,7 +15,7 @@ pub(crate) const PIECE: &str = r###"<!doctype html>
   --waits: #e69f00; --ready: #56b4e9; --doomed: #d55e00; --runs: #009e73; --ring: #0072b2; --overflow: #cc79a7; --wrong: #c00000;
 }
 @media (prefers-color-scheme: dark) {
-  :root { --back: #16181b; --ink: #ececec; --faint: #3a3d41; --soft: #a5a9ae; --here: #4b4320; --ring: #4da3e0; --wrong: #ff6b6b; }
+  :root { --back: #16181b; --ink: #ececec; --faint: #3a3d41; --soft: #a5a9ae; --here: #4b4320; --ring: #2a7fc0; --wrong: #ff6b6b; }
 }
 * { box-sizing: border-box; }
 body { margin: 0; padding: .6rem 1rem; background: var(--back); color: var(--ink); font: 14px/1.4 system-ui, sans-serif; display: flex; flex-direction: column; height: 100vh; gap: .35rem; }
