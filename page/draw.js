@@ -1,6 +1,8 @@
 // The lanes and the rings, drawn as they are seen: rows and lines out of sight have no elements.
 const ROW = 24, LABEL = 232, SVG = "http://www.w3.org/2000/svg";
 const STATES = [["waits", "waits"], ["ready", "may start"], ["doomed", "doomed"], ["runs", "runs"], ["ring", "completion in the ring"], ["overflow", "completion in the overflow list"], ["hidden", "on its way, unseen"]];
+// What becomes of a write: from the middle of its row on.
+const MARKS = { safe: "m-4 4l3 4l6 -9", lost: "m-5 -5l10 10m0 -10l-10 10", torn: "m-5 5l10 -10", left: "m-5 0h10" };
 // A shape for each state too, for eyes that don't tell the colours apart.
 const LETTERS = { waits: "W", ready: "M", doomed: "X", runs: "R", ring: "C", overflow: "O", hidden: "?" };
 
@@ -114,8 +116,9 @@ function drawEnd(view, lane, request, y, x) {
 
 function drawMark(view, lane, mark, y, x) {
   const at = x(mark.place) + view.step / 2;
-  const drawn = mark.is === "safe" ? put(lane, "path", { class: "safe", d: `M${at - 4} ${y + 16}l3 4l6 -9`, "data-is": "safe" }) : put(lane, "circle", { class: "reaped", cx: at, cy: y + 17, r: 3, "data-is": "reaped" });
-  put(drawn, "title", {}, `${mark.is}\n${tellLine(view.run.lines[mark.place])}`);
+  const path = MARKS[mark.is];
+  const drawn = path ? put(lane, "path", { class: mark.is, d: `M${at} ${y + 12}${path}`, "data-is": mark.is }) : put(lane, "circle", { class: "reaped", cx: at, cy: y + 17, r: 3, "data-is": "reaped" });
+  put(drawn, "title", {}, `${mark.is}${mark.why ? `: ${mark.why}` : ""}\n${tellLine(view.run.lines[mark.place])}`);
 }
 
 // A line with its answer and reason.
@@ -129,7 +132,7 @@ function tellSpan(run, request, span) {
 }
 
 function drawLabel(view, lanes, row, y) {
-  if (row.kind === "call") return put(lanes, "text", { class: "soft", x: 6, y: y + 16, "data-call": row.call }, `call ${row.call}`);
+  if (row.kind === "call") return put(lanes, "text", { class: "soft", x: 6, y: y + 16, "data-call": row.call }, (view.run.headings || [])[row.call] ?? `call ${row.call}`);
   if (row.kind === "folded") return put(lanes, "text", { class: "soft folded", x: 22, y: y + 16 }, `${row.count} that ended`);
   const { request } = row;
   const next = view.run.requests[request.request + 1];

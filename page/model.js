@@ -65,7 +65,10 @@ function readRun(run) {
         request.done = place;
         return;
       case "safe":
-        request.marks.push({ is: "safe", place });
+      case "lost":
+      case "torn":
+      case "left":
+        request.marks.push({ is: change.is, place, why: change.why });
         return;
       default:
         if (change.is === "runs") now.running += 1;

@@ -151,10 +151,15 @@ function tell() {
   clean(get("now"), node("h2", `Line ${line.line}`), ...toldOf(line));
   const counts = COUNTS.map(name => [name, run.counts[name][here]]);
   counts.splice(1, 0, ["outstanding", run.counts.accepted[here] - run.counts.ended[here]]);
-  pairs("counts", [...counts, ["submission ring", ends("sq")], ["completion ring", ends("cq")]]);
+  pairs("counts", hasRings(run) ? [...counts, ["submission ring", ends("sq")], ["completion ring", ends("cq")]] : [["begun", run.counts.accepted[here]], ["ended", run.counts.ended[here]]]);
   pairs("files", filesAt(run, here).map(file => [`file ${file.file}`, `${file.length} bytes, ${file.writes} writes, ${file.synced} of them synced${safeOf(file.file)}`]));
   standing();
   lines();
+}
+
+// A crash is told of files alone.
+function hasRings(run) {
+  return run.setup.sq > 0;
 }
 
 function ends(ring) {
@@ -204,6 +209,9 @@ function tellChange(change) {
     case "overflow": return `${name}: its completion waits in the overflow list`;
     case "reaped": return `${name}: its completion is reaped`;
     case "safe": return `${name}: what it wrote is safe`;
+    case "lost":
+    case "torn": return `${name} is ${change.is}: ${change.why}`;
+    case "left": return `${name} is left, though it needn't be: ${change.why}`;
     default: return `${name}: ${change.why}`;
   }
 }
@@ -302,7 +310,8 @@ addEventListener("beforeprint", () => { for (const pane of panes) pane.isPrinted
 addEventListener("afterprint", () => { for (const pane of panes) pane.isPrinted = false; draw(); });
 
 function legend() {
-  const isSeen = name => name !== "hidden" || panes.some(pane => pane.run.requests.some(request => request.spans.some(span => span.is === name)));
+  const areRings = panes.every(pane => hasRings(pane.run));
+  const isSeen = name => (areRings && name !== "hidden") || panes.some(pane => pane.run.requests.some(request => request.spans.some(span => span.is === name)));
   const items = STATES.filter(([name]) => isSeen(name)).map(([name, words]) => {
     const item = node("li"), picture = make("svg", { width: 26, height: 12, "aria-hidden": "true" });
     put(picture, "rect", { class: name, width: 26, height: 12 });
@@ -310,7 +319,9 @@ function legend() {
     item.append(picture, words);
     return item;
   });
-  const others = ["end, with its result", "○ reaped", "✓ what was written is safe", "arrows: solid orange a member of its group, long dashes a drain, short dashes a cancel, solid red what dooms, grey a link"];
+  const others = ["end, with its result", "✓ what was written is safe"];
+  if (areRings) others.push("○ reaped", "arrows: solid orange a member of its group, long dashes a drain, short dashes a cancel, solid red what dooms, grey a link");
+  if (panes.some(pane => pane.run.requests.some(request => request.marks.some(mark => mark.is in LEFT)))) others.push("✕ lost, ╱ torn, — left, though it needn't be");
   if (panes.some(pane => pane.run.choices.length)) others.push("▼ a choice: pale where it is the one in order");
   if (panes.some(pane => pane.run.parts >= 0)) others.push("a dashed line from top to bottom: where the runs part");
   clean(get("legend"), ...items, ...others.map(words => node("li", words)));
@@ -322,6 +333,9 @@ function told(run) {
   const files = run.setup.files === undefined ? "" : `, ${run.setup.files} files`;
   return { counts: `${run.size} lines, ${run.requests.length} requests`, rings: `submission ring ${run.setup.sq}, completion ring ${run.setup.cq}${files}${verdict}`, verdict };
 }
+
+// What a crash makes of what isn't safe.
+const LEFT = { lost: 1, torn: 1, left: 1 };
 
 // What keys do in every page.
 const KEYS_TOLD = get("keys").textContent;
@@ -339,6 +353,8 @@ function openGroup(group) {
   const more = [[panes.length > 1, "O the other run"], [runs.some(run => run.parts >= 0), "D where they part"], [runs.some(run => run.choices.length), "C the next choice"], [runs.some(run => run.wrong >= 0), "W the wrong line"]];
   get("keys").textContent = [KEYS_TOLD, ...more.filter(([isThere]) => isThere).map(([, words]) => words)].join(", ");
   const { counts, rings, verdict } = told(runs[0]);
+  get("rings").style.display = hasRings(runs[0]) ? "" : "none";
+  get("counted").textContent = hasRings(runs[0]) ? "Rings" : "Operations";
   get("summary").textContent = data.told || `${counts}; ${rings}`;
   get("title").textContent = data.title || "A run";
   document.title = `uring: ${data.title || `${counts}${verdict}`}`;

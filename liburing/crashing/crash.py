@@ -11,6 +11,7 @@ import time
 
 from crashing.images import all_images, image_of, losses, pieces, unsettled
 from crashing.labels import Chosen
+from crashing.pictures import NAMES, draw
 from crashing.rooms import Room
 from crashing.runs import PRELOADED, Run
 from crashing.volumes import LIBRARY
@@ -342,6 +343,8 @@ def show(options, run, moment, chosen):
     print(f"\nstatus {status}", flush=True)
     sys.stdout.buffer.write(said)
     sys.stdout.flush()
+    if options.page or options.json:
+        draw(options, run, moment, image, whole, status, said)
     return 1 if status != 0 else 0
 
 
@@ -358,7 +361,6 @@ def repeated(options, moment, chosen):
 
 
 LAST = 12
-NAMES = {1: "write", 2: "copy", 3: "fsync", 4: "sync", 5: "length", 6: "fallocate", 7: "creation", 8: "folder", 9: "symbolic link", 10: "link", 11: "rename", 12: "removal", 16: "write by shared memory"}
 
 
 def told_operations(disk, run, moment):

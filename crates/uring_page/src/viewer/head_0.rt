@@ -15,7 +15,7 @@ pub(crate) const PIECE: &str = r###"<!doctype html>
   --waits: #e69f00; --ready: #56b4e9; --doomed: #d55e00; --runs: #009e73; --ring: #0072b2; --overflow: #cc79a7; --wrong: #c00000;
 }
 @media (prefers-color-scheme: dark) {
-  :root { --back: #16181b; --ink: #ececec; --faint: #3a3d41; --soft: #a5a9ae; --here: #4b4320; --ring: #4da3e0; --wrong: #ff6b6b; }
+  :root { --back: #16181b; --ink: #ececec; --faint: #3a3d41; --soft: #a5a9ae; --here: #4b4320; --ring: #2a7fc0; --wrong: #ff6b6b; }
 }
 * { box-sizing: border-box; }
 body { margin: 0; padding: .6rem 1rem; background: var(--back); color: var(--ink); font: 14px/1.4 system-ui, sans-serif; display: flex; flex-direction: column; height: 100vh; gap: .35rem; }
@@ -52,7 +52,7 @@ svg text { fill: var(--ink); font: 11px system-ui, sans-serif; } svg text.soft {
 .state { stroke: var(--back); stroke-width: .5; }
 .waits { fill: var(--waits); } .ready { fill: var(--ready); } .doomed { fill: var(--doomed); } .runs { fill: var(--runs); } .ring { fill: var(--ring); } .overflow { fill: var(--overflow); }
 .hidden { fill: var(--faint); stroke: var(--soft); stroke-dasharray: 3 3; } .choice { fill: var(--overflow); } .plain { fill: var(--faint); } .parts { stroke: var(--overflow); stroke-width: 1.5; stroke-dasharray: 6 3; }
-.reaped { fill: var(--soft); } .safe { fill: none; stroke: var(--ink); stroke-width: 1.8; } .end { stroke: var(--ink); stroke-width: 2; }
+.reaped { fill: var(--soft); } .safe, .left { fill: none; stroke: var(--ink); stroke-width: 1.8; } .lost, .torn { fill: none; stroke: var(--wrong); stroke-width: 2.4; } .end { stroke: var(--ink); stroke-width: 2; }
 .call { fill: var(--faint); opacity: .45; } .chain { fill: none; stroke: var(--soft); stroke-width: 2; }
 .grid { stroke: var(--faint); stroke-width: .5; } .chosen { fill: none; stroke: var(--ink); stroke-width: 1.2; }
 .here-line { fill: var(--here); opacity: .8; } .wrong-line { fill: var(--wrong); opacity: .35; } .bad-line { fill: var(--wrong); opacity: .2; }
@@ -90,7 +90,7 @@ svg text { fill: var(--ink); font: 11px system-ui, sans-serif; } svg text.soft {
 <svg id="rings" role="img" aria-label="Heads and tails of both rings, line by line"></svg>
 <section id="told">
 <div id="now" aria-live="polite"></div>
-<div><h2>Rings</h2><dl id="counts"></dl><h2>Files</h2><dl id="files"></dl></div>
+<div><h2 id="counted">Rings</h2><dl id="counts"></dl><h2>Files</h2><dl id="files"></dl></div>
 <div><h2>Requests on their way</h2><ul id="standing"></ul></div>
 <div><h2>Lines</h2><ol id="lines"></ol></div>
 </section>

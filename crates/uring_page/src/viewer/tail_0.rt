@@ -69,7 +69,10 @@ function readRun(run) {
         request.done = place;
         return;
       case "safe":
-        request.marks.push({ is: "safe", place });
+      case "lost":
+      case "torn":
+      case "left":
+        request.marks.push({ is: change.is, place, why: change.why });
         return;
       default:
         if (change.is === "runs") now.running += 1;
@@ -173,6 +176,7 @@ function stateAt(request, here) {
 }
 const ROW = 24, LABEL = 232, SVG = "http://www.w3.org/2000/svg";
 const STATES = [["waits", "waits"], ["ready", "may start"], ["doomed", "doomed"], ["runs", "runs"], ["ring", "completion in the ring"], ["overflow", "completion in the overflow list"], ["hidden", "on its way, unseen"]];
+const MARKS = { safe: "m-4 4l3 4l6 -9", lost: "m-5 -5l10 10m0 -10l-10 10", torn: "m-5 5l10 -10", left: "m-5 0h10" };
 const LETTERS = { waits: "W", ready: "M", doomed: "X", runs: "R", ring: "C", overflow: "O", hidden: "?" };
 
 function make(name, marks, text) {
@@ -281,8 +285,9 @@ function drawEnd(view, lane, request, y, x) {
 
 function drawMark(view, lane, mark, y, x) {
   const at = x(mark.place) + view.step / 2;
-  const drawn = mark.is === "safe" ? put(lane, "path", { class: "safe", d: `M${at - 4} ${y + 16}l3 4l6 -9`, "data-is": "safe" }) : put(lane, "circle", { class: "reaped", cx: at, cy: y + 17, r: 3, "data-is": "reaped" });
-  put(drawn, "title", {}, `${mark.is}\n${tellLine(view.run.lines[mark.place])}`);
+  const path = MARKS[mark.is];
+  const drawn = path ? put(lane, "path", { class: mark.is, d: `M${at} ${y + 12}${path}`, "data-is": mark.is }) : put(lane, "circle", { class: "reaped", cx: at, cy: y + 17, r: 3, "data-is": "reaped" });
+  put(drawn, "title", {}, `${mark.is}${mark.why ? `: ${mark.why}` : ""}\n${tellLine(view.run.lines[mark.place])}`);
 }
 
 function tellLine(line) {
@@ -295,7 +300,7 @@ function tellSpan(run, request, span) {
 }
 
 function drawLabel(view, lanes, row, y) {
-  if (row.kind === "call") return put(lanes, "text", { class: "soft", x: 6, y: y + 16, "data-call": row.call }, `call ${row.call}`);
+  if (row.kind === "call") return put(lanes, "text", { class: "soft", x: 6, y: y + 16, "data-call": row.call }, (view.run.headings || [])[row.call] ?? `call ${row.call}`);
   if (row.kind === "folded") return put(lanes, "text", { class: "soft folded", x: 22, y: y + 16 }, `${row.count} that ended`);
   const { request } = row;
   const next = view.run.requests[request.request + 1];
@@ -320,10 +325,4 @@ function drawArrow(view, lanes, arrow, x, y, first, last) {
 
 function arrowHeads(view) {
   return ["group", "drain", "cancel", "doom", "link"].map(kind => {
-    const marker = make("marker", { id: `head-${kind}${view.end}`, viewBox: "0 0 8 8", refX: 7, refY: 4, markerWidth: 6, markerHeight: 6, orient: "auto" });
-    put(marker, "path", { class: `arrow arrow-${kind}`, style: "stroke-dasharray: none", d: "M0 0L8 4L0 8" });
-    return marker;
-  });
-}
-
 "###;

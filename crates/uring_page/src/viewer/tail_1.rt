@@ -1,7 +1,14 @@
 //! A piece of the page, which `page/embed` puts here.
 
 /// The piece.
-pub(crate) const PIECE: &str = r###"function drawRings(view) {
+pub(crate) const PIECE: &str =
+    r###"    const marker = make("marker", { id: `head-${kind}${view.end}`, viewBox: "0 0 8 8", refX: 7, refY: 4, markerWidth: 6, markerHeight: 6, orient: "auto" });
+    put(marker, "path", { class: `arrow arrow-${kind}`, style: "stroke-dasharray: none", d: "M0 0L8 4L0 8" });
+    return marker;
+  });
+}
+
+function drawRings(view) {
   const { run, step, rings, here } = view;
   const seen = sight(view), high = 96;
   rings.replaceChildren();
@@ -173,10 +180,14 @@ function tell() {
   clean(get("now"), node("h2", `Line ${line.line}`), ...toldOf(line));
   const counts = COUNTS.map(name => [name, run.counts[name][here]]);
   counts.splice(1, 0, ["outstanding", run.counts.accepted[here] - run.counts.ended[here]]);
-  pairs("counts", [...counts, ["submission ring", ends("sq")], ["completion ring", ends("cq")]]);
+  pairs("counts", hasRings(run) ? [...counts, ["submission ring", ends("sq")], ["completion ring", ends("cq")]] : [["begun", run.counts.accepted[here]], ["ended", run.counts.ended[here]]]);
   pairs("files", filesAt(run, here).map(file => [`file ${file.file}`, `${file.length} bytes, ${file.writes} writes, ${file.synced} of them synced${safeOf(file.file)}`]));
   standing();
   lines();
+}
+
+function hasRings(run) {
+  return run.setup.sq > 0;
 }
 
 function ends(ring) {
@@ -224,6 +235,9 @@ function tellChange(change) {
     case "overflow": return `${name}: its completion waits in the overflow list`;
     case "reaped": return `${name}: its completion is reaped`;
     case "safe": return `${name}: what it wrote is safe`;
+    case "lost":
+    case "torn": return `${name} is ${change.is}: ${change.why}`;
+    case "left": return `${name} is left, though it needn't be: ${change.why}`;
     default: return `${name}: ${change.why}`;
   }
 }
@@ -317,7 +331,8 @@ addEventListener("beforeprint", () => { for (const pane of panes) pane.isPrinted
 addEventListener("afterprint", () => { for (const pane of panes) pane.isPrinted = false; draw(); });
 
 function legend() {
-  const isSeen = name => name !== "hidden" || panes.some(pane => pane.run.requests.some(request => request.spans.some(span => span.is === name)));
+  const areRings = panes.every(pane => hasRings(pane.run));
+  const isSeen = name => (areRings && name !== "hidden") || panes.some(pane => pane.run.requests.some(request => request.spans.some(span => span.is === name)));
   const items = STATES.filter(([name]) => isSeen(name)).map(([name, words]) => {
     const item = node("li"), picture = make("svg", { width: 26, height: 12, "aria-hidden": "true" });
     put(picture, "rect", { class: name, width: 26, height: 12 });
@@ -325,7 +340,9 @@ function legend() {
     item.append(picture, words);
     return item;
   });
-  const others = ["end, with its result", "○ reaped", "✓ what was written is safe", "arrows: solid orange a member of its group, long dashes a drain, short dashes a cancel, solid red what dooms, grey a link"];
+  const others = ["end, with its result", "✓ what was written is safe"];
+  if (areRings) others.push("○ reaped", "arrows: solid orange a member of its group, long dashes a drain, short dashes a cancel, solid red what dooms, grey a link");
+  if (panes.some(pane => pane.run.requests.some(request => request.marks.some(mark => mark.is in LEFT)))) others.push("✕ lost, ╱ torn, — left, though it needn't be");
   if (panes.some(pane => pane.run.choices.length)) others.push("▼ a choice: pale where it is the one in order");
   if (panes.some(pane => pane.run.parts >= 0)) others.push("a dashed line from top to bottom: where the runs part");
   clean(get("legend"), ...items, ...others.map(words => node("li", words)));
@@ -337,19 +354,6 @@ function told(run) {
   return { counts: `${run.size} lines, ${run.requests.length} requests`, rings: `submission ring ${run.setup.sq}, completion ring ${run.setup.cq}${files}${verdict}`, verdict };
 }
 
-const KEYS_TOLD = get("keys").textContent;
+const LEFT = { lost: 1, torn: 1, left: 1 };
 
-const GROUPS = [...new Set(DATA_RUNS.map(run => run.group || ""))];
-
-function openGroup(group) {
-  panes.length = 0;
-  const runs = DATA_RUNS.filter(run => (run.group || "") === group).map(readRun);
-  panes.push(...runs.map(paneOf));
-  clean(get("panes"), ...panes.map(pane => pane.section));
-  get("panes").classList.toggle("several", panes.length > 1);
-  const more = [[panes.length > 1, "O the other run"], [runs.some(run => run.parts >= 0), "D where they part"], [runs.some(run => run.choices.length), "C the next choice"], [runs.some(run => run.wrong >= 0), "W the wrong line"]];
-  get("keys").textContent = [KEYS_TOLD, ...more.filter(([isThere]) => isThere).map(([, words]) => words)].join(", ");
-  const { counts, rings, verdict } = told(runs[0]);
-  get("summary").textContent = data.told || `${counts}; ${rings}`;
-  get("title").textContent = data.title || "A run";
 "###;
