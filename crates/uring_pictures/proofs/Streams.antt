@@ -8,6 +8,7 @@ use Rattle.uring_entry.specs.Setup.{Setup}
 use Rattle.uring_text.specs.declared.trace_fault.TraceFault.{TraceFault}
 use Rattle.uring_trace.specs.declared.explainer.Explainer.{Explainer}
 use Rattle.uring_text.specs.Writing.{WritesText}
+use Rattle.uring_trace.specs.Explanations.{telling_on}
 use Rattle.uring_trace.specs.Explaining.{HasTold, HasEnded}
 use Rattle.uring_trace.proofs.ExplainStreams.{nothing_yet}
 use Rattle.uring_pictures.specs.Readings.{TakesIn, EndsIn, EndsLine, ReadsAll}
@@ -25,7 +26,7 @@ pub took_in : (result : Done) (s s' : Explainer) (more none none' new new' : Lis
     → (written : List ℕ) × Appends e e' written × WritesText result new' written
     → OnOk result (TakesIn s s' more e e')
 took_in (Ok done) s s' more none none' new new' e e' a b feed w = λ setup before told noted h.
-    (new, new', subst (λ (l : List ℕ). Appends e e' l) w.2 w.1, feed setup before told noted (nothing_yet setup s before told noted none none' a b h))
+    (new, new', subst (λ (l : List ℕ). Appends e e' l) w.2 w.1, feed setup before told noted (nothing_yet (telling_on setup) s before told noted none none' a b h))
 took_in (Err f) s s' more none none' new new' e e' a b feed w = tt
 
 -- the end of the input, and its notes written
@@ -35,7 +36,7 @@ pub ended_in : (result : Done) (s s' : Explainer) (none none' new new' : List �
     → (written : List ℕ) × Appends e e' written × WritesText result new' written
     → OnOk result (EndsLine s s' e e')
 ended_in (Ok done) s s' none none' new new' e e' a b finish w = λ setup before told noted h.
-    (new, new', subst (λ (l : List ℕ). Appends e e' l) w.2 w.1, finish setup before told noted (nothing_yet setup s before told noted none none' a b h))
+    (new, new', subst (λ (l : List ℕ). Appends e e' l) w.2 w.1, finish setup before told noted (nothing_yet (telling_on setup) s before told noted none none' a b h))
 ended_in (Err f) s s' none none' new new' e e' a b finish w = tt
 
 -- What was read so far: the reader had a left and has r, and what is noted was held behind x and makes e.

@@ -68,7 +68,7 @@ one_more None events = ap (λ (es : List Event). history_of es) (sym (append-nil
 one_more (Some event) events = sym (history_of-snoc events event)
 
 -- one answer more that refuses no memory
-unrefused_more : (g : Setup) (event : Option Event) (events : List Event) → AreUnrefused g [] events
+pub unrefused_more : (g : Setup) (event : Option Event) (events : List Event) → AreUnrefused g [] events
     → AreUnrefused g (history_of events) (option_to_list event)
     → AreUnrefused g [] (events ++ option_to_list event)
 unrefused_more g event events earlier last = unrefused-append g [] events (option_to_list event) earlier (subst (λ (h : History). AreUnrefused g h (option_to_list event)) (sym (append-nil (history_of events))) last)

@@ -1,5 +1,5 @@
 -- The lines of a trace, each with its answer and its reason. The language of explanations is our own rule.
-use Rattle.std.specs.Prelude.{◌≡◌, ℕ, ◌+◌, ◌-◌, ◌^◌, ◌<◌, ◌⊎◌, min, Bool, true, false, List, [], ◌∷◌, ◌++◌, length, map, codes, Option, Some, None, Result, Ok, Err}
+use Rattle.std.specs.Prelude.{◌≡◌, ℕ, ◌+◌, ◌-◌, ◌^◌, ◌<◌, ◌⊎◌, min, Bool, true, false, List, [], ◌∷◌, ◌++◌, length, map, codes, Option, Some, None, Result, Ok, Err, IsTrue}
 use Rattle.std.specs.Fmt.{decimal}
 use Rattle.std.specs.List.{AllByRecursion, list_any}
 use Rattle.std.specs.Option.{option_to_list}
@@ -8,6 +8,7 @@ use Rattle.uring_entry.specs.Setup.{Setup}
 use Rattle.uring_core.specs.World.{World}
 use Rattle.uring_core.specs.Histories.{Event, world, history_of}
 use Rattle.uring_core.specs.CalledFor.{IsLawful}
+use Rattle.uring_machine.specs.Settling.{AreUnrefused}
 use Rattle.uring_text.specs.declared.trace_fault.TraceFault.{TraceFault}
 use Rattle.uring_text.specs.declared.trace_fault.TraceFault.TheVariants as fault
 use Rattle.uring_trace.specs.Text.{text_of}
@@ -98,54 +99,68 @@ is_bad (Asked question) = false
 is_bad Remark = false
 is_bad Bad = true
 
--- The lines are explained: each answer is called for by the steps before it, the text is what is told of each line, and the notes are those of the bad ones.
-pub record Explains (setup : Setup) (xs : List Saying) (text notes : List ℕ) : Type 0 where
+-- How a trace is explained: over this set-up, and whether with memory enough, so that no answer refuses any.
+pub record Telling : Type 0 where
+  pub setup : Setup
+  pub is_unrefused : Bool
+
+-- nothing is known of memory
+abbrev pub telling_on : Setup → Telling
+telling_on setup = record { setup = setup; is_unrefused = false }
+
+-- The lines are explained: each answer is called for by the steps before it, none says that memory was refused if there is enough, the text is what is told of each line, and the notes are those of the bad ones.
+pub record Explains (telling : Telling) (xs : List Saying) (text notes : List ℕ) : Type 0 where
   pub each : AllByRecursion (λ x. IsSaid x.line x.said) xs
-  pub lawful : IsLawful setup (history_of (events_in xs))
-  pub told : text ≡ explained setup xs
+  pub lawful : IsLawful telling.setup (history_of (events_in xs))
+  pub unrefused : IsTrue telling.is_unrefused → AreUnrefused telling.setup [] (events_in xs)
+  pub told : text ≡ explained telling.setup xs
   pub noted : notes ≡ notes_of xs
 
 -- text and notes explain every line of the bytes, of which the last may lack its end; and whether some line is bad
-abbrev pub ExplainsWhole : Setup → Bool → List ℕ → List ℕ → List ℕ → Type 0
-ExplainsWhole setup bad bytes text notes = (xs : List Saying) × (lines : List (List ℕ))
-    × (rest : List ℕ) × Explains setup xs text notes × Splits bytes lines rest
+abbrev pub ExplainsWholeBy : Telling → Bool → List ℕ → List ℕ → List ℕ → Type 0
+ExplainsWholeBy telling bad bytes text notes = (xs : List Saying) × (lines : List (List ℕ))
+    × (rest : List ℕ) × Explains telling xs text notes × Splits bytes lines rest
     × (lines_in xs ≡ with_last lines rest) × (bad ≡ list_any (λ x. is_bad x.said) xs)
 
+-- the same over a set-up, and nothing is known of memory
+abbrev pub ExplainsWhole : Setup → Bool → List ℕ → List ℕ → List ℕ → Type 0
+ExplainsWhole setup = ExplainsWholeBy (telling_on setup)
+
 -- text and notes explain every line of the bytes that has its end
-abbrev pub ExplainsEnded : Setup → List ℕ → List ℕ → List ℕ → Type 0
-ExplainsEnded setup bytes text notes = (xs : List Saying) × (rest : List ℕ)
-    × Explains setup xs text notes × Splits bytes (lines_in xs) rest
+abbrev pub ExplainsEnded : Telling → List ℕ → List ℕ → List ℕ → Type 0
+ExplainsEnded telling bytes text notes = (xs : List Saying) × (rest : List ℕ)
+    × Explains telling xs text notes × Splits bytes (lines_in xs) rest
 
 -- text and notes explain the first lines of the bytes
-abbrev pub ExplainsBeginning : Setup → List ℕ → List ℕ → List ℕ → Type 0
-ExplainsBeginning setup bytes text notes = (first : List ℕ) × (after : List ℕ) × (xs : List Saying)
-    × Explains setup xs text notes × Splits first (lines_in xs) [] × (bytes ≡ first ++ after)
+abbrev pub ExplainsBeginning : Telling → List ℕ → List ℕ → List ℕ → Type 0
+ExplainsBeginning telling bytes text notes = (first : List ℕ) × (after : List ℕ) × (xs : List Saying)
+    × Explains telling xs text notes × Splits first (lines_in xs) [] × (bytes ≡ first ++ after)
 
 -- text and notes together lack something of what explains lines of the bytes
-abbrev pub ExplainsLess : Setup → List ℕ → List ℕ → List ℕ → Type 0
-ExplainsLess setup bytes text notes =
+abbrev pub ExplainsLess : Telling → List ℕ → List ℕ → List ℕ → Type 0
+ExplainsLess telling bytes text notes =
     (more : List ℕ) × (more_notes : List ℕ) × (0 < length more + length more_notes)
-    × (ExplainsBeginning setup bytes (text ++ more) (notes ++ more_notes) ⊎ ((bad : Bool) × ExplainsWhole setup bad bytes (text ++ more) (notes ++ more_notes)))
+    × (ExplainsBeginning telling bytes (text ++ more) (notes ++ more_notes) ⊎ ((bad : Bool) × ExplainsWholeBy telling bad bytes (text ++ more) (notes ++ more_notes)))
 
 -- what is written, by what explain returns
-abbrev pub WritesBoth : Setup → Result Bool TraceFault → List ℕ → List ℕ → List ℕ → Type 0
-WritesBoth setup (Ok bad) bytes text notes = ExplainsWhole setup bad bytes text notes
-WritesBoth setup (Err fault.Read) bytes text notes = ExplainsEnded setup bytes text notes
-WritesBoth setup (Err fault.Write) bytes text notes = ExplainsLess setup bytes text notes
-WritesBoth setup (Err fault.Memory) bytes text notes = ExplainsBeginning setup bytes text notes
+abbrev pub WritesBoth : Telling → Result Bool TraceFault → List ℕ → List ℕ → List ℕ → Type 0
+WritesBoth telling (Ok bad) bytes text notes = ExplainsWholeBy telling bad bytes text notes
+WritesBoth telling (Err fault.Read) bytes text notes = ExplainsEnded telling bytes text notes
+WritesBoth telling (Err fault.Write) bytes text notes = ExplainsLess telling bytes text notes
+WritesBoth telling (Err fault.Memory) bytes text notes = ExplainsBeginning telling bytes text notes
 
 -- at the end the reader has nothing left
 abbrev pub ReadsWhole : Result Bool TraceFault → Option (List ℕ) → Type 0
 ReadsWhole (Ok bad) left = IsAtEnd left
 ReadsWhole (Err fault) left = Unit {0}
 
--- What explain on a machine of this shape read and wrote: what the reader had left before and after, what the writer of answers held, and what the writer of notes held.
-pub record IsExplained (setup : Setup) (result : Result Bool TraceFault) (left_before left_after held_before held_after notes_before notes_after : Option (List ℕ)) : Type 0 where
+-- What explain, told in this way, read and wrote: what the reader had left before and after, what the writer of answers held, and what the writer of notes held.
+pub record IsExplained (telling : Telling) (result : Result Bool TraceFault) (left_before left_after held_before held_after notes_before notes_after : Option (List ℕ)) : Type 0 where
   pub bytes : List ℕ
   pub text : List ℕ
   pub notes : List ℕ
   pub consumed : Consumes left_before left_after bytes
   pub appended : Appends held_before held_after text
   pub noted : Appends notes_before notes_after notes
-  pub written : WritesBoth setup result bytes text notes
+  pub written : WritesBoth telling result bytes text notes
   pub whole : ReadsWhole result left_after

@@ -1,9 +1,8 @@
 //! The run of an explained trace over three streams.
 
-ghost use Rattle.std.specs.Prelude.{◌≡◌, ◌≢◌, ℕ, List, [], ◌++◌, Err, IfErr};
-ghost use Rattle.uring_entry.specs.Setup.{Setup};
-ghost use Rattle.uring_trace.specs.Explaining.{HasTold, TookBoth, WritesPair, WroteBoth};
-ghost use Rattle.uring_trace.specs.Explanations.{IsExplained, WritesBoth};
+ghost use Rattle.std.specs.Prelude.{◌≡◌, ◌≢◌, ℕ, List, [], ◌++◌, true, Err, IfErr};
+ghost use Rattle.uring_trace.specs.Explaining.{HasToldBy, IsGrantedTo, TookBoth, WritesPair, WroteBoth};
+ghost use Rattle.uring_trace.specs.Explanations.{Telling, telling_on, IsExplained, WritesBoth};
 
 use crate::explainer::Explainer;
 use crate::trace_loop::CHUNK;
@@ -26,14 +25,14 @@ pub fn explain<R: Read, W: Write, E: Write>(
     errors: &mut E,
     setup: &Setup,
 ) -> Result<bool, TraceFault>
-    ensures { IsExplained setup.now result (R.remaining reader.old) (R.remaining reader.new)
+    ensures { IsExplained (telling_on setup.now) result (R.remaining reader.old) (R.remaining reader.new)
         (W.contents writer.old) (W.contents writer.new) (E.contents errors.old)
         (E.contents errors.new) }
 {
     explain_in(&alloc, alloc, reader, writer, errors, setup)
 }
 
-/// As `explain`, by this memory. If it grants whatever is asked for, the explanation never ends with `Memory`.
+/// As `explain`, by this memory. If it grants whatever is asked for, the explanation never ends with `Memory`, and no answer says that memory was refused.
 pub fn explain_in<M: TextMemory, R: Read, W: Write, E: Write>(
     memory: &M,
     alloc: Global,
@@ -42,10 +41,14 @@ pub fn explain_in<M: TextMemory, R: Read, W: Write, E: Write>(
     errors: &mut E,
     setup: &Setup,
 ) -> Result<bool, TraceFault>
-    ensures lines { IsExplained setup.now result (R.remaining reader.old) (R.remaining reader.new)
-        (W.contents writer.old) (W.contents writer.new) (E.contents errors.old)
-        (E.contents errors.new) }
+    ensures lines { IsExplained (telling_on setup.now) result (R.remaining reader.old)
+        (R.remaining reader.new) (W.contents writer.old) (W.contents writer.new)
+        (E.contents errors.old) (E.contents errors.new) }
     ensures granted { ((n : ℕ) → M.grants memory.now n) → result ≢ Err TraceFault.Memory }
+    ensures unrefused { ((n : ℕ) → M.grants memory.now n)
+        → IsExplained (record { setup = setup.now; is_unrefused = true }) result
+        (R.remaining reader.old) (R.remaining reader.new) (W.contents writer.old)
+        (W.contents writer.new) (E.contents errors.old) (E.contents errors.new) }
 {
     let mut explainer = Explainer::new_in(memory, alloc, setup)?;
     let explained = explain_all(memory, alloc, &mut explainer, reader, writer, errors);
@@ -62,8 +65,9 @@ fn explain_all<M: TextMemory, R: Read, W: Write, E: Write>(
     writer: &mut W,
     errors: &mut E,
 ) -> Result<bool, TraceFault>
-    ensures lines { (setup : Setup) → HasTold setup explainer.old [] [] []
-        → IsExplained setup result (R.remaining reader.old) (R.remaining reader.new)
+    ensures lines { (telling : Telling) → IsGrantedTo telling ((n : ℕ) → M.grants memory.now n)
+        → HasToldBy telling explainer.old [] [] []
+        → IsExplained telling result (R.remaining reader.old) (R.remaining reader.new)
         (W.contents writer.old) (W.contents writer.new) (E.contents errors.old)
         (E.contents errors.new) }
     ensures granted { ((n : ℕ) → M.grants memory.now n) → result ≢ Err TraceFault.Memory }
@@ -99,16 +103,16 @@ fn explain_bytes<M: TextMemory, W: Write, E: Write>(
     errors: &mut E,
     writes: &mut Calls,
 ) -> Result<(), TraceFault>
-    ensures lines { (setup : Setup) (before told noted : List ℕ)
-        → HasTold setup explainer.old before told noted
+    ensures lines { (telling : Telling) → IsGrantedTo telling ((n : ℕ) → M.grants memory.now n)
+        → (before told noted : List ℕ) → HasToldBy telling explainer.old before told noted
         → WroteBoth (W.contents writer.old) (W.contents writer.new) (E.contents errors.old)
         (E.contents errors.new) told noted
-        (TookBoth setup result explainer.new (before ++ bytes.now)) }
+        (TookBoth telling result explainer.new (before ++ bytes.now)) }
     ensures granted { ((n : ℕ) → M.grants memory.now n) → result ≢ Err TraceFault.Memory }
 {
     let mut text = String::new(alloc);
     let mut notes = String::new(alloc);
-    explainer.feed_in(memory, bytes, &mut text, &mut notes)?;
+    explainer.take_all(memory, bytes, &mut text, &mut notes)?;
     write_both(writer, text.as_bytes(), errors, notes.as_bytes(), writes)
 }
 
@@ -121,15 +125,15 @@ fn explain_last<M: TextMemory, W: Write, E: Write>(
     errors: &mut E,
     writes: &mut Calls,
 ) -> Result<bool, TraceFault>
-    ensures lines { (setup : Setup) (before told noted : List ℕ)
-        → HasTold setup explainer.old before told noted
+    ensures lines { (telling : Telling) → IsGrantedTo telling ((n : ℕ) → M.grants memory.now n)
+        → (before told noted : List ℕ) → HasToldBy telling explainer.old before told noted
         → WroteBoth (W.contents writer.old) (W.contents writer.new) (E.contents errors.old)
-        (E.contents errors.new) told noted (WritesBoth setup result before) }
+        (E.contents errors.new) told noted (WritesBoth telling result before) }
     ensures granted { ((n : ℕ) → M.grants memory.now n) → result ≢ Err TraceFault.Memory }
 {
     let mut text = String::new(alloc);
     let mut notes = String::new(alloc);
-    explainer.finish_in(memory, &mut text, &mut notes)?;
+    explainer.take_last(memory, &mut text, &mut notes)?;
     write_both(writer, text.as_bytes(), errors, notes.as_bytes(), writes)?;
     Ok(explainer.has_bad())
 }

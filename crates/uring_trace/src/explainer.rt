@@ -4,7 +4,7 @@ ghost use Rattle.std.specs.Prelude.{◌≡◌, ◌≢◌, ℕ, ◌+◌, ◌-◌,
 ghost use Rattle.uring_entry.specs.Setup.{Setup};
 ghost use Rattle.uring_text.specs.KeptLine.{kept_of};
 ghost use Rattle.uring_text.specs.Lines.{ended};
-ghost use Rattle.uring_trace.specs.Explanations.{bad_note};
+ghost use Rattle.uring_trace.specs.Explanations.{bad_note, Telling};
 ghost use Rattle.uring_trace.specs.Explaining.{TellsStep, TellsShown};
 ghost use Rattle.uring_trace.specs.Flaws.{line_flaw};
 
@@ -33,7 +33,7 @@ pub struct Explainer {
 }
 
 impl Explainer {
-    ghost use Rattle.uring_trace.specs.Explaining.{HasTold, HasEnded, AppendsLine};
+    ghost use Rattle.uring_trace.specs.Explaining.{HasTold, HasToldBy, HasToldUnrefused, HasEnded, HasEndedBy, HasEndedUnrefused, AppendsLine, IsGrantedTo};
 
     /// A new machine, before the first line.
     pub fn new(alloc: Global, setup: &Setup) -> Result<Explainer, TraceFault>
@@ -43,13 +43,14 @@ impl Explainer {
         Explainer::new_in(&alloc, alloc, setup)
     }
 
-    /// As `new`, by this memory. If it grants whatever is asked for, there is no error.
+    /// As `new`, by this memory. If it grants whatever is asked for, there is no error. Here and below: then no answer says either that memory was refused (`unrefused`).
     pub fn new_in<M: Memory>(
         memory: &M,
         alloc: Global,
         setup: &Setup,
     ) -> Result<Explainer, TraceFault>
         ensures ok { IfOk result (λ s. HasTold setup.now s [] [] []) }
+        ensures unrefused { IfOk result (λ s. HasToldUnrefused setup.now s [] [] []) }
         ensures err { IfErr result (λ e. e ≡ TraceFault.Memory) }
         ensures granted { ((n : ℕ) → M.grants memory.now n) → IsOk result }
     {
@@ -106,6 +107,29 @@ impl Explainer {
             ((setup : Setup) (before told noted : List ℕ)
             → HasTold setup self.old before (told ++ string_bytes text.old) (noted ++ string_bytes notes.old)
             → HasTold setup self.new (before ++ bytes.now) (told ++ string_bytes text.new) (noted ++ string_bytes notes.new)) }
+        ensures unrefused { OnOk result
+            (((n : ℕ) → M.grants memory.now n) → (setup : Setup) (before told noted : List ℕ)
+            → HasToldUnrefused setup self.old before (told ++ string_bytes text.old) (noted ++ string_bytes notes.old)
+            → HasToldUnrefused setup self.new (before ++ bytes.now) (told ++ string_bytes text.new) (noted ++ string_bytes notes.new)) }
+        ensures err { IfErr result (λ e. e ≡ TraceFault.Memory) }
+        ensures granted { ((n : ℕ) → M.grants memory.now n) → IsOk result }
+    {
+        self.take_all(memory, bytes, text, notes)
+    }
+
+    /// The same, for each way of telling.
+    pub(crate) fn take_all<M: TextMemory>(
+        &mut self,
+        memory: &M,
+        bytes: &[u8],
+        text: &mut String,
+        notes: &mut String,
+    ) -> Result<(), TraceFault>
+        ensures ok { OnOk result
+            ((telling : Telling) → IsGrantedTo telling ((n : ℕ) → M.grants memory.now n)
+            → (before told noted : List ℕ)
+            → HasToldBy telling self.old before (told ++ string_bytes text.old) (noted ++ string_bytes notes.old)
+            → HasToldBy telling self.new (before ++ bytes.now) (told ++ string_bytes text.new) (noted ++ string_bytes notes.new)) }
         ensures err { IfErr result (λ e. e ≡ TraceFault.Memory) }
         ensures granted { ((n : ℕ) → M.grants memory.now n) → IsOk result }
     {
@@ -138,6 +162,28 @@ impl Explainer {
             ((setup : Setup) (before told noted : List ℕ)
             → HasTold setup self.old before (told ++ string_bytes text.old) (noted ++ string_bytes notes.old)
             → HasEnded setup self.new before (told ++ string_bytes text.new) (noted ++ string_bytes notes.new)) }
+        ensures unrefused { OnOk result
+            (((n : ℕ) → M.grants memory.now n) → (setup : Setup) (before told noted : List ℕ)
+            → HasToldUnrefused setup self.old before (told ++ string_bytes text.old) (noted ++ string_bytes notes.old)
+            → HasEndedUnrefused setup self.new before (told ++ string_bytes text.new) (noted ++ string_bytes notes.new)) }
+        ensures err { IfErr result (λ e. e ≡ TraceFault.Memory) }
+        ensures granted { ((n : ℕ) → M.grants memory.now n) → IsOk result }
+    {
+        self.take_last(memory, text, notes)
+    }
+
+    /// The same, for each way of telling.
+    pub(crate) fn take_last<M: TextMemory>(
+        &mut self,
+        memory: &M,
+        text: &mut String,
+        notes: &mut String,
+    ) -> Result<(), TraceFault>
+        ensures ok { OnOk result
+            ((telling : Telling) → IsGrantedTo telling ((n : ℕ) → M.grants memory.now n)
+            → (before told noted : List ℕ)
+            → HasToldBy telling self.old before (told ++ string_bytes text.old) (noted ++ string_bytes notes.old)
+            → HasEndedBy telling self.new before (told ++ string_bytes text.new) (noted ++ string_bytes notes.new)) }
         ensures err { IfErr result (λ e. e ≡ TraceFault.Memory) }
         ensures granted { ((n : ℕ) → M.grants memory.now n) → IsOk result }
     {
@@ -156,9 +202,10 @@ impl Explainer {
         notes: &mut String,
     ) -> Result<(), TraceFault>
         ensures ok { OnOk result
-            ((setup : Setup) (before told noted : List ℕ)
-            → HasTold setup self.old before (told ++ string_bytes text.old) (noted ++ string_bytes notes.old)
-            → HasTold setup self.new (before ++ byte ∷ []) (told ++ string_bytes text.new) (noted ++ string_bytes notes.new)) }
+            ((telling : Telling) → IsGrantedTo telling ((n : ℕ) → M.grants memory.now n)
+            → (before told noted : List ℕ)
+            → HasToldBy telling self.old before (told ++ string_bytes text.old) (noted ++ string_bytes notes.old)
+            → HasToldBy telling self.new (before ++ byte ∷ []) (told ++ string_bytes text.new) (noted ++ string_bytes notes.new)) }
         ensures err { IfErr result (λ e. e ≡ TraceFault.Memory) }
         ensures granted { ((n : ℕ) → M.grants memory.now n) → IsOk result }
     {
@@ -173,9 +220,9 @@ impl Explainer {
     /// Takes in one byte of a line, which isn't its end.
     fn keep(&mut self, byte: u8)
         requires { byte ≢ 10 }
-        ensures { (setup : Setup) (before told noted : List ℕ)
-            → HasTold setup self.old before told noted
-            → HasTold setup self.new (before ++ byte ∷ []) told noted }
+        ensures { (telling : Telling) (before told noted : List ℕ)
+            → HasToldBy telling self.old before told noted
+            → HasToldBy telling self.new (before ++ byte ∷ []) told noted }
     {
         self.line.push(byte);
     }
@@ -188,9 +235,10 @@ impl Explainer {
         notes: &mut String,
     ) -> Result<(), AllocError>
         ensures ok { OnOk result
-            ((setup : Setup) (before told noted : List ℕ)
-            → HasTold setup self.old before (told ++ string_bytes text.old) (noted ++ string_bytes notes.old)
-            → HasTold setup self.new (before ++ 10 ∷ []) (told ++ string_bytes text.new) (noted ++ string_bytes notes.new)) }
+            ((telling : Telling) → IsGrantedTo telling ((n : ℕ) → M.grants memory.now n)
+            → (before told noted : List ℕ)
+            → HasToldBy telling self.old before (told ++ string_bytes text.old) (noted ++ string_bytes notes.old)
+            → HasToldBy telling self.new (before ++ 10 ∷ []) (told ++ string_bytes text.new) (noted ++ string_bytes notes.new)) }
         ensures granted { ((n : ℕ) → M.grants memory.now n) → IsOk result }
     {
         self.tell_line(memory, text, notes)?;
@@ -208,7 +256,7 @@ impl Explainer {
     ) -> Result<(), AllocError>
         ensures told { OnOk result
             ((line : List ℕ) → self.old.line ≡ kept_of line
-            → AppendsLine self.old.machine self.new.machine self.old.number self.old.has_bad self.new.has_bad line (string_bytes text.old) (string_bytes text.new) (string_bytes notes.old) (string_bytes notes.new)) }
+            → AppendsLine ((n : ℕ) → M.grants memory.now n) self.old.machine self.new.machine self.old.number self.old.has_bad self.new.has_bad line (string_bytes text.old) (string_bytes text.new) (string_bytes notes.old) (string_bytes notes.new)) }
         ensures number { self.new.number ≡ self.old.number }
         ensures granted { ((n : ℕ) → M.grants memory.now n) → IsOk result }
     {
@@ -246,7 +294,7 @@ fn tell_step<M: TextMemory>(
     text: &mut String,
 ) -> Result<(), AllocError>
     ensures told { OnOk result
-        (TellsStep machine.old machine.new step.now (string_bytes text.old) (string_bytes text.new)) }
+        (TellsStep ((n : ℕ) → M.grants memory.now n) machine.old machine.new step.now (string_bytes text.old) (string_bytes text.new)) }
     ensures granted { ((n : ℕ) → M.grants memory.now n) → IsOk result }
 {
     let why = ask(machine, step);

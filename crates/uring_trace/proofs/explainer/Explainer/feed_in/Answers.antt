@@ -1,14 +1,11 @@
-use Rattle.std.proofs.Common.{◌≡◌, ◌<◌, ◌+◌, ℕ, List, [], ◌∷◌, ◌++◌, length, take, get_or, sym, ap, subst, ◌∙◌, append_assoc, rules}
-use Rattle.std.proofs.lemmas.List.{take_more}
-use Rattle.std.specs.Prelude.{string_bytes}
-use Rattle.uring_trace.specs.Explaining.{HasTold}
+use Rattle.std.proofs.Common.{◌≡◌, true, false}
+use Rattle.std.proofs.lemmas.Result.{on_ok_weaker}
+use Rattle.std.specs.Prelude.{IsTrue}
+use Rattle.uring_trace.specs.Explanations.{telling_on}
 use Rattle.uring_trace.proofs.explainer.Explainer.feed_in.Goals as goal
 
-pub loop-byte-preserved : goal.loop-byte-preserved
-loop-byte-preserved g c = λ setup before told noted h.
-    let bytes : List ℕ = c.args.bytes.now in
-    let i : ℕ = c.loop-byte.byte-index in
-    let more = c.in_ok-take.ensures.ok setup (before ++ take i bytes) told noted (c.loop-byte.invariant setup before told noted h) in
-    let lt : i < length bytes = search rules in
-    let next : take (i + 1) bytes ≡ take i bytes ++ get_or bytes i 0 ∷ [] = take_more bytes i 0 lt in
-    subst (λ (l : List ℕ). HasTold setup c.take.new.self l (told ++ string_bytes c.take.new.text) (noted ++ string_bytes c.take.new.notes)) (append_assoc before (take i bytes) (get_or bytes i 0 ∷ []) ∙ ap (λ (l : List ℕ). before ++ l) (sym next)) more
+pub returns-clause-ok : goal.returns-clause-ok
+returns-clause-ok g c = on_ok_weaker c.take_all.result (λ h setup. h (telling_on setup) (λ no. let is : IsTrue false = no in absurd cc)) c.take_all.ensures.ok
+
+pub returns-clause-unrefused : goal.returns-clause-unrefused
+returns-clause-unrefused g c = on_ok_weaker c.take_all.result (λ h sure setup. h (record { setup = setup; is_unrefused = true }) (λ yes. sure)) c.take_all.ensures.ok

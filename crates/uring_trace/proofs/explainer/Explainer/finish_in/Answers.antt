@@ -1,13 +1,11 @@
-use Rattle.std.proofs.Common.{◌≡◌, [], ℕ, List, false, refl}
+use Rattle.std.proofs.Common.{◌≡◌, true, false}
+use Rattle.std.proofs.lemmas.Result.{on_ok_weaker}
 use Rattle.std.specs.Prelude.{IsTrue}
-use Rattle.uring_text.specs.KeptLine.{kept_of}
-use Rattle.uring_trace.proofs.ExplainLines.{explain_last, explain_none}
+use Rattle.uring_trace.specs.Explanations.{telling_on}
 use Rattle.uring_trace.proofs.explainer.Explainer.finish_in.Goals as goal
 
-pub returns-then-is_empty-clause-ok : goal.returns-then-is_empty-clause-ok
-returns-then-is_empty-clause-ok g c = λ setup before told noted h. explain_none setup _ _ _ _ before _ _ (λ line e. (c.if-is_empty.ensures line e).0 refl) h
-
 pub returns-clause-ok : goal.returns-clause-ok
-returns-clause-ok g c =
-    let some : (line : List ℕ) → c.args.self.now.line ≡ kept_of line → line ≡ [] → ⊥ = λ line e none. let is : IsTrue false = (c.if-is_empty.ensures line e).1 none in absurd cc in
-    λ setup before told noted h. explain_last setup _ _ _ _ _ _ before told _ _ noted _ _ some c.in_ok-tell_line.ensures.told h
+returns-clause-ok g c = on_ok_weaker c.take_last.result (λ h setup. h (telling_on setup) (λ no. let is : IsTrue false = no in absurd cc)) c.take_last.ensures.ok
+
+pub returns-clause-unrefused : goal.returns-clause-unrefused
+returns-clause-unrefused g c = on_ok_weaker c.take_last.result (λ h sure setup. h (record { setup = setup; is_unrefused = true }) (λ yes. sure)) c.take_last.ensures.ok
