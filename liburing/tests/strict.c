@@ -74,7 +74,7 @@ static void ask_drains(void)
         for (unsigned j = 0; j < 2; j++)
             put(&ring, IORING_OP_NOP, j, rows[i][j]);
         check(enter(&ring, 2, 0, 0) == 2);
-        enter_for(&ring, 2, 20000000);
+        enter_for(&ring, 2, 200000000);
         for (unsigned left = count_ready(&ring); left > 0; left--) {
             struct completion found = reap(&ring);
             res += (int32_t)(1000 * (found.user_data + 1)) - found.res;
