@@ -25,6 +25,12 @@ pub enum Fault {
     /// There is no outcome of this number, but so many.
     NoOutcome(u32, u64),
 
+    /// The words behind `--` are no offset and bytes.
+    NoBytes,
+
+    /// A crash may leave more images than so many.
+    TooMany(u32),
+
     /// Nobody reads standard output any more: its pipe was closed at the other end.
     Closed,
 }

@@ -3,6 +3,7 @@
 
 ghost use Rattle.std.specs.Prelude.{◌≤◌, length};
 
+mod crashing;
 mod fault;
 mod listing;
 mod outlet;
@@ -10,6 +11,7 @@ mod paged;
 mod strict;
 mod telling;
 
+use crate::crashing::{asked_of, kind_of, run_crash};
 use crate::fault::Fault;
 use crate::listing::{Wanted, claim_of, run_outcomes};
 use crate::outlet::Outlet;
@@ -23,7 +25,6 @@ use std::process::ExitCode;
 use std::sync::Wait;
 use std::thread::Threads;
 use uring_check::{Verdict, check};
-use uring_crash::{Asked, crash};
 use uring_litmus::Form as Shown;
 use uring_options::{Options, Setup, not_text, options};
 use uring_page::Form;
@@ -64,11 +65,12 @@ fn run<R: Threads + Wait + Copy + Send + 'static>(
     ended
 }
 
-/// How many of these words are options: all, but of `uring outcomes` those before a word `--`, which the lines of a claim follow.
+/// How many of these words are options: all, but those before a word `--` of `uring outcomes`, which the lines of a claim follow, and of `uring crash --holds`, which bytes follow.
 fn count_options(words: &[&str]) -> usize
     ensures { result ≤ length words.now }
 {
-    if !matches!(words, [_, "outcomes", ..]) {
+    let has_bytes = matches!(words, [_, "crash", ..]) && words.contains(&"--holds");
+    if !has_bytes && !matches!(words, [_, "outcomes", ..]) {
         return words.len();
     }
     for at in 0..words.len() {
@@ -132,7 +134,15 @@ fn run_words<R: Threads + Wait + Copy + Send + 'static>(
             unit,
             at,
             seed,
-        } => run_crash(rt, &setup, file, unit, at, seed),
+            is_count,
+            is_all,
+            most,
+            is_holds,
+        } => {
+            let asked = asked_of(file, unit, at, seed);
+            let kind = kind_of(is_count, is_all, is_holds);
+            run_crash(rt, &setup, file, &asked, kind, most, lines)
+        }
         Options::Outcomes {
             setup,
             is_sorted,
@@ -251,44 +261,8 @@ fn run_timeline(rt: &HostRuntime, setup: &Setup) -> Result<u8, Fault> {
     Ok(status_behind(unless_closed(&output, drawn)?))
 }
 
-/// What a crash behind the trace that standard input has leaves of a file.
-fn run_crash(
-    rt: &HostRuntime,
-    setup: &Setup,
-    file: u32,
-    unit: u32,
-    at: Option<u32>,
-    seed: Option<u32>,
-) -> Result<u8, Fault> {
-    if file >= setup.files() {
-        return Err(Fault::NoFile(file, setup.files()));
-    }
-    let asked = Asked {
-        fd: file as i32,
-        unit: u64::from(unit).max(1),
-        lines: match at {
-            Some(line) => u64::from(line),
-            None => u64::MAX,
-        },
-        seed: match seed {
-            Some(seed) => Some(u64::from(seed)),
-            None => None,
-        },
-    };
-    let (mut input, mut output) = (rt.stdin(), Outlet::new(rt.stdout()));
-    let left = crash(
-        rt.alloc(),
-        &mut input,
-        &mut output,
-        &mut rt.stderr(),
-        setup,
-        &asked,
-    );
-    Ok(status_behind(unless_closed(&output, left)?))
-}
-
-/// The exit status behind the lines of an explanation, of which some may have been bad.
-fn status_behind(has_bad: bool) -> u8 {
+/// The exit status behind lines of which some may have been bad.
+pub(crate) fn status_behind(has_bad: bool) -> u8 {
     if has_bad { BAD_LINE } else { DONE }
 }
 

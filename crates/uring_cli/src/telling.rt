@@ -11,10 +11,13 @@ const FAILED: u8 = 1;
 /// The exit status if the command line is refused, or asks for help.
 const REFUSED: u8 = 2;
 
+/// The exit status if there are too many images to list.
+const UNKNOWN: u8 = 3;
+
 /// The line if memory was refused.
 const OUT_OF_MEMORY: &str = "uring: out of memory\n";
 
-/// Writes what a fault says to `writer`, and returns the exit status, 1 or 2, also if the write fails: 2 for a fault of the command line or a call for help, whose text is clap's own, and 1 for any other, refused memory among them. Of a pipe that was closed it says nothing.
+/// Writes what a fault says to `writer`, and returns the exit status, 1, 2 or 3, also if the write fails: 2 for a fault of the command line or a call for help, whose text is clap's own, 3 for too many images, and 1 for any other, refused memory among them. Of a pipe that was closed it says nothing.
 pub fn tell<W: Write>(alloc: Global, writer: &mut W, fault: &Fault) -> u8 {
     let (text, status) = match text_of(alloc, fault) {
         Ok(text) => (text, status_of(fault)),
@@ -31,7 +34,8 @@ pub fn tell<W: Write>(alloc: Global, writer: &mut W, fault: &Fault) -> u8 {
 fn status_of(fault: &Fault) -> u8 {
     match fault {
         Fault::Options(fault) if !fault.is_memory() => REFUSED,
-        Fault::NoFile(..) | Fault::NoLine(_) | Fault::NoOutcome(..) => REFUSED,
+        Fault::NoFile(..) | Fault::NoLine(_) | Fault::NoOutcome(..) | Fault::NoBytes => REFUSED,
+        Fault::TooMany(_) => UNKNOWN,
         _ => FAILED,
     }
 }
@@ -51,6 +55,14 @@ fn text_of(alloc: Global, fault: &Fault) -> Result<String, AllocError> {
         ),
         Fault::NoOutcome(number, count) => {
             format!(in alloc; "uring: no outcome {number}: there are {count}, from 1 on\n")
+        }
+        Fault::NoBytes => format!(in alloc;
+            "uring: wanted behind --: OFFSET HEX, a number up to 4294967295, and two lower case digits for each byte\n"
+        ),
+        Fault::TooMany(most) => {
+            format!(in alloc;
+                "uring: a crash may leave more than {most} images: try --count or --most\n"
+            )
         }
         Fault::Closed => Ok(String::new(alloc)),
     }

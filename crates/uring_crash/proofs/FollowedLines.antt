@@ -1,16 +1,15 @@
 -- What a follower keeps, byte by byte and line by line.
-use Rattle.std.proofs.Common.{◌≡◌, ◌≢◌, ◌⊎◌, inl, inr, ℕ, ℤ, zero, suc, ◌+◌, ◌<◌, ◌≤◌, Bool, true, false, not, ◌&&◌, ◌||◌, List, [], ◌∷◌, ◌++◌, length, Option, Some, None, refl, sym, ap, subst, ◌∙◌, append_assoc, arith}
-use Rattle.std.specs.List.{AllByRecursion, list_any}
+use Rattle.std.proofs.Common.{◌≡◌, ◌≢◌, ◌⊎◌, inl, inr, ℕ, ℤ, zero, suc, ◌+◌, ◌<◌, Bool, true, false, not, ◌||◌, List, [], ◌∷◌, ◌++◌, length, Some, None, refl, sym, ap, subst, ◌∙◌, append_assoc, arith}
 use Rattle.std.proofs.lemmas.List.{append-nil}
 use Rattle.uring_entry.specs.Setup.{Setup}
 use Rattle.uring_core.specs.Histories.{History, history_of}
 use Rattle.uring_core.specs.declared.step.Step.{Step}
-use Rattle.uring_text.specs.Lines.{Splits, with_last}
+use Rattle.uring_text.specs.Lines.{Splits}
 use Rattle.uring_text.specs.KeptLine.{KeptLine, kept_of}
 use Rattle.uring_text.specs.Remarks.{is_remark}
 use Rattle.uring_text.proofs.Splits.{split_more, split_end, last_some}
 use Rattle.uring_trace.specs.Spelling.{IsStep, IsBad}
-use Rattle.uring_trace.specs.Exchanges.{Exchange, IsReadAs, lines_of, events_of}
+use Rattle.uring_trace.specs.Exchanges.{Exchange, lines_of, events_of}
 use Rattle.uring_trace.proofs.Sessions.{one_more}
 use Rattle.uring_crash.specs.FirstLines.{AreFirstLines}
 use Rattle.uring_crash.specs.Crashes.{is_bad}

@@ -1,3 +1,6 @@
 pub mod Watching
 pub mod FollowedLines
 pub mod Runs
+pub mod Replies
+pub mod Kept
+pub mod Searches

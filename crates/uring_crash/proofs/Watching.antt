@@ -1,5 +1,5 @@
 -- A step more of a machine that is watched.
-use Rattle.std.proofs.Common.{◌≡◌, ℕ, ℤ, List, [], ◌∷◌, Option, refl, sym, ap, ◌∙◌, subst}
+use Rattle.std.proofs.Common.{◌≡◌, ℕ, ℤ, List, [], ◌∷◌, Option, refl, ap, ◌∙◌, subst}
 use Rattle.uring_entry.specs.Setup.{Setup}
 use Rattle.uring_entry.specs.Requests.{Requests, operation_running}
 use Rattle.uring_entry.specs.declared.operation.Op.{Op}
@@ -10,6 +10,8 @@ use Rattle.uring_core.specs.declared.answer.Answer.{Answer}
 use Rattle.uring_machine.specs.Machine.{Machine, Fits}
 use Rattle.uring_volume.specs.Images.{IsImage}
 use Rattle.uring_volume.specs.Events as volume
+use Rattle.uring_volume.specs.Listing.{AreTheImages}
+use Rattle.uring_volume.specs.Volume.{Volume}
 use Rattle.uring_epochs.specs.Logs.{Log, log_of, logged, issued_as, finished_as}
 use Rattle.uring_crash.specs.Watches.{Watching}
 
@@ -66,6 +68,28 @@ image_of unit g fd m log h now is image =
     subst (λ (e : volume.History). IsImage unit [] e now) (ap (λ (l : Log). l.volume.history) is.logs)
     (subst (λ (f : List ℕ). IsImage unit f log.volume.history now) is.begins
     (subst (λ (u : ℕ). IsImage u log.volume.first log.volume.history now) is.units image))
+
+-- the images of the log's volume
+the_images_of : (unit : ℕ) (g : Setup) (fd : ℤ) (m : Machine) (log : Log) (h : History) (all : List (List ℕ))
+    → Watching unit g fd m log h → AreTheImages log.volume.unit log.volume.first log.volume.history all
+    → AreTheImages unit [] (log_of unit g fd h).volume.history all
+the_images_of unit g fd m log h all is images =
+    subst (λ (e : volume.History). AreTheImages unit [] e all) (ap (λ (l : Log). l.volume.history) is.logs)
+    (subst (λ (f : List ℕ). AreTheImages unit f log.volume.history all) is.begins
+    (subst (λ (u : ℕ). AreTheImages u log.volume.first log.volume.history all) is.units images))
+
+-- the same of a volume that is the log's
+pub the_images_in : (unit : ℕ) (g : Setup) (fd : ℤ) (m : Machine) (log : Log) (h : History) (v : Volume) (all : List (List ℕ))
+    → Watching unit g fd m log h → v ≡ log.volume → AreTheImages v.unit v.first v.history all
+    → AreTheImages unit [] (log_of unit g fd h).volume.history all
+the_images_in unit g fd m log h v all is same images =
+    the_images_of unit g fd m log h all is (subst (λ (x : Volume). AreTheImages x.unit x.first x.history all) same images)
+
+-- what has happened to the log's volume
+pub told_of : (unit : ℕ) (g : Setup) (fd : ℤ) (m : Machine) (log : Log) (h : History) (happened : volume.History)
+    → Watching unit g fd m log h → happened ≡ log.volume.history
+    → happened ≡ (log_of unit g fd h).volume.history
+told_of unit g fd m log h happened is told = told ∙ ap (λ (l : Log). l.volume.history) is.logs
 
 -- any other step
 logged_other : (r q : Requests) (s : Step) (a : Answer) (log : Log) → ((n : ℕ) → s ≡ step.Issue n → ⊥)

@@ -1,5 +1,5 @@
 -- The first lines of bytes. Our own rule.
-use Rattle.std.specs.Prelude.{◌≡◌, ℕ, ◌+◌, ◌≤◌, ◌⊎◌, List, [], ◌++◌, length}
+use Rattle.std.specs.Prelude.{◌≡◌, ℕ, ◌≤◌, ◌⊎◌, List, [], ◌++◌, length}
 use Rattle.uring_text.specs.Lines.{Splits, with_last}
 
 -- These are the lines of the bytes, the newest first, if there are no more than so many, and else the first so many. The last line may lack its end.

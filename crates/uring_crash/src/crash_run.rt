@@ -11,8 +11,9 @@ ghost use Rattle.uring_crash.specs.Following.{Follows};
 ghost use Rattle.uring_crash.specs.Crashes.{Leaves, image_text};
 ghost use Rattle.uring_crash.specs.Runs.{ReadsAll};
 
+use crate::choice::{least_choice, seeded_choice};
 use crate::follower::Follower;
-use crate::image_text::{least_choice, push_image, seeded_choice, told_writes};
+use crate::image_text::{push_image, told_writes};
 use crate::watch::Watch;
 use std::alloc::{AllocError, Global};
 use std::io::{Read, Write};
@@ -76,13 +77,30 @@ fn leave_all<R: Read, W: Write, E: Write>(
         (λ bad. (setup : Setup) → Follows asked.now.unit setup asked.now.fd asked.now.lines follower.old []
         → Leaves asked.now setup bad (R.remaining reader.old) (R.remaining reader.new) (W.contents writer.old) (W.contents writer.new)) }
 {
-    read_all(follower, reader)?;
-    if follower.has_bad() {
-        write_all(errors, follower.note().as_bytes(), &mut Calls::new())?;
+    let has_bad = reads_bad_line(follower, reader, errors)?;
+    if has_bad {
         return Ok(true);
     }
     write_image(alloc, follower.watch(), writer, asked)?;
     Ok(false)
+}
+
+/// Takes in all lines, and notes the first bad one. Returns whether one was bad.
+pub(crate) fn reads_bad_line<R: Read, E: Write>(
+    follower: &mut Follower,
+    reader: &mut R,
+    errors: &mut E,
+) -> Result<bool, TraceFault>
+    ensures bad { IfOk result (λ bad. bad ≡ follower.new.has_bad) }
+    ensures read { OnOk result
+        ((unit : ℕ) (setup : Setup) (fd : ℤ) (most : ℕ) → Follows unit setup fd most follower.old []
+        → ReadsAll unit setup fd most follower.new (R.remaining reader.old) (R.remaining reader.new)) }
+{
+    read_all(follower, reader)?;
+    if follower.has_bad() {
+        write_all(errors, follower.note().as_bytes(), &mut Calls::new())?;
+    }
+    Ok(follower.has_bad())
 }
 
 /// Takes in all lines.
@@ -132,7 +150,7 @@ fn left_image(alloc: Global, watch: &Watch, asked: &Asked) -> Result<Vec<u8>, Al
 {
     let choice = match asked.seed {
         Some(seed) => seeded_choice(alloc, watch.log(), asked.unit, seed)?,
-        None => least_choice(alloc, watch.log(), asked.unit)?,
+        None => least_choice(alloc, watch.log().events()?, asked.unit)?,
     };
     watch.crash(&choice)
 }

@@ -1,8 +1,10 @@
 //! A machine, and the log of one of its files.
 
-ghost use Rattle.std.specs.Prelude.{◌≡◌, ◌<◌, ◌∷◌, [], ℕ, ℤ, IfOk};
+ghost use Rattle.std.specs.Prelude.{◌≡◌, ◌<◌, ◌≤◌, ◌-◌, ◌^◌, ◌∷◌, [], ℕ, ℤ, List, Err, min, map, length, IfOk};
 ghost use Rattle.uring_entry.specs.Setup.{Setup};
 ghost use Rattle.uring_volume.specs.Images.{IsImage};
+ghost use Rattle.uring_volume.specs.Listing.{AreTheImages};
+ghost use Rattle.uring_volume.specs.declared.volume.ImagesError.TheVariants.{TooMany};
 ghost use Rattle.uring_core.specs.Histories.{History};
 ghost use Rattle.uring_epochs.specs.Logs.{log_of};
 ghost use Rattle.uring_crash.specs.Watches.{Watches};
@@ -10,6 +12,7 @@ ghost use Rattle.uring_crash.specs.Watches.{Watches};
 use std::alloc::{AllocError, Global};
 use uring_epochs::FileLog;
 use uring_machine::{Answer, Machine, Setup, Step};
+use uring_volume::ImagesError;
 
 /// A machine, and the log of one of its files.
 #[derive(Drop)]
@@ -76,8 +79,34 @@ impl Watch {
         self.log.crash(choice)
     }
 
+    /// How many images a crash behind the steps so far may leave, 2^64 - 1 if there are as many or more.
+    pub(crate) fn count_images(&self, alloc: Global) -> Result<u64, AllocError>
+        ensures { IfOk result (λ count. (unit : ℕ) (setup : Setup) (fd : ℤ) (h : History)
+            → Watches unit setup fd self.now h → (all : List (List ℕ))
+            × AreTheImages unit [] (log_of unit setup fd h).volume.history all
+            × (count ≡ min (length all) (2 ^ 64 - 1))) }
+    {
+        self.log.volume().count_images(alloc)
+    }
+
+    /// The images that a crash behind the steps so far may leave, each once, if there are no more than `most`.
+    pub(crate) fn images(&self, alloc: Global, most: u32) -> Result<Vec<Vec<u8>>, ImagesError>
+        ensures images { IfOk result (λ images. (unit : ℕ) (setup : Setup) (fd : ℤ) (h : History)
+            → Watches unit setup fd self.now h
+            → AreTheImages unit [] (log_of unit setup fd h).volume.history (map (λ b. b.items) images.items)) }
+        ensures within { IfOk result (λ images. length images.items ≤ most) }
+        ensures too_many { result ≡ Err TooMany
+            → (unit : ℕ) (setup : Setup) (fd : ℤ) (h : History) → Watches unit setup fd self.now h
+            → (all : List (List ℕ)) × AreTheImages unit [] (log_of unit setup fd h).volume.history all
+            × (most < length all) }
+    {
+        self.log.volume().images(alloc, most)
+    }
+
     /// The log of the file.
-    pub(crate) fn log(&self) -> &FileLog {
+    pub(crate) fn log(&self) -> &FileLog
+        ensures { result.now ≡ self.now.log }
+    {
         &self.log
     }
 }

@@ -1,6 +1,7 @@
 //! The log of a file: its writes and syncs, as the requests that are these begin and end.
 
-ghost use Rattle.std.specs.Prelude.{◌≡◌, ◌+◌, ◌∷◌, ◌<◌, ◌≤◌, true, reverse, length, IfOk, OnOk, IfSome};
+ghost use Rattle.std.specs.Prelude.{◌≡◌, ◌+◌, ◌∷◌, ◌<◌, ◌≤◌, ℤ, pos, true, false, reverse, length, IfOk, OnOk, IfSome};
+ghost use Rattle.std.specs.Ordering.{int_eq};
 ghost use Rattle.uring_files.specs.Operations.{IsForFiles};
 ghost use Rattle.uring_files.specs.Contents.{max_len};
 ghost use Rattle.uring_volume.specs.Images.{IsImage};
@@ -13,7 +14,7 @@ ghost use Rattle.uring_epochs.specs.Logs.{request_of, log_on, begun, begun_of, i
 use std::alloc::{AllocError, Global};
 use std::marker::Model;
 use uring_core::{Answer, Op};
-use uring_volume::{Piece, SyncRange, Volume};
+use uring_volume::{Event, Piece, SyncRange, Volume};
 
 /// The most bytes that a file may have.
 const MAX_LEN: u64 = 65_536;
@@ -26,8 +27,9 @@ pub struct FileLog {
     volume: Volume,
     // The oldest first: that of number 1 on the volume, and so on.
     requests: Vec<u64>,
-    // The writes alone, to tell of them.
-    writes: Vec<Piece>,
+    // What has happened on the volume, the oldest first, and whether memory was refused for the end of a write or a sync, so that it isn't all.
+    events: Vec<Event>,
+    is_cut: bool,
 }
 
 impl Model for FileLog {
@@ -40,10 +42,9 @@ impl Model for FileLog {
 
     ghost view = { λ l. record { fd = l.fd; volume = l.volume; requests = reverse l.requests.items } };
 
-    ghost use Rattle.std.specs.Prelude.{◌≡◌};
-    ghost use Rattle.uring_volume.specs.Choices.{issued};
+    ghost use Rattle.std.specs.Prelude.{◌≡◌, false};
 
-    ghost invariant = { λ l. record { short : IsShort l.volume; written : l.writes.items ≡ issued l.volume.history } };
+    ghost invariant = { λ l. record { short : IsShort l.volume; told : l.is_cut ≡ false → reverse l.events.items ≡ l.volume.history } };
 }
 
 /// The number that a request has on the volume, 0 if it has none.
@@ -79,7 +80,8 @@ impl FileLog {
             fd,
             volume: Volume::new(alloc, unit, first),
             requests: Vec::new(alloc),
-            writes: Vec::new(alloc),
+            events: Vec::new(alloc),
+            is_cut: false,
         }
     }
 
@@ -174,12 +176,13 @@ impl FileLog {
     {
         let shown = Vec::from_slice(self.alloc, bytes)?;
         let written = Vec::from_slice(self.alloc, bytes)?;
-        self.writes.reserve(1)?;
+        self.events.reserve(1)?;
         self.requests.reserve(1)?;
         let Ok(number) = self.volume.begin_write(off, written) else {
             return Err(AllocError);
         };
-        self.writes.push_reserved(Piece::new(number, off, shown));
+        self.events
+            .push_reserved(Event::WriteIssued(Piece::new(number, off, shown)));
         self.requests.push_reserved(n);
         Ok(())
     }
@@ -191,13 +194,15 @@ impl FileLog {
         ensures unit { self.new.volume.unit ≡ self.old.volume.unit }
         ensures first { self.new.volume.first ≡ self.old.volume.first }
     {
-        match self.volume.begin_sync(SyncRange::Whole) {
-            Ok(_) => {
-                self.requests.push(n)?;
-                Ok(())
-            }
-            Err(_) => Err(AllocError),
-        }
+        self.events.reserve(1)?;
+        self.requests.reserve(1)?;
+        let Ok(number) = self.volume.begin_sync(SyncRange::Whole) else {
+            return Err(AllocError);
+        };
+        self.events
+            .push_reserved(Event::SyncIssued(number, SyncRange::Whole));
+        self.requests.push_reserved(n);
+        Ok(())
     }
 
     /// A request ends with this result.
@@ -228,7 +233,10 @@ impl FileLog {
         ensures unit { self.new.volume.unit ≡ self.old.volume.unit }
         ensures first { self.new.volume.first ≡ self.old.volume.first }
     {
-        self.volume.end_write(number_of(&self.requests, n));
+        let number = number_of(&self.requests, n);
+        if self.volume.end_write(number) && self.events.push(Event::WriteEnded(number)).is_err() {
+            self.is_cut = true;
+        }
     }
 
     /// The sync that a request is ends with this result.
@@ -240,9 +248,33 @@ impl FileLog {
     {
         let number = number_of(&self.requests, n);
         if res == 0 {
-            self.volume.end_sync(number);
+            self.succeed(number);
         } else {
-            self.volume.fail_sync(number);
+            self.fail(number);
+        }
+    }
+
+    /// The sync of a number on the volume ends with success.
+    fn succeed(&mut self, number: u64)
+        ensures log { self.new
+            ≡ record self.old { volume = sync_with (pos 0) number self.old.volume } }
+        ensures unit { self.new.volume.unit ≡ self.old.volume.unit }
+        ensures first { self.new.volume.first ≡ self.old.volume.first }
+    {
+        if self.volume.end_sync(number) && self.events.push(Event::SyncEnded(number)).is_err() {
+            self.is_cut = true;
+        }
+    }
+
+    /// The sync of a number on the volume fails.
+    fn fail(&mut self, number: u64)
+        ensures log { (res : ℤ) → int_eq res (pos 0) ≡ false → self.new
+            ≡ record self.old { volume = sync_with res number self.old.volume } }
+        ensures unit { self.new.volume.unit ≡ self.old.volume.unit }
+        ensures first { self.new.volume.first ≡ self.old.volume.first }
+    {
+        if self.volume.fail_sync(number) && self.events.push(Event::SyncFailed(number)).is_err() {
+            self.is_cut = true;
         }
     }
 
@@ -257,11 +289,21 @@ impl FileLog {
         self.volume.crash(self.alloc, choice)
     }
 
-    /// The writes of the file, in the order in which they began. Each has its number on the volume.
-    pub fn writes(&self) -> &[Piece]
-        ensures { result.now ≡ issued self.now.volume.history }
+    /// The file as a volume.
+    pub fn volume(&self) -> &Volume
+        ensures { result.now ≡ self.now.volume }
     {
-        &self.writes
+        &self.volume
+    }
+
+    /// What has happened on the volume, the oldest first: each write, from which it can be told of, and each sync. `AllocError`: memory was refused for the end of one.
+    pub fn events(&self) -> Result<&[Event], AllocError>
+        ensures { IfOk result (λ events. reverse events.now ≡ self.now.volume.history) }
+    {
+        if self.is_cut {
+            return Err(AllocError);
+        }
+        Ok(&self.events)
     }
 
     /// The request of a number on the volume, if it is one: the oldest has number 1.

@@ -66,6 +66,14 @@ pub enum Options {
         at: Option<u32>,
         /// By which seed an image is chosen (`--seed`).
         seed: Option<u32>,
+        /// Whether it is asked how many images there are (`--count`).
+        is_count: bool,
+        /// Whether it is asked which they are (`--all`).
+        is_all: bool,
+        /// How many may be listed, if a number is given (`--most`).
+        most: Option<u32>,
+        /// Whether it is asked if each has some bytes (`--holds`).
+        is_holds: bool,
     },
 
     /// `uring outcomes`: what calls may come to over this set-up.

@@ -144,6 +144,30 @@ const SEED: OptionRow = OptionRow {
     numbers: Some((0, 4_294_967_295)),
 };
 
+const COUNT: OptionRow = OptionRow {
+    id: "count",
+    help: "Write how many images a crash may leave, and nothing else",
+    numbers: None,
+};
+
+const LIST: OptionRow = OptionRow {
+    id: "all",
+    help: "Write each image that a crash may leave, once, and how many they are",
+    numbers: None,
+};
+
+const LISTED: OptionRow = OptionRow {
+    id: "most",
+    help: "List no more than so many images; with more, end with status 3 [default: 1000]",
+    numbers: Some((1, 4_294_967_295)),
+};
+
+const HOLDS: OptionRow = OptionRow {
+    id: "holds",
+    help: "Tell whether each crash leaves the bytes HEX at OFFSET, both behind --",
+    numbers: None,
+};
+
 const RESULTS: OptionRow = OptionRow {
     id: "results",
     help: "Sort the completions of each outcome by user data, and say how many orders it has",
@@ -217,7 +241,9 @@ static CRASH: CommandRow = CommandRow {
     name: "crash",
     about: "Read steps as trace does, let the power fail, and write what is left of a file",
     after_help: IMAGES,
-    options: &[SQ, CQ, FILES, START, STOP, FILE, UNIT, AT, SEED],
+    options: &[
+        SQ, CQ, FILES, START, STOP, FILE, UNIT, AT, SEED, COUNT, LIST, LISTED, HOLDS,
+    ],
 };
 
 /// `uring outcomes`.

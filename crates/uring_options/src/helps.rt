@@ -151,6 +151,15 @@ of the others too, whole or in part: for each N another image, and each is one
 that a crash may leave. With --unit 512 each 512 bytes of the file are left as
 a whole. A write that ended with an error may be left too.
 
+With one of these another thing is written; of several the first listed counts:
+  --count        images N: how many different images a crash may leave
+  --all          each of them as above, once, and how many they are; with more
+                 than --most nothing, and the status is 3
+  --holds -- OFFSET HEX
+                 kept at OFFSET: HEX if each image has these bytes there; else
+                 not kept at OFFSET: HEX, an image that hasn't, and its writes,
+                 and the status is 1
+
 A bad line is told on standard error with its number, and nothing is written;
 the status is then 4. It is 2 if there is no such file.";
 

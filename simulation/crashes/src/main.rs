@@ -1,9 +1,10 @@
-//! Gives random histories of a file to the proved volume and to a model that was written apart from it, and compares: what calls return, what reads show, which writes are safe, and what crashes leave. Of small histories all images of the model are had from the volume, whatever numbers leave is one of them, and the volume lists and counts the same ones, also after writes were folded.
+//! Gives random histories of a file to the proved volume and to a model that was written apart from it, and compares: what calls return, what reads show, which writes are safe, and what crashes leave. Of small histories all images of the model are had from the volume, whatever numbers leave is one of them, and the volume lists and counts the same ones, also after writes were folded. Then it asks the program of URING the same of random traces.
 //!
 //!     crashes [FIRST_SEED [SEEDS]]
 //!
 //! At a difference it prints the seed and what was done, and ends with status 1.
 
+mod asked;
 mod model;
 
 use model::{End, File};
@@ -18,6 +19,14 @@ const CHOICES: u64 = 20;
 struct Rng(u64);
 
 impl Rng {
+    fn of(seed: u64) -> Rng {
+        let mut rng = Rng(seed.wrapping_mul(0x9e37_79b9_7f4a_7c15) | 1);
+        for _ in 0..8 {
+            rng.below(1);
+        }
+        rng
+    }
+
     fn below(&mut self, n: u64) -> u64 {
         self.0 ^= self.0 << 13;
         self.0 ^= self.0 >> 7;
@@ -188,10 +197,7 @@ impl Pair {
 }
 
 fn play(seed: u64) -> Result<usize, Difference> {
-    let mut rng = Rng(seed.wrapping_mul(0x9e37_79b9_7f4a_7c15) | 1);
-    for _ in 0..8 {
-        rng.below(1);
-    }
+    let mut rng = Rng::of(seed);
     let mut pair = Pair::new(&mut rng);
     let mut tried = 0;
     for _ in 0..4 + rng.below(16) {
@@ -239,5 +245,15 @@ fn main() -> ExitCode {
         }
     }
     println!("crashes: {count} histories from seed {first} on, with all {images} images of the small ones: no difference");
+    // Each question starts the program, so that there are fewer of these.
+    let traces = count.div_ceil(10);
+    let program = std::env::var("URING").unwrap_or_default();
+    match asked::ask(&program, first..first + traces) {
+        Ok(kept) => println!("crashes: {traces} traces from seed {first} on, of which the program was asked; {kept} of {} times each image had the bytes: no difference", 4 * traces),
+        Err(what) => {
+            println!("{what}");
+            return ExitCode::FAILURE;
+        }
+    }
     ExitCode::SUCCESS
 }

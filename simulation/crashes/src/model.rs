@@ -271,6 +271,16 @@ impl File {
         Some(all)
     }
 
+    /// Whether each image has these bytes at an offset, length by length and byte by byte.
+    pub fn holds(&self, off: u64, bytes: &[u8]) -> bool {
+        let reaches = |len: &u64| off + bytes.len() as u64 <= *len;
+        self.lengths().keys().all(reaches)
+            && bytes.iter().zip(off..).all(|(wanted, at)| {
+                let orders = self.orders(&self.touching(at / self.unit));
+                orders.iter().all(|order| self.byte(order, at) == *wanted)
+            })
+    }
+
     /// The writes that a part of a choice leaves of these: those that it names one after the other, without the numbers that name none that may come next; then, of those that are still there, the ones up to the last safe one, in the order of their issue.
     fn chosen(&self, writes: &[&Write], part: &[u64]) -> Order {
         let mut rest = writes.to_vec();

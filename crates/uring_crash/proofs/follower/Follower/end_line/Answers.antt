@@ -1,4 +1,4 @@
-use Rattle.std.proofs.Common.{◌≡◌, ◌+◌, ◌-◌, ℕ, arith}
+use Rattle.std.proofs.Common.{arith}
 use Rattle.uring_crash.proofs.FollowedLines.{follows_line}
 use Rattle.uring_crash.proofs.follower.Follower.end_line.Goals as goal
 

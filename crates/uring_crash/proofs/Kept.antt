@@ -1,0 +1,175 @@
+-- What each image has.
+use Rattle.std.proofs.Common.{◌≡◌, ◌==◌, ◌<◌, ◌≤◌, ◌+◌, ◌-◌, ◌/◌, ◌⊎◌, inl, inr, ℕ, true, false, cond, List, [], ◌∷◌, length, refl, sym, subst, ap, ◌∙◌, arith}
+use Rattle.std.specs.Prelude.{slice_index}
+use Rattle.std.specs.List.{list_any}
+use Rattle.std.proofs.lemmas.Bool.{cases_Bool, both_ways, cond-true, cond-false, and_parts, and_from, or_cases, not_from_false, not-true, eqb-true, eq-eqb, leb-true}
+use Rattle.uring_volume.specs.Writes.{Write}
+use Rattle.uring_volume.specs.Events.{History, writes, is_before, is_safe}
+use Rattle.uring_volume.specs.Images.{IsIn, IsInOrder, is_under, is_on, end_of, byte_over, UnitIsLeft, IsImage}
+use Rattle.uring_volume.specs.Choices.{issued}
+use Rattle.uring_volume.proofs.Chosen.{in_issued, of_issued}
+use Rattle.uring_volume.proofs.Fitting.{not_in}
+use Rattle.uring_volume.proofs.Puts.{any_is}
+use Rattle.uring_volume.proofs.ReadBack.{on_from, end_within}
+use Rattle.uring_crash.specs.Keeping.{Holds, lies_over, may_show_other, is_safe_over, is_safe_up_to, keeps_byte}
+
+-- a write of these that writes byte k
+pub record Over (k : ℕ) (among : List Write) : Type 0 where
+  pub write : Write
+  pub is_in : IsIn write among
+  pub under : is_under write k ≡ true
+
+-- a write of these that lies over write n at byte k
+pub record Hides (h : History) (k : ℕ) (n : ℕ) (among : List Write) : Type 0 where
+  pub write : Write
+  pub is_in : IsIn write among
+  pub under : is_under write k ≡ true
+  pub differs : write.number ≡ n → ⊥
+  pub before : is_before h n write.number ≡ true
+
+-- the byte of a write at offset k
+abbrev pub byte_of : Write → ℕ → ℕ
+byte_of w k = slice_index w.bytes (k - w.off)
+
+-- of those over a byte the head is the one, or it is a later one
+later_over : (k : ℕ) (w : Write) (later : List Write) → is_under w k ≡ false → Over k (w ∷ later)
+    → Over k later
+later_over k w later none o = elim o.is_in [
+  | inl same ↦ absurd (both_ways (is_under w k) none (subst (λ (x : Write). is_under x k ≡ true) same o.under))
+  | inr more ↦ record { write = o.write; is_in = more; under = o.under }
+]
+
+hidden_later : (h : History) (k : ℕ) (w : Write) (later : List Write) → Hides h k w.number (w ∷ later)
+    → Over k later
+hidden_later h k w later o = elim o.is_in [
+  | inl same ↦ absurd (o.differs (ap (λ (x : Write). x.number) same))
+  | inr more ↦ record { write = o.write; is_in = more; under = o.under }
+]
+
+-- what hides a later write isn't the head, which none that comes later is before
+still_hidden : (h : History) (k : ℕ) (w x : Write) (later : List Write)
+    → ((m : Write) → IsIn m later → is_before h m.number w.number ≡ false)
+    → IsIn x later → Hides h k x.number (w ∷ later) → Hides h k x.number later
+still_hidden h k w x later order among o = elim o.is_in [
+  | inl same ↦ absurd (both_ways (is_before h x.number w.number) (order x among) (subst (λ (y : Write). is_before h x.number y.number ≡ true) same o.before))
+  | inr more ↦ record { write = o.write; is_in = more; under = o.under; differs = o.differs; before = o.before }
+]
+
+either_later : (h : History) (k v : ℕ) (w x : Write) (later : List Write)
+    → ((m : Write) → IsIn m later → is_before h m.number w.number ≡ false)
+    → IsIn x later → (byte_of x k ≡ v) ⊎ Hides h k x.number (w ∷ later)
+    → (byte_of x k ≡ v) ⊎ Hides h k x.number later
+either_later h k v w x later order among (inl is) = inl is
+either_later h k v w x later order among (inr o) = inr (still_hidden h k w x later order among o)
+
+over_now : (h : History) (k v byte : ℕ) (w : Write) (later : List Write) → is_under w k ≡ true
+    → (byte_of w k ≡ v) ⊎ Hides h k w.number (w ∷ later)
+    → (cond (is_under w k) (byte_of w k) byte ≡ v) ⊎ Over k later
+over_now h k v byte w later under (inl is) = inl (cond-true (is_under w k) (byte_of w k) byte under ∙ is)
+over_now h k v byte w later under (inr o) = inr (hidden_later h k w later o)
+
+over_not : (h : History) (k v byte : ℕ) (w : Write) (later : List Write) → is_under w k ≡ false
+    → (byte ≡ v) ⊎ Over k (w ∷ later)
+    → (cond (is_under w k) (byte_of w k) byte ≡ v) ⊎ Over k later
+over_not h k v byte w later none (inl is) = inl (cond-false (is_under w k) (byte_of w k) byte none ∙ is)
+over_not h k v byte w later none (inr o) = inr (later_over k w later none o)
+
+-- a byte with some writes over it, of which each that shows another is hidden
+shows : (h : History) (k v byte : ℕ) (order : List Write) → IsInOrder h order
+    → (byte ≡ v) ⊎ Over k order
+    → ((w : Write) → IsIn w order → is_under w k ≡ true → (byte_of w k ≡ v) ⊎ Hides h k w.number order)
+    → byte_over byte order k ≡ v
+shows h k v byte [] o (inl is) each = is
+shows h k v byte [] o (inr over) each = absurd over.is_in
+shows h k v byte (w ∷ later) o first each =
+    shows h k v (cond (is_under w k) (byte_of w k) byte) later o.2
+    (elim (cases_Bool (is_under w k)) [
+      | inl under ↦ over_now h k v byte w later under (each w (inl refl) under)
+      | inr none ↦ over_not h k v byte w later none first
+    ])
+    (λ x among under. either_later h k v w x later o.0 among (each x (inr among) under))
+
+-- The tests.
+
+some_over : (h : History) (u k : ℕ) (order : List Write) → 0 < u
+    → ((w : Write) → IsIn w (writes h) → is_on u (k / u) w ≡ true → is_safe h w ≡ true → IsIn w order)
+    → list_any (is_safe_over h k) (issued h) ≡ true → Over k order
+some_over h u k order positive safe is =
+    let found = any_is (is_safe_over h k) (issued h) is in
+    let parts = and_parts _ _ found.2 in
+    record {
+      write = found.0;
+      is_in = safe found.0 (of_issued h found.0 found.1) (on_from u found.0 k positive parts.0) parts.1;
+      under = parts.0;
+    }
+
+some_hides : (h : History) (u k n : ℕ) (order : List Write) → 0 < u
+    → ((w : Write) → IsIn w (writes h) → is_on u (k / u) w ≡ true → is_safe h w ≡ true → IsIn w order)
+    → list_any (lies_over h k n) (issued h) ≡ true → Hides h k n order
+some_hides h u k n order positive safe is =
+    let found = any_is (lies_over h k n) (issued h) is in
+    let parts = and_parts _ _ found.2 in
+    let others = and_parts _ _ parts.1 in
+    let last = and_parts _ _ others.1 in
+    record {
+      write = found.0;
+      is_in = safe found.0 (of_issued h found.0 found.1) (on_from u found.0 k positive parts.0) last.1;
+      under = parts.0;
+      differs = λ same. both_ways (found.0.number == n) (not-true (found.0.number == n) others.0) (eq-eqb found.0.number n same);
+      before = last.0;
+    }
+
+shown_or_hidden : (h : History) (u k v : ℕ) (order : List Write) (w : Write) → 0 < u
+    → ((w : Write) → IsIn w (writes h) → is_on u (k / u) w ≡ true → is_safe h w ≡ true → IsIn w order)
+    → is_under w k ≡ true → may_show_other h k v w ≡ false
+    → (byte_of w k ≡ v) ⊎ Hides h k w.number order
+shown_or_hidden h u k v order w positive safe under none =
+    elim (cases_Bool (byte_of w k == v)) [
+      | inl is ↦ inl (eqb-true (byte_of w k) v is)
+      | inr other ↦ elim (cases_Bool (list_any (lies_over h k w.number) (issued h))) [
+        | inl hides ↦ inr (some_hides h u k w.number order positive safe hides)
+        | inr hides_not ↦ absurd (both_ways (may_show_other h k v w) none
+            (and_from _ _ under (and_from _ _ (not_from_false (byte_of w k == v) other) (not_from_false (list_any (lies_over h k w.number) (issued h)) hides_not))))
+      ]
+    ]
+
+first_or_over : (h : History) (u k v : ℕ) (order : List Write) → 0 < u
+    → ((w : Write) → IsIn w (writes h) → is_on u (k / u) w ≡ true → is_safe h w ≡ true → IsIn w order)
+    → (v ≡ 0) ⊎ (list_any (is_safe_over h k) (issued h) ≡ true)
+    → (slice_index [] k ≡ v) ⊎ Over k order
+first_or_over h u k v order positive safe (inl none) = inl (sym none)
+first_or_over h u k v order positive safe (inr over) = inr (some_over h u k order positive safe over)
+
+pub kept_byte : (h : History) (u k v : ℕ) (now : List ℕ) → 0 < u → IsImage u [] h now
+    → k < length now → keeps_byte h k v ≡ true → slice_index now k ≡ v
+kept_byte h u k v now positive image within keeps =
+    let here : UnitIsLeft u [] h now (k / u) = image.units (k / u) in
+    let parts = and_parts _ _ keeps in
+    here.bytes k refl within
+    ∙ shows h k v (slice_index [] k) here.order here.left.in_order
+    (first_or_over h u k v here.order positive here.left.safe (elim (or_cases (v == 0) (list_any (is_safe_over h k) (issued h)) parts.1) [
+      | inl none ↦ inl (eqb-true v 0 none)
+      | inr over ↦ inr over
+    ]))
+    (λ w among under. shown_or_hidden h u k v here.order w positive here.left.safe under
+    (not_in (may_show_other h k v) w (issued h) (not-true (list_any (may_show_other h k v) (issued h)) parts.0) (in_issued h w (here.left.issued w among).0)))
+
+long_enough : (h : History) (u end : ℕ) (now : List ℕ) → IsImage u [] h now
+    → list_any (is_safe_up_to h end) (issued h) ≡ true → end ≤ length now
+long_enough h u end now image is =
+    let found = any_is (is_safe_up_to h end) (issued h) is in
+    let parts = and_parts _ _ found.2 in
+    let more = and_parts _ _ parts.1 in
+    let reach : end ≤ found.0.off + length found.0.bytes = leb-true end (found.0.off + length found.0.bytes) more.0 in
+    let is_end : end_of found.0 ≡ found.0.off + length found.0.bytes = cond-false (length found.0.bytes == 0) 0 (found.0.off + length found.0.bytes) (not-true (length found.0.bytes == 0) parts.0) in
+    let among : IsIn found.0 image.len.order = image.len.left.safe found.0 (of_issued h found.0 found.1) refl more.1 in
+    omega (arith, reach, is_end, image.len.len, end_within 0 found.0 image.len.order among)
+
+pub kept_bytes : (h : History) (u off : ℕ) (bytes now : List ℕ) → 0 < u → IsImage u [] h now
+    → list_any (is_safe_up_to h (off + length bytes)) (issued h) ≡ true
+    → ((j : ℕ) → j < length bytes → keeps_byte h (off + j) (slice_index bytes j) ≡ true)
+    → Holds off bytes now
+kept_bytes h u off bytes now positive image reaches keeps j within =
+    let long : off + length bytes ≤ length now = long_enough h u (off + length bytes) now image reaches in
+    let inside : off + j < length now = omega (arith, long, within) in
+    (inside, kept_byte h u (off + j) (slice_index bytes j) now positive image inside (keeps j within))

@@ -1,0 +1,8 @@
+use Rattle.std.proofs.Common.{◌≡◌, ◌+◌, ◌<◌, ℕ, true, reverse}
+use Rattle.std.specs.Prelude.{slice_index}
+use Rattle.uring_crash.specs.Keeping.{keeps_byte}
+use Rattle.uring_crash.proofs.keeping.keeps_bytes.Given as goal
+
+abbrev pub invariant-loop-j : goal.invariant-loop-j
+invariant-loop-j l =
+    (i : ℕ) → i < l.j → keeps_byte (reverse l.events) (l.off + i) (slice_index l.bytes i) ≡ true

@@ -1,0 +1,12 @@
+use Rattle.std.proofs.Common.{ℤ, [], w32, subst, rules}
+use Rattle.std.proofs.lemmas.Int.{to_z-of_z}
+use Rattle.std.proofs.lemmas.Result.{IfOk-weaker}
+use Rattle.uring_crash.specs.Following.{Follows}
+use Rattle.uring_crash.proofs.questions.ask.Goals as goal
+
+pub returns : goal.returns
+returns g c =
+    IfOk-weaker c.answer-answered.result _ _
+    (λ reply asks. asks c.args.setup.now
+    (subst (λ (d : ℤ). Follows c.args.asked.now.unit c.args.setup.now d c.args.asked.now.lines c.in_ok-follower.follower []) (to_z-of_z w32 c.args.asked.now.fd (search rules)) c.in_ok-follower.ensures))
+    c.answer-answered.ensures

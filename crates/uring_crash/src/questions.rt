@@ -1,0 +1,241 @@
+//! What is asked of all images that a crash may leave: how many there are, which, and whether each has some bytes.
+
+ghost use Rattle.std.specs.Prelude.{◌≡◌, ◌<◌, ◌++◌, [], ℕ, ℤ, List, map, codes, IfOk, OnOk, string_bytes};
+ghost use Rattle.uring_entry.specs.Setup.{Setup};
+ghost use Rattle.uring_core.specs.Histories.{History};
+ghost use Rattle.uring_epochs.specs.Logs.{log_of};
+ghost use Rattle.uring_crash.specs.Watches.{Watches};
+ghost use Rattle.uring_crash.specs.Following.{Follows};
+ghost use Rattle.uring_crash.specs.Crashes.{image_text};
+ghost use Rattle.uring_crash.specs.Questions.{Asks, Replies, AreCounted, AreListed, AreKept, count_text, images_text, kept_text};
+
+use crate::crash_run::{Asked, reads_bad_line};
+use crate::follower::Follower;
+use crate::image_text::{push_bytes, push_image, told_writes};
+use crate::search::{Found, find};
+use crate::watch::Watch;
+use std::alloc::{AllocError, Global};
+use std::io::{Read, Write};
+use uring_machine::Setup;
+use uring_text::{Calls, TraceFault, push_number, push_text, write_all};
+use uring_volume::ImagesError;
+
+/// A question of all images that a crash may leave of a file.
+#[derive(Debug, Drop)]
+pub enum Question {
+    /// How many there are.
+    Count,
+
+    /// Which, if there are no more than `most`.
+    All { most: u32 },
+
+    /// Whether each has these bytes at an offset. Where that isn't plain, the images are listed, if there are no more than `most`.
+    Keeps { off: u64, bytes: Vec<u8>, most: u32 },
+}
+
+/// What became of a question.
+#[derive(Clone, Copy, Debug, PartialEq, Drop)]
+pub enum Reply {
+    /// It was answered; of bytes, that each image has them.
+    Answered,
+
+    /// Not every image has the bytes.
+    NotKept,
+
+    /// There are more images than may be listed.
+    TooMany,
+
+    /// A line was bad.
+    BadLine,
+}
+
+/// Reads lines as `crash` does, and writes the answer to a question of all images that a crash behind them may leave of the file; the seed is of no account.
+///
+/// - How many: `images N`, with ` or more` behind 2^64 - 1.
+/// - Which: a line with the length and the bytes of each, in the order in which they were found, and how many.
+/// - Whether each has some bytes: `kept at OFF: HEX`, or else `not kept at OFF: HEX` and an image that hasn't, with its writes, as `crash` writes it.
+///
+/// With `TooMany` and `BadLine` nothing is written; the first bad line is noted on `errors`. The faults are those of `crash`.
+pub fn ask<R: Read, W: Write, E: Write>(
+    alloc: Global,
+    reader: &mut R,
+    writer: &mut W,
+    errors: &mut E,
+    setup: &Setup,
+    asked: &Asked,
+    question: &Question,
+) -> Result<Reply, TraceFault>
+    requires { 0 < asked.now.unit }
+    ensures { IfOk result
+        (λ reply. Asks question.now asked.now setup.now reply (R.remaining reader.old) (R.remaining reader.new) (W.contents writer.old) (W.contents writer.new)) }
+{
+    let mut follower = Follower::new(alloc, setup, asked.unit, asked.fd, asked.lines)?;
+    let answered = answer(
+        alloc,
+        &mut follower,
+        reader,
+        writer,
+        errors,
+        asked,
+        question,
+    );
+    drop(follower);
+    answered
+}
+
+/// Takes in all lines, and writes the answer, or the note on a bad line.
+fn answer<R: Read, W: Write, E: Write>(
+    alloc: Global,
+    follower: &mut Follower,
+    reader: &mut R,
+    writer: &mut W,
+    errors: &mut E,
+    asked: &Asked,
+    question: &Question,
+) -> Result<Reply, TraceFault>
+    ensures { IfOk result
+        (λ reply. (setup : Setup) → Follows asked.now.unit setup asked.now.fd asked.now.lines follower.old []
+        → Asks question.now asked.now setup reply (R.remaining reader.old) (R.remaining reader.new) (W.contents writer.old) (W.contents writer.new)) }
+{
+    let has_bad = reads_bad_line(follower, reader, errors)?;
+    if has_bad {
+        return Ok(Reply::BadLine);
+    }
+    let told = replied(alloc, follower.watch(), asked.unit, question)?;
+    write_all(writer, told.1.as_bytes(), &mut Calls::new())?;
+    Ok(told.0)
+}
+
+/// The reply to a question, and the text that is written.
+fn replied(
+    alloc: Global,
+    watch: &Watch,
+    unit: u64,
+    question: &Question,
+) -> Result<(Reply, String), AllocError>
+    ensures { IfOk result (λ r. (unit : ℕ) (setup : Setup) (fd : ℤ) (h : History)
+        → Watches unit setup fd watch.now h
+        → Replies question.now unit (log_of unit setup fd h).volume.history r.0 (string_bytes r.1)) }
+{
+    match question {
+        Question::Count => counted(alloc, watch),
+        Question::All { most } => listed(alloc, watch, *most),
+        Question::Keeps { off, bytes, most } => kept(alloc, watch, unit, *off, bytes, *most),
+    }
+}
+
+/// How many images there are.
+fn counted(alloc: Global, watch: &Watch) -> Result<(Reply, String), AllocError>
+    ensures { IfOk result (λ r. (unit : ℕ) (setup : Setup) (fd : ℤ) (h : History)
+        → Watches unit setup fd watch.now h
+        → AreCounted unit (log_of unit setup fd h).volume.history r.0 (string_bytes r.1)) }
+{
+    let count = watch.count_images(alloc)?;
+    let mut text = String::new(alloc);
+    push_count(alloc, &mut text, count)?;
+    Ok((Reply::Answered, text))
+}
+
+/// The images, each once.
+fn listed(alloc: Global, watch: &Watch, most: u32) -> Result<(Reply, String), AllocError>
+    ensures { IfOk result (λ r. (unit : ℕ) (setup : Setup) (fd : ℤ) (h : History)
+        → Watches unit setup fd watch.now h
+        → AreListed most unit (log_of unit setup fd h).volume.history r.0 (string_bytes r.1)) }
+{
+    match watch.images(alloc, most) {
+        Ok(images) => Ok((Reply::Answered, text_of_images(alloc, &images)?)),
+        Err(ImagesError::TooMany) => Ok((Reply::TooMany, String::new(alloc))),
+        Err(ImagesError::OutOfMemory) => Err(AllocError),
+    }
+}
+
+/// Whether each image has these bytes.
+fn kept(
+    alloc: Global,
+    watch: &Watch,
+    unit: u64,
+    off: u64,
+    bytes: &[u8],
+    most: u32,
+) -> Result<(Reply, String), AllocError>
+    ensures { IfOk result (λ r. (unit : ℕ) (setup : Setup) (fd : ℤ) (h : History)
+        → Watches unit setup fd watch.now h
+        → AreKept off bytes.now most unit (log_of unit setup fd h).volume.history r.0 (string_bytes r.1)) }
+{
+    match find(alloc, watch, unit, off, bytes, most)? {
+        Found::Nowhere => Ok((Reply::Answered, text_of_kept(alloc, off, bytes)?)),
+        Found::Without(image) => {
+            let text = text_of_image_without(alloc, watch, off, bytes, &image)?;
+            Ok((Reply::NotKept, text))
+        }
+        Found::TooMany => Ok((Reply::TooMany, String::new(alloc))),
+    }
+}
+
+/// Appends how many images there are.
+fn push_count(alloc: Global, text: &mut String, count: u64) -> Result<(), AllocError>
+    ensures { OnOk result
+        (string_bytes text.new ≡ string_bytes text.old ++ count_text count) }
+{
+    push_text(&alloc, text, "images ")?;
+    push_number(&alloc, text, count)?;
+    if count == u64::MAX {
+        return push_text(&alloc, text, " or more\n");
+    }
+    push_text(&alloc, text, "\n")
+}
+
+/// The lines of images, and how many they are.
+fn text_of_images(alloc: Global, images: &[Vec<u8>]) -> Result<String, AllocError>
+    ensures { IfOk result
+        (λ text. string_bytes text ≡ images_text (map (λ b. b.items) images.now)) }
+{
+    let mut text = String::new(alloc);
+    for image in images {
+        push_image(alloc, &mut text, image)?;
+    }
+    let count = images.len() as u64;
+    push_count(alloc, &mut text, count)?;
+    Ok(text)
+}
+
+/// Appends the bytes that were asked for, with their offset.
+fn push_wanted(alloc: Global, text: &mut String, off: u64, bytes: &[u8]) -> Result<(), AllocError>
+    ensures { OnOk result
+        (string_bytes text.new ≡ string_bytes text.old ++ kept_text off bytes.now) }
+{
+    push_text(&alloc, text, "kept at ")?;
+    push_number(&alloc, text, off)?;
+    push_text(&alloc, text, ": ")?;
+    push_bytes(alloc, text, bytes)?;
+    push_text(&alloc, text, "\n")
+}
+
+/// That each image has these bytes.
+fn text_of_kept(alloc: Global, off: u64, bytes: &[u8]) -> Result<String, AllocError>
+    ensures { IfOk result (λ text. string_bytes text ≡ kept_text off bytes.now) }
+{
+    let mut text = String::new(alloc);
+    push_wanted(alloc, &mut text, off, bytes)?;
+    Ok(text)
+}
+
+/// That not every image has these bytes, and one that hasn't.
+fn text_of_image_without(
+    alloc: Global,
+    watch: &Watch,
+    off: u64,
+    bytes: &[u8],
+    image: &[u8],
+) -> Result<String, AllocError>
+    ensures { IfOk result (λ text. (words : List ℕ)
+        × (string_bytes text ≡ codes "not " ++ kept_text off bytes.now ++ image_text image.now ++ words)) }
+{
+    let mut text = String::new(alloc);
+    push_text(&alloc, &mut text, "not ")?;
+    push_wanted(alloc, &mut text, off, bytes)?;
+    push_image(alloc, &mut text, image)?;
+    let words = told_writes(alloc, watch.log(), image)?;
+    push_text(&alloc, &mut text, words.as_str())?;
+    Ok(text)
+}
