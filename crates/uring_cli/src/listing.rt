@@ -140,11 +140,7 @@ fn write_shown(rt: &HostRuntime, input: &[u8], setup: &Setup, ending: Ending) ->
     let mut output = Outlet::new(rt.stdout());
     let written = write_history(rt.alloc(), &mut output, setup, input, &ending);
     drop(ending);
-    if unless_closed(&output, written)? {
-        Ok(())
-    } else {
-        Err(Fault::NoHistory)
-    }
+    unless_closed(&output, written)
 }
 
 /// The parts of each of these lines.

@@ -55,7 +55,6 @@ fn text_of(alloc: Global, fault: &Fault) -> Result<String, AllocError> {
                 "uring: no outcome {number}: the walk stopped at {count}, from 1 on\n"
             )
         }
-        Fault::NoHistory => String::from_str(alloc, "uring: no history was found\n"),
         Fault::NoOutcome(number, count) => {
             format!(in alloc; "uring: no outcome {number}: there are {count}, from 1 on\n")
         }

@@ -1,9 +1,8 @@
 -- Verdicts on claims of what was found, and outcomes that are chosen among it.
-use Rattle.std.proofs.Common.{◌≡◌, ◌↔◌, ◌⊎◌, ◌+◌, ◌-◌, ◌<◌, ◌≤◌, ℕ, zero, suc, Bool, true, false, not, List, [], ◌∷◌, ◌++◌, length, map, take, get_or, Option, Some, None, Result, Ok, Err, refl, sym, ap, subst, ◌∙◌, inl, inr, arith}
+use Rattle.std.proofs.Common.{◌≡◌, ◌↔◌, ◌+◌, ◌-◌, ◌<◌, ◌≤◌, ℕ, zero, suc, Bool, true, false, not, List, [], ◌∷◌, ◌++◌, length, map, take, get_or, Option, Some, None, Result, Ok, Err, refl, sym, ap, subst, ◌∙◌, inl, inr, arith}
 use Rattle.std.specs.Prelude.{Contains, slice_get, string_bytes, MatchOption}
 use Rattle.std.proofs.lemmas.Option.{slice_get_within, slice_get_read}
 use Rattle.std.specs.Option.{ok_or}
-use Rattle.std.specs.List.{AllZip}
 use Rattle.std.proofs.lemmas.List.Elements.{Contains-push_cases}
 use Rattle.std.proofs.lemmas.List.{map-append, take_all}
 use Rattle.std.specs.declared.string.String.{String}
@@ -19,12 +18,12 @@ use Rattle.uring_litmus.specs.declared.judging.Chosen.{Chosen}
 use Rattle.uring_litmus.specs.declared.judging.Chosen.TheVariants as chosen
 use Rattle.uring_litmus.specs.Items.{accepted_of}
 use Rattle.uring_litmus.specs.Parts.{texts_of, completion_parts, files_texts, IsShown}
-use Rattle.uring_litmus.specs.Lines.{AreLinesOf, IsLineOf, IsSortedOnce}
+use Rattle.uring_litmus.specs.Lines.{IsLineOf, IsSortedOnce}
 use Rattle.uring_litmus.specs.Listings.{AreFound, Finds}
 use Rattle.uring_litmus.specs.Claims.{parts_in, is_so, ShowsSome, IsSoOf, IsAgainst, IsVerdict, Judges, so_of}
-use Rattle.uring_litmus.specs.Choices.{IsOfLine, HasNoLine, IsChoice, IsChosen, IsPlaceBy, IsPlaceAmong, IsPlaceOf, Chooses}
+use Rattle.uring_litmus.specs.Choices.{HasNoLine, IsChosen, IsPlaceBy, IsPlaceOf, Chooses}
 use Rattle.uring_litmus.proofs.Texts.{next_taken}
-use Rattle.uring_litmus.proofs.Places.{at_place, place_of, zip_at}
+use Rattle.uring_litmus.proofs.Places.{at_place, zip_at}
 use Rattle.uring_litmus.proofs.Listed.{all_shown}
 
 -- A claim is so of the first so many outcomes, and of one more.

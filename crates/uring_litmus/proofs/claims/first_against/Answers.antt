@@ -1,6 +1,4 @@
-use Rattle.std.proofs.Common.{◌≡◌, true, false, refl, sym, subst, ◌∙◌, rules, arith}
-use Rattle.std.proofs.lemmas.List.{take_all}
-use Rattle.std.proofs.lemmas.Option.{slice_get_read}
+use Rattle.std.proofs.Common.{◌≡◌, true, false, sym, ◌∙◌, rules, arith}
 use Rattle.uring_litmus.specs.Claims.{lines_in}
 use Rattle.uring_litmus.proofs.Verdicts.{so_of_more, so_of_none, so_of_all, against_at}
 use Rattle.uring_litmus.proofs.claims.first_against.Goals as goal

@@ -1,5 +1,4 @@
-use Rattle.std.proofs.Common.{ap, subst, sym, ◌↔◌, ◌≡◌, true}
-use Rattle.uring_litmus.specs.Claims.{lines_in, parts_in, StandsSome}
+use Rattle.uring_litmus.specs.Claims.{lines_in}
 use Rattle.uring_litmus.proofs.Verdicts.{so_if}
 use Rattle.uring_litmus.proofs.claims.is_so_of.Goals as goal
 

@@ -1,6 +1,5 @@
-use Rattle.std.proofs.Common.{◌≡◌, true, false, sym, subst, ◌∙◌, rules, arith}
+use Rattle.std.proofs.Common.{◌≡◌, true, false, sym, ◌∙◌, rules, arith}
 use Rattle.uring_litmus.specs.Parts.{texts_of}
-use Rattle.uring_litmus.specs.Claims.{AreAmong, lines_in, StandsSome}
 use Rattle.uring_litmus.proofs.Among.{none_more, none_yet, stands_at, none_stands}
 use Rattle.uring_litmus.proofs.claims.shows_some.Goals as goal
 

@@ -1,4 +1,4 @@
-use Rattle.std.proofs.Common.{◌≡◌, true, false, sym, ◌∙◌, arith, rules}
+use Rattle.std.proofs.Common.{◌≡◌, true, false, sym, ◌∙◌, arith}
 use Rattle.uring_litmus.proofs.Among.{met_at, unmet_at}
 use Rattle.uring_litmus.proofs.claims.without_first.Goals as goal
 

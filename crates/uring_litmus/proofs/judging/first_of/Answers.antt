@@ -1,7 +1,4 @@
-use Rattle.std.proofs.Common.{◌≡◌, true, false, Some, ap, sym, subst, ◌∙◌, rules, arith}
-use Rattle.std.specs.Prelude.{Contains}
-use Rattle.std.proofs.lemmas.List.{take_all}
-use Rattle.uring_litmus.specs.Parts.{texts_of}
+use Rattle.std.proofs.Common.{◌≡◌, true, false, Some, ap, sym, ◌∙◌, rules, arith}
 use Rattle.uring_litmus.proofs.OrderCounts.{text_at}
 use Rattle.uring_litmus.proofs.Verdicts.{not_before, not_yet, not_at_all}
 use Rattle.uring_litmus.proofs.judging.first_of.Goals as goal

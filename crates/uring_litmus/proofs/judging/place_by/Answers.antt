@@ -1,4 +1,4 @@
-use Rattle.std.proofs.Common.{◌≡◌, ◌<◌, ◌-◌, inl, inr, sym, rules, arith}
+use Rattle.std.proofs.Common.{◌<◌, ◌-◌, inl, inr, rules, arith}
 use Rattle.std.proofs.lemmas.List.{length-map}
 use Rattle.std.specs.Prelude.{string_bytes}
 use Rattle.uring_litmus.specs.Parts.{texts_of}
