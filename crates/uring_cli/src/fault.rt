@@ -25,6 +25,9 @@ pub enum Fault {
     /// There is no outcome of this number, but so many.
     NoOutcome(u32, u64),
 
+    /// There is no outcome of this number among so many that were found before the walk stopped.
+    NotFound(u32, u64),
+
     /// The words behind `--` are no offset and bytes.
     NoBytes,
 
