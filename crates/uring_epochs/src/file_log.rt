@@ -1,19 +1,23 @@
 //! The log of a file: its writes and syncs, as the requests that are these begin and end.
 
-ghost use Rattle.std.specs.Prelude.{◌≡◌, ◌+◌, ◌∷◌, ◌<◌, ◌≤◌, true, reverse, length, IfOk, OnOk, IfSome};
+ghost use Rattle.std.specs.Prelude.{◌≡◌, ℕ, ◌+◌, ◌-◌, ◌^◌, min, ◌∷◌, ◌<◌, ◌≤◌, true, reverse, length, map, IfOk, IfErr, IsOk, OnOk, IfSome, List, Err};
 ghost use Rattle.uring_files.specs.Operations.{IsForFiles};
 ghost use Rattle.uring_files.specs.Contents.{max_len};
 ghost use Rattle.uring_volume.specs.Images.{IsImage};
 ghost use Rattle.uring_volume.specs.Choices.{IsLeftBy, issued, named, has_safe};
 ghost use Rattle.uring_volume.specs.Volume.{with_write, with_sync};
 ghost use Rattle.uring_volume.specs.declared.event.SyncRange.TheVariants.{Whole};
+ghost use Rattle.uring_volume.specs.declared.volume.ImagesError.TheVariants.{TooMany};
+ghost use Rattle.uring_volume.specs.Listing.{AreTheImages};
+ghost use Rattle.uring_epochs.specs.Asked.{is_safe_of};
 ghost use Rattle.uring_epochs.specs.Logs as spec;
 ghost use Rattle.uring_epochs.specs.Logs.{request_of, log_on, begun, begun_of, issued_as, finished, finished_of, finished_as, write_ended, sync_with};
 
 use std::alloc::{AllocError, Global};
 use std::marker::Model;
 use uring_core::{Answer, Op};
-use uring_volume::{Piece, SyncRange, Volume};
+use uring_memory::Memory;
+use uring_volume::{ImagesError, Piece, SyncRange, Volume};
 
 /// The most bytes that a file may have.
 const MAX_LEN: u64 = 65_536;
@@ -42,8 +46,9 @@ impl Model for FileLog {
 
     ghost use Rattle.std.specs.Prelude.{◌≡◌};
     ghost use Rattle.uring_volume.specs.Choices.{issued};
+    ghost use Rattle.std.specs.Prelude.{◌+◌, length};
 
-    ghost invariant = { λ l. record { short : IsShort l.volume; written : l.writes.items ≡ issued l.volume.history } };
+    ghost invariant = { λ l. record { short : IsShort l.volume; written : l.writes.items ≡ issued l.volume.history; numbered : l.volume.next ≡ length l.requests.items + 1 } };
 }
 
 /// The number that a request has on the volume, 0 if it has none.
@@ -90,8 +95,26 @@ impl FileLog {
         ensures unit { self.new.volume.unit ≡ self.old.volume.unit }
         ensures first { self.new.volume.first ≡ self.old.volume.first }
     {
+        let memory = self.alloc;
+        self.note_issue_in(&memory, n, op, answer)
+    }
+
+    /// As `note_issue`, by this memory. If it grants whatever is asked for, there is no error.
+    pub fn note_issue_in<M: Memory>(
+        &mut self,
+        memory: &M,
+        n: u64,
+        op: Option<Op>,
+        answer: &Answer,
+    ) -> Result<(), AllocError>
+        requires { IfSome op IsForFiles }
+        ensures log { OnOk result (self.new ≡ issued_as n op answer.now self.old) }
+        ensures unit { self.new.volume.unit ≡ self.old.volume.unit }
+        ensures first { self.new.volume.first ≡ self.old.volume.first }
+        ensures granted { ((k : ℕ) → M.grants memory.now k) → IsOk result }
+    {
         match answer {
-            Answer::Run => self.begin_running(n, op),
+            Answer::Run => self.begin_running(memory, n, op),
             _ => Ok(()),
         }
     }
@@ -109,14 +132,20 @@ impl FileLog {
     }
 
     /// A request begins, if it runs.
-    fn begin_running(&mut self, n: u64, op: Option<Op>) -> Result<(), AllocError>
+    fn begin_running<M: Memory>(
+        &mut self,
+        memory: &M,
+        n: u64,
+        op: Option<Op>,
+    ) -> Result<(), AllocError>
         requires { IfSome op IsForFiles }
         ensures log { OnOk result (self.new ≡ begun_of n op self.old) }
         ensures unit { self.new.volume.unit ≡ self.old.volume.unit }
         ensures first { self.new.volume.first ≡ self.old.volume.first }
+        ensures granted { ((k : ℕ) → M.grants memory.now k) → IsOk result }
     {
         match op {
-            Some(op) => self.begin(n, &op),
+            Some(op) => self.begin(memory, n, &op),
             None => Ok(()),
         }
     }
@@ -134,11 +163,12 @@ impl FileLog {
     }
 
     /// A request begins.
-    fn begin(&mut self, n: u64, op: &Op) -> Result<(), AllocError>
+    fn begin<M: Memory>(&mut self, memory: &M, n: u64, op: &Op) -> Result<(), AllocError>
         requires { IsForFiles op.now }
         ensures log { OnOk result (self.new ≡ begun n op.now self.old) }
         ensures unit { self.new.volume.unit ≡ self.old.volume.unit }
         ensures first { self.new.volume.first ≡ self.old.volume.first }
+        ensures granted { ((k : ℕ) → M.grants memory.now k) → IsOk result }
     {
         match op {
             Op::Write {
@@ -148,14 +178,14 @@ impl FileLog {
                 bytes,
             } => {
                 if self.fd == *fd && has_effect(*off, *len) {
-                    self.begin_write(n, *off, &bytes[..*len as usize])
+                    self.begin_write(memory, n, *off, &bytes[..*len as usize])
                 } else {
                     Ok(())
                 }
             }
             Op::Fsync { fd } => {
                 if self.fd == *fd {
-                    self.begin_sync(n)
+                    self.begin_sync(memory, n)
                 } else {
                     Ok(())
                 }
@@ -165,18 +195,25 @@ impl FileLog {
     }
 
     /// A write of these bytes begins.
-    fn begin_write(&mut self, n: u64, off: u64, bytes: &[u8]) -> Result<(), AllocError>
+    fn begin_write<M: Memory>(
+        &mut self,
+        memory: &M,
+        n: u64,
+        off: u64,
+        bytes: &[u8],
+    ) -> Result<(), AllocError>
         requires { off + length bytes.now ≤ max_len }
         ensures log { OnOk result
             (self.new ≡ record self.old { volume = with_write off bytes.now self.old.volume; requests = n ∷ self.old.requests }) }
         ensures unit { self.new.volume.unit ≡ self.old.volume.unit }
         ensures first { self.new.volume.first ≡ self.old.volume.first }
+        ensures granted { ((k : ℕ) → M.grants memory.now k) → IsOk result }
     {
-        let shown = Vec::from_slice(self.alloc, bytes)?;
-        let written = Vec::from_slice(self.alloc, bytes)?;
-        self.writes.reserve(1)?;
-        self.requests.reserve(1)?;
-        let Ok(number) = self.volume.begin_write(off, written) else {
+        let shown = copied(memory, self.alloc, bytes)?;
+        let written = copied(memory, self.alloc, bytes)?;
+        memory.reserve(&mut self.writes, 1)?;
+        memory.reserve(&mut self.requests, 1)?;
+        let Ok(number) = self.volume.begin_write_in(memory, off, written) else {
             return Err(AllocError);
         };
         self.writes.push_reserved(Piece::new(number, off, shown));
@@ -185,19 +222,19 @@ impl FileLog {
     }
 
     /// A sync of the whole file begins.
-    fn begin_sync(&mut self, n: u64) -> Result<(), AllocError>
+    fn begin_sync<M: Memory>(&mut self, memory: &M, n: u64) -> Result<(), AllocError>
         ensures log { OnOk result
             (self.new ≡ record self.old { volume = with_sync Whole self.old.volume; requests = n ∷ self.old.requests }) }
         ensures unit { self.new.volume.unit ≡ self.old.volume.unit }
         ensures first { self.new.volume.first ≡ self.old.volume.first }
+        ensures granted { ((k : ℕ) → M.grants memory.now k) → IsOk result }
     {
-        match self.volume.begin_sync(SyncRange::Whole) {
-            Ok(_) => {
-                self.requests.push(n)?;
-                Ok(())
-            }
-            Err(_) => Err(AllocError),
-        }
+        memory.reserve(&mut self.requests, 1)?;
+        let Ok(_) = self.volume.begin_sync_in(memory, SyncRange::Whole) else {
+            return Err(AllocError);
+        };
+        self.requests.push_reserved(n);
+        Ok(())
     }
 
     /// A request ends with this result.
@@ -254,7 +291,41 @@ impl FileLog {
             IsLeftBy self.now.volume.unit self.now.volume.first self.now.volume.history choice.now now.items) }
         ensures short { IfOk result (λ now. length now.items ≤ max_len) }
     {
-        self.volume.crash(self.alloc, choice)
+        self.crash_in(&self.alloc, choice)
+    }
+
+    /// As `crash`, by this memory. If it grants whatever is asked for, there is no error.
+    pub fn crash_in<M: Memory>(&self, memory: &M, choice: &[u64]) -> Result<Vec<u8>, AllocError>
+        ensures image { IfOk result (λ now.
+            IsImage self.now.volume.unit self.now.volume.first self.now.volume.history now.items) }
+        ensures chosen { IfOk result (λ now.
+            IsLeftBy self.now.volume.unit self.now.volume.first self.now.volume.history choice.now now.items) }
+        ensures short { IfOk result (λ now. length now.items ≤ max_len) }
+        ensures granted { ((k : ℕ) → M.grants memory.now k) → IsOk result }
+    {
+        self.volume.crash_in(memory, self.alloc, choice)
+    }
+
+    /// How many images there are, or 2^64 - 1 if there are as many or more, by this memory. `AllocError`: memory was refused. If it grants whatever is asked for, there is no error.
+    pub fn count_images_in<M: Memory>(&self, memory: &M) -> Result<u64, AllocError>
+        ensures count { IfOk result (λ count. (all : List (List ℕ))
+            × AreTheImages self.now.volume.unit self.now.volume.first self.now.volume.history all
+            × (count ≡ min (length all) (2 ^ 64 - 1))) }
+        ensures granted { ((k : ℕ) → M.grants memory.now k) → IsOk result }
+    {
+        self.volume.count_images_in(memory, self.alloc)
+    }
+
+    /// The images, each once and nothing else, by this memory, if there are no more than `most`. If it grants whatever is asked for, the error is `TooMany`.
+    pub fn images_in<M: Memory>(&self, memory: &M, most: u32) -> Result<Vec<Vec<u8>>, ImagesError>
+        ensures images { IfOk result (λ images.
+            AreTheImages self.now.volume.unit self.now.volume.first self.now.volume.history (map (λ b. b.items) images.items)) }
+        ensures too_many { result ≡ Err TooMany → (all : List (List ℕ))
+            × AreTheImages self.now.volume.unit self.now.volume.first self.now.volume.history all
+            × (most < length all) }
+        ensures granted { ((k : ℕ) → M.grants memory.now k) → IfErr result (λ error. error ≡ TooMany) }
+    {
+        self.volume.images_in(memory, self.alloc, most)
     }
 
     /// The writes of the file, in the order in which they began. Each has its number on the volume.
@@ -287,4 +358,25 @@ impl FileLog {
     {
         self.volume.is_safe(number)
     }
+
+    /// Whether the write that a request is is safe: false too if the request is no write of this file.
+    pub fn has_safe(&self, n: u64) -> bool
+        ensures { result ≡ is_safe_of n self.now }
+    {
+        self.volume.is_safe(number_of(&self.requests, n))
+    }
+}
+
+/// A list of these bytes, by this memory.
+pub(crate) fn copied<M: Memory>(
+    memory: &M,
+    alloc: Global,
+    bytes: &[u8],
+) -> Result<Vec<u8>, AllocError>
+    ensures bytes { IfOk result (λ list. list.items ≡ bytes.now) }
+    ensures granted { (n : ℕ) → M.grants memory.now n → length bytes.now ≤ n → IsOk result }
+{
+    let mut list = memory.list(alloc, bytes.len())?;
+    list.extend_from_slice(bytes)?;
+    Ok(list)
 }
