@@ -4,6 +4,7 @@
 ghost use Rattle.std.specs.Prelude.{◌≤◌, length};
 
 mod fault;
+mod filled;
 mod listing;
 mod outlet;
 mod paged;
@@ -11,6 +12,7 @@ mod strict;
 mod telling;
 
 use crate::fault::Fault;
+use crate::filled::run_fill;
 use crate::listing::{Wanted, claim_of, run_outcomes};
 use crate::outlet::Outlet;
 use crate::paged::{run_page, run_recorded_page};
@@ -133,6 +135,7 @@ fn run_words<R: Threads + Wait + Copy + Send + 'static>(
             at,
             seed,
         } => run_crash(rt, &setup, file, unit, at, seed),
+        Options::Fill { setup, most } => run_fill(rt, &setup, most),
         Options::Outcomes {
             setup,
             is_sorted,
