@@ -172,10 +172,10 @@ fn sight_of_again(core: &mut Core, step: &Step) -> Sight
 }
 
 /// Whether memory was refused.
-fn is_again(answer: &Answer) -> bool
-    ensures { Decides result (answer.now ≡ answer.Again) }
+fn is_again(given: &Answer) -> bool
+    ensures { Decides result (given.now ≡ answer.Again) }
 {
-    match answer {
+    match given {
         Answer::Again => true,
         _ => false,
     }
@@ -233,10 +233,10 @@ fn guess_next(text: &[u8]) -> Option<Answer>
 }
 
 /// Whether this is the text of an answer.
-fn is_text(alloc: Global, answer: &Answer, text: &[u8]) -> Result<bool, AllocError>
-    ensures { IfOk result (λ same. Decides same (text_of answer.now ≡ text.now)) }
+fn is_text(alloc: Global, given: &Answer, text: &[u8]) -> Result<bool, AllocError>
+    ensures { IfOk result (λ same. Decides same (text_of given.now ≡ text.now)) }
 {
     let mut told = String::new(alloc);
-    push_answer(alloc, &mut told, answer)?;
+    push_answer(alloc, &mut told, given)?;
     Ok(told.as_bytes() == text)
 }
