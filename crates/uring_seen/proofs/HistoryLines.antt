@@ -78,14 +78,6 @@ count_more events i e low is =
     go true = omega arith
     go false = length-append (seen_in (history_of (take i events))) (e ∷ [])
 
--- at most as many as there are
-pub few_seen : (h : History) → length (seen_in h) ≤ length h
-few_seen [] = omega arith
-few_seen (e ∷ h) = go (is_hidden e.0) (few_seen h) where
-  go : (hidden : Bool) → length (seen_in h) ≤ length h → length (if hidden then seen_in h else seen_in h ++ e ∷ []) ≤ length h + 1
-  go true low = omega arith
-  go false low = let more : length (seen_in h ++ e ∷ []) ≡ length (seen_in h) + 1 = length-append (seen_in h) (e ∷ []) in omega (arith, more)
-
 -- ---- the text
 
 -- what was written of a history

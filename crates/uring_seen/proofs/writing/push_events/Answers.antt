@@ -23,7 +23,7 @@ pub loop-event-preserved : goal.loop-event-preserved
 loop-event-preserved c = record {
   counted = ?;
   few = ?;
-  written = let w = c.in_ok-push_event.ensures.text in one_written c.args.text.now.items c.loop-event.text.items c.push_event.new.text.items c.args.events.now c.loop-event.event-index c.event-item.result w.0 (omega arith) c.event-item.is w.1 w.2 c.loop-event.invariant.written;
+  written = let w = c.in_ok-count.ensures.text in one_written c.args.text.now.items c.loop-event.text.items c.push_event.new.text.items c.args.events.now c.loop-event.event-index c.event-item.result w.0 (omega arith) c.event-item.is w.1 w.2 c.loop-event.invariant.written;
 }
 
 pub returns : goal.returns
