@@ -49,7 +49,7 @@ all_between p n (suc m) le h =
       | inr high ↦ let same : suc m ≡ n = omega arith in ap (all_below p) same
     ]
 
-all_same : (p q : ℕ → Bool) (n : ℕ) → ((k : ℕ) → k < n → p k ≡ q k) → all_below p n ≡ all_below q n
+pub all_same : (p q : ℕ → Bool) (n : ℕ) → ((k : ℕ) → k < n → p k ≡ q k) → all_below p n ≡ all_below q n
 all_same p q zero same = refl
 all_same p q (suc n) same =
     ap₂ (λ xs b. xs ++ (if b then n ∷ [] else [])) (all_same p q n (λ k low. same k (omega arith))) (same n (omega arith))

@@ -12,6 +12,8 @@ pub mod SoundMoments
 pub mod Prompting
 pub mod CallsAhead
 pub mod Directing
+pub mod OtherPasts
+pub mod Alike
 -- The laws:
 pub mod OutcomeLaws
 -- The definitions, computed on small cases:

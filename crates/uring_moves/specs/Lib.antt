@@ -3,3 +3,4 @@ pub mod Outcomes
 pub mod Laws
 pub mod Prompt
 pub mod Direct
+pub mod Alike

@@ -4,6 +4,7 @@ ghost use Rattle.uring_entry.specs.Setup.{Setup};
 ghost use Rattle.uring_moves.specs.Laws.{HistoriesAreMoves, MovesAreHistories};
 ghost use Rattle.uring_moves.specs.Prompt.{PromptMovesLead};
 ghost use Rattle.uring_moves.specs.Direct.{DirectMovesLead};
+ghost use Rattle.uring_moves.specs.Alike.{AlikeMomentsLead};
 
 /// Each outcome that a lawful history gives calls is one that moves give them: exactly the accepting of a call, and each issue and finish that isn't refused, is a move, and no other step changes anything of it.
 pub fn histories_are_moves()
@@ -23,4 +24,9 @@ pub fn prompt_moves_lead()
 /// Each outcome that moves give calls is given by direct ones, which accept a call before any other move is made if no entry of it has a user data that a cancel names, and else are prompt: only such a cancel tells whether a call was accepted.
 pub fn direct_moves_lead()
     ensures { DirectMovesLead }
+{}
+
+/// Moments of the same calls that are alike have the same futures: each list of moves that can be made from one can be made from the other, and leads to moments that are alike.
+pub fn alike_moments_lead()
+    ensures { AlikeMomentsLead }
 {}
