@@ -25,6 +25,12 @@ pub enum Fault {
     /// There is no outcome of this number, but so many.
     NoOutcome(u32, u64),
 
+    /// There is no outcome of this number among so many that were found before the walk stopped.
+    NotFound(u32, u64),
+
+    /// No history was found that comes to the outcome.
+    NoHistory,
+
     /// Nobody reads standard output any more: its pipe was closed at the other end.
     Closed,
 }

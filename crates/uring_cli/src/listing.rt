@@ -96,7 +96,7 @@ fn judge_input(
     input: &[u8],
     setup: &Setup,
     claim: Claim,
-    lines: &[Vec<&str>],
+    lines: &[Vec<String>],
     most: u64,
 ) -> Result<u8, Fault> {
     let alloc = rt.alloc();
@@ -140,11 +140,15 @@ fn write_shown(rt: &HostRuntime, input: &[u8], setup: &Setup, ending: Ending) ->
     let mut output = Outlet::new(rt.stdout());
     let written = write_history(rt.alloc(), &mut output, setup, input, &ending);
     drop(ending);
-    unless_closed(&output, written)
+    if unless_closed(&output, written)? {
+        Ok(())
+    } else {
+        Err(Fault::NoHistory)
+    }
 }
 
 /// The parts of each of these lines.
-fn all_parts<'a>(alloc: Global, lines: &[&'a str]) -> Result<Vec<Vec<&'a str>>, Fault> {
+fn all_parts(alloc: Global, lines: &[&str]) -> Result<Vec<Vec<String>>, Fault> {
     if lines.is_empty() {
         return Err(Fault::NoLine(0));
     }
@@ -176,11 +180,20 @@ fn run_explained(
     let input = read_calls(rt.alloc(), &mut rt.stdin())?;
     let mut reader = input.as_slice();
     match choose(rt.alloc(), &mut reader, setup, form, most, number)? {
-        Chosen::Outcome { ending } => {
+        Chosen::Outcome { ending, .. } => {
             write_shown(rt, input.as_slice(), setup, ending)?;
             Ok(DONE)
         }
-        Chosen::Missing { count } => Err(Fault::NoOutcome(number, count as u64)),
+        Chosen::Missing { count, is_all } => Err(missing(number, count as u64, is_all)),
+    }
+}
+
+/// That there is no outcome of this number, but so many, which are all or those that were found.
+fn missing(number: u32, count: u64, is_all: bool) -> Fault {
+    if is_all {
+        Fault::NoOutcome(number, count)
+    } else {
+        Fault::NotFound(number, count)
     }
 }
 

@@ -31,7 +31,8 @@ pub fn tell<W: Write>(alloc: Global, writer: &mut W, fault: &Fault) -> u8 {
 fn status_of(fault: &Fault) -> u8 {
     match fault {
         Fault::Options(fault) if !fault.is_memory() => REFUSED,
-        Fault::NoFile(..) | Fault::NoLine(_) | Fault::NoOutcome(..) => REFUSED,
+        Fault::NoFile(..) | Fault::NoLine(_) | Fault::NoOutcome(..) | Fault::NotFound(..) =>
+            REFUSED,
         _ => FAILED,
     }
 }
@@ -49,6 +50,12 @@ fn text_of(alloc: Global, fault: &Fault) -> Result<String, AllocError> {
         Fault::NoLine(at) => format!(in alloc;
             "uring: line {at} behind -- is none of an outcome\n"
         ),
+        Fault::NotFound(number, count) => {
+            format!(in alloc;
+                "uring: no outcome {number}: the walk stopped at {count}, from 1 on\n"
+            )
+        }
+        Fault::NoHistory => String::from_str(alloc, "uring: no history was found\n"),
         Fault::NoOutcome(number, count) => {
             format!(in alloc; "uring: no outcome {number}: there are {count}, from 1 on\n")
         }

@@ -1,0 +1,4 @@
+pub mod Recorded
+pub mod Submitted
+pub mod Arrived
+pub mod Files

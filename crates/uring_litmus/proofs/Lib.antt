@@ -4,3 +4,6 @@ pub mod CallEntries
 pub mod FileTexts
 pub mod SortedOnce
 pub mod Listed
+pub mod Among
+pub mod OrderCounts
+pub mod Verdicts

@@ -15,7 +15,7 @@ use Rattle.uring_litmus.specs.declared.form.Form.{Form}
 use Rattle.uring_litmus.specs.Items.{accepted_of}
 use Rattle.uring_litmus.specs.Parts.{texts_of}
 use Rattle.uring_litmus.specs.Lines.{AreLinesOf, IsLineOf, IsSortedOnce, ShowAll}
-use Rattle.uring_litmus.specs.Listings.{IsNoted, IsListOf, AreFound, Finds, Lists, lines_text, count_text}
+use Rattle.uring_litmus.specs.Listings.{IsNoted, IsListOf, AreFound, Finds, Lists, lines_text, count_text, order_text}
 
 -- each line is that of an outcome
 of_line : (form : Form) (endings : List Ending) (lines : List (List ℕ)) → AreLinesOf form endings lines
@@ -49,14 +49,17 @@ all_shown form endings each lines are once = record {
   sorted = once.sorted;
 }
 
-pub list_text : (form : Form) (endings : List Ending) (is_all : Bool) (most : ℕ) (lines shown : List (String Global)) (count : ℕ) (none listed text : List ℕ)
-    → ShowAll form endings (texts_of lines) → AllZip (IsNoted form.is_sorted) (texts_of lines) (texts_of shown)
+pub list_text : (form : Form) (endings : List Ending) (is_all : Bool) (most : ℕ) (each lines shown : List (String Global)) (count : ℕ) (none listed text : List ℕ)
+    → AreLinesOf form endings (texts_of each) → IsSortedOnce (texts_of each) (texts_of lines)
+    → AllZip (IsNoted form.is_sorted (texts_of each) (map order_text endings)) (texts_of lines) (texts_of shown)
     → none ≡ [] → listed ≡ none ++ lines_text (texts_of shown) → count ≡ length shown
     → text ≡ listed ++ count_text count is_all most → IsListOf form endings is_all most text
-list_text form endings is_all most lines shown count none listed text show noted empty list many is = record {
+list_text form endings is_all most each lines shown count none listed text are once noted empty list many is = record {
+  each = texts_of each;
+  show_each = are;
   lines = texts_of lines;
+  sorted = once;
   shown = texts_of shown;
-  show_all = show;
   noted = noted;
   is = is ∙ ap (λ (l : List ℕ). l ++ count_text count is_all most) (list ∙ ap (λ (l : List ℕ). l ++ lines_text (texts_of shown)) empty)
       ∙ ap (λ (n : ℕ). lines_text (texts_of shown) ++ count_text n is_all most) (many ∙ sym (length-map shown string_bytes));
@@ -79,17 +82,4 @@ pub listed : (form : Form) (setup : Setup) (most : ℕ) (is_all all : Bool) (end
     → Lists form setup most is_all a a' b b'
 listed form setup most is_all all endings text a a' b b' same finding list writes =
     subst (λ (x : Bool). Lists form setup most x a a' b b') (sym same)
-    (record {
-      bytes = finding.bytes;
-      consumed = finding.consumed;
-      at_end = finding.at_end;
-      calls = finding.calls;
-      told = finding.told;
-      lines = list.lines;
-      shown = list.shown;
-      noted = list.noted;
-      right = λ line has. let r = list.show_all.right line has in (r.0, finding.found.right r.0 r.1, r.2);
-      all = λ yes e can. list.show_all.all e ((finding.found.all yes e).1 can);
-      sorted = list.show_all.sorted;
-      written = subst (λ (l : List ℕ). Appends b b' l) list.is writes;
-    })
+    (record { endings = endings; finding = finding; text = text; list = list; written = writes })

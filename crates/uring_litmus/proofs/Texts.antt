@@ -45,10 +45,10 @@ zip_push R (z ∷ xs) [] x y all one = absurd all
 zip_push R (z ∷ xs) (u ∷ ys) x y all one = (all.0, zip_push R xs ys x y all.1 one)
 
 -- each text with itself
-pub zip_same : (b : Bool) (texts : List (List ℕ)) → b ≡ false → AllZip (IsNoted b) texts texts
-zip_same true texts e = absurd cc
-zip_same false [] e = tt
-zip_same false (text ∷ texts) e = (refl, zip_same false texts e)
+pub zip_same : (b : Bool) (each orders texts : List (List ℕ)) → b ≡ false → AllZip (IsNoted b each orders) texts texts
+zip_same true each orders texts e = absurd cc
+zip_same false each orders [] e = tt
+zip_same false each orders (text ∷ texts) e = (refl, zip_same false each orders texts e)
 
 -- one more text on both sides
 pub zip_texts : (R : List ℕ → List ℕ → Type 0) (lines ys : List (String Global)) (i : ℕ) (line noted : String Global)

@@ -2,3 +2,5 @@ pub mod Items
 pub mod Parts
 pub mod Lines
 pub mod Listings
+pub mod Claims
+pub mod Choices

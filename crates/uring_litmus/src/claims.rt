@@ -1,8 +1,12 @@
 //! Claims of what calls may come to.
 
-ghost use Rattle.std.specs.Prelude.{◌<◌, IfOk, IfSome, length};
+ghost use Rattle.std.specs.Prelude.{◌≡◌, ◌↔◌, ◌∷◌, ℕ, List, [], Some, IsTrue, IfOk, MatchOption, Contains, slice_get};
+ghost use Rattle.uring_outcomes.specs.Outcomes.{Ending};
+ghost use Rattle.uring_litmus.specs.Parts.{texts_of};
+ghost use Rattle.uring_litmus.specs.Claims.{lines_in, parts_in, AreAmong, StandsSome, IsSoOf, IsAgainst, is_so};
 
 use crate::form::Form;
+use crate::lines::is_same_text;
 use crate::parts::parts_of;
 use std::alloc::{AllocError, Global};
 use uring_outcomes::Ending;
@@ -17,14 +21,22 @@ pub enum Claim {
     Always,
 }
 
+/// All of an outcome: its completions in their order, and its files.
+const WHOLE: Form = Form {
+    is_sorted: false,
+    has_files: true,
+};
+
 /// The first of these outcomes of which the claim isn't so, if there is one.
 pub(crate) fn first_against(
     alloc: Global,
     endings: &[Ending],
     claim: Claim,
-    lines: &[Vec<&str>],
+    lines: &[Vec<String>],
 ) -> Result<Option<usize>, AllocError>
-    ensures { IfOk result (λ found. IfSome found (λ at. at < length endings.now)) }
+    ensures { IfOk result
+        (λ found. MatchOption found ((e : Ending) → Contains endings.now e → IsSoOf claim (lines_in lines.now) e)
+        (λ at. IsAgainst claim (lines_in lines.now) endings.now at)) }
 {
     for (at, ending) in endings.iter().enumerate() {
         if !is_so_of(alloc, ending, claim, lines)? {
@@ -39,23 +51,38 @@ fn is_so_of(
     alloc: Global,
     ending: &Ending,
     claim: Claim,
-    lines: &[Vec<&str>],
-) -> Result<bool, AllocError> {
-    let whole = Form {
-        is_sorted: false,
-        has_files: true,
-    };
-    let parts = parts_of(alloc, ending, whole)?;
+    lines: &[Vec<String>],
+) -> Result<bool, AllocError>
+    ensures { IfOk result (λ so. IsTrue so ↔ IsSoOf claim (lines_in lines.now) ending.now) }
+{
+    let parts = whole_parts(alloc, ending)?;
     let is_shown = shows_some(parts.as_slice(), lines);
     drop(parts);
-    Ok(match claim {
-        Claim::Never => !is_shown,
-        Claim::Always => is_shown,
-    })
+    let is_so = so_by(claim, is_shown);
+    Ok(is_so)
 }
 
-/// Whether these parts of an outcome show some of these lines.
-fn shows_some(parts: &[String], lines: &[Vec<&str>]) -> bool {
+/// Whether a claim is so of an outcome, by whether that shows some of the lines.
+fn so_by(claim: Claim, is_shown: bool) -> bool
+    ensures { result ≡ is_so claim is_shown }
+{
+    match claim {
+        Claim::Never => !is_shown,
+        Claim::Always => is_shown,
+    }
+}
+
+/// The parts of an outcome, with its files.
+fn whole_parts(alloc: Global, ending: &Ending) -> Result<Vec<String>, AllocError>
+    ensures { IfOk result (λ parts. texts_of parts.items ≡ parts_in ending.now) }
+{
+    parts_of(alloc, ending, WHOLE)
+}
+
+/// Whether some of these lines stands among these parts of an outcome.
+fn shows_some(parts: &[String], lines: &[Vec<String>]) -> bool
+    ensures { IsTrue result ↔ StandsSome (lines_in lines.now) (texts_of parts.now) }
+{
     for line in lines {
         if shows(parts, line.as_slice()) {
             return true;
@@ -65,7 +92,9 @@ fn shows_some(parts: &[String], lines: &[Vec<&str>]) -> bool {
 }
 
 /// Whether the parts of a line are among these parts of an outcome, in this order.
-fn shows(parts: &[String], line: &[&str]) -> bool {
+fn shows(parts: &[String], line: &[String]) -> bool
+    ensures { IsTrue result ↔ AreAmong (texts_of line.now) (texts_of parts.now) }
+{
     let mut wanted = line;
     for part in parts {
         wanted = without_first(wanted, part.as_str());
@@ -74,9 +103,16 @@ fn shows(parts: &[String], line: &[&str]) -> bool {
 }
 
 /// The parts that are still wanted behind this part of an outcome.
-fn without_first<'a, 'b>(wanted: &'b [&'a str], part: &str) -> &'b [&'a str] {
-    match wanted {
-        [first, rest @ ..] if *first == part => rest,
-        _ => wanted,
+fn without_first<'a>(wanted: &'a [String], part: &str) -> &'a [String]
+    ensures { (after : List (List ℕ)) → AreAmong (texts_of wanted.now) (part.now ∷ after)
+        ↔ AreAmong (texts_of result.now) after }
+{
+    let [first, rest @ ..] = wanted else {
+        return wanted;
+    };
+    if is_same_text(first.as_str(), part) {
+        rest
+    } else {
+        wanted
     }
 }

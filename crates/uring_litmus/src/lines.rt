@@ -1,9 +1,8 @@
 //! The lines of outcomes, sorted, each once.
 
-ghost use Rattle.std.specs.Prelude.{◌≡◌, ◌++◌, ◌∷◌, [], List, ℕ, IfOk, OnOk, flat_map, codes, string_bytes};
-ghost use Rattle.std.specs.List.Sorted.{IsPermutation};
+ghost use Rattle.std.specs.Prelude.{◌≡◌, ◌↔◌, ◌++◌, ◌∷◌, [], List, ℕ, IsTrue, IfOk, OnOk, flat_map, codes, string_bytes};
 ghost use Rattle.uring_litmus.specs.Parts.{texts_of};
-ghost use Rattle.uring_litmus.specs.Lines.{joined, parted, AreLinesOf, IsLineOf, IsSortedOnce, ShowAll};
+ghost use Rattle.uring_litmus.specs.Lines.{joined, parted, AreLinesOf, IsLineOf, IsSortedOnce};
 
 use crate::form::Form;
 use crate::parts::parts_of;
@@ -11,21 +10,12 @@ use std::alloc::{AllocError, Global};
 use uring_outcomes::Ending;
 use uring_text::push_text;
 
-/// The lines of these outcomes, sorted by their bytes, each once.
-pub(crate) fn lines_of(
+/// The line of each outcome, in their order.
+pub(crate) fn each_line(
     alloc: Global,
     endings: &[Ending],
     form: Form,
 ) -> Result<Vec<String>, AllocError>
-    ensures { IfOk result (λ lines. ShowAll form endings.now (texts_of lines.items)) }
-{
-    let mut lines = each_line(alloc, endings, form)?;
-    sort_once(&mut lines);
-    Ok(lines)
-}
-
-/// The line of each outcome.
-fn each_line(alloc: Global, endings: &[Ending], form: Form) -> Result<Vec<String>, AllocError>
     ensures { IfOk result (λ lines. AreLinesOf form endings.now (texts_of lines.items)) }
 {
     let mut lines = Vec::new(alloc);
@@ -33,6 +23,48 @@ fn each_line(alloc: Global, endings: &[Ending], form: Form) -> Result<Vec<String
         push_line(alloc, &mut lines, ending, form)?;
     }
     Ok(lines)
+}
+
+/// These lines sorted by their bytes, each once.
+pub(crate) fn sorted_of(alloc: Global, each: &[String]) -> Result<Vec<String>, AllocError>
+    ensures { IfOk result (λ lines. IsSortedOnce (texts_of each.now) (texts_of lines.items)) }
+{
+    let mut lines = Vec::new(alloc);
+    push_copies(alloc, &mut lines, each)?;
+    sort_once(&mut lines);
+    Ok(lines)
+}
+
+/// Adds a copy of each of these texts.
+fn push_copies(alloc: Global, copies: &mut Vec<String>, texts: &[String]) -> Result<(), AllocError>
+    ensures { OnOk result
+        (texts_of copies.new.items ≡ texts_of copies.old.items ++ texts_of texts.now) }
+{
+    for text in texts {
+        push_copy(alloc, copies, text.as_str())?;
+    }
+    Ok(())
+}
+
+/// Adds a copy of a text.
+pub(crate) fn push_copy(
+    alloc: Global,
+    copies: &mut Vec<String>,
+    text: &str,
+) -> Result<(), AllocError>
+    ensures { OnOk result
+        (texts_of copies.new.items ≡ texts_of copies.old.items ++ text.now ∷ []) }
+{
+    let copy = String::from_str(alloc, text)?;
+    copies.push(copy)?;
+    Ok(())
+}
+
+/// Whether two texts are the same.
+pub(crate) fn is_same_text(one: &str, other: &str) -> bool
+    ensures { IsTrue result ↔ (one.now ≡ other.now) }
+{
+    one == other
 }
 
 /// Sorts lines by their bytes, and leaves each once.

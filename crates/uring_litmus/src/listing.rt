@@ -10,7 +10,7 @@ ghost use Rattle.uring_outcomes.specs.Runs.{entries_of};
 
 use crate::calls::entries_in;
 use crate::form::Form;
-use crate::lines::lines_of;
+use crate::lines::{each_line, sorted_of};
 use crate::orders::noted;
 use std::alloc::{AllocError, Global};
 use std::io::{Read, Write};
@@ -123,11 +123,13 @@ fn text_of(
 ) -> Result<String, AllocError>
     ensures { IfOk result (λ text. IsListOf form endings.now is_all most (string_bytes text)) }
 {
-    let lines = lines_of(alloc, endings, form)?;
-    let shown = noted(alloc, lines, endings, form)?;
+    let each = each_line(alloc, endings, form)?;
+    let lines = sorted_of(alloc, each.as_slice())?;
+    let shown = noted(alloc, lines, each.as_slice(), endings, form)?;
     let mut text = String::new(alloc);
     push_lines(alloc, &mut text, shown.as_slice())?;
     push_count(alloc, &mut text, shown.len(), is_all, most)?;
+    drop(each);
     drop(shown);
     Ok(text)
 }

@@ -1,13 +1,14 @@
 //! How many orders the sorted completions of a line have.
 
-ghost use Rattle.std.specs.Prelude.{◌≡◌, ◌++◌, ◌∷◌, [], List, ℕ, IfOk, OnOk, codes, true, string_bytes};
+ghost use Rattle.std.specs.Prelude.{◌≡◌, ◌↔◌, ◌⊎◌, ◌++◌, List, ℕ, Some, IfOk, OnOk, Contains, codes, map, true, slice_get, string_bytes};
 ghost use Rattle.std.specs.Fmt.{decimal};
 ghost use Rattle.std.specs.List.{AllZip};
+ghost use Rattle.std.specs.Option.{option_to_list};
 ghost use Rattle.uring_litmus.specs.Parts.{texts_of};
-ghost use Rattle.uring_litmus.specs.Listings.{IsNoted};
+ghost use Rattle.uring_litmus.specs.Listings.{CountsOrders, HasBoth, IsNoted, order_text};
 
 use crate::form::Form;
-use crate::lines::{line_of, sort_once};
+use crate::lines::{each_line, is_same_text, push_copy, sort_once};
 use std::alloc::{AllocError, Global};
 use uring_outcomes::Ending;
 use uring_text::{push_number, push_text};
@@ -18,20 +19,21 @@ const ORDER: Form = Form {
     has_files: false,
 };
 
-/// These lines, each with a note behind it of how many orders its completions have, if they are sorted; else as they are.
+/// These lines, each with a note behind it of how many orders its completions have, if they are sorted; else as they are. The outcomes have the lines of `each`.
 pub(crate) fn noted(
     alloc: Global,
     lines: Vec<String>,
+    each: &[String],
     endings: &[Ending],
     form: Form,
 ) -> Result<Vec<String>, AllocError>
     ensures { IfOk result
-        (λ shown. AllZip (IsNoted form.is_sorted) (texts_of lines.items) (texts_of shown.items)) }
+        (λ shown. AllZip (IsNoted form.is_sorted (texts_of each.now) (map order_text endings.now)) (texts_of lines.items) (texts_of shown.items)) }
 {
     if !form.is_sorted {
         return Ok(lines);
     }
-    let shown = noted_by(alloc, lines.as_slice(), endings, form);
+    let shown = noted_by(alloc, lines.as_slice(), each, endings);
     drop(lines);
     shown
 }
@@ -40,77 +42,135 @@ pub(crate) fn noted(
 fn noted_by(
     alloc: Global,
     lines: &[String],
+    each: &[String],
     endings: &[Ending],
-    form: Form,
 ) -> Result<Vec<String>, AllocError>
     ensures { IfOk result
-        (λ shown. AllZip (IsNoted true) (texts_of lines.now) (texts_of shown.items)) }
+        (λ shown. AllZip (IsNoted true (texts_of each.now) (map order_text endings.now)) (texts_of lines.now) (texts_of shown.items)) }
 {
-    let pairs = pairs_of(alloc, endings, form)?;
-    let shown = note_all(alloc, lines, pairs.as_slice());
-    drop(pairs);
+    let orders = each_order(alloc, endings)?;
+    let shown = note_all(alloc, lines, each, orders.as_slice());
+    drop(orders);
     shown
 }
 
-/// For each outcome its line, an end of a line, and its completions in their order; each of these once.
-fn pairs_of(alloc: Global, endings: &[Ending], form: Form) -> Result<Vec<String>, AllocError> {
-    let mut pairs = Vec::new(alloc);
-    for ending in endings {
-        let mut pair = line_of(alloc, ending, form)?;
-        push_order(alloc, &mut pair, ending)?;
-        pairs.push(pair)?;
-    }
-    sort_once(&mut pairs);
-    Ok(pairs)
+/// The completions of each outcome, in their order, as a line.
+fn each_order(alloc: Global, endings: &[Ending]) -> Result<Vec<String>, AllocError>
+    ensures { IfOk result (λ orders. texts_of orders.items ≡ map order_text endings.now) }
+{
+    each_line(alloc, endings, ORDER)
 }
 
-/// Appends an end of a line, and the completions in their order.
-fn push_order(alloc: Global, pair: &mut String, ending: &Ending) -> Result<(), AllocError> {
-    let order = line_of(alloc, ending, ORDER)?;
-    push_text(&alloc, pair, "\n")?;
-    push_text(&alloc, pair, order.as_str())
-}
-
-/// Each line with its note, by these pairs.
-fn note_all(alloc: Global, lines: &[String], pairs: &[String]) -> Result<Vec<String>, AllocError>
+/// Each line with its note. Outcomes have these lines and these orders.
+fn note_all(
+    alloc: Global,
+    lines: &[String],
+    each: &[String],
+    orders: &[String],
+) -> Result<Vec<String>, AllocError>
     ensures { IfOk result
-        (λ shown. AllZip (IsNoted true) (texts_of lines.now) (texts_of shown.items)) }
+        (λ shown. AllZip (IsNoted true (texts_of each.now) (texts_of orders.now)) (texts_of lines.now) (texts_of shown.items)) }
 {
     let mut shown = Vec::new(alloc);
     for line in lines {
-        let noted = with_note(alloc, line.as_str(), pairs)?;
+        let noted = with_note(alloc, line.as_str(), each, orders)?;
         shown.push(noted)?;
     }
     Ok(shown)
 }
 
 /// A line with its note.
-fn with_note(alloc: Global, line: &str, pairs: &[String]) -> Result<String, AllocError>
-    ensures { IfOk result (λ text. IsNoted true line.now (string_bytes text)) }
+fn with_note(
+    alloc: Global,
+    line: &str,
+    each: &[String],
+    orders: &[String],
+) -> Result<String, AllocError>
+    ensures { IfOk result
+        (λ text. IsNoted true (texts_of each.now) (texts_of orders.now) line.now (string_bytes text)) }
 {
-    let count = count_of(alloc, line, pairs)?;
+    let count = count_of(alloc, line, each, orders)?;
+    note_text(alloc, line, count)
+}
+
+/// A line with this number of orders behind it.
+fn note_text(alloc: Global, line: &str, count: usize) -> Result<String, AllocError>
+    ensures { IfOk result
+        (λ text. string_bytes text ≡ line.now ++ codes "  # orders " ++ decimal count) }
+{
     let mut text = String::new(alloc);
     push_text(&alloc, &mut text, line)?;
     push_text(&alloc, &mut text, "  # orders ")?;
-    push_number(&alloc, &mut text, count)?;
+    push_number(&alloc, &mut text, count as u64)?;
     Ok(text)
 }
 
-/// How many of these are of this line.
-fn count_of(alloc: Global, line: &str, pairs: &[String]) -> Result<u64, AllocError> {
-    let mut beginning = String::new(alloc);
-    push_text(&alloc, &mut beginning, line)?;
-    push_text(&alloc, &mut beginning, "\n")?;
-    Ok(count_with(pairs, beginning.as_bytes()))
+/// How many orders a line has.
+fn count_of(
+    alloc: Global,
+    line: &str,
+    each: &[String],
+    orders: &[String],
+) -> Result<usize, AllocError>
+    ensures { IfOk result (λ n. CountsOrders (texts_of each.now) (texts_of orders.now) line.now n) }
+{
+    let mut own = orders_of(alloc, line, each, orders)?;
+    sort_once(&mut own);
+    let count = own.len();
+    drop(own);
+    Ok(count)
 }
 
-/// How many of these begin so.
-fn count_with(pairs: &[String], beginning: &[u8]) -> u64 {
-    let mut count = 0_u64;
-    for pair in pairs {
-        if pair.as_bytes().starts_with(beginning) {
-            count = count.saturating_add(1);
-        }
+/// The order of each outcome that has this line.
+fn orders_of(
+    alloc: Global,
+    line: &str,
+    each: &[String],
+    orders: &[String],
+) -> Result<Vec<String>, AllocError>
+    ensures { IfOk result
+        (λ own. (order : List ℕ) → Contains (texts_of own.items) order
+        ↔ HasBoth (texts_of each.now) (texts_of orders.now) line.now order) }
+{
+    let mut own = Vec::new(alloc);
+    for (at, text) in each.iter().enumerate() {
+        push_if(alloc, &mut own, line, text.as_str(), orders, at)?;
     }
-    count
+    Ok(own)
+}
+
+/// Adds a copy of the order at this place, if there is one, and the text is the line.
+fn push_if(
+    alloc: Global,
+    own: &mut Vec<String>,
+    line: &str,
+    text: &str,
+    orders: &[String],
+    at: usize,
+) -> Result<(), AllocError>
+    ensures { OnOk result ((order : List ℕ) → Contains (texts_of own.new.items) order
+        ↔ (Contains (texts_of own.old.items) order
+        ⊎ ((text.now ≡ line.now) × (slice_get (texts_of orders.now) at ≡ Some order)))) }
+{
+    if is_same_text(text, line) {
+        push_at(alloc, own, orders, at)
+    } else {
+        Ok(())
+    }
+}
+
+/// Adds a copy of the text at this place, if there is one.
+fn push_at(
+    alloc: Global,
+    copies: &mut Vec<String>,
+    texts: &[String],
+    at: usize,
+) -> Result<(), AllocError>
+    ensures { OnOk result
+        (texts_of copies.new.items ≡ texts_of copies.old.items ++ option_to_list (slice_get (texts_of texts.now) at)) }
+{
+    match texts.get(at) {
+        Some(text) => push_copy(alloc, copies, text.as_str()),
+        None => Ok(()),
+    }
 }

@@ -1,17 +1,18 @@
 //! The lines of which something is claimed.
 
+use crate::lines::push_copy;
 use std::alloc::{AllocError, Global};
 use uring_text::{spelled_long, spelled_number, spelled_signed, split_tokens};
 
 /// The parts of a line, if each is one that an outcome may have: a completion, a file, or `none`.
-pub fn parts_of_line<'a>(alloc: Global, line: &'a str) -> Result<Option<Vec<&'a str>>, AllocError> {
+pub fn parts_of_line(alloc: Global, line: &str) -> Result<Option<Vec<String>>, AllocError> {
     let mut parts = Vec::new(alloc);
     for part in line.split(", ") {
         if !is_part(alloc, part)? {
             drop(parts);
             return Ok(None);
         }
-        parts.push(part)?;
+        push_copy(alloc, &mut parts, part)?;
     }
     Ok(Some(parts))
 }

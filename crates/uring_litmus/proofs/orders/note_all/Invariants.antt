@@ -1,8 +1,8 @@
-use Rattle.std.proofs.Common.{true, take}
+use Rattle.std.proofs.Common.{take, true}
 use Rattle.std.specs.List.{AllZip}
 use Rattle.uring_litmus.specs.Parts.{texts_of}
 use Rattle.uring_litmus.specs.Listings.{IsNoted}
 use Rattle.uring_litmus.proofs.orders.note_all.Given as goal
 
 abbrev pub invariant-loop-line : goal.invariant-loop-line
-invariant-loop-line l = AllZip (IsNoted true) (texts_of (take l.line-index l.lines)) (texts_of l.shown.items)
+invariant-loop-line l = AllZip (IsNoted true (texts_of l.each) (texts_of l.orders)) (texts_of (take l.line-index l.lines)) (texts_of l.shown.items)

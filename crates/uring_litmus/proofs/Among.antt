@@ -1,0 +1,140 @@
+-- Parts that stand among others, one part after the other.
+use Rattle.std.proofs.Common.{◌≡◌, ◌↔◌, ◌⊎◌, ℕ, suc, ◌+◌, ◌<◌, ◌≤◌, Bool, true, false, List, [], ◌∷◌, ◌++◌, length, map, take, drop, get_or, refl, sym, ap, subst, ◌∙◌, arith, inl, inr, add-one, drop-cons}
+use Rattle.std.specs.Prelude.{Contains, nat_eq, string_bytes}
+use Rattle.std.proofs.Math.ListN.{drop_of_length-le}
+use Rattle.std.proofs.lemmas.Bool.{eq-eqb, eqb-true}
+use Rattle.std.proofs.lemmas.List.Elements.{Contains-push, Contains-push_cases, Contains-append_left}
+use Rattle.std.specs.declared.vec.Vec.{Vec}
+use Rattle.std.specs.declared.string.String.{String}
+use Rattle.std.specs.declared.alloc.Global.{Global}
+use Rattle.uring_litmus.specs.Parts.{texts_of}
+use Rattle.uring_litmus.specs.Claims.{AreAmong, StandsSome, lines_in}
+use Rattle.uring_litmus.proofs.Texts.{next_taken}
+use Rattle.std.proofs.lemmas.List.{map-append, length-map, take_all}
+use Rattle.std.proofs.lemmas.Option.{slice_get_read}
+use Rattle.uring_litmus.proofs.Places.{to_map, at_place}
+
+-- further parts in front change nothing
+pub among_behind : (wanted : List (List ℕ)) (p : List ℕ) (parts : List (List ℕ)) → AreAmong wanted parts
+    → AreAmong wanted (p ∷ parts)
+among_behind [] p parts are = tt
+among_behind (w ∷ wanted) p parts are = (p ∷ are.0, are.1, ap (λ l. p ∷ l) are.2, are.3)
+
+behind_all : (wanted front parts : List (List ℕ)) → AreAmong wanted parts → AreAmong wanted (front ++ parts)
+behind_all wanted [] parts are = are
+behind_all wanted (p ∷ front) parts are = among_behind wanted p (front ++ parts) (behind_all wanted front parts are)
+
+rest_of : {x y : List ℕ} {xs ys : List (List ℕ)} → x ∷ xs ≡ y ∷ ys → xs ≡ ys
+rest_of e = cc
+
+first_of : {x y : List ℕ} {xs ys : List (List ℕ)} → x ∷ xs ≡ y ∷ ys → x ≡ y
+first_of e = cc
+
+-- the first one wanted is this part
+met_down : (w : List ℕ) (wanted : List (List ℕ)) (p : List ℕ) (parts before after : List (List ℕ))
+    → p ∷ parts ≡ before ++ w ∷ after → AreAmong wanted after → AreAmong wanted parts
+met_down w wanted p parts [] after e are = subst (λ l. AreAmong wanted l) (sym (rest_of e)) are
+met_down w wanted p parts (b ∷ before) after e are =
+    subst (λ l. AreAmong wanted l) (sym (rest_of e))
+    (behind_all wanted before (w ∷ after) (among_behind wanted w after are))
+
+pub met : (w : List ℕ) (wanted : List (List ℕ)) (p : List ℕ) (parts : List (List ℕ)) → w ≡ p
+    → AreAmong (w ∷ wanted) (p ∷ parts) ↔ AreAmong wanted parts
+met w wanted p parts same = (
+  λ are. met_down w wanted p parts are.0 are.1 are.2 are.3,
+  λ are. ([], parts, ap (λ x. x ∷ parts) (sym same), are),
+)
+
+-- it isn't
+unmet_down : (w : List ℕ) (wanted : List (List ℕ)) (p : List ℕ) (parts before after : List (List ℕ))
+    → (w ≡ p → ⊥) → p ∷ parts ≡ before ++ w ∷ after → AreAmong wanted after
+    → AreAmong (w ∷ wanted) parts
+unmet_down w wanted p parts [] after other e are = absurd (other (sym (first_of e)))
+unmet_down w wanted p parts (b ∷ before) after other e are = (before, after, rest_of e, are)
+
+pub unmet : (w : List ℕ) (wanted : List (List ℕ)) (p : List ℕ) (parts : List (List ℕ)) → (w ≡ p → ⊥)
+    → AreAmong (w ∷ wanted) (p ∷ parts) ↔ AreAmong (w ∷ wanted) parts
+unmet w wanted p parts other = (
+  λ are. unmet_down w wanted p parts are.0 are.1 other are.2 are.3,
+  λ are. among_behind (w ∷ wanted) p parts are,
+)
+
+-- none is wanted
+pub none_wanted : (p : List ℕ) (parts : List (List ℕ)) → AreAmong [] (p ∷ parts) ↔ AreAmong [] parts
+none_wanted p parts = (λ are. tt, λ are. tt)
+
+-- among no parts stand none
+some_in_none : (before after : List (List ℕ)) (w : List ℕ) → [] ≡ before ++ w ∷ after → ⊥
+some_in_none [] after w e = cc
+some_in_none (b ∷ before) after w e = cc
+
+pub among_none : (wanted : List (List ℕ)) → AreAmong wanted [] → length wanted ≡ 0
+among_none [] are = refl
+among_none (w ∷ wanted) are = absurd (some_in_none are.0 are.1 w are.2)
+
+pub none_among : (wanted parts : List (List ℕ)) → length wanted ≡ 0 → AreAmong wanted parts
+none_among [] parts none = tt
+none_among (w ∷ wanted) parts none = absurd (omega arith)
+
+-- Lines, one more at a time.
+
+-- the parts of the first so many lines, and of one more
+pub lines_more : (lines : List (Vec (String Global) Global)) (i : ℕ) (line : Vec (String Global) Global)
+    → i < length lines → line ≡ get_or lines i line
+    → lines_in (take (i + 1) lines) ≡ lines_in (take i lines) ++ texts_of line.items ∷ []
+lines_more lines i line low is = ap lines_in (next_taken lines i line low is) ∙ map-append (λ (v : Vec (String Global) Global). texts_of v.items) (take i lines) (line ∷ [])
+
+-- a line that stands is one of all
+pub stands_at : (lines : List (Vec (String Global) Global)) (i : ℕ) (line : Vec (String Global) Global) (parts : List (List ℕ))
+    → i < length lines → line ≡ get_or lines i line → AreAmong (texts_of line.items) parts
+    → (true ≡ true) ↔ StandsSome (lines_in lines) parts
+stands_at lines i line parts low is are = (
+  λ yes. (texts_of line.items, to_map (λ (v : Vec (String Global) Global). texts_of v.items) lines line (at_place lines i line (slice_get_read lines (length lines) i line refl low is)), are),
+  λ some. refl,
+)
+
+-- none of no line stands
+pub none_yet : (parts : List (List ℕ)) → StandsSome [] parts → ⊥
+none_yet parts some = let low = some.1.1 in omega arith
+
+-- none of all stands
+pub none_stands : (lines : List (Vec (String Global) Global)) (i : ℕ) (parts : List (List ℕ)) → length lines ≤ i
+    → (StandsSome (lines_in (take i lines)) parts → ⊥) → (false ≡ true) ↔ StandsSome (lines_in lines) parts
+none_stands lines i parts past none = (
+  λ yes. absurd (let no : false ≡ true = yes in cc),
+  λ some. absurd (none (subst (λ l. StandsSome (lines_in l) parts) (sym (take_all i lines past)) some)),
+)
+
+-- none of the first so many stands, nor one more
+pub none_more : (lines : List (Vec (String Global) Global)) (i : ℕ) (line : Vec (String Global) Global) (parts : List (List ℕ))
+    → i < length lines → line ≡ get_or lines i line
+    → (StandsSome (lines_in (take i lines)) parts → ⊥) → (AreAmong (texts_of line.items) parts → ⊥)
+    → StandsSome (lines_in (take (i + 1) lines)) parts → ⊥
+none_more lines i line parts low is none other some =
+    elim (Contains-push_cases (lines_in (take i lines)) (texts_of line.items) some.0 (subst (λ l. Contains l some.0) (lines_more lines i line low is) some.1)) [
+      | inl before ↦ none (some.0, before, some.2)
+      | inr same ↦ other (subst (λ l. AreAmong l parts) (sym same) some.2)
+    ]
+
+-- Parts, one more at a time: what is wanted of those that are left.
+pub one_part : (parts : List (String Global)) (i : ℕ) (part : String Global) (wanted wanted' : List (List ℕ)) (A : Type 0)
+    → i < length parts → part ≡ get_or parts i part → A ↔ AreAmong wanted (texts_of (drop i parts))
+    → ((after : List (List ℕ)) → AreAmong wanted (string_bytes part ∷ after) ↔ AreAmong wanted' after)
+    → A ↔ AreAmong wanted' (texts_of (drop (i + 1) parts))
+one_part parts i part wanted wanted' A low is before step =
+    let cut : drop i parts ≡ part ∷ drop (i + 1) parts = drop-cons parts i part low ∙ (ap (λ x. x ∷ drop (suc i) parts) (sym is) ∙ ap (λ n. part ∷ drop n parts) (sym (add-one i))) in
+    let s = step (texts_of (drop (i + 1) parts)) in (
+      λ a. s.0 (subst (λ l. AreAmong wanted (texts_of l)) cut (before.0 a)),
+      λ b. before.1 (subst (λ l. AreAmong wanted (texts_of l)) (sym cut) (s.1 b)),
+    )
+
+-- none is left
+pub last_part : (parts wanted : List (String Global)) (i : ℕ) (A : Type 0) (r : Bool) → length parts ≤ i
+    → r ≡ nat_eq (length wanted) 0 → A ↔ AreAmong (texts_of wanted) (texts_of (drop i parts))
+    → (r ≡ true) ↔ A
+last_part parts wanted i A r past is both =
+    let none : drop i parts ≡ [] = drop_of_length-le parts past in
+    let many : length (texts_of wanted) ≡ length wanted = length-map wanted string_bytes in (
+      λ yes. both.1 (none_among (texts_of wanted) (texts_of (drop i parts)) (many ∙ eqb-true (length wanted) 0 (sym is ∙ yes))),
+      λ a. is ∙ eq-eqb (length wanted) 0 (sym many ∙ among_none (texts_of wanted) (subst (λ l. AreAmong (texts_of wanted) (texts_of l)) none (both.0 a))),
+    )

@@ -1,0 +1,119 @@
+-- The orders of the outcomes that have a line.
+use Rattle.std.proofs.Common.{◌≡◌, ◌↔◌, ◌⊎◌, ℕ, ◌+◌, ◌<◌, List, [], ◌∷◌, ◌++◌, length, map, get_or, Option, Some, None, refl, sym, ap, subst, ◌∙◌, arith, append-nil, inl, inr}
+use Rattle.std.specs.Prelude.{Contains, slice_get, string_bytes, zero, suc, false}
+use Rattle.std.specs.Option.{option_to_list, option_map}
+use Rattle.std.specs.List.{AllZip}
+use Rattle.std.proofs.lemmas.Bool.{cases_lt}
+use Rattle.std.proofs.lemmas.List.Elements.{Contains-append_left, Contains-append_right, Contains-append_cases}
+use Rattle.std.proofs.lemmas.List.{length-map}
+use Rattle.std.proofs.lemmas.Option.{slice_get_within, slice_get-map, slice_get_read}
+use Rattle.std.specs.declared.string.String.{String}
+use Rattle.std.specs.declared.alloc.Global.{Global}
+use Rattle.uring_outcomes.specs.Outcomes.{Ending}
+use Rattle.uring_litmus.specs.declared.form.Form.{Form}
+use Rattle.uring_litmus.specs.Parts.{texts_of, completion_parts}
+use Rattle.uring_litmus.specs.Lines.{joined, AreLinesOf, IsLineOf, IsSortedOnce}
+use Rattle.uring_litmus.specs.Listings.{CountsOrders, HasBoth, order_text}
+
+-- the same below a place
+abbrev pub HasBelow : List (List ℕ) → List (List ℕ) → List ℕ → ℕ → List ℕ → Type 0
+HasBelow each orders line i order =
+    (k : ℕ) × (k < i) × (slice_get each k ≡ Some line) × (slice_get orders k ≡ Some order)
+
+pub none_below : (each orders : List (List ℕ)) (line order : List ℕ) (own : List (List ℕ)) → own ≡ []
+    → Contains own order ↔ HasBelow each orders line 0 order
+none_below each orders line order own none = (
+  λ has. absurd (let low = (subst (λ l. Contains l order) none has).1 in omega arith),
+  λ has. absurd (let low = has.1 in omega arith),
+)
+
+pub one_below : (each orders : List (List ℕ)) (line order text : List ℕ) (i : ℕ) (before after : List (List ℕ))
+    → slice_get each i ≡ Some text → Contains before order ↔ HasBelow each orders line i order
+    → Contains after order ↔ (Contains before order ⊎ ((text ≡ line) × (slice_get orders i ≡ Some order)))
+    → Contains after order ↔ HasBelow each orders line (i + 1) order
+one_below each orders line order text i before after at was now = (
+  λ has. elim (now.0 has) [
+    | inl old ↦ (let b = was.0 old in (b.0, (let low = b.1 in omega arith), b.2, b.3))
+    | inr new ↦ (i, omega arith, at ∙ ap Some new.0, new.1)
+  ],
+  λ has. now.1 (elim (cases_lt has.0 i) [
+    | inl low ↦ inl (was.1 (has.0, low, has.2, has.3))
+    | inr high ↦ inr (let below = has.1 in let same : has.0 ≡ i = omega arith in (same_line (sym at ∙ ap (slice_get each) (sym same) ∙ has.2), ap (slice_get orders) (sym same) ∙ has.3))
+  ]),
+) where
+  same_line : {x y : List ℕ} → Some x ≡ Some y → x ≡ y
+  same_line e = cc
+
+pub all_below : (each orders : List (List ℕ)) (line order : List ℕ) (i : ℕ) (own : List (List ℕ))
+    → length each ≡ i → Contains own order ↔ HasBelow each orders line i order
+    → Contains own order ↔ HasBoth each orders line order
+all_below each orders line order i own many both = (
+  λ has. (let b = both.0 has in (b.0, b.2, b.3)),
+  λ has. both.1 (has.0, (let low = slice_get_within each has.0 line has.1 in omega arith), has.1, has.2),
+)
+
+in_option : (o : Option (List ℕ)) (order : List ℕ) → Contains (option_to_list o) order → o ≡ Some order
+in_option None order has = absurd (let low = has.1 in omega arith)
+in_option (Some x) order (zero, low, is) = ap Some is
+in_option (Some x) order (suc k, low, is) = absurd (omega arith)
+
+-- the count of what is sorted once
+pub counted : (each orders : List (List ℕ)) (line : List ℕ) (own sorted : List (String Global)) (count : ℕ)
+    → ((order : List ℕ) → Contains (texts_of own) order ↔ HasBoth each orders line order)
+    → IsSortedOnce (texts_of own) (texts_of sorted) → count ≡ length sorted
+    → CountsOrders each orders line count
+counted each orders line own sorted count both once many = record {
+  own = texts_of sorted;
+  right = λ order has. (both order).0 (once.right order has);
+  all = λ order has. once.kept order ((both order).1 has);
+  once = once.sorted;
+  many = length-map sorted string_bytes ∙ sym many;
+}
+
+-- the completions alone, in their order
+abbrev pub order_form : Form
+order_form = record { is_sorted = false; has_files = false }
+
+order_is : (e : Ending) (line : List ℕ) → IsLineOf order_form e line → line ≡ order_text e
+order_is e line shows =
+    shows.is ∙ ap joined (shows.shown.are ∙ append-nil (completion_parts shows.shown.completions) ∙ ap completion_parts shows.shown.ordered)
+
+pub orders_are : (endings : List Ending) (lines : List (List ℕ)) → AreLinesOf order_form endings lines
+    → lines ≡ map order_text endings
+orders_are [] [] are = refl
+orders_are [] (line ∷ lines) are = absurd are
+orders_are (e ∷ endings) [] are = absurd are
+orders_are (e ∷ endings) (line ∷ lines) are =
+    ap (λ l. l ∷ lines) (order_is e line are.0) ∙ ap (λ l. order_text e ∷ l) (orders_are endings lines are.1)
+
+-- one order more, if the text is the line
+pub added_if : (orders : List (List ℕ)) (line text order : List ℕ) (i : ℕ) (before after : List (List ℕ))
+    → text ≡ line → after ≡ before ++ option_to_list (slice_get orders i)
+    → Contains after order ↔ (Contains before order ⊎ ((text ≡ line) × (slice_get orders i ≡ Some order)))
+added_if orders line text order i before after same is = (
+  λ has. elim (Contains-append_cases before (option_to_list (slice_get orders i)) order (subst (λ l. Contains l order) is has)) [
+    | inl old ↦ inl old
+    | inr new ↦ inr (same, in_option (slice_get orders i) order new)
+  ],
+  λ has. subst (λ l. Contains l order) (sym is) (elim has [
+    | inl old ↦ Contains-append_left before (option_to_list (slice_get orders i)) order old
+    | inr new ↦ Contains-append_right before (option_to_list (slice_get orders i)) order (to_option (slice_get orders i) order new.1)
+  ]),
+) where
+  to_option : (o : Option (List ℕ)) (x : List ℕ) → o ≡ Some x → Contains (option_to_list o) x
+  to_option None x is = absurd cc
+  to_option (Some y) x is = let same : y ≡ x = cc in (zero, omega arith, same)
+
+pub kept_if : (orders : List (List ℕ)) (line text order : List ℕ) (i : ℕ) (before : List (List ℕ))
+    → (text ≡ line → ⊥)
+    → Contains before order ↔ (Contains before order ⊎ ((text ≡ line) × (slice_get orders i ≡ Some order)))
+kept_if orders line text order i before other = (
+  λ has. inl has,
+  λ has. elim has [ inl old ↦ old | inr new ↦ absurd (other new.0) ],
+)
+
+-- the text at a place
+pub text_at : (each : List (String Global)) (i : ℕ) (text : String Global) → i < length each
+    → text ≡ get_or each i text → slice_get (texts_of each) i ≡ Some (string_bytes text)
+text_at each i text low is =
+    slice_get-map string_bytes each i ∙ ap (option_map string_bytes) (slice_get_read each (length each) i text refl low is)
