@@ -2,3 +2,4 @@ pub mod Recorded
 pub mod Submitted
 pub mod Arrived
 pub mod Files
+pub mod SameSteps

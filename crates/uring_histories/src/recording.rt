@@ -84,7 +84,8 @@ fn spells(alloc: Global, line: &str, step: Step) -> Result<bool, AllocError>
     if line.len() > LONGEST {
         return Ok(false);
     }
-    match read_step(alloc, line.as_bytes())? {
+    let found = read_step(alloc, line.as_bytes())?;
+    match found {
         Some(read) => Ok(same_step(&read, &step)),
         None => Ok(false),
     }

@@ -1,12 +1,12 @@
 -- The orders of the outcomes that have a line.
-use Rattle.std.proofs.Common.{◌≡◌, ◌↔◌, ◌⊎◌, ℕ, ◌+◌, ◌<◌, List, [], ◌∷◌, ◌++◌, length, map, get_or, Option, Some, None, refl, sym, ap, subst, ◌∙◌, arith, append-nil, inl, inr}
+use Rattle.std.proofs.Common.{◌≡◌, ◌↔◌, ◌⊎◌, ℕ, ◌+◌, ◌<◌, ◌≤◌, List, [], ◌∷◌, ◌++◌, length, map, get_or, Option, Some, None, refl, sym, ap, subst, ◌∙◌, arith, append-nil, inl, inr}
 use Rattle.std.specs.Prelude.{Contains, slice_get, string_bytes, zero, suc, false}
 use Rattle.std.specs.Option.{option_to_list, option_map}
 use Rattle.std.specs.List.{AllZip}
 use Rattle.std.proofs.lemmas.Bool.{cases_lt}
 use Rattle.std.proofs.lemmas.List.Elements.{Contains-append_left, Contains-append_right, Contains-append_cases}
 use Rattle.std.proofs.lemmas.List.{length-map}
-use Rattle.std.proofs.lemmas.Option.{slice_get_within, slice_get-map, slice_get_read}
+use Rattle.std.proofs.lemmas.Option.{slice_get_within, slice_get-map, slice_get_read, slice_get_past}
 use Rattle.std.specs.declared.string.String.{String}
 use Rattle.std.specs.declared.alloc.Global.{Global}
 use Rattle.uring_outcomes.specs.Outcomes.{Ending}
@@ -117,3 +117,8 @@ pub text_at : (each : List (String Global)) (i : ℕ) (text : String Global) →
     → text ≡ get_or each i text → slice_get (texts_of each) i ≡ Some (string_bytes text)
 text_at each i text low is =
     slice_get-map string_bytes each i ∙ ap (option_map string_bytes) (slice_get_read each (length each) i text refl low is)
+
+pub no_text_at : (texts : List (String Global)) (i : ℕ) (copies : List (List ℕ)) → length texts ≤ i
+    → copies ≡ copies ++ option_to_list (slice_get (texts_of texts) i)
+no_text_at texts i copies past =
+    sym (ap (λ o. copies ++ option_to_list o) (slice_get_past (texts_of texts) i (omega (arith, length-map texts string_bytes))) ∙ append-nil copies)

@@ -39,7 +39,8 @@ pub(crate) fn first_against(
         (λ at. IsAgainst claim (lines_in lines.now) endings.now at)) }
 {
     for (at, ending) in endings.iter().enumerate() {
-        if !is_so_of(alloc, ending, claim, lines)? {
+        let so = is_so_of(alloc, ending, claim, lines)?;
+        if !so {
             return Ok(Some(at));
         }
     }
@@ -58,8 +59,8 @@ fn is_so_of(
     let parts = whole_parts(alloc, ending)?;
     let is_shown = shows_some(parts.as_slice(), lines);
     drop(parts);
-    let is_so = so_by(claim, is_shown);
-    Ok(is_so)
+    let so = so_by(claim, is_shown);
+    Ok(so)
 }
 
 /// Whether a claim is so of an outcome, by whether that shows some of the lines.

@@ -218,10 +218,11 @@ fn place_by(each: &[String], lines: &[String], number: u32) -> Result<usize, usi
     if number == 0 {
         return Err(count);
     }
-    let Some(line) = lines.get(number as usize - 1) else {
+    let at = number as usize - 1;
+    if at >= count {
         return Err(count);
-    };
-    first_of(each, line.as_str()).ok_or(count)
+    }
+    first_of(each, lines[at].as_str()).ok_or(count)
 }
 
 /// The first place of this line among these.

@@ -169,8 +169,9 @@ fn push_at(
     ensures { OnOk result
         (texts_of copies.new.items ≡ texts_of copies.old.items ++ option_to_list (slice_get (texts_of texts.now) at)) }
 {
-    match texts.get(at) {
-        Some(text) => push_copy(alloc, copies, text.as_str()),
-        None => Ok(()),
+    if at < texts.len() {
+        push_copy(alloc, copies, texts[at].as_str())
+    } else {
+        Ok(())
     }
 }

@@ -11,11 +11,11 @@ loop-at-init c = not_yet c.args.line.now
 
 pub returns-then-is_same_text : goal.returns-then-is_same_text
 returns-then-is_same_text c =
-    text_at c.args.each.now c.loop-at.at c.loop-at-item.result (search rules) c.loop-at-item.is ∙ ap (λ l. Some l) ((rw c.as_str.ensures.value at c.is_same_text.ensures).0 c.if-is_same_text.true)
+    text_at c.args.each.now c.loop-at.at c.index-each-at.result (search rules) c.index-each-at.is ∙ ap (λ l. Some l) ((rw c.as_str.ensures.value at c.is_same_text.ensures).0 c.if-is_same_text.true)
 
 pub loop-at-preserved : goal.loop-at-preserved
 loop-at-preserved c =
-    not_before c.args.each.now c.loop-at.at c.loop-at-item.result c.args.line.now (search rules) c.loop-at-item.is c.loop-at.invariant
+    not_before c.args.each.now c.loop-at.at c.index-each-at.result c.args.line.now (search rules) c.index-each-at.is c.loop-at.invariant
     (λ same. let no : false ≡ true = sym c.if-is_same_text.false ∙ (rw c.as_str.ensures.value at c.is_same_text.ensures).1 same in cc)
 
 pub returns : goal.returns

@@ -12,8 +12,8 @@ loop-at-init c = λ order.
 
 pub loop-at-preserved : goal.loop-at-preserved
 loop-at-preserved c = λ order.
-    one_below (texts_of c.args.each.now) (texts_of c.args.orders.now) c.args.line.now order (string_bytes c.loop-at-item.result) c.loop-at.at (texts_of c.loop-at.own.items) _
-    (text_at c.args.each.now c.loop-at.at c.loop-at-item.result (search rules) c.loop-at-item.is) (c.loop-at.invariant order) (rw c.as_str.ensures.value at (c.in_ok-push_if.ensures order))
+    one_below (texts_of c.args.each.now) (texts_of c.args.orders.now) c.args.line.now order (string_bytes c.index-each-at.result) c.loop-at.at (texts_of c.loop-at.own.items) _
+    (text_at c.args.each.now c.loop-at.at c.index-each-at.result (search rules) c.index-each-at.is) (c.loop-at.invariant order) (rw c.as_str.ensures.value at (c.in_ok-push_if.ensures order))
 
 pub returns : goal.returns
 returns c = λ order.
