@@ -138,3 +138,18 @@ last_part parts wanted i A r past is both =
       λ yes. both.1 (none_among (texts_of wanted) (texts_of (drop i parts)) (many ∙ eqb-true (length wanted) 0 (sym is ∙ yes))),
       λ a. is ∙ eq-eqb (length wanted) 0 (sym many ∙ among_none (texts_of wanted) (subst (λ l. AreAmong (texts_of wanted) (texts_of l)) none (both.0 a))),
     )
+
+-- The first one wanted, as the code has it.
+pub met_at : (wanted : List (String Global)) (first : String Global) (p : List ℕ) (after : List (List ℕ)) → 0 < length wanted
+    → first ≡ get_or wanted 0 first → string_bytes first ≡ p
+    → AreAmong (texts_of wanted) (p ∷ after) ↔ AreAmong (texts_of (drop 1 wanted)) after
+met_at [] first p after some is same = absurd (omega arith)
+met_at (x ∷ wanted) first p after some is same =
+    met (string_bytes x) (texts_of wanted) p after (ap string_bytes (sym is) ∙ same)
+
+pub unmet_at : (wanted : List (String Global)) (first : String Global) (p : List ℕ) (after : List (List ℕ)) → 0 < length wanted
+    → first ≡ get_or wanted 0 first → (string_bytes first ≡ p → ⊥)
+    → AreAmong (texts_of wanted) (p ∷ after) ↔ AreAmong (texts_of wanted) after
+unmet_at [] first p after some is other = absurd (omega arith)
+unmet_at (x ∷ wanted) first p after some is other =
+    unmet (string_bytes x) (texts_of wanted) p after (λ same. other (ap string_bytes is ∙ same))

@@ -13,7 +13,7 @@ use Rattle.uring_entry.specs.Layout.{Sqe}
 use Rattle.uring_outcomes.specs.Outcomes.{Ending, CanEnd}
 use Rattle.uring_litmus.specs.declared.form.Form.{Form}
 use Rattle.uring_litmus.specs.declared.claims.Claim.{Claim}
-use Rattle.uring_litmus.specs.declared.claims.Claim.TheVariants as claim
+use Rattle.uring_litmus.specs.declared.claims.Claim.TheVariants as claims
 use Rattle.uring_litmus.specs.declared.judging.Judged.{Judged}
 use Rattle.uring_litmus.specs.declared.judging.Chosen.{Chosen}
 use Rattle.uring_litmus.specs.declared.judging.Chosen.TheVariants as chosen
@@ -213,5 +213,5 @@ never_if false r S is both = (
 
 pub so_if : (claim : Claim) (lines : List (List (List ℕ))) (e : Ending) (b r : Bool) → r ≡ is_so claim b
     → (b ≡ true) ↔ ShowsSome lines e → (r ≡ true) ↔ IsSoOf claim lines e
-so_if claim.Never lines e b r is both = never_if b r (ShowsSome lines e) is both
-so_if claim.Always lines e b r is both = (λ yes. both.0 (sym is ∙ yes), λ some. is ∙ both.1 some)
+so_if claims.Never lines e b r is both = never_if b r (ShowsSome lines e) is both
+so_if claims.Always lines e b r is both = (λ yes. both.0 (sym is ∙ yes), λ some. is ∙ both.1 some)

@@ -10,7 +10,7 @@ use Rattle.uring_ports.specs.declared.item.Item.{Item}
 use Rattle.uring_play_text.specs.Inputs.{IsTold}
 use Rattle.uring_outcomes.specs.Outcomes.{Ending, CanEnd, AreEndings, AreAllEndings, AreOnce}
 use Rattle.uring_litmus.specs.declared.claims.Claim.{Claim}
-use Rattle.uring_litmus.specs.declared.claims.Claim.TheVariants as claim
+use Rattle.uring_litmus.specs.declared.claims.Claim.TheVariants as claims
 use Rattle.uring_litmus.specs.declared.judging.Judged.{Judged}
 use Rattle.uring_litmus.specs.declared.judging.Judged.TheVariants as judged
 use Rattle.uring_litmus.specs.Items.{accepted_of}
@@ -40,8 +40,8 @@ ShowsSome lines e = StandsSome lines (parts_in e)
 
 -- the claim is so of an outcome
 abbrev pub IsSoOf : Claim → List (List (List ℕ)) → Ending → Type 0
-IsSoOf claim.Never lines e = ShowsSome lines e → ⊥
-IsSoOf claim.Always lines e = ShowsSome lines e
+IsSoOf claims.Never lines e = ShowsSome lines e → ⊥
+IsSoOf claims.Always lines e = ShowsSome lines e
 
 -- at this place there is one of these outcomes of which it isn't so
 pub record IsAgainst (claim : Claim) (lines : List (List (List ℕ))) (endings : List Ending) (at : ℕ) : Type 0 where
@@ -78,8 +78,8 @@ IsVerdict g calls claim lines (judged.Unknown count) = HoldsOfSome g calls claim
 
 -- Glue. Whether a claim is so, by whether some line is shown.
 abbrev pub is_so : Claim → Bool → Bool
-is_so claim.Never shown = not shown
-is_so claim.Always shown = shown
+is_so claims.Never shown = not shown
+is_so claims.Always shown = shown
 
 -- Glue. The verdict on a claim that is so of so many outcomes, which are all or not.
 abbrev pub so_of : ℕ → Bool → Judged

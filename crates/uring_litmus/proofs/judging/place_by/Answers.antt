@@ -21,5 +21,5 @@ returns-then-at-count c = record {
 pub returns : goal.returns
 returns c =
     let some : 0 < c.args.number = omega arith in
-    found_by (texts_of c.args.each.now) (texts_of c.args.lines.now) c.args.number c.len-count.result (string_bytes c.index-lines-at.result) c.first_of.result c.ok_or.result c.requires some
+    found_by (texts_of c.args.each.now) (texts_of c.args.lines.now) c.args.number _ (string_bytes c.index-lines-at.result) c.first_of.result c.ok_or.result c.requires some
     (text_at c.args.lines.now (c.args.number - 1) c.index-lines-at.result (search rules) c.index-lines-at.is) (rw c.as_str.ensures.value at c.first_of.ensures) c.ok_or.ensures.value

@@ -18,4 +18,4 @@ returns-in-Ok-Some c = λ g calls found.
 pub returns-in-Ok-None : goal.returns-in-Ok-None
 returns-in-Ok-None c = λ g calls found.
     let so = rw (c.as_slice.ensures.value, c.in-Ok-None.is) at c.first_against-against.ensures in
-    rw c.standing.ensures (stands_of g calls c.args.claim (lines_in c.args.lines.now) c.args.endings.items c.args.is_all c.len-count.result found so (search rules))
+    rw c.standing.ensures (stands_of g calls c.args.claim (lines_in c.args.lines.now) c.args.endings.items c.args.is_all _ found so (search rules))
