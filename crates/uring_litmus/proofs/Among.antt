@@ -1,5 +1,5 @@
 -- Parts that stand among others, one part after the other.
-use Rattle.std.proofs.Common.{◌≡◌, ◌↔◌, ◌⊎◌, ℕ, suc, ◌+◌, ◌<◌, ◌≤◌, Bool, true, false, List, [], ◌∷◌, ◌++◌, length, map, take, drop, get_or, refl, sym, ap, subst, ◌∙◌, arith, inl, inr, add-one, drop-cons}
+use Rattle.std.proofs.Common.{◌≡◌, ◌↔◌, ◌⊎◌, ℕ, suc, ◌+◌, ◌-◌, ◌<◌, ◌≤◌, Bool, true, false, List, [], ◌∷◌, ◌++◌, length, map, take, drop, get_or, refl, sym, ap, subst, ◌∙◌, arith, inl, inr, add-one, drop-cons}
 use Rattle.std.specs.Prelude.{Contains, nat_eq, string_bytes}
 use Rattle.std.proofs.Math.ListN.{drop_of_length-le}
 use Rattle.std.proofs.lemmas.Bool.{eq-eqb, eqb-true}
@@ -142,10 +142,12 @@ last_part parts wanted i A r past is both =
 -- The first one wanted, as the code has it.
 pub met_at : (wanted : List (String Global)) (first : String Global) (p : List ℕ) (after : List (List ℕ)) → 0 < length wanted
     → first ≡ get_or wanted 0 first → string_bytes first ≡ p
-    → AreAmong (texts_of wanted) (p ∷ after) ↔ AreAmong (texts_of (drop 1 wanted)) after
+    → AreAmong (texts_of wanted) (p ∷ after) ↔ AreAmong (texts_of (take (length wanted - 1) (drop 1 wanted))) after
 met_at [] first p after some is same = absurd (omega arith)
 met_at (x ∷ wanted) first p after some is same =
-    met (string_bytes x) (texts_of wanted) p after (ap string_bytes (sym is) ∙ same)
+    let all : take (length (x ∷ wanted) - 1) wanted ≡ wanted = take_all (length (x ∷ wanted) - 1) wanted (omega arith) in
+    subst (λ l. AreAmong (string_bytes x ∷ texts_of wanted) (p ∷ after) ↔ AreAmong (texts_of l) after) (sym all)
+    (met (string_bytes x) (texts_of wanted) p after (ap string_bytes (sym is) ∙ same))
 
 pub unmet_at : (wanted : List (String Global)) (first : String Global) (p : List ℕ) (after : List (List ℕ)) → 0 < length wanted
     → first ≡ get_or wanted 0 first → (string_bytes first ≡ p → ⊥)
