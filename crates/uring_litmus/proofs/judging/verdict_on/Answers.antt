@@ -6,16 +6,16 @@ use Rattle.uring_litmus.proofs.judging.verdict_on.Goals as goal
 
 pub taken-requires : goal.taken-requires
 taken-requires c =
-    let against = rw (c.as_slice.ensures.value, c.in-Ok-Some.is, c.in-Ok-Some.field-0-is) at c.first_against-against.ensures in
+    let against = rw (c.as_slice.ensures.value, c.in-Ok-Some.field-0-is) at c.in-Ok-Some.ensures in
     slice_get_within c.args.endings.items c.in-Ok-Some.at against.ending against.there
 
 pub returns-in-Ok-Some : goal.returns-in-Ok-Some
 returns-in-Ok-Some c = λ g calls found.
-    let against = rw (c.as_slice.ensures.value, c.in-Ok-Some.is, c.in-Ok-Some.field-0-is) at c.first_against-against.ensures in
+    let against = rw (c.as_slice.ensures.value, c.in-Ok-Some.field-0-is) at c.in-Ok-Some.ensures in
     let f = fails_of g calls c.args.claim (lines_in c.args.lines.now) c.args.endings.items c.args.is_all c.in-Ok-Some.at c.taken.result found against c.taken.ensures in
     record { can = f.0; against = f.1 }
 
 pub returns-in-Ok-None : goal.returns-in-Ok-None
 returns-in-Ok-None c = λ g calls found.
-    let so = rw (c.as_slice.ensures.value, c.in-Ok-None.is, c.in-Ok-None.field-0-is) at c.first_against-against.ensures in
+    let so = rw (c.as_slice.ensures.value, c.in-Ok-None.field-0-is) at c.in-Ok-None.ensures in
     rw c.standing.ensures (stands_of g calls c.args.claim (lines_in c.args.lines.now) c.args.endings.items c.args.is_all _ found so (search rules))
