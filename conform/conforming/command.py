@@ -9,7 +9,7 @@ from collections import Counter
 from conforming import litmus, planted
 from conforming.differences import DIFFERENCES, untold
 from conforming.features import named
-from conforming.making import random_scenario
+from conforming.making import random_linux_scenario, random_scenario
 from conforming.runs import RECORDER, TOP, NoRing, NoTrace, explain, features, judged, record
 from conforming.scenarios import Scenario, scenarios
 from conforming.shrinking import shortened
@@ -94,7 +94,7 @@ class Report:
 
     def end(self):
         """Prints the table of what differs, what is bad, and the totals. Returns the status."""
-        self.bad = [shorter(it) if it.kind == UNEXPLAINED else it for it in self.bad]
+        self.bad = [shorter(it, self.words.linux) if it.kind == UNEXPLAINED else it for it in self.bad]
         if self.words.page or self.words.json:
             self.draw()
         for rule, count in sorted(self.rules.items()):
@@ -111,44 +111,44 @@ class Report:
         draw(program(), self.bad + self.kept, self.words.page, self.words.json)
 
 
-def outcome_of(scenario, checker):
+def outcome_of(scenario, checker, is_linux=False):
     """What became of one run. `checker` has the words of the proved program that judges, or is None."""
     seen = record(scenario.text)
-    found = explain(scenario.text, seen)
+    found = explain(scenario.text, seen, is_linux)
     if found.kind == "gave up":
         return Outcome(scenario, GAVE_UP, f"behind {found.states} states", seen)
     if found.kind == "unexplained":
-        return Outcome(scenario, DIFFERS if scenario.differs else UNEXPLAINED, found.why, seen, found.trace, found.first)
+        return Outcome(scenario, DIFFERS if scenario.differs and not is_linux else UNEXPLAINED, found.why, seen, found.trace, found.first)
     wrong = judged(checker, found.trace) if checker else ""
     if wrong:
         return Outcome(scenario, REFUSED, wrong.strip(), seen, found.trace)
-    return Outcome(scenario, UNFORESEEN if scenario.differs else AS_FORESEEN, "", seen, found.trace)
+    return Outcome(scenario, UNFORESEEN if scenario.differs and not is_linux else AS_FORESEEN, "", seen, found.trace)
 
 
 def run_all(them, words, report):
-    checker = None if words.no_check else program()
+    checker = None if words.no_check or words.linux else program()
     for at, scenario in enumerate(them, 1):
         for _ in range(words.repeat):
             try:
-                report.tell(outcome_of(scenario, checker))
+                report.tell(outcome_of(scenario, checker, words.linux))
             except NoTrace as fault:
                 report.tell(Outcome(scenario, NOT_TRIED, str(fault)))
         report.progress(at, len(them))
 
 
-def is_unexplained(text):
+def is_unexplained(text, is_linux):
     """Whether a scenario's run is unexplained, of three tries at least once."""
     try:
-        return any(explain(text, record(text)).kind == "unexplained" for _ in range(3))
+        return any(explain(text, record(text), is_linux).kind == "unexplained" for _ in range(3))
     except NoTrace:
         return False
 
 
-def shorter(outcome):
+def shorter(outcome, is_linux):
     """An unexplained outcome of as short a scenario as is unexplained too. The same one, if it isn't again, which is said."""
-    short = Scenario(outcome.scenario.name, shortened(outcome.scenario.text, is_unexplained))
+    short = Scenario(outcome.scenario.name, shortened(outcome.scenario.text, lambda text: is_unexplained(text, is_linux)))
     for _ in range(MOST_TRIES):
-        found = outcome_of(short, None)
+        found = outcome_of(short, None, is_linux)
         if found.kind == UNEXPLAINED:
             return found
     outcome.why += f" (and it wasn't seen again in {MOST_TRIES} runs)"
@@ -157,11 +157,12 @@ def shorter(outcome):
 
 def chosen(words):
     """The scenarios that are to run."""
+    make = random_linux_scenario if words.linux else random_scenario
     if words.seed is not None:
-        return [Scenario(f"seed {it}", random_scenario(it)) for it in range(words.seed, words.seed + words.count)]
+        return [Scenario(f"seed {it}", make(it)) for it in range(words.seed, words.seed + words.count)]
     them = [it for it in scenarios() if not words.scenario or words.scenario in it.name]
     if words.short:
-        return them[::5] + [Scenario(f"seed {it}", random_scenario(it)) for it in range(1, 51)]
+        return them[::5] + [Scenario(f"seed {it}", make(it)) for it in range(1, 51)]
     return them
 
 
@@ -191,6 +192,9 @@ def is_told():
 def conform(words):
     if not is_told():
         return 2
+    if words.linux and (words.page or words.json or words.litmus):
+        print("conform: --page, --json and --litmus are of the profile's rules, and not of Linux's own", file=sys.stderr)
+        return 2
     if not program() and (words.page or words.json):
         print("conform: a page takes the proved program: ./uring prove", file=sys.stderr)
         return 2
@@ -199,14 +203,16 @@ def conform(words):
     try:
         features()
         if words.planted:
-            return planted.find(report, scenarios())
+            return planted.find(report, scenarios(), words.linux)
         if words.litmus:
             return litmus.run(words, report, program())
         them = chosen(words)
         if not them:
             print(f"conform: no scenario has {words.scenario} in its name", file=sys.stderr)
             return 2
-        if not program() and not words.no_check:
+        if words.linux:
+            print("conform: by Linux's own rules what is explained is so by the search alone", file=sys.stderr)
+        elif not program() and not words.no_check:
             print("conform: the proved program isn't built, so what is explained is so by the search alone: ./uring prove", file=sys.stderr)
         run_all(them, words, report)
         return report.end()

@@ -1,6 +1,6 @@
-"""Random scenarios from a seed, of what Linux keeps as the profile has it: what is known to differ is left out, and told by the scenarios that are written by hand.
+"""Random scenarios from a seed: of what Linux keeps as the profile has it, and of everything, for its own rules.
 
-Left out are a bad word before others and a linked fault in a ring that stops; a fault in a group that drains; a drain in a ring that skips; a skip in a chain; and cancels of what a kernel holds back: a cancel names a hold of its own call or of an earlier one that nothing holds back and no other cancel names, or nobody; one that a worker may carry out names nobody.
+Of the first, what is known to differ is left out, and told by the scenarios that are written by hand. Left out are a bad word before others and a linked fault in a ring that stops; a fault in a group that drains; a drain in a ring that skips; a skip in a chain; and cancels of what a kernel holds back: a cancel names a hold of its own call or of an earlier one that nothing holds back and no other cancel names, or nobody; one that a worker may carry out names nobody.
 """
 
 import random
@@ -90,3 +90,60 @@ class Maker:
 
 def random_scenario(seed):
     return Maker(seed).scenario()
+
+
+class FreeMaker:
+    """Random scenarios of everything that Linux keeps in its own way: nothing is left out."""
+
+    def __init__(self, seed):
+        self.rng = random.Random(seed)
+        self.next, self.held = 1, []
+        self.sq = self.rng.choice([2, 4, 4, 8])
+        self.flags = [it for it in "DSLHA" if self.rng.random() < 0.6]
+        self.has_faults, self.has_bad_words, self.has_cancels = (self.rng.random() < 0.5 for _ in range(3))
+
+    def name(self):
+        """A user data: mostly a new one, at times that of a hold before."""
+        if self.held and self.rng.random() < 0.1:
+            return self.rng.choice(self.held)
+        self.next += 1
+        return self.next - 1
+
+    def item(self):
+        rng = self.rng
+        if self.has_bad_words and rng.random() < 0.1:
+            return f"bad {rng.choice([self.sq, 4096, 4294967295])}"
+        user_data = self.name()
+        flags = "".join(it for it in self.flags if rng.random() < {"L": 0.35, "H": 0.15}.get(it, 0.2)) or "-"
+        if self.has_faults and rng.random() < 0.2:
+            return f"op {rng.choice([200, 255])} {user_data} {flags}"
+        if self.has_cancels and rng.random() < 0.3:
+            named = rng.choice(self.held + [user_data - 1, user_data + 1, 999])
+            return f"{rng.choice(['cancel', 'cancelall'])} {user_data} {flags} {max(named, 0)}"
+        kind = rng.choice(["nop", "nop", "write", "read", "fsync", "hold"])
+        if kind == "hold":
+            self.held.append(user_data)
+            return f"hold {user_data} {flags}"
+        file = rng.choice([0, 0, 1, 9])
+        if kind == "write":
+            return f"write {user_data} {flags} {file} {rng.randrange(8)} {rng.choice(['61', '6162', '-'])}"
+        if kind == "read":
+            return f"read {user_data} {flags} {file} {rng.randrange(8)} {rng.randrange(5)}"
+        return f"fsync {user_data} {flags} {file}" if kind == "fsync" else f"nop {user_data} {flags}"
+
+    def scenario(self):
+        rng = self.rng
+        lines = [f"# setup --sq {self.sq} --cq {rng.choice([self.sq, 2 * self.sq])}" + (" --stop" if rng.random() < 0.4 else "")]
+        for _ in range(rng.randrange(1, 5)):
+            # (what an earlier call left is taken by the next)
+            lines += [self.item() for _ in range(rng.randrange(self.sq // 2 + 1))]
+            lines += [""] * rng.choice([1, 1, 2])
+            if self.held and rng.random() < 0.4:
+                lines.append(f"release {self.held.pop(rng.randrange(len(self.held)))}")
+            if rng.random() < 0.1:
+                lines.append("events")
+        return "\n".join(lines + ["", ""]) + "\n"
+
+
+def random_linux_scenario(seed):
+    return FreeMaker(seed).scenario()

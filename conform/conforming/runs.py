@@ -4,6 +4,7 @@ import os
 import subprocess
 
 from conforming.fill import Fill, GaveUp
+from conforming.linux import LinuxFill
 from conforming.seen import Look, events_of
 from conforming.setup import Setup
 
@@ -48,10 +49,10 @@ class Verdict:
         self.kind, self.trace, self.why, self.states, self.first = kind, trace, why, states, first
 
 
-def explain(scenario, recorded):
-    """The verdict on what was recorded, by the search alone."""
+def explain(scenario, recorded, is_linux=False):
+    """The verdict on what was recorded, by the search alone: by the rules of the profile, or by those of Linux."""
     setup = Setup(scenario)
-    fill = Fill(setup, events_of(scenario, recorded))
+    fill = (LinuxFill if is_linux else Fill)(setup, events_of(scenario, recorded))
     head = setup.line() + "\n"
     try:
         steps = fill.trace()

@@ -4,10 +4,10 @@ from conforming.requests import Entry
 
 
 class Call:
-    """A call that consumed these items: entries, or words that name no slot."""
+    """A call that was asked for so many positions and consumed these items: entries, or words that name no slot."""
 
-    def __init__(self, items, returned, head, dropped):
-        self.items, self.returned, self.head, self.dropped = items, returned, head, dropped
+    def __init__(self, items, asked, returned, head, dropped):
+        self.items, self.asked, self.returned, self.head, self.dropped = items, asked, returned, head, dropped
 
     def entries(self):
         return [it for it in self.items if isinstance(it, Entry)]
@@ -76,9 +76,9 @@ def events_of(scenario, recorded):
             while taken < len(staged) and staged[taken][0] < until:
                 events.append(Staged(staged[taken][1], taken))
                 taken += 1
-            _, returned, now, dropped = map(int, words[1:])
+            asked, returned, now, dropped = map(int, words[1:])
             if now != head or returned >= 0:
-                events.append(Call([it for _, it in staged[head:now]], returned, now, dropped))
+                events.append(Call([it for _, it in staged[head:now]], min(asked, taken - head), returned, now, dropped))
             head = now
         elif words[0] == "tail":
             events.append(Look(int(words[1])))

@@ -1,0 +1,345 @@
+"""A ring as Linux 6.18 keeps it, for `--linux`: the rules in which it differs from the profile, and a search by them. Nothing here is proved, and no proved checker knows these rules: what the search explains is as good as it.
+
+The rules, each as docs/PROTOCOL.md tells it:
+
+- A call takes entries until it has as many as it was asked for, up to a word that names no slot, or up to a faulty entry without a link flag in a ring that stops. Groups are accepted one by one, each behind its last member; requests go on between them.
+- A group with a fault ends at once, from its first member on, and nobody waits for it.
+- A ring drains from the first entry on that asks for it, and until a group is accepted that doesn't, while nothing else is outstanding but what is deferred. Each group accepted meanwhile is deferred, in order. The first of those deferred goes on once all that isn't deferred has ended, and with it those behind it up to the next that drains.
+- A group drains if its first member does, or a later one that has no fault; then the next group drains too.
+- A drain fails with -95 once an entry has asked for skipped success.
+- A cancel finds what has started and hasn't ended, chosen or not. It ends with 0, and what it chose ends with -125 or -4; or with -114, and that goes on, if a worker has it. One that no worker carries out chooses before its call takes more. One that a worker carries out may find itself.
+- A cancel of all counts those that wait for a pipe, and of what workers have any number.
+- Who is cancelled behind a failure posts nothing if the member that failed has the skip flag, and else posts, whatever its own flags. Of a group with a fault the first member is the one that failed.
+"""
+
+from conforming.fill import MOST_STATES, Fill, GaveUp, Ring
+from conforming.requests import ALREADY, CANCELED, INVALID, NO_ENTRY, RUNS, WAITS
+from conforming.seen import Call
+
+UNSUPPORTED, INTERRUPTED = -95, -4
+
+
+class CarriedOut(tuple):
+    """How a cancel stands that chose already, with the result that it will end with."""
+
+
+class Rules:
+    """How the ring stands for what is taken next. A value."""
+
+    def __init__(self, drains=False, next_drains=False, skips=False):
+        self.drains, self.next_drains, self.skips = drains, next_drains, skips
+
+    def key(self):
+        return self.drains, self.next_drains, self.skips
+
+
+class Group:
+    """The numbers of its members, whether it drains, the faults of its members (an error or None), and whether a worker has it from its first member on: as one that was deferred, or that its call's end cut."""
+
+    def __init__(self, first, faults, drains, is_workers):
+        self.first, self.faults, self.drains, self.is_workers = first, faults, drains, is_workers
+
+    def members(self):
+        return range(self.first, self.first + len(self.faults))
+
+    def has_fault(self):
+        return any(it is not None for it in self.faults)
+
+
+class LinuxRequests:
+    """The requests that were accepted. A value: each change gives a new one.
+
+    `standing` has for each request WAITS, RUNS or its result; `deferred` the groups that a drain defers, in order; `chosen` whom a cancel chose, and `doomed` those of them that it certainly ends.
+    """
+
+    def __init__(self, entries=(), groups=(), standing=(), chosen=frozenset(), doomed=frozenset(), deferred=(), rules=Rules()):
+        self.entries, self.groups, self.standing, self.deferred, self.rules = entries, groups, standing, deferred, rules
+        self.chosen, self.doomed = chosen, doomed
+
+    def key(self):
+        return self.standing, self.chosen, self.doomed, self.deferred, self.rules.key()
+
+    def changed(self, **parts):
+        return LinuxRequests(**{**vars(self), **parts})
+
+    def group_of(self, number):
+        return next(at for at, group in enumerate(self.groups) if number in group.members())
+
+    def is_outstanding(self, number):
+        return self.standing[number] in (WAITS, RUNS) or self.is_carried_out(number)
+
+    def is_carried_out(self, number):
+        """Whether a worker has carried a cancel out, and not ended it yet."""
+        return isinstance(self.standing[number], CarriedOut)
+
+    def runs(self, number):
+        return self.standing[number] == RUNS
+
+    def is_over(self, at):
+        return not any(self.is_outstanding(it) for it in self.groups[at].members())
+
+    # accepting
+
+    def accepted(self, group, rules, is_cut=False):
+        """Behind the acceptance of a group: its entries with their faults, and whether it drains."""
+        entries, faults, drains = group
+        at, is_workers = len(self.groups), is_cut or rules.drains
+        behind = self.changed(
+            entries=self.entries + tuple(entries),
+            groups=self.groups + (Group(len(self.entries), tuple(faults), drains, is_workers),),
+            standing=self.standing + (WAITS,) * len(entries),
+            rules=rules,
+        )
+        if not rules.drains or behind.groups[at].has_fault():
+            return behind
+        behind = behind.changed(deferred=self.deferred + (at,)).released()
+        if not drains and not behind.deferred:
+            behind = behind.changed(rules=Rules(False, rules.next_drains, rules.skips))
+        return behind
+
+    def released(self):
+        """Lets go on what is deferred and need not be any more."""
+        rest, is_first, has_drain = list(self.deferred), True, False
+        is_alone = all(self.is_over(at) or at in self.deferred for at in range(len(self.groups)))
+        while rest:
+            has_drain = has_drain or self.groups[rest[0]].drains
+            if (has_drain or is_first) and not (is_alone and is_first):
+                break
+            rest.pop(0)
+            is_first = False
+        return self.changed(deferred=tuple(rest))
+
+    # going on
+
+    def may_start(self, number):
+        at = self.group_of(number)
+        return self.standing[number] == WAITS and at not in self.deferred and not any(self.is_outstanding(it) for it in self.groups[at].members() if it < number)
+
+    def stands(self, number, standing):
+        return self.changed(standing=self.standing[:number] + (standing,) + self.standing[number + 1 :])
+
+    def ended(self, number, result):
+        return self.stands(number, result).released()
+
+    def breaker_of(self, number):
+        """The member whose failure cancels this one, or None. In a group with a fault it is the first."""
+        group = self.groups[self.group_of(number)]
+        if group.has_fault():
+            return group.first
+        failed = [it for it in group.members() if it < number and not self.is_outstanding(it) and self.entries[it].is_soft() and not self.is_success(it)]
+        return failed[0] if failed else None
+
+    def is_success(self, number):
+        return self.entries[number].is_success(self.standing[number])
+
+    def doom_of(self, number):
+        """What a member of a broken group ends with, once those before it have ended; None if it isn't doomed."""
+        if not self.standing[number] == WAITS or self.breaker_of(number) is None:
+            return None
+        group = self.groups[self.group_of(number)]
+        if any(self.is_outstanding(it) for it in group.members() if it < number):
+            return None
+        fault = group.faults[number - group.first]
+        return CANCELED if fault is None else fault
+
+    def posts(self, number, result):
+        """Whether the end of a request posts."""
+        breaker = self.breaker_of(number)
+        if breaker is not None and breaker != number:
+            return not self.entries[breaker].is_skipping()
+        return not (self.entries[number].is_skipping() and self.entries[number].is_success(result))
+
+    def has_cancel_to_carry_out(self):
+        """Whether a cancel is still to choose that no worker carries out: it does so before its call takes more."""
+        return any(entry.is_cancel and self.may_start(number) and self.doom_of(number) is None and not self.is_workers(number) for number, entry in enumerate(self.entries))
+
+    def names_itself(self, number):
+        return self.entries[number].target == self.entries[number].user_data
+
+    def found(self, number):
+        """Whom a cancel may choose."""
+        named = self.entries[number].target
+        return [it for it in range(len(self.entries)) if it != number and self.entries[it].user_data == named and self.runs(it)]
+
+    def is_workers(self, number):
+        """Whether a worker may have it: not if it certainly went on within its own call."""
+        group = self.groups[self.group_of(number)]
+        return number > group.first or group.is_workers or "A" in self.entries[number].flags
+
+    def is_polled(self, number):
+        """Whether it certainly waits for its pipe, and no worker has it."""
+        return self.entries[number].is_hold and not self.is_workers(number)
+
+    def cancels(self, number):
+        """What a cancel may end with, each with how the requests stand then. One that was chosen before may be found again, or not; of those that workers have any number may be counted; and a cancel that a worker carries out may find itself."""
+        found, finds_itself = self.found(number), self.is_workers(number) and self.names_itself(number)
+        certain = [it for it in found if it not in self.chosen]
+        if self.entries[number].name == "cancelall":
+            polled = sum(self.is_polled(it) for it in certain)
+            behind = self.changed(chosen=self.chosen | set(found))
+            for count in range(polled, len(found) + finds_itself + 1):
+                yield count, behind.ended(number, count)
+            return
+        if finds_itself:
+            yield ALREADY, self.ended(number, ALREADY)
+        if not certain:
+            yield NO_ENTRY, self.ended(number, NO_ENTRY)
+        for it in found:
+            yield 0, self.changed(chosen=self.chosen | {it}, doomed=self.doomed | {it}).ended(number, 0)
+            if not self.is_polled(it):
+                yield ALREADY, self.ended(number, ALREADY)
+
+    def ends_of(self, number):
+        """The results with which a request may end now, each with how the requests stand then."""
+        entry, doom = self.entries[number], self.doom_of(number)
+        if doom is not None:
+            yield doom, self.ended(number, doom)
+        elif self.is_carried_out(number):
+            yield self.standing[number][0], self.ended(number, self.standing[number][0])
+        elif self.may_start(number) or self.runs(number):
+            if entry.is_cancel and number not in self.doomed:
+                yield from self.cancels(number)
+            elif number not in self.doomed:
+                yield None, self
+        if self.runs(number) and number in self.chosen:
+            for result in (CANCELED, INTERRUPTED):
+                yield result, self.ended(number, result)
+
+
+class Taking:
+    """What a call has taken of its items: where it is, the group that it is amid, and the rules as they stand for the next entry. A value."""
+
+    def __init__(self, at=0, group=((), (), False)):
+        self.at, self.group = at, group
+
+    def key(self):
+        return self.at, len(self.group[0])
+
+
+def taken(taking, rules, entry):
+    """Behind one entry that a call takes: the group that it is amid, the rules, and whether its fault stops a ring that stops."""
+    entries, faults, drains = taking.group
+    fault = INVALID if entry.is_faulty else None
+    if fault is None:
+        skips = rules.skips or entry.is_skipping()
+        is_drain = "D" in entry.flags and not skips
+        if "D" in entry.flags and skips:
+            fault = UNSUPPORTED
+        rules = Rules(rules.drains or is_drain, rules.next_drains or is_drain and bool(entries), skips)
+        drains = drains or is_drain
+        if fault is None and rules.next_drains and not entries:
+            rules, drains = Rules(True, False, rules.skips), True
+    return Taking(taking.at + 1, (entries + (entry,), faults + (fault,), drains)), rules, fault is not None and not entry.is_linked()
+
+
+class LinuxFill(Fill):
+    """The search of `Fill`, by the rules of Linux. The steps that it gives are words of its own: no checker takes them."""
+
+    def trace(self):
+        steps = self.search((0, None), 0, LinuxRequests(), Ring(self.size), 0, None)
+        return steps if steps is None else [line for part in steps for line in part]
+
+    def search(self, at, posted, requests, ring, dropped, path):
+        event, taking = at
+        key = event, taking and taking.key(), posted, requests.key(), ring.key()
+        if key in self.been:
+            return None
+        self.been.add(key)
+        if len(self.been) > MOST_STATES:
+            raise GaveUp
+        if (posted, event) > self.furthest:
+            self.furthest, self.reached = (posted, event), path
+        if event == len(self.events):
+            is_over = not any(requests.is_outstanding(it) for it in range(len(requests.entries)))
+            if is_over and posted == len(self.completions):
+                return [[]]
+            return None if is_over else self.hidden(at, posted, requests, ring, dropped, path)
+        for steps, now, behind, moved, lost in self.goings_on(at, requests, ring, dropped):
+            found = self.search(now, posted, behind, moved, lost, (path, steps))
+            if found is not None:
+                return [steps, *found]
+        return self.hidden(at, posted, requests, ring, dropped, path)
+
+    def goings_on(self, at, requests, ring, dropped):
+        """The next part of an event: of a call one item, or its end."""
+        event, taking = at
+        it = self.events[event]
+        if not isinstance(it, Call):
+            gone = self.passed(it, requests, ring, dropped)
+            if gone:
+                steps, behind, now, lost = gone
+                yield steps, (event + 1, None), behind, now, lost
+            return
+        taking = taking or Taking()
+        if taking.at < len(it.items):
+            yield from self.takes(event, it, taking, requests, ring, dropped)
+        elif it.returned == len(it.entries()) or not it.items:
+            behind = self.cut(taking, requests)
+            yield [f"call {it.returned}, head {it.head}"], (event + 1, None), behind, ring, it.dropped
+
+    @staticmethod
+    def cut(taking, requests):
+        """The group that a call is amid at its end is accepted."""
+        return requests.accepted(taking.group, requests.rules, True) if taking.group[0] else requests
+
+    def takes(self, event, call, taking, requests, ring, dropped):
+        item, is_last = call.items[taking.at], taking.at + 1 == len(call.items)
+        if isinstance(item, int):
+            if is_last:
+                yield [f"bad word {item}"], (event, Taking(taking.at + 1, taking.group)), requests, ring, dropped
+            return
+        if requests.has_cancel_to_carry_out():
+            return
+        now, rules, stops = taken(taking, requests.rules, item)
+        if stops and self.is_stop and not is_last or is_last and not self.may_end(call, item, stops):
+            return
+        behind = requests.changed(rules=rules)
+        if not item.is_linked():
+            behind, now = behind.accepted(now.group, rules), Taking(now.at)
+        yield [f"take {item.text}"], (event, now), behind, ring, dropped
+
+    def may_end(self, call, item, stops):
+        """Whether a call may end behind its last item: it was asked for no more, or stopped there."""
+        return len(call.items) >= call.asked or stops and self.is_stop
+
+    def may_post(self, at, ring):
+        return super().may_post(at[0], ring)
+
+    def hidden(self, at, posted, requests, ring, dropped, path):
+        for steps, more, behind, now in self.moves(at, posted, requests, ring):
+            found = self.search(at, posted + more, behind, now, dropped, (path, steps))
+            if found is not None:
+                return [steps, *found]
+        return None
+
+    def moves(self, at, posted, requests, ring):
+        if posted < len(self.completions) and self.may_post(at, ring):
+            user_data, result = self.completions[posted]
+            for number, entry in enumerate(requests.entries):
+                if entry.user_data == user_data and requests.is_outstanding(number):
+                    yield from self.ends(requests, number, result, ring)
+        for number, entry in enumerate(requests.entries):
+            if requests.is_outstanding(number):
+                yield from self.silent_ends(requests, number, ring)
+        for number, entry in enumerate(requests.entries):
+            if not requests.may_start(number) or requests.doom_of(number) is not None:
+                continue
+            if entry.user_data in self.named:
+                yield [f"{number} runs"], 0, requests.stands(number, RUNS), ring
+            if entry.is_cancel and (requests.found(number) or not requests.is_workers(number)):
+                for result, behind in requests.cancels(number):
+                    yield [f"{number} cancels"], 0, behind.stands(number, CarriedOut((result,))), ring
+
+    def ends(self, requests, number, result, ring):
+        entry = requests.entries[number]
+        for given, behind in requests.ends_of(number):
+            if not (given == result or given is None and entry.may_end_with(result)) or not requests.posts(number, result):
+                continue
+            before, now = ring.posted()
+            yield [*before, f"{number} ends with {result}"], 1, behind.ended(number, result) if given is None else behind, now
+
+    def silent_ends(self, requests, number, ring):
+        for given, behind in requests.ends_of(number):
+            result = requests.entries[number].length if given is None else given
+            if not requests.posts(number, result):
+                yield [f"{number} ends with {result} in silence"], 0, behind.ended(number, result) if given is None else behind, ring
