@@ -48,7 +48,7 @@ cut_many (n ∷ more) values = ap suc (cut_many more (drop n values))
 
 pub parts_many : {X Y : Type 0} (f : Y → List X) (parts : List Y) (lens : List ℕ) (values : List X)
     → map f parts ≡ cut lens values → length parts ≡ length lens
-parts_many f parts lens values is =
+parts_many {X = X} f parts lens values is =
     sym (length-map parts f) ∙ ap (λ (ls : List (List X)). length ls) is ∙ cut_many lens values
 
 -- and none of them is longer than files may be, if no length is

@@ -106,12 +106,7 @@ fn start_of(setup: &SetupWords, unit: u64, count: usize) -> Option<Setup>
 fn are_short(lens: &[u64]) -> bool
     ensures { IsTrue result ↔ AreShort lens.now }
 {
-    for len in lens {
-        if *len > MAX_LEN {
-            return false;
-        }
-    }
-    true
+    lens.iter().all(|len| *len <= MAX_LEN)
 }
 
 /// What `wulgach_crash_machine_step` does, by this memory. If it grants whatever is asked for, -12 isn't returned, and no answer says that memory was refused.

@@ -83,12 +83,7 @@ fn ring_of(setup: &SetupWords, lens: &[u64]) -> Option<Setup>
 fn fit(lens: &[u64], size: u32) -> bool
     ensures { IsTrue result ↔ All (λ len. len ≤ size) lens.now }
 {
-    for len in lens {
-        if *len > u64::from(size) {
-            return false;
-        }
-    }
-    true
+    lens.iter().all(|len| *len <= u64::from(size))
 }
 
 /// What these calls may come to, as far as so many paths show.
