@@ -15,7 +15,7 @@ drop_plus (suc n) m (x ∷ xs) =
 
 -- the part that begins here, and what is left behind it
 pub cut_next : {X : Type 0} (lens : List ℕ) (values : List X) (i j from to len : ℕ) → i < length lens
-    → j ≡ suc i → len ≡ get_or lens i len → to ≡ from + min len (length values - from)
+    → j ≡ suc i → len ≡ get_or lens i 0 → to ≡ from + min len (length values - from)
     → cut (drop i lens) (drop from values)
     ≡ take (to - from) (drop from values) ∷ cut (drop j lens) (drop to values)
 cut_next lens values i j from to len within next is ends =
@@ -23,7 +23,7 @@ cut_next lens values i j from to len within next is ends =
     let len_rest : length rest ≡ length values - from = length-drop from values in
     let many : to - from ≡ min len (length rest) = omega (arith, ends, len_rest) in
     let behind : to ≡ from + min len (length rest) = omega (arith, ends, len_rest) in
-    ap (λ ls. cut ls rest) (drop-cons lens i len within)
+    ap (λ ls. cut ls rest) (drop-cons lens i 0 within)
     ∙ ap (λ (k : ℕ). take k rest ∷ cut (drop (suc i) lens) (drop k rest)) (sym is)
     ∙ ap (λ ys. ys ∷ cut (drop (suc i) lens) (drop len rest)) (sym (take_min len rest) ∙ ap (λ (k : ℕ). take k rest) (sym many))
     ∙ ap (λ ys. take (to - from) rest ∷ cut (drop (suc i) lens) ys) (sym (drop_min len rest) ∙ sym (drop_plus from (min len (length rest)) values) ∙ ap (λ (k : ℕ). drop k values) (sym behind))
@@ -31,7 +31,7 @@ cut_next lens values i j from to len within next is ends =
 
 -- one part more was made
 pub cut_step : {X Y : Type 0} (f : Y → List X) (done new : List Y) (part : Y) (lens : List ℕ) (values : List X) (i j from to len : ℕ) (all : List (List X))
-    → i < length lens → j ≡ suc i → len ≡ get_or lens i len → to ≡ from + min len (length values - from)
+    → i < length lens → j ≡ suc i → len ≡ get_or lens i 0 → to ≡ from + min len (length values - from)
     → f part ≡ take (to - from) (drop from values) → new ≡ done ++ part ∷ []
     → map f done ++ cut (drop i lens) (drop from values) ≡ all
     → map f new ++ cut (drop j lens) (drop to values) ≡ all

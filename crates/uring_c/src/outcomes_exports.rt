@@ -64,7 +64,7 @@ pub extern "C" fn wulgach_outcomes_new(
 }
 
 /// The set-up of a ring that takes calls of these lengths in whole, if it is asked for.
-#[tactic(auto, using(crate::proofs::Starts::no_walk_refused, crate::proofs::Starts::no_walk_stops, crate::proofs::Starts::no_walk_long))]
+#[tactic(auto, using(crate::proofs::Starts::no_walk_refused, crate::proofs::Starts::no_walk_stops))]
 fn ring_of(setup: &SetupWords, lens: &[u64]) -> Option<Setup>
     ensures { MatchOption result (IsNoWalk setup.now lens.now)
         (λ s. IsAskedFor setup.now s × TakesWhole s lens.now) }
