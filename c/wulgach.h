@@ -4,7 +4,8 @@
  * application and the dispatcher (the kernel's side), make their steps in any order; each step has one answer.
  * A core carries nothing out: how a running request ends comes from the caller (wulgach_core_finish), who
  * keeps the files. A machine is a core with up to 64 files of at most 65,536 bytes each in memory. A volume is one file of
- * any size and what a power failure may leave of it; it stands apart from both.
+ * any size and what a power failure may leave of it; it stands apart from both. A crash machine is a machine whose power may
+ * fail: it keeps a volume of each of its files. Outcomes are everything that calls may come to.
  *
  * What is proved, and what isn't. Each function below is proved to do what the contracts of the library say: after
  * any calls in any order, each answer is the one that the definitions of the protocol give for the calls before it.
@@ -13,7 +14,7 @@
  * caller does. The stack must suffice: a call takes a few kilobytes.
  *
  * What a caller owes. The library can't check these, and breaking one is undefined behaviour.
- *   - A place (struct wulgach_core, struct wulgach_machine, struct wulgach_volume) is zero before its first use: `= { 0 }`. After that
+ *   - A place (struct wulgach_core, _machine, _volume, _crash_machine, _outcomes) is zero before its first use: `= { 0 }`. After that
  *     its bytes are left alone, and never copied to be used twice. A place may be moved (memcpy) if the old one
  *     isn't used again.
  *   - No pointer is null, each points to a whole struct of its type, and those of one call don't overlap.
@@ -23,14 +24,18 @@
  *   - malloc, realloc and free are one allocator, and align a block as C demands.
  *
  * Results. Each function but wulgach_setup_fault returns 0, or the negative of an error number; if it isn't 0, nothing
- * has changed:
- *   -9  (EBADF)   the place is empty. Returned by every function of a place but `new`, and only then.
- *   -22 (EINVAL)  from `step`: the words give no step. From `new`: a number of the set-up is out of its range, and
- *                 wulgach_setup_fault says which; of a volume, the unit is 0. From `begin_..`: no number is left.
- *   -12 (ENOMEM)  from `new`, from `submit` and `reap_all` of a core, and from `begin_..`, `contents`, `crash`, `count_images`, `images` and `fold` of a volume: memory was refused.
- *   -27 (EFBIG)   from `begin_write`: the write would end above 2^63 - 1.
- *   -2  (ENOENT)  from a function that reads: there is no such completion, request, file or byte. From `end_..` and `fail_..`
- *                 of a volume: no write or sync of this number runs.
+ * has changed, but for a `step` of a crash machine that returns -12:
+ *   -9   (EBADF)   the place is empty. Returned by every function of a place but `new` and `on`, and only then.
+ *   -22  (EINVAL)  from `step`: the words give no step. From `new` and `on`: a number of the set-up is out of its range, and
+ *                  wulgach_setup_fault says which; of a volume and a crash machine, the unit is 0; of a crash machine, more files
+ *                  are given than it has; of outcomes, the ring doesn't take each call whole. From `begin_..`: no number is left.
+ *   -12  (ENOMEM)  from `new` and `on`, from `submit` and `reap_all` of a core, from `begin_..`, `contents`, `crash`, `count_images`, `images`
+ *                  and `fold` of a volume, and from `step`, `crash`, `image`, `count_images` and `images` of a crash machine: memory was refused.
+ *   -27  (EFBIG)   from `begin_write`: the write would end above 2^63 - 1. From `images`: there are more than room for their lengths.
+ *                  From `on`: a file is longer than 65,536 bytes. From wulgach_outcomes_new: the walk has no number left.
+ *   -2   (ENOENT)  from a function that reads: there is no such completion, request, outcome, file or byte. From `end_..` and `fail_..`
+ *                  of a volume: no write or sync of this number runs.
+ *   -131 (ENOTRECOVERABLE)  from `step` and from all calls on what a crash leaves of a crash machine: memory was refused for one of its steps.
  */
 #ifndef WULGACH_H
 #define WULGACH_H
@@ -43,7 +48,7 @@
 extern "C" {
 #endif
 
-/* A place for a core, one for a machine, and one for a volume. All zero: empty. The fields belong to the library. */
+/* A place for each. All zero: empty. The fields belong to the library. */
 struct wulgach_core {
     void *at;
     bool is_full;
@@ -55,6 +60,16 @@ struct wulgach_machine {
 };
 
 struct wulgach_volume {
+    void *at;
+    bool is_full;
+};
+
+struct wulgach_crash_machine {
+    void *at;
+    bool is_full;
+};
+
+struct wulgach_outcomes {
     void *at;
     bool is_full;
 };
@@ -405,6 +420,94 @@ int32_t wulgach_volume_fold(struct wulgach_volume *volume);
 
 /* Frees the volume, and leaves the place empty. */
 int32_t wulgach_volume_free(struct wulgach_volume *volume);
+
+/* A crash machine: a machine whose power may fail. It is moved by steps as a machine is, and gives the same answers; and it keeps a
+ * volume of each of its files, on which a write is begun as its request begins to run and ended as it is finished with all its bytes,
+ * and a sync likewise with 0. A write that failed goes on running there: any part of it may be left.
+ *
+ * What happens from one start to the crash that ends it is an epoch. `crash` puts the machine of the next epoch into another place:
+ * one of the same set-up, with no request and an empty ring, whose files are what a crash may leave. The old one stays as it is, so
+ * that many crashes can be tried.
+ *
+ * Memory is asked for where a write or a sync begins. If it is refused there, the machine is lost: `step` returns -12, and from then on
+ * it and all calls on what a crash leaves return -131. A machine that had forgotten a write would leave files that no crash leaves. */
+
+/* Puts a new machine into a place, empty or not: one that was there is freed. Its files are empty. A crash leaves each unit of so many
+ * bytes by itself; 1 promises least. -22 exactly if wulgach_setup_fault isn't 0 or unit is 0; -12 if memory was refused. The place then
+ * keeps what it had. */
+int32_t wulgach_crash_machine_new(struct wulgach_crash_machine *machine, const struct wulgach_setup *setup, uint64_t unit);
+
+/* The same with files: its first files have these bytes, given one behind another, with the length of each; the others are empty.
+ * count may be 0. A length that goes past the end of bytes takes those that are there.
+ *
+ * -22 exactly if wulgach_setup_fault isn't 0, unit is 0, or count is above the number of files; else -27 exactly if a length is above
+ * 65,536; -12 if memory was refused. The place then keeps what it had. */
+int32_t wulgach_crash_machine_on(struct wulgach_crash_machine *machine, const struct wulgach_setup *setup, uint64_t unit, const uint8_t *bytes, size_t len, const uint64_t *lens, size_t count);
+
+/* Makes one step, and writes its answer, which is that of a machine that began on these files. -22 exactly if kind is above 14; else -131
+ * exactly if the machine is lost; -12 if memory was refused for what is kept of a file: then no answer is written, and the machine is lost. */
+int32_t wulgach_crash_machine_step(struct wulgach_crash_machine *machine, const struct wulgach_step *step, struct wulgach_answer *answer);
+
+/* Writes whether the machine is lost. */
+int32_t wulgach_crash_machine_is_lost(struct wulgach_crash_machine *machine, bool *is_lost);
+
+/* As of a machine, of this epoch. Writes and syncs of a file are counted from its start on. */
+int32_t wulgach_crash_machine_counts(struct wulgach_crash_machine *machine, struct wulgach_counts *counts);
+int32_t wulgach_crash_machine_rest(struct wulgach_crash_machine *machine, uint64_t index, struct wulgach_completion *completion);
+int32_t wulgach_crash_machine_running_op(struct wulgach_crash_machine *machine, uint64_t number, struct wulgach_operation *operation);
+int32_t wulgach_crash_machine_issuable(struct wulgach_crash_machine *machine, uint64_t *count);
+int32_t wulgach_crash_machine_nth_issuable(struct wulgach_crash_machine *machine, uint64_t index, uint64_t *number);
+int32_t wulgach_crash_machine_state(struct wulgach_crash_machine *machine, int32_t fd, struct wulgach_file *file);
+int32_t wulgach_crash_machine_byte(struct wulgach_crash_machine *machine, int32_t fd, uint64_t at, uint8_t *byte);
+
+/* Writes whether the write of a file that request number is, in this epoch, is safe: false too if the request is none. -131 exactly if the
+ * machine is lost, else -2 exactly if there is no such file. */
+int32_t wulgach_crash_machine_is_safe(struct wulgach_crash_machine *machine, int32_t fd, uint64_t number, bool *is_safe);
+
+/* Of one file, as of a volume: what a crash may leave by a choice, how many images there are, and each once. A choice names a write by
+ * its place among the writes and syncs of the file in this epoch that have begun, from 1; a write of no byte, or past the largest size,
+ * is left out. They refuse as `is_safe`, and with -12 if memory was refused; `images` with -27 if there are more than lens has room for. */
+int32_t wulgach_crash_machine_image(struct wulgach_crash_machine *machine, int32_t fd, const uint64_t *choice, size_t count, uint8_t *bytes, size_t room, uint64_t *len);
+int32_t wulgach_crash_machine_count_images(struct wulgach_crash_machine *machine, int32_t fd, uint64_t *count);
+int32_t wulgach_crash_machine_images(struct wulgach_crash_machine *machine, int32_t fd, uint8_t *bytes, size_t room, uint64_t *lens, size_t most, uint64_t *count, uint64_t *total);
+
+/* The power fails: puts the machine of the next epoch into another place, empty or not. Each file is left by a choice of its own: their
+ * numbers are given one behind another, with the length of each choice. One that is missing is empty, and one too many says nothing. To
+ * crash by a seed, fill the numbers with wulgach_volume_choose and give each file as many of them.
+ *
+ * -131 exactly if the machine is lost; -12 if memory was refused. The other place then keeps what it had. */
+int32_t wulgach_crash_machine_crash(struct wulgach_crash_machine *machine, struct wulgach_crash_machine *next, const uint64_t *numbers, size_t total, const uint64_t *lens, size_t count);
+
+/* Frees the machine, and leaves the place empty. */
+int32_t wulgach_crash_machine_free(struct wulgach_crash_machine *machine);
+
+/* Outcomes: everything that calls may come to on empty files. An outcome is the completions in the order in which they are posted, and the
+ * files that are left, once all calls were made and no request is outstanding. What is in the list may come, by some order of steps that the
+ * rules allow; if the list is all, nothing else may. Positions whose word names no slot aren't among these calls, so nothing is dropped. */
+
+/* Puts the outcomes of calls into a place, empty or not, each once: outcomes that were there are freed. The entries of all calls are given
+ * one behind another, with the length of each call; those that are left over belong to none.
+ *
+ * They are found by a walk over the orders of the requests, which ends after `most` paths. *is_all says whether it had ended before: if not,
+ * there may be more, and their number is a lower bound. UINT64_MAX walks to the end; eight loose no-ops have 40,320 outcomes.
+ *
+ * -22 exactly if wulgach_setup_fault isn't 0, the set-up asks for a ring that stops, or a call has more entries than the submission ring;
+ * -12 if memory was refused; -27 if the walk ran out of numbers. The place then keeps what it had. */
+int32_t wulgach_outcomes_new(struct wulgach_outcomes *outcomes, const struct wulgach_setup *setup, const struct wulgach_entry *entries, size_t total, const uint64_t *lens, size_t calls, uint64_t most, bool *is_all);
+
+/* Writes how many outcomes there are, and whether these are all. */
+int32_t wulgach_outcomes_count(struct wulgach_outcomes *outcomes, uint64_t *count, bool *is_all);
+
+/* Writes the completions of outcome index, from 0, in the order in which they are posted: as many as there is room for, and *count is how
+ * many there are. -2 past the last outcome: so they come one by one, from 0 on, until it is returned. */
+int32_t wulgach_outcomes_completions(struct wulgach_outcomes *outcomes, uint64_t index, struct wulgach_completion *completions, size_t room, uint64_t *count);
+
+/* Writes how a file stands that outcome index leaves, and a byte of it. -2 past the last outcome, and as of a machine. */
+int32_t wulgach_outcomes_state(struct wulgach_outcomes *outcomes, uint64_t index, int32_t fd, struct wulgach_file *file);
+int32_t wulgach_outcomes_byte(struct wulgach_outcomes *outcomes, uint64_t index, int32_t fd, uint64_t at, uint8_t *byte);
+
+/* Frees the outcomes, and leaves the place empty. */
+int32_t wulgach_outcomes_free(struct wulgach_outcomes *outcomes);
 
 /* Choices and entries. These functions aren't part of what is proved. */
 

@@ -185,7 +185,7 @@ static void play(unsigned run, bool is_planted, struct findings *found)
     struct wulgach_core core = {0};
     uint8_t nothing = 0;
     must(wulgach_volume_new(&disk.volume, 1, &nothing, 0));
-    must(wulgach_core_new(&core, &(struct wulgach_setup){.sq = REQUESTS, .files = 1}));
+    must(wulgach_core_new(&core, &(struct wulgach_setup){.sq = REQUESTS}));
     uint64_t bad = below(2 * COMMITS);
     uint32_t most = below(REQUESTS + 1);
     submit(&core, is_planted);

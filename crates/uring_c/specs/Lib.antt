@@ -11,3 +11,6 @@ pub mod Stepping
 pub mod Whole
 pub mod ReadingForms
 pub mod VolumeForms
+pub mod Cuts
+pub mod Crashing
+pub mod Outcomes

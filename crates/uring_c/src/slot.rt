@@ -1,14 +1,16 @@
 //! What lies behind a C program's handle.
 ghost use Rattle.std.specs.Prelude.{◌≡◌, Option, Some, None, IsSome};
-ghost use Rattle.uring_c.specs.Slots.{Held, slot_owns, held_coded, a_core, a_machine, a_volume, core_of, machine_of, volume_of};
+ghost use Rattle.uring_c.specs.Slots.{Held, slot_owns, held_coded, a_core, a_machine, a_volume, a_crash_machine, some_outcomes, core_of, machine_of, volume_of, crash_machine_of, outcomes_of};
 
+use crate::outcome_list::OutcomeList;
 use crate::parts::Parts;
 use std::alloc::Global;
 use std::marker::Model;
+use uring_epochs::CrashMachine;
 use uring_machine::{Core, Machine};
 use uring_volume::Volume;
 
-/// Nothing, or a pointer to a core, a machine or a volume in a block of its own.
+/// Nothing, or a pointer to a core, a machine, a volume, a machine whose power may fail or a list of outcomes, in a block of its own.
 #[repr(C)]
 #[derive(Drop)]
 pub struct Slot {
@@ -65,6 +67,28 @@ impl Slot {
         }
     }
 
+    /// The slot of the parts of a crash machine's box.
+    pub(crate) fn of_crash_machine(parts: Parts<CrashMachine, Global>) -> Slot
+        ensures { result.held ≡ Some (a_crash_machine parts.value) }
+    {
+        let Parts { ptr, alloc } = parts;
+        Slot {
+            at: ptr as *mut u8,
+            alloc,
+        }
+    }
+
+    /// The slot of the parts of the box of a list of outcomes.
+    pub(crate) fn of_outcomes(parts: Parts<OutcomeList, Global>) -> Slot
+        ensures { result.held ≡ Some (some_outcomes parts.value) }
+    {
+        let Parts { ptr, alloc } = parts;
+        Slot {
+            at: ptr as *mut u8,
+            alloc,
+        }
+    }
+
     /// The parts of the box of the core in a slot. Condition: there is one.
     pub(crate) fn into_core(self) -> Parts<Core, Global>
         requires { IsSome (core_of self.held) }
@@ -97,6 +121,30 @@ impl Slot {
         let Slot { at, alloc } = self;
         Parts {
             ptr: at as *mut Volume,
+            alloc,
+        }
+    }
+
+    /// The parts of the box of the crash machine in a slot. Condition: there is one.
+    pub(crate) fn into_crash_machine(self) -> Parts<CrashMachine, Global>
+        requires { IsSome (crash_machine_of self.held) }
+        ensures { Some result.value ≡ crash_machine_of self.held }
+    {
+        let Slot { at, alloc } = self;
+        Parts {
+            ptr: at as *mut CrashMachine,
+            alloc,
+        }
+    }
+
+    /// The parts of the box of the outcomes in a slot. Condition: there are some.
+    pub(crate) fn into_outcomes(self) -> Parts<OutcomeList, Global>
+        requires { IsSome (outcomes_of self.held) }
+        ensures { Some result.value ≡ outcomes_of self.held }
+    {
+        let Slot { at, alloc } = self;
+        Parts {
+            ptr: at as *mut OutcomeList,
             alloc,
         }
     }

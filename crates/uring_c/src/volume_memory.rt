@@ -1,5 +1,5 @@
 //! The calls of a volume that ask for memory, by any memory. What C calls is each of these at the program's own allocator.
-ghost use Rattle.std.specs.Prelude.{◌≡◌, ◌↔◌, ℕ, ◌+◌, ◌≤◌, ◌^◌, [], Some, None, IsSome, IfSome, IfOk, IsOk, IsSomeAnd, Err, pos, neg_ℤ, ◌-◌, min, map, length};
+ghost use Rattle.std.specs.Prelude.{◌≡◌, ◌↔◌, ℕ, ◌+◌, ◌≤◌, ◌^◌, [], Some, None, IsSome, IfSome, IfOk, IsOk, OnOk, OnErr, IsSomeAnd, Err, pos, neg_ℤ, ◌-◌, min, map, length};
 ghost use Rattle.uring_entry.specs.declared.errno.TheConstants.{EBADF, EFBIG, EINVAL, ENOMEM};
 ghost use Rattle.uring_volume.specs.Volume.{with_write, with_sync, elements_to_begin};
 ghost use Rattle.uring_volume.specs.declared.volume.BeginError.TheVariants.{OutOfMemory, OutOfNumbers};
@@ -18,7 +18,7 @@ use uring_memory::Memory;
 use uring_volume::{BeginError, ImagesError, SyncRange};
 
 /// The most images that are listed.
-const MOST_IMAGES: usize = 0xffff_ffff;
+pub(crate) const MOST_IMAGES: usize = 0xffff_ffff;
 
 /// The first offset at which no write ends.
 const LIMIT: u64 = 1 << 63;
@@ -43,7 +43,7 @@ fn tell(begun: Result<u64, BeginError>, number: &mut u64) -> i32
 }
 
 /// Gives C as many of these bytes as it has room for, and returns how many there are.
-fn give(now: &[u8], bytes: &mut [u8]) -> u64
+pub(crate) fn give(now: &[u8], bytes: &mut [u8]) -> u64
     ensures { IsGiven now.now bytes.old bytes.new result }
 {
     let count = now.len().min(bytes.len());
@@ -239,6 +239,29 @@ fn lengths<M: Memory>(memory: &M, alloc: Global, lists: &[Vec<u8>]) -> Result<Ve
     Ok(lengths)
 }
 
+/// Gives C these images, as much as it has room for: their bytes, one behind another, and the length of each, and how many there are of both. `AllocError`: out of memory, and nothing is given.
+pub(crate) fn give_images<M: Memory>(
+    memory: &M,
+    alloc: Global,
+    images: &[Vec<u8>],
+    bytes: &mut [u8],
+    lens: &mut [u64],
+    count: &mut u64,
+    total: &mut u64,
+) -> Result<(), AllocError>
+    ensures lens { OnOk result (IsGiven (map (λ bytes. length bytes) (map (λ b. b.items) images.now)) lens.old lens.new count.new) }
+    ensures bytes { OnOk result (IsGiven (spec.laid_out (map (λ b. b.items) images.now)) bytes.old bytes.new total.new) }
+    ensures err { OnErr result ((bytes.new ≡ bytes.old) × (lens.new ≡ lens.old)
+        × (count.new ≡ count.old) × (total.new ≡ total.old)) }
+    ensures granted { ((n : ℕ) → M.grants memory.now n) → IsOk result }
+{
+    let all = laid_out(memory, alloc, images)?;
+    let long = lengths(memory, alloc, images)?;
+    *count = give_numbers(&long, lens);
+    *total = give(&all, bytes);
+    Ok(())
+}
+
 /// What `wulgach_volume_count_images` does, by this memory. If it grants whatever is asked for, -12 isn't returned.
 pub fn volume_count_images_in<M: Memory>(
     memory: &M,
@@ -314,13 +337,8 @@ pub fn volume_images_in<M: Memory>(
         Err(ImagesError::TooMany) => return -errno::EFBIG,
         Err(ImagesError::OutOfMemory) => return -errno::ENOMEM,
     };
-    let Ok(all) = laid_out(memory, alloc, &images) else {
-        return -errno::ENOMEM;
-    };
-    let Ok(long) = lengths(memory, alloc, &images) else {
-        return -errno::ENOMEM;
-    };
-    *count = give_numbers(&long, lens);
-    *total = give(&all, bytes);
-    0
+    match give_images(memory, alloc, &images, bytes, lens, count, total) {
+        Ok(()) => 0,
+        Err(_) => -errno::ENOMEM,
+    }
 }

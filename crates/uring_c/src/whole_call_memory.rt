@@ -83,7 +83,7 @@ pub fn core_reap_all_in<M: Memory>(
 }
 
 /// The entries that C gives.
-fn entries_of<M: Memory>(
+pub(crate) fn entries_of<M: Memory>(
     memory: &M,
     alloc: Global,
     entries: &[EntryWords],
@@ -99,7 +99,7 @@ fn entries_of<M: Memory>(
 }
 
 /// Writes the first of these completions, so many, to the first of C's places.
-fn give_completions(list: &[Cqe], count: usize, completions: &mut [CompletionWords])
+pub(crate) fn give_completions(list: &[Cqe], count: usize, completions: &mut [CompletionWords])
     requires there { count ≤ length list.now }
     requires room { count ≤ length completions.old }
     ensures given { take count completions.new ≡ map words_of_completion (take count list.now) }

@@ -6,7 +6,7 @@ use Rattle.uring_entry.specs.Requests.{Requests, entry_of, is_running, operation
 use Rattle.uring_entry.specs.declared.operation.Op.{Op}
 use Rattle.uring_entry.specs.declared.operation.Outcome.{Outcome}
 use Rattle.uring_files.specs.Contents.{FileContents}
-use Rattle.uring_files.specs.Operations.{after, IsOutcome}
+use Rattle.uring_files.specs.Operations.{after, IsOutcome, result_of}
 use Rattle.uring_core.specs.World.{World}
 use Rattle.uring_core.specs.StepAnswers.{CalledForApart, FinishesApart}
 use Rattle.uring_core.specs.CalledFor.{EndsOn}
@@ -20,6 +20,7 @@ use Rattle.uring_core.proofs.FileHistory.{files_kept_from, files_ended}
 use Rattle.uring_core.proofs.Running.{runs_with}
 use Rattle.uring_epochs.specs.Logs.{Log, log_from, logged, issued_as, finished_as}
 use Rattle.uring_epochs.specs.Epochs.{CrashMachine, Epoch, FitsRun, IsRun, CalledForFrom, with_step, files_from, logs_on}
+use Rattle.uring_epochs.specs.Asked.{IsUnrefusedOn}
 use Rattle.uring_epochs.proofs.Noted.{map_same, map_twice}
 
 -- what fits, apart from the core
@@ -170,3 +171,23 @@ other_fits m m' s a e earlier no_issue no_finish other same units files logs goe
     built m' g m.unit m.files _ (with_step s a e) earlier same units files
     (logs ∙ map_same _ m.logs (λ log. logged_other (world g e.history).requests (world g ((s, a) ∷ e.history)).requests s a log no_issue no_finish)) fits
     (parts_step g m.unit m.files m.logs e earlier s a other (subst (λ (k : Setup). IsLawfulApart k ((s, a) ∷ e.history)) same fits.lawful) (parts_of m e earlier f))
+
+-- What is answered where no memory is refused.
+
+-- a Finish of what runs, with the outcome called for
+pub finish_unrefused : (m : CrashMachine) (n : ℕ) (a : Answer) (op : Op) (outcome : Outcome) (e : Epoch) (earlier : List Epoch)
+    → outcome ≡ result_of m.files op
+    → ((h : History) → FitsApart m.core h → IsFinished (world m.core.setup h) n outcome a)
+    → ((h : History) → FitsApart m.core h → Some op ≡ operation_running (world m.core.setup h).requests n)
+    → FitsRun m e earlier → IsUnrefusedOn m.files (world m.core.setup e.history) (step.Finish n) a
+finish_unrefused m n a op outcome e earlier is finished asks f = λ running.
+    let both = runs_with (world m.core.setup e.history).requests n op (asks e.history f.core) in
+    let same = is ∙ ap (result_of m.files) both.1 in
+    finished e.history f.core ∙ ap (λ b. if b then answer.Ended outcome.res outcome.bytes else answer.NotRunning) both.0
+    ∙ ap (λ (o : Outcome). answer.Ended o.res o.bytes) same
+
+-- a step that is no Finish
+pub other_unrefused : (files : List FileContents) (w : World) (s : Step) (a : Answer)
+    → ((n : ℕ) → s ≡ step.Finish n → ⊥) → (a ≡ answer.Again → ⊥) → IsUnrefusedOn files w s a
+other_unrefused files w (step.Finish n) a no_finish never = absurd (no_finish n refl)
+other_unrefused files w _ a no_finish never = never

@@ -1,3 +1,4 @@
 pub mod Logs
 pub mod Epochs
 pub mod Laws
+pub mod Asked

@@ -1,6 +1,6 @@
 //! The log of a file: its writes and syncs, as the requests that are these begin and end.
 
-ghost use Rattle.std.specs.Prelude.{◌≡◌, ◌+◌, ◌∷◌, ◌<◌, ◌≤◌, ℤ, pos, true, false, reverse, length, IfOk, OnOk, IfSome};
+ghost use Rattle.std.specs.Prelude.{◌≡◌, ℕ, ◌+◌, ◌∷◌, ◌++◌, [], ◌<◌, ◌≤◌, ℤ, pos, true, false, reverse, length, IfOk, IsOk, OnOk, IfSome};
 ghost use Rattle.std.specs.Ordering.{int_eq};
 ghost use Rattle.uring_files.specs.Operations.{IsForFiles};
 ghost use Rattle.uring_files.specs.Contents.{max_len};
@@ -8,12 +8,14 @@ ghost use Rattle.uring_volume.specs.Images.{IsImage};
 ghost use Rattle.uring_volume.specs.Choices.{IsLeftBy, issued, named, has_safe};
 ghost use Rattle.uring_volume.specs.Volume.{with_write, with_sync};
 ghost use Rattle.uring_volume.specs.declared.event.SyncRange.TheVariants.{Whole};
+ghost use Rattle.uring_epochs.specs.Asked.{is_safe_of};
 ghost use Rattle.uring_epochs.specs.Logs as spec;
 ghost use Rattle.uring_epochs.specs.Logs.{request_of, log_on, begun, begun_of, issued_as, finished, finished_of, finished_as, write_ended, sync_with};
 
 use std::alloc::{AllocError, Global};
 use std::marker::Model;
 use uring_core::{Answer, Op};
+use uring_memory::Memory;
 use uring_volume::{Event, Piece, SyncRange, Volume};
 
 /// The most bytes that a file may have.
@@ -42,9 +44,13 @@ impl Model for FileLog {
 
     ghost view = { λ l. record { fd = l.fd; volume = l.volume; requests = reverse l.requests.items } };
 
-    ghost use Rattle.std.specs.Prelude.{◌≡◌, false};
+    ghost use Rattle.std.specs.Prelude.{◌≡◌, ◌+◌, length, false};
 
-    ghost invariant = { λ l. record { short : IsShort l.volume; told : l.is_cut ≡ false → reverse l.events.items ≡ l.volume.history } };
+    ghost invariant = { λ l. record {
+      short : IsShort l.volume;
+      told : l.is_cut ≡ false → reverse l.events.items ≡ l.volume.history;
+      numbered : l.volume.next ≡ length l.requests.items + 1;
+    } };
 }
 
 /// The number that a request has on the volume, 0 if it has none.
@@ -92,8 +98,26 @@ impl FileLog {
         ensures unit { self.new.volume.unit ≡ self.old.volume.unit }
         ensures first { self.new.volume.first ≡ self.old.volume.first }
     {
+        let memory = self.alloc;
+        self.note_issue_in(&memory, n, op, answer)
+    }
+
+    /// As `note_issue`, by this memory. If it grants whatever is asked for, there is no error.
+    pub fn note_issue_in<M: Memory>(
+        &mut self,
+        memory: &M,
+        n: u64,
+        op: Option<Op>,
+        answer: &Answer,
+    ) -> Result<(), AllocError>
+        requires { IfSome op IsForFiles }
+        ensures log { OnOk result (self.new ≡ issued_as n op answer.now self.old) }
+        ensures unit { self.new.volume.unit ≡ self.old.volume.unit }
+        ensures first { self.new.volume.first ≡ self.old.volume.first }
+        ensures granted { ((k : ℕ) → M.grants memory.now k) → IsOk result }
+    {
         match answer {
-            Answer::Run => self.begin_running(n, op),
+            Answer::Run => self.begin_running(memory, n, op),
             _ => Ok(()),
         }
     }
@@ -104,43 +128,60 @@ impl FileLog {
         ensures unit { self.new.volume.unit ≡ self.old.volume.unit }
         ensures first { self.new.volume.first ≡ self.old.volume.first }
     {
+        let memory = self.alloc;
+        self.note_finish_in(&memory, n, op, answer);
+    }
+
+    /// As `note_finish`, by this memory.
+    pub fn note_finish_in<M: Memory>(&mut self, memory: &M, n: u64, op: Option<Op>, answer: &Answer)
+        ensures log { self.new ≡ finished_as n op answer.now self.old }
+        ensures unit { self.new.volume.unit ≡ self.old.volume.unit }
+        ensures first { self.new.volume.first ≡ self.old.volume.first }
+    {
         match answer {
-            Answer::Ended { res, .. } => self.end_running(n, op, *res),
+            Answer::Ended { res, .. } => self.end_running(memory, n, op, *res),
             _ => {}
         }
     }
 
     /// A request begins, if it runs.
-    fn begin_running(&mut self, n: u64, op: Option<Op>) -> Result<(), AllocError>
+    fn begin_running<M: Memory>(
+        &mut self,
+        memory: &M,
+        n: u64,
+        op: Option<Op>,
+    ) -> Result<(), AllocError>
         requires { IfSome op IsForFiles }
         ensures log { OnOk result (self.new ≡ begun_of n op self.old) }
         ensures unit { self.new.volume.unit ≡ self.old.volume.unit }
         ensures first { self.new.volume.first ≡ self.old.volume.first }
+        ensures granted { ((k : ℕ) → M.grants memory.now k) → IsOk result }
     {
         match op {
-            Some(op) => self.begin(n, &op),
+            Some(op) => self.begin(memory, n, &op),
             None => Ok(()),
         }
     }
 
     /// A request ends, if it ran.
-    fn end_running(&mut self, n: u64, op: Option<Op>, res: i32)
+    fn end_running<M: Memory>(&mut self, memory: &M, n: u64, op: Option<Op>, res: i32)
         ensures log { self.new ≡ finished_of n op res self.old }
         ensures unit { self.new.volume.unit ≡ self.old.volume.unit }
         ensures first { self.new.volume.first ≡ self.old.volume.first }
     {
         match op {
-            Some(op) => self.end(n, &op, res),
+            Some(op) => self.end(memory, n, &op, res),
             None => {}
         }
     }
 
     /// A request begins.
-    fn begin(&mut self, n: u64, op: &Op) -> Result<(), AllocError>
+    fn begin<M: Memory>(&mut self, memory: &M, n: u64, op: &Op) -> Result<(), AllocError>
         requires { IsForFiles op.now }
         ensures log { OnOk result (self.new ≡ begun n op.now self.old) }
         ensures unit { self.new.volume.unit ≡ self.old.volume.unit }
         ensures first { self.new.volume.first ≡ self.old.volume.first }
+        ensures granted { ((k : ℕ) → M.grants memory.now k) → IsOk result }
     {
         match op {
             Op::Write {
@@ -150,14 +191,14 @@ impl FileLog {
                 bytes,
             } => {
                 if self.fd == *fd && has_effect(*off, *len) {
-                    self.begin_write(n, *off, &bytes[..*len as usize])
+                    self.begin_write(memory, n, *off, &bytes[..*len as usize])
                 } else {
                     Ok(())
                 }
             }
             Op::Fsync { fd } => {
                 if self.fd == *fd {
-                    self.begin_sync(n)
+                    self.begin_sync(memory, n)
                 } else {
                     Ok(())
                 }
@@ -167,18 +208,25 @@ impl FileLog {
     }
 
     /// A write of these bytes begins.
-    fn begin_write(&mut self, n: u64, off: u64, bytes: &[u8]) -> Result<(), AllocError>
+    fn begin_write<M: Memory>(
+        &mut self,
+        memory: &M,
+        n: u64,
+        off: u64,
+        bytes: &[u8],
+    ) -> Result<(), AllocError>
         requires { off + length bytes.now ≤ max_len }
         ensures log { OnOk result
             (self.new ≡ record self.old { volume = with_write off bytes.now self.old.volume; requests = n ∷ self.old.requests }) }
         ensures unit { self.new.volume.unit ≡ self.old.volume.unit }
         ensures first { self.new.volume.first ≡ self.old.volume.first }
+        ensures granted { ((k : ℕ) → M.grants memory.now k) → IsOk result }
     {
-        let shown = Vec::from_slice(self.alloc, bytes)?;
-        let written = Vec::from_slice(self.alloc, bytes)?;
-        self.events.reserve(1)?;
-        self.requests.reserve(1)?;
-        let Ok(number) = self.volume.begin_write(off, written) else {
+        let shown = copied(memory, self.alloc, bytes)?;
+        let written = copied(memory, self.alloc, bytes)?;
+        memory.reserve(&mut self.events, 1)?;
+        memory.reserve(&mut self.requests, 1)?;
+        let Ok(number) = self.volume.begin_write_in(memory, off, written) else {
             return Err(AllocError);
         };
         self.events
@@ -188,15 +236,16 @@ impl FileLog {
     }
 
     /// A sync of the whole file begins.
-    fn begin_sync(&mut self, n: u64) -> Result<(), AllocError>
+    fn begin_sync<M: Memory>(&mut self, memory: &M, n: u64) -> Result<(), AllocError>
         ensures log { OnOk result
             (self.new ≡ record self.old { volume = with_sync Whole self.old.volume; requests = n ∷ self.old.requests }) }
         ensures unit { self.new.volume.unit ≡ self.old.volume.unit }
         ensures first { self.new.volume.first ≡ self.old.volume.first }
+        ensures granted { ((k : ℕ) → M.grants memory.now k) → IsOk result }
     {
-        self.events.reserve(1)?;
-        self.requests.reserve(1)?;
-        let Ok(number) = self.volume.begin_sync(SyncRange::Whole) else {
+        memory.reserve(&mut self.events, 1)?;
+        memory.reserve(&mut self.requests, 1)?;
+        let Ok(number) = self.volume.begin_sync_in(memory, SyncRange::Whole) else {
             return Err(AllocError);
         };
         self.events
@@ -206,7 +255,7 @@ impl FileLog {
     }
 
     /// A request ends with this result.
-    fn end(&mut self, n: u64, op: &Op, res: i32)
+    fn end<M: Memory>(&mut self, memory: &M, n: u64, op: &Op, res: i32)
         ensures log { self.new ≡ finished n op.now res self.old }
         ensures unit { self.new.volume.unit ≡ self.old.volume.unit }
         ensures first { self.new.volume.first ≡ self.old.volume.first }
@@ -214,12 +263,12 @@ impl FileLog {
         match op {
             Op::Write { fd, off, len, .. } => {
                 if self.fd == *fd && has_effect(*off, *len) && i64::from(res) == i64::from(*len) {
-                    self.end_write(n);
+                    self.end_write(memory, n);
                 }
             }
             Op::Fsync { fd } => {
                 if self.fd == *fd {
-                    self.end_sync(n, res);
+                    self.end_sync(memory, n, res);
                 }
             }
             _ => {}
@@ -227,20 +276,22 @@ impl FileLog {
     }
 
     /// The write that a request is ends.
-    fn end_write(&mut self, n: u64)
+    fn end_write<M: Memory>(&mut self, memory: &M, n: u64)
         ensures log { self.new
             ≡ record self.old { volume = write_ended (spec.number_of n self.old.requests) self.old.volume } }
         ensures unit { self.new.volume.unit ≡ self.old.volume.unit }
         ensures first { self.new.volume.first ≡ self.old.volume.first }
     {
         let number = number_of(&self.requests, n);
-        if self.volume.end_write(number) && self.events.push(Event::WriteEnded(number)).is_err() {
+        if self.volume.end_write(number)
+            && add_event(memory, &mut self.events, Event::WriteEnded(number)).is_err()
+        {
             self.is_cut = true;
         }
     }
 
     /// The sync that a request is ends with this result.
-    fn end_sync(&mut self, n: u64, res: i32)
+    fn end_sync<M: Memory>(&mut self, memory: &M, n: u64, res: i32)
         ensures log { self.new
             ≡ record self.old { volume = sync_with res (spec.number_of n self.old.requests) self.old.volume } }
         ensures unit { self.new.volume.unit ≡ self.old.volume.unit }
@@ -248,32 +299,36 @@ impl FileLog {
     {
         let number = number_of(&self.requests, n);
         if res == 0 {
-            self.succeed(number);
+            self.succeed(memory, number);
         } else {
-            self.fail(number);
+            self.fail(memory, number);
         }
     }
 
     /// The sync of a number on the volume ends with success.
-    fn succeed(&mut self, number: u64)
+    fn succeed<M: Memory>(&mut self, memory: &M, number: u64)
         ensures log { self.new
             ≡ record self.old { volume = sync_with (pos 0) number self.old.volume } }
         ensures unit { self.new.volume.unit ≡ self.old.volume.unit }
         ensures first { self.new.volume.first ≡ self.old.volume.first }
     {
-        if self.volume.end_sync(number) && self.events.push(Event::SyncEnded(number)).is_err() {
+        if self.volume.end_sync(number)
+            && add_event(memory, &mut self.events, Event::SyncEnded(number)).is_err()
+        {
             self.is_cut = true;
         }
     }
 
     /// The sync of a number on the volume fails.
-    fn fail(&mut self, number: u64)
+    fn fail<M: Memory>(&mut self, memory: &M, number: u64)
         ensures log { (res : ℤ) → int_eq res (pos 0) ≡ false → self.new
             ≡ record self.old { volume = sync_with res number self.old.volume } }
         ensures unit { self.new.volume.unit ≡ self.old.volume.unit }
         ensures first { self.new.volume.first ≡ self.old.volume.first }
     {
-        if self.volume.fail_sync(number) && self.events.push(Event::SyncFailed(number)).is_err() {
+        if self.volume.fail_sync(number)
+            && add_event(memory, &mut self.events, Event::SyncFailed(number)).is_err()
+        {
             self.is_cut = true;
         }
     }
@@ -286,7 +341,19 @@ impl FileLog {
             IsLeftBy self.now.volume.unit self.now.volume.first self.now.volume.history choice.now now.items) }
         ensures short { IfOk result (λ now. length now.items ≤ max_len) }
     {
-        self.volume.crash(self.alloc, choice)
+        self.crash_in(&self.alloc, choice)
+    }
+
+    /// As `crash`, by this memory. If it grants whatever is asked for, there is no error.
+    pub fn crash_in<M: Memory>(&self, memory: &M, choice: &[u64]) -> Result<Vec<u8>, AllocError>
+        ensures image { IfOk result (λ now.
+            IsImage self.now.volume.unit self.now.volume.first self.now.volume.history now.items) }
+        ensures chosen { IfOk result (λ now.
+            IsLeftBy self.now.volume.unit self.now.volume.first self.now.volume.history choice.now now.items) }
+        ensures short { IfOk result (λ now. length now.items ≤ max_len) }
+        ensures granted { ((k : ℕ) → M.grants memory.now k) → IsOk result }
+    {
+        self.volume.crash_in(memory, self.alloc, choice)
     }
 
     /// The file as a volume.
@@ -329,4 +396,34 @@ impl FileLog {
     {
         self.volume.is_safe(number)
     }
+
+    /// Whether the write that a request is is safe: false too if the request is no write of this file.
+    pub fn has_safe(&self, n: u64) -> bool
+        ensures { result ≡ is_safe_of n self.now }
+    {
+        self.volume.is_safe(number_of(&self.requests, n))
+    }
+}
+
+/// Puts an event behind the others, by this memory.
+fn add_event<M: Memory>(memory: &M, events: &mut Vec<Event>, event: Event) -> Result<(), AllocError>
+    ensures { OnOk result (events.new.items ≡ events.old.items ++ event ∷ []) }
+{
+    memory.reserve(events, 1)?;
+    events.push_reserved(event);
+    Ok(())
+}
+
+/// A list of these bytes, by this memory.
+pub(crate) fn copied<M: Memory>(
+    memory: &M,
+    alloc: Global,
+    bytes: &[u8],
+) -> Result<Vec<u8>, AllocError>
+    ensures bytes { IfOk result (λ list. list.items ≡ bytes.now) }
+    ensures granted { (n : ℕ) → M.grants memory.now n → length bytes.now ≤ n → IsOk result }
+{
+    let mut list = memory.list(alloc, bytes.len())?;
+    list.extend_from_slice(bytes)?;
+    Ok(list)
 }

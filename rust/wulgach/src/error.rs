@@ -1,7 +1,7 @@
 use std::error;
 use std::fmt;
 
-/// Why a call is refused. A refusal changes nothing.
+/// Why a call is refused. A refusal changes nothing, but for `NoMemory` of `CrashMachine::step`.
 #[derive(Clone, Copy, Debug, PartialEq, Eq)]
 #[non_exhaustive]
 pub enum Error {
@@ -14,14 +14,29 @@ pub enum Error {
     /// A core was given `Step::Finish`: it is told how a request ended by `Core::finish`.
     FinishOfCore,
 
-    /// The units of a volume have no byte.
+    /// The units of a volume or a crash machine have no byte.
     BadUnit,
 
     /// A write would end above 2^63 - 1.
     TooFar,
 
-    /// Each number up to 2^64 - 2 was given to a write or a sync of a volume.
+    /// Each number up to 2^64 - 2 was given to a write or a sync of a volume; or a walk over outcomes has no number left.
     NoNumber,
+
+    /// More files are given than the machine has.
+    TooManyFiles,
+
+    /// A file is longer than 65,536 bytes.
+    FileTooLong,
+
+    /// There is no file of this descriptor.
+    NoFile,
+
+    /// Memory was refused for a step of a crash machine, and so each further one is, and each crash.
+    Lost,
+
+    /// A ring of this set-up doesn't take each call whole: it stops behind an entry with a fault, or a call has more entries than its submission ring.
+    NotTakenWhole,
 }
 
 impl fmt::Display for Error {
@@ -32,7 +47,12 @@ impl fmt::Display for Error {
             Error::FinishOfCore => "a core is told of an end by `finish`",
             Error::BadUnit => "a unit of no byte",
             Error::TooFar => "a write past the last offset",
-            Error::NoNumber => "the numbers of writes and syncs are used up",
+            Error::NoNumber => "the numbers are used up",
+            Error::TooManyFiles => "more files than the machine has",
+            Error::FileTooLong => "a file above 65,536 bytes",
+            Error::NoFile => "no such file",
+            Error::Lost => "a machine that is lost, since memory was refused to it",
+            Error::NotTakenWhole => "a call that the ring doesn't take whole",
         })
     }
 }

@@ -3,7 +3,7 @@
 use crate::entry::Entry;
 use std::ffi::c_void;
 
-/// A place for a core, a machine or a volume. All zero: empty.
+/// A place for a core, a machine, a volume, a crash machine or outcomes. All zero: empty.
 #[repr(C)]
 #[derive(Debug)]
 pub struct Place {
@@ -211,4 +211,106 @@ extern "C" {
     ) -> i32;
     pub fn wulgach_volume_fold(volume: *mut Place) -> i32;
     pub fn wulgach_volume_free(volume: *mut Place) -> i32;
+    pub fn wulgach_crash_machine_on(
+        machine: *mut Place,
+        setup: *const Setup,
+        unit: u64,
+        bytes: *const u8,
+        len: usize,
+        lens: *const u64,
+        count: usize,
+    ) -> i32;
+    pub fn wulgach_crash_machine_step(
+        machine: *mut Place,
+        step: *const Step,
+        answer: *mut Answer,
+    ) -> i32;
+    pub fn wulgach_crash_machine_is_lost(machine: *mut Place, is_lost: *mut bool) -> i32;
+    pub fn wulgach_crash_machine_counts(machine: *mut Place, counts: *mut Counts) -> i32;
+    pub fn wulgach_crash_machine_rest(
+        machine: *mut Place,
+        index: u64,
+        completion: *mut Completion,
+    ) -> i32;
+    pub fn wulgach_crash_machine_running_op(
+        machine: *mut Place,
+        number: u64,
+        operation: *mut Operation,
+    ) -> i32;
+    pub fn wulgach_crash_machine_issuable(machine: *mut Place, count: *mut u64) -> i32;
+    pub fn wulgach_crash_machine_nth_issuable(
+        machine: *mut Place,
+        index: u64,
+        number: *mut u64,
+    ) -> i32;
+    pub fn wulgach_crash_machine_state(machine: *mut Place, fd: i32, file: *mut File) -> i32;
+    pub fn wulgach_crash_machine_byte(machine: *mut Place, fd: i32, at: u64, byte: *mut u8) -> i32;
+    pub fn wulgach_crash_machine_is_safe(
+        machine: *mut Place,
+        fd: i32,
+        number: u64,
+        is_safe: *mut bool,
+    ) -> i32;
+    pub fn wulgach_crash_machine_image(
+        machine: *mut Place,
+        fd: i32,
+        choice: *const u64,
+        count: usize,
+        bytes: *mut u8,
+        room: usize,
+        len: *mut u64,
+    ) -> i32;
+    pub fn wulgach_crash_machine_count_images(machine: *mut Place, fd: i32, count: *mut u64)
+        -> i32;
+    pub fn wulgach_crash_machine_images(
+        machine: *mut Place,
+        fd: i32,
+        bytes: *mut u8,
+        room: usize,
+        lens: *mut u64,
+        most: usize,
+        count: *mut u64,
+        total: *mut u64,
+    ) -> i32;
+    pub fn wulgach_crash_machine_crash(
+        machine: *mut Place,
+        next: *mut Place,
+        numbers: *const u64,
+        total: usize,
+        lens: *const u64,
+        count: usize,
+    ) -> i32;
+    pub fn wulgach_crash_machine_free(machine: *mut Place) -> i32;
+    pub fn wulgach_outcomes_new(
+        outcomes: *mut Place,
+        setup: *const Setup,
+        entries: *const Entry,
+        total: usize,
+        lens: *const u64,
+        calls: usize,
+        most: u64,
+        is_all: *mut bool,
+    ) -> i32;
+    pub fn wulgach_outcomes_count(outcomes: *mut Place, count: *mut u64, is_all: *mut bool) -> i32;
+    pub fn wulgach_outcomes_completions(
+        outcomes: *mut Place,
+        index: u64,
+        completions: *mut Completion,
+        room: usize,
+        count: *mut u64,
+    ) -> i32;
+    pub fn wulgach_outcomes_state(
+        outcomes: *mut Place,
+        index: u64,
+        fd: i32,
+        file: *mut File,
+    ) -> i32;
+    pub fn wulgach_outcomes_byte(
+        outcomes: *mut Place,
+        index: u64,
+        fd: i32,
+        at: u64,
+        byte: *mut u8,
+    ) -> i32;
+    pub fn wulgach_outcomes_free(outcomes: *mut Place) -> i32;
 }

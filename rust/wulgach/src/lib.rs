@@ -1,6 +1,6 @@
 //! The io_uring protocol of Linux as a core in user space, proved correct.
 //!
-//! A [`Core`] is a pair of rings and its requests, moved one [`Step`] at a time. The two sides of the rings, the application and the dispatcher (the kernel's side), make their steps in any order; each step has one [`Answer`]. A core carries nothing out: the caller says how a running request ended. A [`Machine`] is a core with files in memory. A [`Volume`] is one file, and what a power failure may leave of it; it stands apart from both.
+//! A [`Core`] is a pair of rings and its requests, moved one [`Step`] at a time. The two sides of the rings, the application and the dispatcher (the kernel's side), make their steps in any order; each step has one [`Answer`]. A core carries nothing out: the caller says how a running request ended. A [`Machine`] is a core with files in memory. A [`Volume`] is one file, and what a power failure may leave of it; it stands apart from both. A [`CrashMachine`] is a machine whose power may fail. [`Outcomes`] are everything that calls may come to.
 //!
 //! # What is proved, and what isn't
 //!
@@ -12,10 +12,12 @@
 
 mod answer;
 mod core;
+mod crash_machine;
 mod entry;
 mod error;
 mod ffi;
 mod machine;
+mod outcomes;
 mod reading;
 mod setup;
 mod step;
@@ -24,9 +26,11 @@ mod why;
 
 pub use crate::answer::{Answer, Completion};
 pub use crate::core::Core;
+pub use crate::crash_machine::CrashMachine;
 pub use crate::entry::{flags, Entry};
 pub use crate::error::Error;
 pub use crate::machine::Machine;
+pub use crate::outcomes::{Outcome, OutcomeFile, Outcomes};
 pub use crate::reading::{Counts, FileState, Operation};
 pub use crate::setup::{Setup, SetupField};
 pub use crate::step::Step;

@@ -170,18 +170,10 @@ impl Machine {
 
     /// How the file of a descriptor stands.
     pub fn state(&self, fd: i32) -> Option<FileState> {
-        let mut file = ffi::File {
-            writes: 0,
-            synced: 0,
-            len: 0,
-        };
+        let mut file = reading::NO_FILE;
         // SAFETY: as in `counts`.
         let result = unsafe { ffi::wulgach_machine_state(self.place.get(), fd, &mut file) };
-        (result == 0).then_some(FileState {
-            len: file.len,
-            writes: file.writes,
-            synced: file.synced,
-        })
+        (result == 0).then(|| reading::file(&file))
     }
 
     /// The byte at an offset of the file of a descriptor.

@@ -71,6 +71,20 @@ pub(crate) const NO_OPERATION: ffi::Operation = ffi::Operation {
     bytes: [0; 64],
 };
 
+pub(crate) const NO_FILE: ffi::File = ffi::File {
+    writes: 0,
+    synced: 0,
+    len: 0,
+};
+
+pub(crate) fn file(words: &ffi::File) -> FileState {
+    FileState {
+        len: words.len,
+        writes: words.writes,
+        synced: words.synced,
+    }
+}
+
 pub(crate) fn counts(words: &ffi::Counts) -> Counts {
     Counts {
         accepted: words.accepted,

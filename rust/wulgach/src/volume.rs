@@ -143,8 +143,8 @@ impl Volume {
     /// The file as a read shows it: the first bytes with the writes over them that have ended.
     pub fn contents(&self) -> Result<Vec<u8>, Error> {
         // SAFETY: as in `is_safe`; the room is that of a slice.
-        read(|bytes, room, len| unsafe {
-            ffi::wulgach_volume_contents(self.place.get(), bytes, room, len)
+        read(|bytes, room, len| {
+            done(unsafe { ffi::wulgach_volume_contents(self.place.get(), bytes, room, len) })
         })
     }
 
@@ -153,15 +153,17 @@ impl Volume {
     /// Any numbers are a choice. A 0 ends a part: the first part is for the length, each later one for a unit, in their order. The numbers of a part name the writes that are left, one over the other; one that may not come next is passed over. After them follow the other writes, up to the last safe one. Every image that a crash may leave is left by some choice.
     pub fn crash(&self, choice: &[u64]) -> Result<Vec<u8>, Error> {
         // SAFETY: as in `contents`; the choice is a slice.
-        read(|bytes, room, len| unsafe {
-            ffi::wulgach_volume_crash(
-                self.place.get(),
-                choice.as_ptr(),
-                choice.len(),
-                bytes,
-                room,
-                len,
-            )
+        read(|bytes, room, len| {
+            done(unsafe {
+                ffi::wulgach_volume_crash(
+                    self.place.get(),
+                    choice.as_ptr(),
+                    choice.len(),
+                    bytes,
+                    room,
+                    len,
+                )
+            })
         })
     }
 
@@ -193,10 +195,7 @@ impl Volume {
         if found > u64::from(most) {
             return Ok(None);
         }
-        let (mut count, mut total) = (0, 0);
-        let mut lens = vec![0; usize::try_from(found).map_err(|_| Error::NoMemory)?];
-        let mut bytes = Vec::new();
-        loop {
+        read_all(found, |bytes, lens, count, total| {
             // SAFETY: as in `is_safe`; the rooms are those of slices.
             done(unsafe {
                 ffi::wulgach_volume_images(
@@ -205,26 +204,12 @@ impl Volume {
                     bytes.len(),
                     lens.as_mut_ptr(),
                     lens.len(),
-                    &mut count,
-                    &mut total,
+                    count,
+                    total,
                 )
-            })?;
-            let total = usize::try_from(total).map_err(|_| Error::NoMemory)?;
-            if total <= bytes.len() {
-                break;
-            }
-            bytes.resize(total, 0);
-        }
-        let mut rest = bytes.as_slice();
-        Ok(Some(
-            lens.iter()
-                .map(|len| {
-                    let (image, behind) = rest.split_at(*len as usize);
-                    rest = behind;
-                    image.to_vec()
-                })
-                .collect(),
-        ))
+            })
+        })
+        .map(Some)
     }
 
     /// Gives memory back: a write becomes part of the first bytes, and is forgotten, if it is safe, no other one had ended when it began, and it had ended when each other one of its bytes began. What a crash may leave stays as it was, whatever happens later. A write that is forgotten was safe, but `is_safe` doesn't know its number any more, so ask before.
@@ -268,11 +253,13 @@ impl Volume {
 }
 
 /// The bytes that a call gives: once to learn how many there are, and once with room for them.
-fn read(call: impl Fn(*mut u8, usize, *mut u64) -> i32) -> Result<Vec<u8>, Error> {
+pub(crate) fn read(
+    call: impl Fn(*mut u8, usize, *mut u64) -> Result<(), Error>,
+) -> Result<Vec<u8>, Error> {
     let mut bytes = vec![0; 256];
     loop {
         let mut len = 0;
-        done(call(bytes.as_mut_ptr(), bytes.len(), &mut len))?;
+        call(bytes.as_mut_ptr(), bytes.len(), &mut len)?;
         let len = usize::try_from(len).map_err(|_| Error::NoMemory)?;
         if len <= bytes.len() {
             bytes.truncate(len);
@@ -280,6 +267,33 @@ fn read(call: impl Fn(*mut u8, usize, *mut u64) -> i32) -> Result<Vec<u8>, Error
         }
         bytes.resize(len, 0);
     }
+}
+
+/// The images that a call gives, so many: once to learn how many bytes they have, and once with room for them.
+pub(crate) fn read_all(
+    found: u64,
+    call: impl Fn(&mut [u8], &mut [u64], &mut u64, &mut u64) -> Result<(), Error>,
+) -> Result<Vec<Vec<u8>>, Error> {
+    let (mut count, mut total) = (0, 0);
+    let mut lens = vec![0; usize::try_from(found).map_err(|_| Error::NoMemory)?];
+    let mut bytes = Vec::new();
+    loop {
+        call(&mut bytes, &mut lens, &mut count, &mut total)?;
+        let total = usize::try_from(total).map_err(|_| Error::NoMemory)?;
+        if total <= bytes.len() {
+            break;
+        }
+        bytes.resize(total, 0);
+    }
+    let mut rest = bytes.as_slice();
+    Ok(lens
+        .iter()
+        .map(|len| {
+            let (image, behind) = rest.split_at(*len as usize);
+            rest = behind;
+            image.to_vec()
+        })
+        .collect())
 }
 
 impl Drop for Volume {

@@ -3,5 +3,5 @@ use Rattle.uring_epochs.specs.Logs.{issued_as}
 use Rattle.uring_epochs.proofs.note.note_issue.Given as goal
 
 abbrev pub invariant-loop-place : goal.invariant-loop-place
-invariant-loop-place l = l.logs
+invariant-loop-place g l = l.logs
     ≡ map (λ log. issued_as l.n l.op l.answer log) (take l.place l.initial.logs) ++ drop l.place l.initial.logs

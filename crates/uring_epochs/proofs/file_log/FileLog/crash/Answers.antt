@@ -1,7 +1,0 @@
-use Rattle.std.proofs.lemmas.Result.{IfOk-weaker}
-use Rattle.uring_epochs.proofs.Short.{short_image}
-use Rattle.uring_epochs.proofs.file_log.FileLog.crash.Goals as goal
-
-pub returns-clause-short : goal.returns-clause-short
-returns-clause-short c =
-    IfOk-weaker c.crash.result _ _ (λ now image. short_image c.self.inside.volume now.items c.self.invariant.short image) c.crash.ensures.image

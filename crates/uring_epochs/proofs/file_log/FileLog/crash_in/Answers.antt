@@ -1,0 +1,7 @@
+use Rattle.std.proofs.lemmas.Result.{IfOk-weaker}
+use Rattle.uring_epochs.proofs.Short.{short_image}
+use Rattle.uring_epochs.proofs.file_log.FileLog.crash_in.Goals as goal
+
+pub returns-clause-short : goal.returns-clause-short
+returns-clause-short g c =
+    IfOk-weaker c.crash_in.result _ _ (λ now image. short_image c.self.inside.volume now.items c.self.invariant.short image) c.crash_in.ensures.image
