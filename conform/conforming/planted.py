@@ -91,14 +91,14 @@ MISTAKES = [
 ]
 
 
-def find(report, scenarios):
-    """Judges each mistake. Returns the status: 1 if one wasn't found."""
+def find(report, scenarios, uring):
+    """Judges each mistake, by the proved search if these are the words that run it. Returns the status: 1 if one wasn't found."""
     texts = {it.name: it.text for it in scenarios}
     missed = 0
     for name, scenario, change in MISTAKES:
         seen = record(texts[scenario])
         wrong = changed(seen, change)
-        found = wrong is not None and explain(texts[scenario], seen).kind == "lawful" and explain(texts[scenario], wrong).kind == "unexplained"
+        found = wrong is not None and explain(texts[scenario], seen, uring).kind == "lawful" and explain(texts[scenario], wrong, uring).kind == "unexplained"
         missed += not found
         report.say(f"{'found' if found else 'NOT FOUND'}: {name} ({scenario})")
     report.say(f"{len(MISTAKES) - missed} of {len(MISTAKES)} mistakes were found")

@@ -1,0 +1,99 @@
+-- The lines of a history that shows the first ones of the steps that were seen.
+use Rattle.std.proofs.Common.{◌≡◌, ◌++◌, ℕ, ◌+◌, ◌<◌, ◌≤◌, Bool, true, false, List, [], ◌∷◌, length, take, drop, get_or, if◌then◌else◌, refl, sym, ap, subst, ◌∙◌, arith, append_assoc, append-nil, Option, Some}
+use Rattle.std.specs.Prelude.{slice_get}
+use Rattle.std.proofs.lemmas.List.{reverse-append, length-append, take-append-drop}
+use Rattle.uring_core.specs.Histories.{Event, History, history_of}
+use Rattle.uring_text.specs.Lines.{ended, joined}
+use Rattle.uring_fill.specs.Filling.{is_hidden, seen_in, Begins}
+use Rattle.uring_fill.proofs.Seeing.{taken_next}
+use Rattle.uring_fill.proofs.Begun.{begins_itself, begins_more, begins_on}
+use Rattle.uring_seen.specs.Seen.{Shows}
+use Rattle.uring_seen.specs.Sights.{ArePaired}
+use Rattle.uring_seen.specs.Told.{AreLinesOf, IsLineOf}
+
+-- ---- pairs
+
+pub paired_more : (lines : List (List ℕ)) (events : List Event) (line : List ℕ) (e : Event)
+    → ArePaired lines events → Shows line e → ArePaired (lines ++ line ∷ []) (events ++ e ∷ [])
+paired_more [] [] line e paired shows = (shows, tt)
+paired_more (l ∷ lines) (x ∷ events) line e paired shows = (paired.0, paired_more lines events line e paired.1 shows)
+paired_more [] (x ∷ events) line e paired shows = absurd paired
+paired_more (l ∷ lines) [] line e paired shows = absurd paired
+
+-- the line of an event
+pub record LineThere (lines : List (List ℕ)) (k : ℕ) (e : Event) : Type 0 where
+  pub line : List ℕ
+  pub there : slice_get lines k ≡ Some line
+  pub shows : Shows line e
+
+-- an event that comes behind so many of them
+pub paired_at : (lines : List (List ℕ)) (first rest : List Event) (e : Event)
+    → ArePaired lines (first ++ e ∷ rest) → LineThere lines (length first) e
+paired_at (l ∷ lines) [] rest e paired = record { line = l; there = refl; shows = paired.0 }
+paired_at (l ∷ lines) (x ∷ first) rest e paired =
+    let later : LineThere lines (length first) e = paired_at lines first rest e paired.1 in
+    record { line = later.line; there = later.there; shows = later.shows }
+paired_at [] [] rest e paired = absurd paired
+paired_at [] (x ∷ first) rest e paired = absurd paired
+
+-- ---- what a history shows
+
+seen_more : (h : History) (e : Event) → Begins (seen_in h) (seen_in (e ∷ h))
+seen_more h e = go (is_hidden e.0) where
+  go : (hidden : Bool) → Begins (seen_in h) (if hidden then seen_in h else seen_in h ++ e ∷ [])
+  go true = begins_itself (seen_in h)
+  go false = begins_more (seen_in h) e
+
+seen_before : (newer h : History) → Begins (seen_in h) (seen_in (newer ++ h))
+seen_before [] h = begins_itself (seen_in h)
+seen_before (e ∷ newer) h =
+    begins_on (seen_in h) (seen_in (newer ++ h)) (seen_in (e ∷ (newer ++ h))) (seen_before newer h) (seen_more (newer ++ h) e)
+
+part_begins : (events : List Event) (i : ℕ) → Begins (seen_in (history_of (take i events))) (seen_in (history_of events))
+part_begins events i =
+    subst (λ (k : History). Begins (seen_in (history_of (take i events))) (seen_in k))
+    (sym (reverse-append (take i events) (drop i events)) ∙ ap history_of (take-append-drop i events))
+    (seen_before (history_of (drop i events)) (history_of (take i events)))
+
+-- the line of an event that is seen
+pub line_there : (lines : List (List ℕ)) (events seen : List Event) (i : ℕ) (e : Event)
+    → ArePaired lines seen → Begins (seen_in (history_of events)) seen
+    → i < length events → e ≡ get_or events i e → is_hidden e.0 ≡ false
+    → LineThere lines (length (seen_in (history_of (take i events)))) e
+line_there lines events seen i e paired begins low is shown =
+    let so_far = seen_in (history_of (take i events)) in
+    let with : seen_in (history_of (take (i + 1) events)) ≡ so_far ++ e ∷ [] = ap seen_in (taken_next events i e low is) ∙ ap (λ (b : Bool). if b then so_far else so_far ++ e ∷ []) shown in
+    let b : Begins (seen_in (history_of (take (i + 1) events))) seen = begins_on (seen_in (history_of (take (i + 1) events))) (seen_in (history_of events)) seen (part_begins events (i + 1)) begins in
+    let all : seen ≡ so_far ++ e ∷ b.rest = b.is ∙ ap (λ (xs : List Event). xs ++ b.rest) with ∙ append_assoc so_far (e ∷ []) b.rest in
+    paired_at lines so_far b.rest e (subst (ArePaired lines) all paired)
+
+-- how many were seen
+pub count_more : (events : List Event) (i : ℕ) (e : Event) → i < length events → e ≡ get_or events i e
+    → length (seen_in (history_of (take (i + 1) events)))
+    ≡ length (seen_in (history_of (take i events))) + (if is_hidden e.0 then 0 else 1)
+count_more events i e low is =
+    ap (λ (k : History). length (seen_in k)) (taken_next events i e low is) ∙ go (is_hidden e.0)
+  where
+    go : (hidden : Bool) → length (if hidden then seen_in (history_of (take i events)) else seen_in (history_of (take i events)) ++ e ∷ []) ≡ length (seen_in (history_of (take i events))) + (if hidden then 0 else 1)
+    go true = omega arith
+    go false = length-append (seen_in (history_of (take i events))) (e ∷ [])
+
+-- ---- the text
+
+-- what was written of a history
+pub record IsWritten (old new : List ℕ) (h : History) : Type 0 where
+  pub out : List (List ℕ)
+  pub lines : AreLinesOf out h
+  pub text : new ≡ old ++ joined out
+
+pub nothing_written : (old : List ℕ) (events : List Event) → IsWritten old old (history_of (take 0 events))
+nothing_written old events = record { out = []; lines = tt; text = sym (append-nil old) }
+
+pub one_written : (old mid new : List ℕ) (events : List Event) (i : ℕ) (e : Event) (line : List ℕ)
+    → i < length events → e ≡ get_or events i e → IsLineOf line e → new ≡ mid ++ ended line
+    → IsWritten old mid (history_of (take i events)) → IsWritten old new (history_of (take (i + 1) events))
+one_written old mid new events i e line low is of more w = record {
+  out = line ∷ w.out;
+  lines = subst (AreLinesOf (line ∷ w.out)) (sym (taken_next events i e low is)) (of, w.lines);
+  text = more ∙ ap (λ (t : List ℕ). t ++ ended line) w.text ∙ append_assoc old (joined w.out) (ended line);
+}

@@ -1,0 +1,6 @@
+pub mod Sides
+pub mod Texts
+pub mod Showing
+pub mod OneLine
+pub mod HistoryLines
+pub mod Answered

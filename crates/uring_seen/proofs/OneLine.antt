@@ -1,0 +1,147 @@
+-- What lines show, one after the other: they are all that a lawful history shows of which they are the lines.
+use Rattle.std.proofs.Common.{◌≡◌, ◌++◌, ℕ, ◌+◌, ◌<◌, Bool, true, false, List, [], ◌∷◌, length, take, drop, get_or, map, if◌then◌else◌, refl, sym, ap, subst, ◌∙◌, ◌⊎◌, inl, inr, arith, append_assoc, Option, Some}
+use mathlib.Core.List.{head-eq_of_cons-eq, tail-eq_of_cons-eq}
+use Rattle.std.specs.Prelude.{reverse, slice_get}
+use Rattle.std.proofs.lemmas.List.{reverse-append, take-append-drop, take_more}
+use Rattle.std.proofs.lemmas.Option.{get_or_from_slice_get}
+use Rattle.uring_entry.specs.Setup.{Setup}
+use Rattle.uring_core.specs.Core.{Core}
+use Rattle.uring_core.specs.StepAnswers.{CalledForApart}
+use Rattle.uring_core.specs.Histories.{Event, History, world, history_of, IsLawfulApart}
+use Rattle.uring_core.specs.declared.step.Step.{Step}
+use Rattle.uring_core.specs.declared.answer.Answer.{Answer}
+use Rattle.uring_trace.specs.Text.{text_of}
+use Rattle.uring_check.specs.Records.{IsRecord, IsNoRecord, IsPassed}
+use Rattle.uring_check.proofs.Splitting.{record_once}
+use Rattle.uring_fill.specs.Filling.{is_hidden, seen_in}
+use Rattle.uring_seen.specs.Seen.{visible, IsBare, Shows, AreShown}
+use Rattle.uring_seen.specs.Sights.{MayShow, IsOnly, HasNoAnswer, IsSight, Reads, ShowsNever}
+use Rattle.uring_seen.specs.declared.sight.Sight.TheVariants as sight
+
+-- the last event that is seen, and the history before it
+pub record LastSeen (g : Setup) (e : Event) (past : History) : Type 0 where
+  pub h : History
+  pub lawful : IsLawfulApart g h
+  pub shows : visible h ≡ past
+  pub called : CalledForApart g (world g h) e.0 e.1
+
+last_seen : (g : Setup) (h : History) (e : Event) (past : History) → IsLawfulApart g h
+    → visible h ≡ e ∷ past → LastSeen g e past
+last_seen g [] e past lawful shows = absurd cc
+last_seen g (x ∷ h) e past lawful shows = go (is_hidden x.0) shows where
+  go : (b : Bool) → (if b then visible h else x ∷ visible h) ≡ e ∷ past → LastSeen g e past
+  go true is = last_seen g h e past lawful.1 is
+  go false is =
+      subst (λ (y : Event). LastSeen g y past) (head-eq_of_cons-eq is)
+      (record { h = h; lawful = lawful.1; shows = tail-eq_of_cons-eq is; called = lawful.0 })
+
+-- ---- one line more
+
+pub reads_passed : (g : Setup) (lines : List (List ℕ)) (seen : History) (line : List ℕ) → IsPassed line
+    → Reads g lines seen → Reads g (line ∷ lines) seen
+reads_passed g lines seen line passed r = record {
+  shown = inl (passed, r.shown);
+  only = λ h lawful shown. elim shown [
+    | inl before ↦ r.only h lawful before.1
+    | inr event ↦ absurd (passed.0 event.0.0 (text_of event.0.1) event.3.text)
+  ];
+}
+
+-- an event of the line behind these is the one that was read
+event_is : (g : Setup) (seen : History) (line : List ℕ) (s : Step) (a : Answer) (e : Event) (past : History)
+    → Shows line (s, a) → IsOnly g seen s (text_of a) a → Shows line e → past ≡ seen → LastSeen g e past
+    → e ≡ (s, a)
+event_is g seen line s a e past shows only also same last =
+    let once = record_once line e.0 s (text_of e.1) (text_of a) also.text shows.text in
+    go e.0 e.1 once.0 once.1 also.bare last.called
+  where
+    go : (t : Step) (b : Answer) → t ≡ s → text_of b ≡ text_of a → IsBare t b → CalledForApart g (world g last.h) t b → (t, b) ≡ (s, a)
+    go t b is text bare called =
+        let may : MayShow g seen s b = record { h = last.h; lawful = last.lawful; shows = last.shows ∙ same; called = subst (λ (u : Step). CalledForApart g (world g last.h) u b) is called } in
+        let answers : b ≡ a = only b may text (subst (λ (u : Step). IsBare u b) is bare) in
+        λ i. (is i, answers i)
+
+pub reads_shown : (g : Setup) (lines : List (List ℕ)) (seen : History) (line : List ℕ) (s : Step) (a : Answer)
+    → Shows line (s, a) → IsOnly g seen s (text_of a) a → Reads g lines seen
+    → Reads g (line ∷ lines) ((s, a) ∷ seen)
+reads_shown g lines seen line s a shows only r = record {
+  shown = inr ((s, a), seen, refl, shows, r.shown);
+  only = λ h lawful shown. elim shown [
+    | inl before ↦ absurd (before.0.0 s (text_of a) shows.text)
+    | inr event ↦
+        let last : LastSeen g event.0 event.1 = last_seen g h event.0 event.1 lawful event.2 in
+        let same : event.1 ≡ seen = sym last.shows ∙ r.only last.h last.lawful (subst (AreShown lines) (sym last.shows) event.4) in
+        let is : event.0 ≡ (s, a) = event_is g seen line s a event.0 event.1 shows only event.3 same last in
+        event.2 ∙ ap (λ (x : Event). x ∷ event.1) is ∙ ap (λ (k : History). (s, a) ∷ k) same
+  ];
+}
+
+pub reads_wrong : (g : Setup) (lines : List (List ℕ)) (seen : History) (line : List ℕ) (s : Step) (text : List ℕ)
+    → IsRecord line s text → HasNoAnswer g seen s text → Reads g lines seen
+    → ShowsNever g (line ∷ lines)
+reads_wrong g lines seen line s text is none r = λ h lawful shown. elim shown [
+  | inl before ↦ before.0.0 s text is
+  | inr event ↦
+      let last : LastSeen g event.0 event.1 = last_seen g h event.0 event.1 lawful event.2 in
+      let same : event.1 ≡ seen = sym last.shows ∙ r.only last.h last.lawful (subst (AreShown lines) (sym last.shows) event.4) in
+      let once = record_once line event.0.0 s (text_of event.0.1) text event.3.text is in
+      let may : MayShow g seen s event.0.1 = record { h = last.h; lawful = last.lawful; shows = last.shows ∙ same; called = subst (λ (u : Step). CalledForApart g (world g last.h) u event.0.1) once.0 last.called } in
+      none event.0.1 may once.1 (subst (λ (u : Step). IsBare u event.0.1) once.0 event.3.bare)
+]
+
+-- lines behind those that nothing shows
+pub never_later : (g : Setup) (later lines : List (List ℕ)) → ShowsNever g lines
+    → ShowsNever g (later ++ lines)
+never_later g [] lines never = never
+never_later g (line ∷ later) lines never = λ h lawful shown. elim shown [
+  | inl before ↦ never_later g later lines never h lawful before.1
+  | inr event ↦
+      let last : LastSeen g event.0 event.1 = last_seen g h event.0 event.1 lawful event.2 in
+      never_later g later lines never last.h last.lawful (subst (AreShown (later ++ lines)) (sym last.shows) event.4)
+]
+
+-- ---- lists
+
+pub at_first : (g : Setup) (events : List Event) → events ≡ [] → Reads g (reverse []) (history_of events)
+at_first g events none = subst (λ es. Reads g (reverse []) (history_of es)) (sym none) (record { shown = refl; only = λ h lawful shown. shown })
+
+-- the lines so far with one more, the newest first
+pub one_more : (lines : List (List ℕ)) (i : ℕ) (line : List ℕ) → i < length lines → slice_get lines i ≡ Some line
+    → reverse (take (i + 1) lines) ≡ line ∷ reverse (take i lines)
+one_more lines i line low is =
+    ap reverse (take_more lines i line low ∙ ap (λ (x : List ℕ). take i lines ++ x ∷ []) (get_or_from_slice_get lines i line line is)) ∙ reverse-append (take i lines) (line ∷ [])
+
+-- all lines, the newest first, behind the first ones
+pub split_lines : (lines : List (List ℕ)) (i : ℕ)
+    → reverse lines ≡ reverse (drop i lines) ++ reverse (take i lines)
+split_lines lines i = ap reverse (sym (take-append-drop i lines)) ∙ reverse-append (take i lines) (drop i lines)
+
+-- what is seen, as lists
+pub visible_is : (h : History) → history_of (seen_in h) ≡ visible h
+visible_is [] = refl
+visible_is (e ∷ h) = go (is_hidden e.0) where
+  go : (b : Bool) → history_of (if b then seen_in h else seen_in h ++ e ∷ []) ≡ (if b then visible h else e ∷ visible h)
+  go true = visible_is h
+  go false = reverse-append (seen_in h) (e ∷ []) ∙ ap (λ (k : History). e ∷ k) (visible_is h)
+
+-- ---- what was made of a line
+
+pub passed_on : (g : Setup) (core : Core) (before after : List (List ℕ)) (line : List ℕ) (seen : History)
+    → after ≡ line ∷ before → IsSight core seen line sight.Passed → Reads g before seen → Reads g after seen
+passed_on g core before after line seen is so r =
+    subst (λ (ls : List (List ℕ)). Reads g ls seen) (sym is) (reads_passed g before seen line so.0 r)
+
+pub shown_on : (g : Setup) (core : Core) (before after : List (List ℕ)) (line : List ℕ) (seen : History) (s : Step) (a : Answer)
+    → core.setup ≡ g → after ≡ line ∷ before → IsSight core seen line (sight.Shown s a) → Reads g before seen
+    → Reads g after ((s, a) ∷ seen)
+shown_on g core before after line seen s a same is so r =
+    subst (λ (ls : List (List ℕ)). Reads g ls ((s, a) ∷ seen)) (sym is)
+    (reads_shown g before seen line s a so.0 (subst (λ (k : Setup). IsOnly k seen s (text_of a) a) same so.1) r)
+
+pub wrong_here : (g : Setup) (core : Core) (before after later all : List (List ℕ)) (line : List ℕ) (seen : History)
+    → core.setup ≡ g → after ≡ line ∷ before → all ≡ later ++ after → IsSight core seen line sight.Wrong
+    → Reads g before seen → ShowsNever g all
+wrong_here g core before after later all line seen same is whole so r =
+    subst (ShowsNever g) (sym whole)
+    (never_later g later after (subst (ShowsNever g) (sym is)
+    (reads_wrong g before seen line so.0 so.1 so.2 (subst (λ (k : Setup). HasNoAnswer k seen so.0 so.1) same so.3) r)))
