@@ -1,15 +1,18 @@
 -- The lines of a history that shows the first ones of the steps that were seen.
 use Rattle.std.proofs.Common.{◌≡◌, ◌++◌, ℕ, ◌+◌, ◌<◌, ◌≤◌, Bool, true, false, List, [], ◌∷◌, length, take, drop, get_or, if◌then◌else◌, refl, sym, ap, subst, ◌∙◌, arith, append_assoc, append-nil, Option, Some}
-use Rattle.std.specs.Prelude.{slice_get}
+use Rattle.std.specs.Prelude.{codes, slice_get}
 use Rattle.std.proofs.lemmas.List.{reverse-append, length-append, take-append-drop}
 use Rattle.uring_core.specs.Histories.{Event, History, history_of}
+use Rattle.uring_core.specs.declared.step.Step.{Step}
+use Rattle.uring_core.specs.declared.step.Step.TheVariants as step
 use Rattle.uring_text.specs.Lines.{ended, joined}
+use Rattle.uring_trace.specs.Text.{text_of}
 use Rattle.uring_fill.specs.Filling.{is_hidden, seen_in, Begins}
 use Rattle.uring_fill.proofs.Seeing.{taken_next}
 use Rattle.uring_fill.proofs.Begun.{begins_itself, begins_more, begins_on}
 use Rattle.uring_seen.specs.Seen.{Shows}
 use Rattle.uring_seen.specs.Sights.{ArePaired}
-use Rattle.uring_seen.specs.Told.{AreLinesOf, IsLineOf}
+use Rattle.uring_seen.specs.Told.{AreLinesOf, IsLineIf, IsLineOf, hidden_text}
 
 -- ---- pairs
 
@@ -97,3 +100,44 @@ one_written old mid new events i e line low is of more w = record {
   lines = subst (AreLinesOf (line ∷ w.out)) (sym (taken_next events i e low is)) (of, w.lines);
   text = more ∙ ap (λ (t : List ℕ). t ++ ended line) w.text ∙ append_assoc old (joined w.out) (ended line);
 }
+
+-- ---- the line of one event
+
+-- what the line of an event makes of a text
+abbrev pub HasLineOf : List ℕ → List ℕ → Event → Type 0
+HasLineOf old new e = (line : List ℕ) × IsLineOf line e × (new ≡ old ++ ended line)
+
+hidden_line : (e : Event) (s : Step) → e.0 ≡ s → is_hidden s ≡ true
+    → IsLineOf (hidden_text s ++ codes " = " ++ text_of e.1) e
+hidden_line e s is hidden =
+    subst (λ (t : Step). IsLineOf (hidden_text s ++ codes " = " ++ text_of e.1) (t, e.1)) (sym is)
+    (subst (λ (b : Bool). IsLineIf b (hidden_text s ++ codes " = " ++ text_of e.1) (s, e.1)) (sym hidden) refl)
+
+pub hidden_more : (old new : List ℕ) (e : Event) (s : Step) → e.0 ≡ s → is_hidden s ≡ true
+    → new ≡ old ++ ended (hidden_text s ++ codes " = " ++ text_of e.1) → HasLineOf old new e
+hidden_more old new e s is hidden more =
+    (hidden_text s ++ codes " = " ++ text_of e.1, hidden_line e s is hidden, more)
+
+pub shown_more : (lines : List (List ℕ)) (k : ℕ) (old new : List ℕ) (e : Event) → is_hidden e.0 ≡ false
+    → (line : List ℕ) × (slice_get lines k ≡ Some line) × Shows line e
+    → ((line : List ℕ) → slice_get lines k ≡ Some line → new ≡ old ++ ended line) → HasLineOf old new e
+shown_more lines k old new e seen there more =
+    (there.0, subst (λ (b : Bool). IsLineIf b there.0 e) (sym seen) there.2, more there.0 there.1)
+
+-- a step that is none of these can be seen
+pub unhidden : (s : Step) → ((n : ℕ) → s ≡ step.Issue n → ⊥) → ((n : ℕ) → s ≡ step.Finish n → ⊥)
+    → (s ≡ step.Flush → ⊥) → is_hidden s ≡ false
+unhidden (step.Issue n) issue finish flush = absurd (issue n refl)
+unhidden (step.Finish n) issue finish flush = absurd (finish n refl)
+unhidden step.Flush issue finish flush = absurd (flush refl)
+unhidden _ issue finish flush = refl
+
+-- ---- the line of a set-up
+
+pub setup_written : (old new a b c d e ta na tb nb tc nc td nd te : List ℕ)
+    → a ≡ ta ++ na → b ≡ a ++ tb ++ nb → c ≡ b ++ tc ++ nc → d ≡ c ++ td ++ nd → e ≡ d ++ te
+    → new ≡ old ++ e → new ≡ old ++ (ta ++ na ++ tb ++ nb ++ tc ++ nc ++ td ++ nd ++ te)
+setup_written old new a b c d e ta na tb nb tc nc td nd te p q r s t u =
+    let whole : e ≡ ((((ta ++ na) ++ tb ++ nb) ++ tc ++ nc) ++ td ++ nd) ++ te = cc in
+    let flat : ((((ta ++ na) ++ tb ++ nb) ++ tc ++ nc) ++ td ++ nd) ++ te ≡ ta ++ na ++ tb ++ nb ++ tc ++ nc ++ td ++ nd ++ te = simp append_assoc in
+    u ∙ ap (λ (l : List ℕ). old ++ l) (whole ∙ flat)

@@ -1,11 +1,11 @@
 -- What lines show, one after the other: they are all that a lawful history shows of which they are the lines.
-use Rattle.std.proofs.Common.{◌≡◌, ◌++◌, ℕ, ◌+◌, ◌<◌, Bool, true, false, List, [], ◌∷◌, length, take, drop, get_or, map, if◌then◌else◌, refl, sym, ap, subst, ◌∙◌, ◌⊎◌, inl, inr, arith, append_assoc, Option, Some}
+use Rattle.std.proofs.Common.{◌≡◌, ◌++◌, ℕ, ◌+◌, ◌<◌, ◌≤◌, Bool, true, false, List, [], ◌∷◌, length, take, drop, get_or, map, if◌then◌else◌, refl, sym, ap, subst, ◌∙◌, ◌⊎◌, inl, inr, arith, append_assoc, Option, Some}
 use mathlib.Core.List.{head-eq_of_cons-eq, tail-eq_of_cons-eq}
-use Rattle.std.specs.Prelude.{reverse, slice_get}
-use Rattle.std.proofs.lemmas.List.{reverse-append, take-append-drop, take_more}
-use Rattle.std.proofs.lemmas.Option.{get_or_from_slice_get}
+use Rattle.std.specs.Prelude.{reverse, slice_get, option_map}
+use Rattle.std.proofs.lemmas.List.{reverse-append, take-append-drop, take_all, take_more}
+use Rattle.std.proofs.lemmas.Option.{get_or_from_slice_get, slice_get-map, slice_get_read}
 use Rattle.uring_entry.specs.Setup.{Setup}
-use Rattle.uring_core.specs.Core.{Core}
+use Rattle.uring_core.specs.Core.{Core, FitsApart}
 use Rattle.uring_core.specs.StepAnswers.{CalledForApart}
 use Rattle.uring_core.specs.Histories.{Event, History, world, history_of, IsLawfulApart}
 use Rattle.uring_core.specs.declared.step.Step.{Step}
@@ -15,8 +15,10 @@ use Rattle.uring_check.specs.Records.{IsRecord, IsNoRecord, IsPassed}
 use Rattle.uring_check.proofs.Splitting.{record_once}
 use Rattle.uring_fill.specs.Filling.{is_hidden, seen_in}
 use Rattle.uring_seen.specs.Seen.{visible, IsBare, Shows, AreShown}
-use Rattle.uring_seen.specs.Sights.{MayShow, IsOnly, HasNoAnswer, IsSight, Reads, ShowsNever}
+use Rattle.uring_seen.specs.Sights.{submitted, MayShow, IsOnly, HasNoAnswer, IsSight, Reads, ShowsNever, IsHiddenLine, IsBadLine, ArePaired}
+use Rattle.uring_seen.specs.declared.sight.Sight.{Sight}
 use Rattle.uring_seen.specs.declared.sight.Sight.TheVariants as sight
+use Rattle.uring_seen.proofs.HistoryLines.{paired_more}
 
 -- the last event that is seen, and the history before it
 pub record LastSeen (g : Setup) (e : Event) (past : History) : Type 0 where
@@ -102,9 +104,6 @@ never_later g (line ∷ later) lines never = λ h lawful shown. elim shown [
 
 -- ---- lists
 
-pub at_first : (g : Setup) (events : List Event) → events ≡ [] → Reads g (reverse []) (history_of events)
-at_first g events none = subst (λ es. Reads g (reverse []) (history_of es)) (sym none) (record { shown = refl; only = λ h lawful shown. shown })
-
 -- the lines so far with one more, the newest first
 pub one_more : (lines : List (List ℕ)) (i : ℕ) (line : List ℕ) → i < length lines → slice_get lines i ≡ Some line
     → reverse (take (i + 1) lines) ≡ line ∷ reverse (take i lines)
@@ -124,24 +123,84 @@ visible_is (e ∷ h) = go (is_hidden e.0) where
   go true = visible_is h
   go false = reverse-append (seen_in h) (e ∷ []) ∙ ap (λ (k : History). e ∷ k) (visible_is h)
 
--- ---- what was made of a line
+-- the line of a place
+pub line_at : {X : Type 0} (v : X → List ℕ) (xs : List X) (i : ℕ) (x : X) → i < length xs
+    → x ≡ get_or xs i x → slice_get (map v xs) i ≡ Some (v x)
+line_at v xs i x low is =
+    slice_get-map v xs i ∙ ap (option_map v) (slice_get_read xs (length xs) i x refl low is)
 
-pub passed_on : (g : Setup) (core : Core) (before after : List (List ℕ)) (line : List ℕ) (seen : History)
-    → after ≡ line ∷ before → IsSight core seen line sight.Passed → Reads g before seen → Reads g after seen
-passed_on g core before after line seen is so r =
-    subst (λ (ls : List (List ℕ)). Reads g ls seen) (sym is) (reads_passed g before seen line so.0 r)
+-- ---- the first lines
 
-pub shown_on : (g : Setup) (core : Core) (before after : List (List ℕ)) (line : List ℕ) (seen : History) (s : Step) (a : Answer)
-    → core.setup ≡ g → after ≡ line ∷ before → IsSight core seen line (sight.Shown s a) → Reads g before seen
-    → Reads g after ((s, a) ∷ seen)
-shown_on g core before after line seen s a same is so r =
-    subst (λ (ls : List (List ℕ)). Reads g ls ((s, a) ∷ seen)) (sym is)
-    (reads_shown g before seen line s a so.0 (subst (λ (k : Setup). IsOnly k seen s (text_of a) a) same so.1) r)
+-- the first lines are read: they show these events, which the core follows, and each of these lines shows one
+pub record AreRead (g : Setup) (first : List (List ℕ)) (core : Core) (events : List Event) (shown : List (List ℕ)) : Type 0 where
+  pub setup : core.setup ≡ g
+  pub reads : Reads g (reverse first) (history_of events)
+  pub fits : FitsApart core (submitted (history_of events))
+  pub paired : ArePaired shown events
 
-pub wrong_here : (g : Setup) (core : Core) (before after later all : List (List ℕ)) (line : List ℕ) (seen : History)
-    → core.setup ≡ g → after ≡ line ∷ before → all ≡ later ++ after → IsSight core seen line sight.Wrong
-    → Reads g before seen → ShowsNever g all
-wrong_here g core before after later all line seen same is whole so r =
-    subst (ShowsNever g) (sym whole)
-    (never_later g later after (subst (ShowsNever g) (sym is)
-    (reads_wrong g before seen line so.0 so.1 so.2 (subst (λ (k : Setup). HasNoAnswer k seen so.0 so.1) same so.3) r)))
+-- what was made of a line behind any events that the core follows
+abbrev pub IsSeen : Core → Core → List ℕ → Sight → Type 0
+IsSeen old new line x = (events : History) → FitsApart old (submitted events) → IsSight new events line x
+
+pub none_read : (core : Core) (events : List Event) (shown : List (List ℕ)) → FitsApart core []
+    → events ≡ [] → shown ≡ [] → AreRead core.setup [] core events shown
+none_read core events shown fits no_event no_line =
+    subst (λ (es : List Event). AreRead core.setup [] core es shown) (sym no_event)
+    (subst (λ (ls : List (List ℕ)). AreRead core.setup [] core [] ls) (sym no_line)
+    (record { setup = refl; reads = record { shown = refl; only = λ h lawful are. are }; fits = fits; paired = tt }))
+
+pub passed_read : (g : Setup) (lines : List (List ℕ)) (i : ℕ) (line : List ℕ) (old new : Core) (events : List Event) (shown : List (List ℕ))
+    → i < length lines → slice_get lines i ≡ Some line → new.setup ≡ old.setup → IsSeen old new line sight.Passed
+    → AreRead g (take i lines) old events shown → AreRead g (take (i + 1) lines) new events shown
+passed_read g lines i line old new events shown low there same so r =
+    let made = so (history_of events) r.fits in
+    record {
+      setup = same ∙ r.setup;
+      reads = subst (λ (ls : List (List ℕ)). Reads g ls (history_of events)) (sym (one_more lines i line low there)) (reads_passed g (reverse (take i lines)) (history_of events) line made.0 r.reads);
+      fits = made.1;
+      paired = r.paired;
+    }
+
+pub shown_read : (g : Setup) (lines : List (List ℕ)) (i : ℕ) (line : List ℕ) (s : Step) (a : Answer) (old new : Core) (events events' : List Event) (shown shown' : List (List ℕ))
+    → i < length lines → slice_get lines i ≡ Some line → new.setup ≡ old.setup
+    → IsSeen old new line (sight.Shown s a) → events' ≡ events ++ (s, a) ∷ [] → shown' ≡ shown ++ line ∷ []
+    → AreRead g (take i lines) old events shown → AreRead g (take (i + 1) lines) new events' shown'
+shown_read g lines i line s a old new events events' shown shown' low there same so more_events more_lines r =
+    subst (λ (es : List Event). AreRead g (take (i + 1) lines) new es shown') (sym more_events)
+    (subst (λ (ls : List (List ℕ)). AreRead g (take (i + 1) lines) new (events ++ (s, a) ∷ []) ls) (sym more_lines)
+    (let made = so (history_of events) r.fits in
+    let later : history_of (events ++ (s, a) ∷ []) ≡ (s, a) ∷ history_of events = reverse-append events ((s, a) ∷ []) in
+    let only : IsOnly g (history_of events) s (text_of a) a = subst (λ (k : Setup). IsOnly k (history_of events) s (text_of a) a) (same ∙ r.setup) made.1 in
+    let reads : Reads g (line ∷ reverse (take i lines)) ((s, a) ∷ history_of events) = reads_shown g (reverse (take i lines)) (history_of events) line s a made.0 only r.reads in
+    record {
+      setup = same ∙ r.setup;
+      reads = subst (λ (h : History). Reads g (reverse (take (i + 1) lines)) h) (sym later) (subst (λ (ls : List (List ℕ)). Reads g ls ((s, a) ∷ history_of events)) (sym (one_more lines i line low there)) reads);
+      fits = subst (λ (h : History). FitsApart new (submitted h)) (sym later) made.2;
+      paired = paired_more shown events line (s, a) r.paired made.0;
+    }))
+
+pub wrong_read : (g : Setup) (lines : List (List ℕ)) (i : ℕ) (line : List ℕ) (old new : Core) (events : List Event) (shown : List (List ℕ))
+    → i < length lines → slice_get lines i ≡ Some line → new.setup ≡ old.setup → IsSeen old new line sight.Wrong
+    → AreRead g (take i lines) old events shown → ShowsNever g (reverse lines)
+wrong_read g lines i line old new events shown low there same so r =
+    let made = so (history_of events) r.fits in
+    let none : HasNoAnswer g (history_of events) made.0 made.1 = subst (λ (k : Setup). HasNoAnswer k (history_of events) made.0 made.1) (same ∙ r.setup) made.3 in
+    let here : ShowsNever g (line ∷ reverse (take i lines)) = reads_wrong g (reverse (take i lines)) (history_of events) line made.0 made.1 made.2 none r.reads in
+    subst (ShowsNever g) (sym (split_lines lines (i + 1)))
+    (never_later g (reverse (drop (i + 1) lines)) (reverse (take (i + 1) lines)) (subst (ShowsNever g) (sym (one_more lines i line low there)) here))
+
+pub hidden_read : (g : Setup) (lines : List (List ℕ)) (i : ℕ) (line : List ℕ) (old new : Core) (events : List Event) (shown : List (List ℕ))
+    → slice_get lines i ≡ Some line → IsSeen old new line sight.Hidden
+    → AreRead g (take i lines) old events shown → IsHiddenLine lines i
+hidden_read g lines i line old new events shown there so r = (line, there, so (history_of events) r.fits)
+
+pub bad_read : (g : Setup) (lines : List (List ℕ)) (i : ℕ) (line : List ℕ) (old new : Core) (events : List Event) (shown : List (List ℕ))
+    → slice_get lines i ≡ Some line → IsSeen old new line sight.Bad
+    → AreRead g (take i lines) old events shown → IsBadLine lines i
+bad_read g lines i line old new events shown there so r =
+    let made = so (history_of events) r.fits in (line, there, made.0, made.1)
+
+pub all_read : (g : Setup) (lines : List (List ℕ)) (i : ℕ) (core : Core) (events : List Event) (shown : List (List ℕ))
+    → length lines ≤ i → AreRead g (take i lines) core events shown → Reads g (reverse lines) (history_of events)
+all_read g lines i core events shown all r =
+    subst (λ (ls : List (List ℕ)). Reads g (reverse ls) (history_of events)) (take_all i lines all) r.reads

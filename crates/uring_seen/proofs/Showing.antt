@@ -6,7 +6,7 @@ use Rattle.uring_entry.specs.Completions.{next_to_reap}
 use Rattle.uring_entry.specs.Requests.{next_of}
 use Rattle.uring_entry.specs.Submission.{call_length}
 use Rattle.uring_core.specs.World.{World}
-use Rattle.uring_core.specs.Core.{Core, FitsApart}
+use Rattle.uring_core.specs.Core.{Core, FitsApart, IsNoFinish}
 use Rattle.uring_core.specs.StepAnswers.{CalledForApart, OrAgain, begin_answer, is_spent, reap_answer_of, next_answer_of}
 use Rattle.uring_core.specs.Histories.{Event, History, world, IsLawfulApart}
 use Rattle.uring_core.specs.declared.step.Step.{Step}
@@ -27,6 +27,10 @@ use Rattle.uring_seen.proofs.Texts.{number_once, completion_once}
 pub sure_submitting : (s : Step) → IsSure s → is_submitting s ≡ true
 sure_submitting (step.Begin count) sure = absurd sure
 sure_submitting s sure = sure
+
+pub sure_no_finish : (s : Step) → IsSure s → IsNoFinish s
+sure_no_finish (step.Finish n) sure = absurd (let f : false ≡ true = sure in cc)
+sure_no_finish _ sure = tt
 
 sure_seen : (s : Step) → IsSure s → is_hidden s ≡ false
 sure_seen (step.Issue n) sure = absurd (let f : false ≡ true = sure in cc)
@@ -69,6 +73,9 @@ sure_wrong core seen s a text sure other fits = λ b may same bare.
     other (sym (ap text_of (sure_only core seen s a text sure fits b may same bare)) ∙ same)
 
 -- ---- Begin
+
+pub begin_no_finish : (s : Step) → (count : ℕ) × (s ≡ step.Begin count) → IsNoFinish s
+begin_no_finish s (count, is) = subst IsNoFinish (sym is) tt
 
 begin_only : (core : Core) (seen : History) (count : ℕ) (a : Answer)
     → FitsApart core ((step.Begin count, a) ∷ submitted seen)

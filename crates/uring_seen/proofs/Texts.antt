@@ -14,13 +14,13 @@ use Rattle.uring_core.specs.declared.answer.Answer.TheVariants as answer
 use Rattle.uring_core.specs.declared.step.Step.TheVariants as step
 use Rattle.uring_text.specs.Completions.{completion_text, trimmed}
 use Rattle.uring_text.specs.Reading.{number_of, file_of}
-use Rattle.uring_text.specs.Spelling.{IsFile}
+use Rattle.uring_text.specs.Spelling.{IsFile, SpellsNumber, IsNoNumber}
 use Rattle.uring_text.specs.Tokens.{hex_or_dash}
 use Rattle.uring_text.proofs.NumberLaws.{number_again, file_again}
 use Rattle.uring_text.proofs.Numbers.{own}
 use Rattle.uring_trace.specs.Text.{text_of}
 use Rattle.uring_seen.specs.Seen.{IsBare}
-use Rattle.uring_seen.specs.Sights.{IsCompletion, IsParted, IsUnparted}
+use Rattle.uring_seen.specs.Sights.{IsCompletion, IsNoCompletion, IsParted, IsUnparted}
 
 abbrev pub HasNoBlank : List ℕ → Type 0
 HasNoBlank xs = AllByRecursion (λ b. b ≢ 32) xs
@@ -116,3 +116,66 @@ completion_once c d same p q =
     let res : c.res ≡ d.res = signed_once c.res d.res p.1 q.1 parts.1 in
     let payload : c.payload ≡ d.payload = p.2 ∙ sym q.2 in
     λ i. record { user_data = ud i; res = res i; payload = payload i }
+
+-- ---- a completion that is read
+
+-- what stands between `cqe ` and ` -`
+pub record IsFramed (text mid : List ℕ) : Type 0 where
+  pub rest : List ℕ
+  pub front : text ≡ codes "cqe " ++ rest
+  pub back : rest ≡ mid ++ codes " -"
+
+middle_of : (text rest : List ℕ) (c : Cqe) → text ≡ codes "cqe " ++ rest → IsCompletion text c
+    → rest ≡ middle c.user_data c.res ++ codes " -"
+middle_of text rest c front is = ap (λ (l : List ℕ). drop 4 l) (sym front ∙ completion_is text c is)
+
+middle_is : (text mid : List ℕ) (c : Cqe) → IsFramed text mid → IsCompletion text c
+    → mid ≡ middle c.user_data c.res
+middle_is text mid c f is =
+    append_cancel_right mid (middle c.user_data c.res) (codes " -") (sym f.back ∙ middle_of text f.rest c f.front is)
+
+-- no text of a completion begins otherwise
+pub front_none : (text : List ℕ) → ((rest : List ℕ) → text ≢ codes "cqe " ++ rest)
+    → IsNoCompletion text
+front_none text none = λ c is. none (middle c.user_data c.res ++ codes " -") (completion_is text c is)
+
+-- or ends otherwise
+pub back_none : (text rest : List ℕ) → text ≡ codes "cqe " ++ rest
+    → ((mid : List ℕ) → rest ≢ mid ++ codes " -") → IsNoCompletion text
+back_none text rest front none = λ c is. none (middle c.user_data c.res) (middle_of text rest c front is)
+
+-- or has no blank between
+pub unparted_none : (text mid : List ℕ) → IsFramed text mid → IsUnparted mid → IsNoCompletion text
+unparted_none text mid f none = λ c is.
+    none_and_one (decimal c.user_data) (signed_decimal c.res) (subst HasNoBlank (middle_is text mid c f is) none)
+
+parts_are : (text mid before behind : List ℕ) (c : Cqe) → IsFramed text mid → IsParted mid before behind
+    → IsCompletion text c → (before ≡ decimal c.user_data) × (behind ≡ signed_decimal c.res)
+parts_are text mid before behind c f p is =
+    blank_once before behind (decimal c.user_data) (signed_decimal c.res) p.first (decimal_unbroken c.user_data is.bare.0) (sym p.whole ∙ middle_is text mid c f is)
+
+-- or has no number before the blank
+pub number_none : (text mid before behind : List ℕ) → IsFramed text mid → IsParted mid before behind
+    → IsNoNumber (2 ^ 64) before → IsNoCompletion text
+number_none text mid before behind f p none = λ c is.
+    none c.user_data ((parts_are text mid before behind c f p is).0, is.bare.0)
+
+-- or no result behind it
+pub result_none : (text mid before behind : List ℕ) → IsFramed text mid → IsParted mid before behind
+    → ((z : ℤ) → IsFile z → signed_decimal z ≡ behind → ⊥) → IsNoCompletion text
+result_none text mid before behind f p none = λ c is.
+    none c.res is.bare.1 (sym (parts_are text mid before behind c f p is).1)
+
+pub completion_read : (text mid before behind : List ℕ) (n : ℕ) (z : ℤ) → IsFramed text mid
+    → IsParted mid before behind → SpellsNumber (2 ^ 64) before n → (signed_decimal z ≡ behind) × IsFile z
+    → IsCompletion text (record { user_data = n; res = z; payload = no_bytes })
+completion_read text mid before behind n z f p number result = record {
+  text_is =
+      bare_text n z
+      ∙ ap (λ (l : List ℕ). codes "cqe " ++ ((l ++ 32 ∷ signed_decimal z) ++ codes " -")) (sym number.0)
+      ∙ ap (λ (l : List ℕ). codes "cqe " ++ ((before ++ 32 ∷ l) ++ codes " -")) result.0
+      ∙ ap (λ (l : List ℕ). codes "cqe " ++ (l ++ codes " -")) (sym p.whole)
+      ∙ ap (λ (l : List ℕ). codes "cqe " ++ l) (sym f.back)
+      ∙ sym f.front;
+  bare = (number.1, result.1, refl);
+}

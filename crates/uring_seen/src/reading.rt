@@ -41,11 +41,13 @@ pub(crate) fn read<'a>(
         (λ read. ArePaired (map (λ line. line.now) shown.new.items) events.new.items) }
 {
     for place in 0..lines.len() {
-        match see(alloc, core, lines[place])? {
-            Sight::Passed => {}
+        let line = lines[place];
+        let sight = see(alloc, core, line)?;
+        match sight {
+            Sight::Passed => continue,
             Sight::Shown(step, answer) => {
                 events.push((step, answer))?;
-                shown.push(lines[place])?;
+                shown.push(line)?;
             }
             Sight::Wrong => return Ok(Done::Wrong(place)),
             Sight::Hidden => return Ok(Done::Hidden(place)),

@@ -15,7 +15,7 @@ ghost use Rattle.uring_seen.specs.Sights.{IsSight, IsSightOfNone, IsSeenAs, IsSu
 use crate::guess::{completion_of, head_of, next_of, tail_of};
 use std::alloc::{AllocError, Global};
 use uring_check::split_record;
-use uring_core::{Answer, Core, Step};
+use uring_core::{Answer, Core, Refusal, Step};
 use uring_trace::{push_answer, read_step};
 
 /// Most bytes of a line that is a step with an answer.
@@ -50,7 +50,8 @@ pub(crate) fn see(alloc: Global, core: &mut Core, line: &[u8]) -> Result<Sight, 
     let Some((before, text)) = split_short(line) else {
         return Ok(sight_of_none(line));
     };
-    match read_step(alloc, before)? {
+    let read = read_step(alloc, before)?;
+    match read {
         Some(step) => sight_of_step(alloc, core, &step, text),
         None => Ok(sight_of_none(line)),
     }
@@ -124,7 +125,8 @@ fn sight_of_sure(
         → IsSeenAs core.new events step.now text.now seen) }
 {
     let answer = core.step(*step);
-    if is_text(alloc, &answer, text)? {
+    let same = is_text(alloc, &answer, text)?;
+    if same {
         Ok(Sight::Shown(*step, answer))
     } else {
         Ok(Sight::Wrong)
@@ -144,14 +146,16 @@ fn sight_of_begin(
         (λ seen. (events : History) → FitsApart core.old (submitted events)
         → IsSeenAs core.new events step.now text.now seen) }
 {
-    if is_text(alloc, &Answer::Again, text)? {
-        return Ok(sight_of_again(core, step));
+    let refused = is_text(alloc, &Answer::Again, text)?;
+    if refused {
+        return sight_of_again(core, step);
     }
     let answer = core.step(*step);
     if is_again(&answer) {
         return Err(AllocError);
     }
-    if is_text(alloc, &answer, text)? {
+    let same = is_text(alloc, &answer, text)?;
+    if same {
         Ok(Sight::Shown(*step, answer))
     } else {
         Ok(Sight::Wrong)
@@ -159,15 +163,17 @@ fn sight_of_begin(
 }
 
 /// What a Begin shows to which memory was refused.
-fn sight_of_again(core: &mut Core, step: &Step) -> Sight
+fn sight_of_again(core: &mut Core, step: &Step) -> Result<Sight, AllocError>
     requires { (count : ℕ) × (step.now ≡ Step.Begin count) }
     ensures setup { core.new.setup ≡ core.old.setup }
-    ensures sight { (events : History) → FitsApart core.old (submitted events)
-        → IsSeenAs core.new events step.now (text_of answer.Again) result }
+    ensures sight { IfOk result
+        (λ seen. (events : History) → FitsApart core.old (submitted events)
+        → IsSeenAs core.new events step.now (text_of answer.Again) seen) }
 {
     match core.follow(*step, Answer::Again) {
-        Ok(()) => Sight::Shown(*step, Answer::Again),
-        Err(_) => Sight::Wrong,
+        Ok(()) => Ok(Sight::Shown(*step, Answer::Again)),
+        Err(Refusal::Wrong(_)) => Ok(Sight::Wrong),
+        Err(Refusal::NoMemory) => Err(AllocError),
     }
 }
 

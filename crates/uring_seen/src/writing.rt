@@ -59,7 +59,8 @@ pub(crate) fn push_events(
 {
     let mut count = 0;
     for event in events {
-        count += push_event(alloc, text, event, shown, count)?;
+        let taken = push_event(alloc, text, event, shown, count)?;
+        count += taken;
     }
     Ok(())
 }
@@ -80,17 +81,15 @@ fn push_event(
         × (text.new.items ≡ text.old.items ++ ended line)) }
     ensures count { IfOk result (λ taken. taken ≡ (if spec.is_hidden event.now.0 then 0 else 1)) }
 {
-    let taken = match event.0 {
-        Step::Issue { number } => push_hidden(alloc, text, "issue ", number, &event.1)?,
-        Step::Finish { number } => push_hidden(alloc, text, "finish ", number, &event.1)?,
-        Step::Flush => push_flush(alloc, text, &event.1)?,
-        _ => push_shown(alloc, text, shown, count)?,
-    };
-    push_bytes(&alloc, text, b"\n")?;
-    Ok(taken)
+    match event.0 {
+        Step::Issue { number } => push_hidden(alloc, text, "issue ", number, &event.1),
+        Step::Finish { number } => push_hidden(alloc, text, "finish ", number, &event.1),
+        Step::Flush => push_flush(alloc, text, &event.1),
+        _ => push_shown(alloc, text, shown, count),
+    }
 }
 
-/// Appends the line of this place.
+/// Appends the line of this place, with its end.
 fn push_shown(
     alloc: Global,
     text: &mut Vec<u8>,
@@ -99,16 +98,18 @@ fn push_shown(
 ) -> Result<usize, AllocError>
     ensures text { OnOk result
         ((line : List ℕ) → slice_get (map (λ line. line.now) shown.now) count ≡ Some line
-        → text.new.items ≡ text.old.items ++ line) }
+        → text.new.items ≡ text.old.items ++ ended line) }
     ensures count { IfOk result (λ taken. taken ≡ 1) }
 {
-    if let Some(line) = shown.get(count) {
-        push_bytes(&alloc, text, line)?;
-    }
+    let Some(line) = shown.get(count) else {
+        return Ok(1);
+    };
+    push_bytes(&alloc, text, line)?;
+    push_bytes(&alloc, text, b"\n")?;
     Ok(1)
 }
 
-/// Appends a step of a request with its answer.
+/// Appends the line of a step of a request with its answer.
 fn push_hidden(
     alloc: Global,
     text: &mut Vec<u8>,
@@ -118,7 +119,7 @@ fn push_hidden(
 ) -> Result<usize, AllocError>
     ensures text { OnOk result
         (text.new.items
-        ≡ text.old.items ++ (name.now ++ decimal number ++ codes " = " ++ text_of answer.now)) }
+        ≡ text.old.items ++ ended (name.now ++ decimal number ++ codes " = " ++ text_of answer.now)) }
     ensures count { IfOk result (λ taken. taken ≡ 0) }
 {
     let mut line = String::new(alloc);
@@ -127,18 +128,20 @@ fn push_hidden(
     push_text(&alloc, &mut line, " = ")?;
     push_answer(alloc, &mut line, answer)?;
     push_bytes(&alloc, text, line.as_bytes())?;
+    push_bytes(&alloc, text, b"\n")?;
     Ok(0)
 }
 
-/// Appends a flush with its answer.
+/// Appends the line of a flush with its answer.
 fn push_flush(alloc: Global, text: &mut Vec<u8>, answer: &Answer) -> Result<usize, AllocError>
     ensures text { OnOk result
-        (text.new.items ≡ text.old.items ++ (codes "flush" ++ codes " = " ++ text_of answer.now)) }
+        (text.new.items ≡ text.old.items ++ ended (codes "flush" ++ codes " = " ++ text_of answer.now)) }
     ensures count { IfOk result (λ taken. taken ≡ 0) }
 {
     let mut line = String::new(alloc);
     push_text(&alloc, &mut line, "flush = ")?;
     push_answer(alloc, &mut line, answer)?;
     push_bytes(&alloc, text, line.as_bytes())?;
+    push_bytes(&alloc, text, b"\n")?;
     Ok(0)
 }
