@@ -132,6 +132,11 @@ unhidden (step.Finish n) issue finish flush = absurd (finish n refl)
 unhidden step.Flush issue finish flush = absurd (flush refl)
 unhidden _ issue finish flush = refl
 
+-- it takes one line of what was seen, or none
+pub one_at_most : (hidden : Bool) (n : ℕ) → n ≡ (if hidden then 0 else 1) → n ≤ 1
+one_at_most true n e = omega arith
+one_at_most false n e = omega arith
+
 -- ---- the line of a set-up
 
 pub setup_written : (old new a b c d e ta na tb nb tc nc td nd te : List ℕ)

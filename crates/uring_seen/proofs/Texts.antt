@@ -20,7 +20,7 @@ use Rattle.uring_text.proofs.NumberLaws.{number_again, file_again}
 use Rattle.uring_text.proofs.Numbers.{own}
 use Rattle.uring_trace.specs.Text.{text_of}
 use Rattle.uring_seen.specs.Seen.{IsBare}
-use Rattle.uring_seen.specs.Sights.{IsCompletion, IsNoCompletion, IsParted, IsUnparted}
+use Rattle.uring_seen.specs.Sights.{IsCompletion, IsNoCompletion, IsFramed, IsUnframed, IsParted, IsUnparted}
 
 abbrev pub HasNoBlank : List ℕ → Type 0
 HasNoBlank xs = AllByRecursion (λ b. b ≢ 32) xs
@@ -119,32 +119,29 @@ completion_once c d same p q =
 
 -- ---- a completion that is read
 
--- what stands between `cqe ` and ` -`
-pub record IsFramed (text mid : List ℕ) : Type 0 where
-  pub rest : List ℕ
-  pub front : text ≡ codes "cqe " ++ rest
-  pub back : rest ≡ mid ++ codes " -"
+-- a text that begins otherwise has no frame
+pub front_unframed : (text : List ℕ) → ((rest : List ℕ) → text ≢ codes "cqe " ++ rest) → IsUnframed text
+front_unframed text none = λ mid f. none (mid ++ codes " -") f
 
-middle_of : (text rest : List ℕ) (c : Cqe) → text ≡ codes "cqe " ++ rest → IsCompletion text c
-    → rest ≡ middle c.user_data c.res ++ codes " -"
-middle_of text rest c front is = ap (λ (l : List ℕ). drop 4 l) (sym front ∙ completion_is text c is)
+-- nor one that ends otherwise
+pub back_unframed : (text rest : List ℕ) → text ≡ codes "cqe " ++ rest
+    → ((mid : List ℕ) → rest ≢ mid ++ codes " -") → IsUnframed text
+back_unframed text rest front none = λ mid f. none mid (ap (λ (l : List ℕ). drop 4 l) (sym front ∙ f))
+
+pub framed : (text rest mid : List ℕ) → text ≡ codes "cqe " ++ rest → rest ≡ mid ++ codes " -"
+    → IsFramed text mid
+framed text rest mid front back = front ∙ ap (λ (l : List ℕ). codes "cqe " ++ l) back
 
 middle_is : (text mid : List ℕ) (c : Cqe) → IsFramed text mid → IsCompletion text c
     → mid ≡ middle c.user_data c.res
 middle_is text mid c f is =
-    append_cancel_right mid (middle c.user_data c.res) (codes " -") (sym f.back ∙ middle_of text f.rest c f.front is)
+    append_cancel_right mid (middle c.user_data c.res) (codes " -") (ap (λ (l : List ℕ). drop 4 l) (sym f ∙ completion_is text c is))
 
--- no text of a completion begins otherwise
-pub front_none : (text : List ℕ) → ((rest : List ℕ) → text ≢ codes "cqe " ++ rest)
-    → IsNoCompletion text
-front_none text none = λ c is. none (middle c.user_data c.res ++ codes " -") (completion_is text c is)
+-- the text of a completion has a frame
+pub unframed_none : (text : List ℕ) → IsUnframed text → IsNoCompletion text
+unframed_none text none = λ c is. none (middle c.user_data c.res) (completion_is text c is)
 
--- or ends otherwise
-pub back_none : (text rest : List ℕ) → text ≡ codes "cqe " ++ rest
-    → ((mid : List ℕ) → rest ≢ mid ++ codes " -") → IsNoCompletion text
-back_none text rest front none = λ c is. none (middle c.user_data c.res) (middle_of text rest c front is)
-
--- or has no blank between
+-- and a blank in it
 pub unparted_none : (text mid : List ℕ) → IsFramed text mid → IsUnparted mid → IsNoCompletion text
 unparted_none text mid f none = λ c is.
     none_and_one (decimal c.user_data) (signed_decimal c.res) (subst HasNoBlank (middle_is text mid c f is) none)
@@ -154,13 +151,13 @@ parts_are : (text mid before behind : List ℕ) (c : Cqe) → IsFramed text mid 
 parts_are text mid before behind c f p is =
     blank_once before behind (decimal c.user_data) (signed_decimal c.res) p.first (decimal_unbroken c.user_data is.bare.0) (sym p.whole ∙ middle_is text mid c f is)
 
--- or has no number before the blank
+-- with a number before it
 pub number_none : (text mid before behind : List ℕ) → IsFramed text mid → IsParted mid before behind
     → IsNoNumber (2 ^ 64) before → IsNoCompletion text
 number_none text mid before behind f p none = λ c is.
     none c.user_data ((parts_are text mid before behind c f p is).0, is.bare.0)
 
--- or no result behind it
+-- and a result behind it
 pub result_none : (text mid before behind : List ℕ) → IsFramed text mid → IsParted mid before behind
     → ((z : ℤ) → IsFile z → signed_decimal z ≡ behind → ⊥) → IsNoCompletion text
 result_none text mid before behind f p none = λ c is.
@@ -175,7 +172,6 @@ completion_read text mid before behind n z f p number result = record {
       ∙ ap (λ (l : List ℕ). codes "cqe " ++ ((l ++ 32 ∷ signed_decimal z) ++ codes " -")) (sym number.0)
       ∙ ap (λ (l : List ℕ). codes "cqe " ++ ((before ++ 32 ∷ l) ++ codes " -")) result.0
       ∙ ap (λ (l : List ℕ). codes "cqe " ++ (l ++ codes " -")) (sym p.whole)
-      ∙ ap (λ (l : List ℕ). codes "cqe " ++ l) (sym f.back)
-      ∙ sym f.front;
+      ∙ sym f;
   bare = (number.1, result.1, refl);
 }

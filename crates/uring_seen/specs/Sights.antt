@@ -1,5 +1,5 @@
 -- Glue. What a reading keeps of the lines that it took in.
-use Rattle.std.specs.Prelude.{◌≡◌, ◌≢◌, ℕ, Bool, true, false, List, [], ◌∷◌, ◌++◌, if◌then◌else◌, Some, slice_get, reverse}
+use Rattle.std.specs.Prelude.{◌≡◌, ◌≢◌, ℕ, ◌+◌, ◌^◌, ◌<◌, Bool, true, false, List, [], ◌∷◌, ◌++◌, if◌then◌else◌, Some, codes, slice_get, reverse}
 use Rattle.std.specs.List.{AllByRecursion}
 use Rattle.uring_entry.specs.Layout.{Cqe}
 use Rattle.uring_entry.specs.Setup.{Setup}
@@ -105,6 +105,14 @@ pub record Reads (g : Setup) (lines : List (List ℕ)) (seen : History) : Type 0
   pub shown : AreShown lines seen
   pub only : (h : History) → IsLawfulApart g h → AreShown lines (visible h) → visible h ≡ seen
 
+-- this stands in a text between `cqe ` and ` -`
+abbrev pub IsFramed : List ℕ → List ℕ → Type 0
+IsFramed text mid = text ≡ codes "cqe " ++ (mid ++ codes " -")
+
+-- nothing does
+abbrev pub IsUnframed : List ℕ → Type 0
+IsUnframed text = (mid : List ℕ) → IsFramed text mid → ⊥
+
 -- what stands before and behind the first blank of a text
 pub record IsParted (text before behind : List ℕ) : Type 0 where
   pub whole : text ≡ before ++ 32 ∷ behind
@@ -141,8 +149,8 @@ IsBadLine lines place = (line : List ℕ) × (slice_get lines place ≡ Some lin
 abbrev pub IsRead : Setup → List (List ℕ) → List Event → Done → Type 0
 IsRead g lines events done.All = Reads g (reverse lines) (history_of events)
 IsRead g lines events (done.Wrong place) = ShowsNever g (reverse lines)
-IsRead g lines events (done.Hidden place) = IsHiddenLine lines place
-IsRead g lines events (done.Bad place) = IsBadLine lines place
+IsRead g lines events (done.Hidden place) = IsHiddenLine lines place × (place + 1 < 2 ^ 64)
+IsRead g lines events (done.Bad place) = IsBadLine lines place × (place + 1 < 2 ^ 64)
 
 -- each of these lines shows the event of its place
 abbrev pub ArePaired : List (List ℕ) → List Event → Type 0

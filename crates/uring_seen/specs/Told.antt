@@ -56,7 +56,7 @@ HasNoFilling g lines = (h : History) → Fills g lines h → ⊥
 abbrev pub TellsFar : Setup → List ℕ → Type 0
 TellsFar g text = (h : History) × IsLawfulApart g h × ((rest : List ℕ) × Tells g h text (codes "# " ++ rest))
 
--- the first of these lines that isn't in the language, or can't be seen
+-- the line of this place isn't in the language, or can't be seen
 abbrev pub IsFaulty : List (List ℕ) → ℕ → Type 0
 IsFaulty lines place = IsBadLine lines place ⊎ IsHiddenLine lines place
 

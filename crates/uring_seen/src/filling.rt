@@ -1,6 +1,6 @@
 //! A history that shows what was seen, from text to text.
 
-ghost use Rattle.std.specs.Prelude.{◌≡◌, ◌∷◌, [], ◌<◌, ◌-◌, ◌^◌, List, ℕ, IfOk, map, reverse};
+ghost use Rattle.std.specs.Prelude.{◌≡◌, ◌∷◌, [], ◌<◌, ◌+◌, ◌^◌, List, ℕ, IfOk, map, reverse};
 ghost use Rattle.uring_core.specs.Histories.{IsLawfulApart, history_of};
 ghost use Rattle.uring_text.specs.KeptLine.{kept_of};
 ghost use Rattle.uring_fill.specs.Filling.{Begins, seen_in};
@@ -70,9 +70,10 @@ fn fill_all(alloc: Global, setup: &Setup, lines: &[&[u8]], most: u64) -> Result<
         (λ told. (first : List ℕ) (rest : List (List ℕ)) → map (λ line. line.now) lines.now ≡ first ∷ rest
         → AreAnswered setup.now (map (λ line. line.now) lines.now) told) }
 {
-    match said_of(alloc, lines)? {
+    let said = said_of(alloc, lines)?;
+    match said {
         Said::Nothing => fill_lines(alloc, setup, lines, most),
-        Said::Says(said) => fill_lines(alloc, &said, lines, most),
+        Said::Says(own) => fill_lines(alloc, &own, lines, most),
         Said::Misses => told_bad(alloc, 0, "no set-up"),
     }
 }
@@ -312,7 +313,7 @@ fn text_of(
 
 /// What is told of a line that isn't in the language.
 fn told_flaw(alloc: Global, lines: &[&[u8]], place: usize) -> Result<Told, AllocError>
-    requires { place < 2 ^ 64 - 1 }
+    requires { place + 1 < 2 ^ 64 }
     ensures verdict { IfOk result (λ told. told.verdict ≡ Verdict.Bad) }
     ensures text { IfOk result (λ told. Names place told.text.items) }
 {
@@ -325,7 +326,7 @@ fn told_flaw(alloc: Global, lines: &[&[u8]], place: usize) -> Result<Told, Alloc
 
 /// What is told of a bad line, and why it is one.
 fn told_bad(alloc: Global, place: usize, flaw: &str) -> Result<Told, AllocError>
-    requires { place < 2 ^ 64 - 1 }
+    requires { place + 1 < 2 ^ 64 }
     ensures verdict { IfOk result (λ told. told.verdict ≡ Verdict.Bad) }
     ensures text { IfOk result (λ told. Names place told.text.items) }
 {

@@ -7,7 +7,7 @@ ghost use Rattle.uring_entry.specs.Requests.{no_bytes};
 ghost use Rattle.uring_core.specs.declared.answer.Answer.TheVariants as answer;
 ghost use Rattle.uring_text.specs.Spelling.{IsFile};
 ghost use Rattle.uring_trace.specs.Text.{text_of};
-ghost use Rattle.uring_seen.specs.Sights.{IsParted, IsUnparted, IsNoCompletion, IsCompletion};
+ghost use Rattle.uring_seen.specs.Sights.{IsParted, IsUnparted, IsFramed, IsUnframed, IsNoCompletion, IsCompletion};
 
 use uring_core::Cqe;
 use uring_text::{spelled_long, spelled_number, spelled_signed};
@@ -43,10 +43,19 @@ pub(crate) fn next_of(text: &[u8]) -> Option<u64>
 pub(crate) fn completion_of(text: &[u8]) -> Option<Cqe>
     ensures { MatchOption result (IsNoCompletion text.now) (IsCompletion text.now) }
 {
-    let (user_data, res) = parted(text.strip_prefix(b"cqe ")?.strip_suffix(b" -")?)?;
-    let user_data = spelled_long(user_data)?;
-    let res = spelled_signed(res)?;
+    let middle = framed(text)?;
+    let (before, behind) = parted(middle)?;
+    let user_data = spelled_long(before)?;
+    let res = spelled_signed(behind)?;
     Some(Cqe::new(user_data, res, [0; 64]))
+}
+
+/// What stands between `cqe ` and ` -`.
+fn framed(text: &[u8]) -> Option<&[u8]>
+    ensures { MatchOption result (IsUnframed text.now) (λ middle. IsFramed text.now middle.now) }
+{
+    let rest = text.strip_prefix(b"cqe ")?;
+    Some(rest.strip_suffix(b" -")?)
 }
 
 /// What stands before and behind the first blank.

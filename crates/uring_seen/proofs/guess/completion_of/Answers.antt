@@ -1,10 +1,26 @@
-use Rattle.std.proofs.Common.{◌≡◌, [], ◌∷◌, Some, None, rules}
-use Rattle.std.proofs.lemmas.Bool.Decides.{Decides-eqb}
-use Rattle.std.proofs.lemmas.Slice.Eq.{strip_prefix_is, strip_suffix_is}
-use Rattle.uring_seen.proofs.Texts.{IsFramed, front_none, back_none, unparted_none, number_none, result_none, completion_read}
+use Rattle.std.proofs.Common.{◌≡◌, None, rules}
+use Rattle.uring_seen.proofs.Texts.{unframed_none, unparted_none, number_none, result_none, completion_read}
 use Rattle.uring_seen.proofs.guess.completion_of.Goals as goal
 
-pub returns-in_err-strip_prefix : goal.returns-in_err-strip_prefix
-returns-in_err-strip_prefix c =
+pub returns-in_err-middle : goal.returns-in_err-middle
+returns-in_err-middle c =
     let none : c.from_residual.result ≡ None = search rules in
-    rw none (front_none _ (strip_prefix_is Decides-eqb _ (99 ∷ 113 ∷ 101 ∷ 32 ∷ []) None c.in_err-strip_prefix.ensures.cases))
+    rw none (unframed_none _ c.in_err-middle.ensures)
+
+pub returns-in_err-parted : goal.returns-in_err-parted
+returns-in_err-parted c =
+    let none : c.from_residual-in_err-parted.result ≡ None = search rules in
+    rw none (unparted_none _ c.in_ok-middle.middle.now c.in_ok-middle.ensures c.in_err-parted.ensures)
+
+pub returns-in_err-user_data : goal.returns-in_err-user_data
+returns-in_err-user_data c =
+    let none : c.from_residual-in_err-user_data.result ≡ None = search rules in
+    rw none (number_none _ _ _ _ c.in_ok-middle.ensures c.in_ok-parted.ensures c.in_err-user_data.ensures.spells)
+
+pub returns-in_err-res : goal.returns-in_err-res
+returns-in_err-res c =
+    let none : c.from_residual-in_err-res.result ≡ None = search rules in
+    rw none (result_none _ _ _ _ c.in_ok-middle.ensures c.in_ok-parted.ensures c.in_err-res.ensures.spells)
+
+pub returns : goal.returns
+returns c = rw c.new.ensures (completion_read _ _ _ _ _ _ c.in_ok-middle.ensures c.in_ok-parted.ensures c.in_ok-user_data.ensures.spells c.in_ok-res.ensures.spells)

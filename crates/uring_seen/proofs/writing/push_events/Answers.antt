@@ -2,8 +2,8 @@ use Rattle.std.proofs.Common.{◌≡◌, ◌≤◌, ◌+◌, ℕ, List, Bool, tr
 use Rattle.std.specs.Prelude.{slice_get}
 use Rattle.std.proofs.lemmas.List.{take_all}
 use Rattle.uring_core.specs.Histories.{history_of}
-use Rattle.uring_fill.specs.Filling.{seen_in}
-use Rattle.uring_seen.proofs.HistoryLines.{LineThere, IsWritten, line_there, count_more, nothing_written, one_written}
+use Rattle.uring_fill.specs.Filling.{is_hidden, seen_in}
+use Rattle.uring_seen.proofs.HistoryLines.{LineThere, IsWritten, line_there, count_more, nothing_written, one_at_most, one_written}
 use Rattle.uring_seen.proofs.writing.push_events.Goals as goal
 
 pub loop-event-init : goal.loop-event-init
@@ -21,10 +21,13 @@ push_event-requires c = λ shown.
 
 pub loop-event-preserved : goal.loop-event-preserved
 loop-event-preserved c = record {
-  counted = ?;
-  few = ?;
-  written = let w = c.in_ok-count.ensures.text in one_written c.args.text.now.items c.loop-event.text.items c.push_event.new.text.items c.args.events.now c.loop-event.event-index c.event-item.result w.0 (omega arith) c.event-item.is w.1 w.2 c.loop-event.invariant.written;
+  counted = let more = count_more c.args.events.now c.loop-event.event-index c.event-item.result (omega arith) c.event-item.is in cc (more, c.in_ok-taken.ensures.count);
+  few = omega (arith, one_at_most (is_hidden c.event-item.result.0) c.in_ok-taken.taken c.in_ok-taken.ensures.count);
+  written = let w = c.in_ok-taken.ensures.text in one_written c.args.text.now.items c.loop-event.text.items c.push_event.new.text.items c.args.events.now c.loop-event.event-index c.event-item.result w.0 (omega arith) c.event-item.is w.1 w.2 c.loop-event.invariant.written;
 }
+
+pub overflow_add-count : goal.overflow_add-count
+overflow_add-count c = omega (arith, one_at_most (is_hidden c.event-item.result.0) c.in_ok-taken.taken c.in_ok-taken.ensures.count)
 
 pub returns : goal.returns
 returns c =
