@@ -9,11 +9,13 @@ use Rattle.uring_text.specs.Lines.{joined}
 use Rattle.uring_check.specs.SetupLines.{IsSaid}
 use Rattle.uring_check.specs.declared.setup_line.Said.{Said}
 use Rattle.uring_fill.specs.Filling.{seen_in, Begins, IsFilling}
-use Rattle.uring_fill.specs.Found.{HasNone}
+use Rattle.uring_fill.specs.Found.{HasNone, IsFound}
+use Rattle.uring_fill.specs.Parts.{IsReach}
+use Rattle.uring_fill.specs.declared.search.Filled.{Filled}
 use Rattle.uring_fill.proofs.Begun.{begins_all}
 use Rattle.uring_seen.specs.Seen.{visible, AreShown, Fills}
 use Rattle.uring_seen.specs.Sights.{Reads, ShowsNever, IsBadLine, IsHiddenLine}
-use Rattle.uring_seen.specs.Told.{setup_text, Tells, TellsFar, HasNoFilling, Names, IsToldOf, IsToldBy, SaysFirst, IsAnswered, AreAnswered, lines_in}
+use Rattle.uring_seen.specs.Told.{setup_text, IsFar, Tells, TellsFar, HasNoFilling, Names, IsToldOf, IsToldBy, SaysFirst, IsAnswered, AreAnswered, lines_in}
 use Rattle.uring_seen.specs.declared.filling.Told.{Told}
 use Rattle.uring_seen.specs.declared.filling.Verdict.{Verdict}
 use Rattle.uring_seen.specs.declared.filling.Verdict.TheVariants as verdict
@@ -46,6 +48,20 @@ never_none g lines never = λ h f. never h f.filling.lawful f.shown
 pub filling_begins : (g : Setup) (seen : List Event) (h : History) → IsFilling g seen h
     → Begins (seen_in h) seen
 filling_begins g seen h f = begins_all (seen_in h) seen f.shows
+
+-- what a search found, as an arm has it
+pub found_at : (g : Setup) (xs seen : List Event) (filled x : Filled) → xs ≡ seen → filled ≡ x
+    → IsFound g xs filled → IsFound g seen x
+found_at g xs seen filled x same is found =
+    subst (λ (es : List Event). IsFound g es x) same (subst (λ (f : Filled). IsFound g xs f) is found)
+
+-- a history that a search found or came to is one that comes so far
+pub far_whole : (g : Setup) (seen : List Event) (h : History) → IsFilling g seen h → IsFar g seen h
+far_whole g seen h f = (f.lawful, filling_begins g seen h f)
+
+pub far_reach : (g : Setup) (seen events : List Event) (place : ℕ) → IsReach g seen events place
+    → IsFar g seen (history_of events)
+far_reach g seen events place r = (r.part.lawful, r.part.shows)
 
 pub told_found : (g : Setup) (lines : List (List ℕ)) (seen events : List Event) (told : Told)
     → told.verdict ≡ verdict.Found → Reads g (reverse lines) (history_of seen) → IsFilling g seen (history_of events)

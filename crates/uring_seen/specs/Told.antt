@@ -10,7 +10,7 @@ use Rattle.uring_trace.specs.Text.{text_of}
 use Rattle.uring_check.specs.SetupLines.{IsSaid}
 use Rattle.uring_check.specs.declared.setup_line.Said.{Said}
 use Rattle.uring_check.specs.declared.setup_line.Said.TheVariants.{Nothing, Says, Misses}
-use Rattle.uring_fill.specs.Filling.{is_hidden}
+use Rattle.uring_fill.specs.Filling.{Begins, is_hidden, seen_in}
 use Rattle.uring_seen.specs.Seen.{Shows, Fills}
 use Rattle.uring_seen.specs.Sights.{IsBadLine, IsHiddenLine}
 use Rattle.uring_seen.specs.declared.filling.Told.{Told}
@@ -51,6 +51,10 @@ Tells g h text rest = (out : List (List ℕ)) × AreLinesOf out h
 -- the lines have no history
 abbrev pub HasNoFilling : Setup → List (List ℕ) → Type 0
 HasNoFilling g lines = (h : History) → Fills g lines h → ⊥
+
+-- Glue. A lawful history that shows the first ones of these steps.
+abbrev pub IsFar : Setup → List Event → History → Type 0
+IsFar g seen h = IsLawfulApart g h × Begins (seen_in h) seen
 
 -- the text tells a lawful history, and behind it a remark
 abbrev pub TellsFar : Setup → List ℕ → Type 0

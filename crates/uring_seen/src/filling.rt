@@ -1,11 +1,13 @@
 //! A history that shows what was seen, from text to text.
 
 ghost use Rattle.std.specs.Prelude.{◌≡◌, ◌∷◌, [], ◌<◌, ◌+◌, ◌^◌, List, ℕ, IfOk, map, reverse};
-ghost use Rattle.uring_core.specs.Histories.{IsLawfulApart, history_of};
+ghost use Rattle.uring_entry.specs.Setup.{Setup};
+ghost use Rattle.uring_core.specs.Histories.{Event, history_of};
 ghost use Rattle.uring_text.specs.KeptLine.{kept_of};
 ghost use Rattle.uring_fill.specs.Filling.{Begins, seen_in};
+ghost use Rattle.uring_fill.specs.Found.{IsFound};
 ghost use Rattle.uring_seen.specs.Sights.{ArePaired, IsRead, Reads, ShowsNever};
-ghost use Rattle.uring_seen.specs.Told.{AreAnswered, IsAnswered, IsToldOf, Names, SaysFirst, Tells, TellsFar};
+ghost use Rattle.uring_seen.specs.Told.{AreAnswered, IsAnswered, IsFar, IsToldOf, Names, SaysFirst, Tells, TellsFar};
 
 use crate::lines::lines_of;
 use crate::reading::{Done, read};
@@ -169,15 +171,9 @@ fn told_of(
     ensures { IfOk result
         (λ told. IsToldOf setup.now (map (λ line. line.now) lines.now) told.verdict told.text.items) }
 {
-    match fill(alloc, setup, seen.events.as_slice(), most)? {
-        Filled::Whole(events) => {
-            let text = text_of(alloc, setup, seen, events.as_slice());
-            drop(events);
-            Ok(Told {
-                verdict: Verdict::Found,
-                text: text?,
-            })
-        }
+    let filled = fill(alloc, setup, seen.events.as_slice(), most)?;
+    match filled {
+        Filled::Whole(events) => told_whole(alloc, setup, seen, events),
         Filled::Nothing(reach) => told_reach(
             alloc,
             setup,
@@ -188,6 +184,27 @@ fn told_of(
         ),
         Filled::GaveUp(reach) => told_reach(alloc, setup, seen, reach, b"the end", Verdict::GaveUp),
     }
+}
+
+/// What is told of a history that shows all that was read.
+fn told_whole(
+    alloc: Global,
+    setup: &Setup,
+    seen: &Seen<'_>,
+    events: Vec<(Step, Answer)>,
+) -> Result<Told, AllocError>
+    requires begins { Begins (seen_in (history_of events.items)) seen.now.events.items }
+    requires paired { ArePaired (map (λ line. line.now) seen.now.shown.items) seen.now.events.items }
+    ensures verdict { IfOk result (λ told. told.verdict ≡ Verdict.Found) }
+    ensures text { IfOk result
+        (λ told. Tells setup.now (history_of events.items) told.text.items []) }
+{
+    let text = text_of(alloc, setup, seen, events.as_slice());
+    drop(events);
+    Ok(Told {
+        verdict: Verdict::Found,
+        text: text?,
+    })
 }
 
 /// Looks for a history that shows what the lines show before the one of this place, which no history shows.
@@ -204,21 +221,27 @@ fn told_wrong(
     ensures { IfOk result
         (λ told. IsToldOf setup.now (map (λ line. line.now) lines.now) told.verdict told.text.items) }
 {
-    let line = line_at(lines, place);
-    match fill(alloc, setup, seen.events.as_slice(), most)? {
-        Filled::Whole(events) => {
-            let place = seen.shown.len();
-            told_reach(
-                alloc,
-                setup,
-                seen,
-                Reach { events, place },
-                line,
-                Verdict::Nothing,
-            )
-        }
-        Filled::Nothing(reach) => told_reach(alloc, setup, seen, reach, line, Verdict::Nothing),
-        Filled::GaveUp(reach) => told_reach(alloc, setup, seen, reach, line, Verdict::Nothing),
+    let filled = fill(alloc, setup, seen.events.as_slice(), most)?;
+    let reach = reach_of(filled, seen.shown.len());
+    told_reach(
+        alloc,
+        setup,
+        seen,
+        reach,
+        line_at(lines, place),
+        Verdict::Nothing,
+    )
+}
+
+/// How far a search came: all the way of so many steps if it found a history.
+fn reach_of(filled: Filled, all: usize) -> Reach
+    ensures { (g : Setup) (seen : List Event) → IsFound g seen filled
+        → IsFar g seen (history_of result.events.items) }
+{
+    match filled {
+        Filled::Whole(events) => Reach { events, place: all },
+        Filled::Nothing(reach) => reach,
+        Filled::GaveUp(reach) => reach,
     }
 }
 
@@ -239,8 +262,7 @@ fn told_reach(
     last: &[u8],
     verdict: Verdict,
 ) -> Result<Told, AllocError>
-    requires lawful { IsLawfulApart setup.now (history_of reach.events.items) }
-    requires begins { Begins (seen_in (history_of reach.events.items)) seen.now.events.items }
+    requires far { IsFar setup.now seen.now.events.items (history_of reach.events.items) }
     requires paired { ArePaired (map (λ line. line.now) seen.now.shown.items) seen.now.events.items }
     ensures verdict { IfOk result (λ told. told.verdict ≡ verdict) }
     ensures text { IfOk result (λ told. TellsFar setup.now told.text.items) }
@@ -281,8 +303,7 @@ fn far_text(
     remark: &str,
     line: &[u8],
 ) -> Result<Vec<u8>, AllocError>
-    requires lawful { IsLawfulApart setup.now (history_of events.now) }
-    requires begins { Begins (seen_in (history_of events.now)) seen.now.events.items }
+    requires far { IsFar setup.now seen.now.events.items (history_of events.now) }
     requires paired { ArePaired (map (λ line. line.now) seen.now.shown.items) seen.now.events.items }
     ensures { IfOk result (λ text. TellsFar setup.now text.items) }
 {
