@@ -1,7 +1,8 @@
 -- The lines of a history that shows the first ones of the steps that were seen.
 use Rattle.std.proofs.Common.{◌≡◌, ◌++◌, ℕ, ◌+◌, ◌<◌, ◌≤◌, Bool, true, false, List, [], ◌∷◌, length, take, drop, get_or, if◌then◌else◌, refl, sym, ap, subst, ◌∙◌, arith, append_assoc, append-nil, Option, Some}
-use Rattle.std.specs.Prelude.{codes, slice_get}
+use Rattle.std.specs.Prelude.{codes, decimal, slice_get}
 use Rattle.std.proofs.lemmas.List.{reverse-append, length-append, take-append-drop}
+use Rattle.uring_entry.specs.Setup.{Setup}
 use Rattle.uring_core.specs.Histories.{Event, History, history_of}
 use Rattle.uring_core.specs.declared.step.Step.{Step}
 use Rattle.uring_core.specs.declared.step.Step.TheVariants as step
@@ -12,7 +13,7 @@ use Rattle.uring_fill.proofs.Seeing.{taken_next}
 use Rattle.uring_fill.proofs.Begun.{begins_itself, begins_more, begins_on}
 use Rattle.uring_seen.specs.Seen.{Shows}
 use Rattle.uring_seen.specs.Sights.{ArePaired}
-use Rattle.uring_seen.specs.Told.{AreLinesOf, IsLineIf, IsLineOf, hidden_text}
+use Rattle.uring_seen.specs.Told.{AreLinesOf, IsLineIf, IsLineOf, Tells, hidden_text, setup_text}
 
 -- ---- pairs
 
@@ -139,10 +140,45 @@ one_at_most false n e = omega arith
 
 -- ---- the line of a set-up
 
-pub setup_written : (old new a b c d e ta na tb nb tc nc td nd te : List ℕ)
-    → a ≡ ta ++ na → b ≡ a ++ tb ++ nb → c ≡ b ++ tc ++ nc → d ≡ c ++ td ++ nd → e ≡ d ++ te
-    → new ≡ old ++ e → new ≡ old ++ (ta ++ na ++ tb ++ nb ++ tc ++ nc ++ td ++ nd ++ te)
-setup_written old new a b c d e ta na tb nb tc nc td nd te p q r s t u =
-    let whole : e ≡ ((((ta ++ na) ++ tb ++ nb) ++ tc ++ nc) ++ td ++ nd) ++ te = cc in
-    let flat : ((((ta ++ na) ++ tb ++ nb) ++ tc ++ nc) ++ td ++ nd) ++ te ≡ ta ++ na ++ tb ++ nb ++ tc ++ nc ++ td ++ nd ++ te = simp append_assoc in
-    u ∙ ap (λ (l : List ℕ). old ++ l) (whole ∙ flat)
+-- a text to which five parts were put
+chain : (z a b c d e bytes p q r s t : List ℕ) → z ≡ [] → a ≡ z ++ p → b ≡ a ++ q → c ≡ b ++ r → d ≡ c ++ s
+    → e ≡ d ++ t → bytes ≡ e → bytes ≡ (((p ++ q) ++ r) ++ s) ++ t
+chain z a b c d e bytes p q r s t z_is a_is b_is c_is d_is e_is is =
+    let first : a ≡ p = a_is ∙ ap (λ (l : List ℕ). l ++ p) z_is in
+    is ∙ e_is ∙ ap (λ (l : List ℕ). l ++ t) (d_is ∙ ap (λ (l : List ℕ). l ++ s) (c_is ∙ ap (λ (l : List ℕ). l ++ r) (b_is ∙ ap (λ (l : List ℕ). l ++ q) first)))
+
+five_parts : (p q r s t : List ℕ) → (((p ++ q) ++ r) ++ s) ++ t ≡ p ++ q ++ r ++ s ++ t
+five_parts p q r s t = simp append_assoc
+
+abbrev sizes_text : ℕ → ℕ → ℕ → ℕ → List ℕ → List ℕ
+sizes_text sq cq files start stop =
+    codes "# setup --sq " ++ decimal sq ++ codes " --cq " ++ decimal cq ++ codes " --files " ++ decimal files ++ codes " --start " ++ decimal start ++ stop
+
+pub setup_written : (g : Setup) (old new z a b c d e bytes stop : List ℕ) (sq cq files start : ℕ)
+    → sq ≡ g.sq → cq ≡ g.cq → files ≡ g.files → start ≡ g.start
+    → stop ≡ (if g.stops then codes " --stop\n" else codes "\n") → z ≡ []
+    → a ≡ z ++ codes "# setup --sq " ++ decimal sq → b ≡ a ++ codes " --cq " ++ decimal cq
+    → c ≡ b ++ codes " --files " ++ decimal files → d ≡ c ++ codes " --start " ++ decimal start → e ≡ d ++ stop
+    → bytes ≡ e → new ≡ old ++ bytes → new ≡ old ++ setup_text g
+setup_written g old new z a b c d e bytes stop sq cq files start sq_is cq_is files_is start_is stop_is z_is a_is b_is c_is d_is e_is is more =
+    let p : List ℕ = codes "# setup --sq " ++ decimal sq in
+    let q : List ℕ = codes " --cq " ++ decimal cq in
+    let r : List ℕ = codes " --files " ++ decimal files in
+    let s : List ℕ = codes " --start " ++ decimal start in
+    let whole : bytes ≡ sizes_text sq cq files start stop = chain z a b c d e bytes p q r s stop z_is a_is b_is c_is d_is e_is is ∙ five_parts p q r s stop in
+    more ∙ ap (λ (l : List ℕ). old ++ l)
+    (whole
+    ∙ ap (λ (n : ℕ). sizes_text n cq files start stop) sq_is
+    ∙ ap (λ (n : ℕ). sizes_text g.sq n files start stop) cq_is
+    ∙ ap (λ (n : ℕ). sizes_text g.sq g.cq n start stop) files_is
+    ∙ ap (λ (n : ℕ). sizes_text g.sq g.cq g.files n stop) start_is
+    ∙ ap (λ (l : List ℕ). sizes_text g.sq g.cq g.files g.start l) stop_is)
+
+-- ---- all of it
+
+pub text_told : (g : Setup) (h : History) (a b c : List ℕ) → a ≡ [] → b ≡ a ++ setup_text g
+    → (out : List (List ℕ)) × AreLinesOf out h × (c ≡ b ++ joined out) → Tells g h c []
+text_told g h a b c a_is b_is w =
+    let start : b ≡ setup_text g = b_is ∙ ap (λ (l : List ℕ). l ++ setup_text g) a_is in
+    let end : joined w.0 ≡ joined w.0 ++ [] = sym (append-nil (joined w.0)) in
+    (w.0, w.1, w.2 ∙ ap (λ (l : List ℕ). l ++ joined w.0) start ∙ ap (λ (l : List ℕ). setup_text g ++ l) end)
