@@ -93,7 +93,7 @@ told_faulty g lines place told bad is names =
 
 far_flat : (s j remark line : List ℕ)
     → ((((s ++ j ++ []) ++ codes "# ") ++ remark) ++ line) ++ 10 ∷ []
-    ≡ s ++ j ++ codes "# " ++ (remark ++ line ++ 10 ∷ [])
+    ≡ s ++ j ++ (codes "# " ++ (remark ++ line ++ 10 ∷ []))
 far_flat s j remark line = simp (append-nil, append_assoc)
 
 -- a text of a history with a remark behind it
@@ -105,9 +105,6 @@ tells_far g h a b c d e remark line lawful tells p q r s =
     let text : e ≡ ((((setup_text g ++ joined tells.0 ++ []) ++ codes "# ") ++ remark) ++ line) ++ 10 ∷ [] = whole ∙ ap (λ (l : List ℕ). (((l ++ codes "# ") ++ remark) ++ line) ++ 10 ∷ []) tells.2 in
     (h, lawful, (remark ++ line ++ 10 ∷ [], (tells.0, tells.1, text ∙ far_flat (setup_text g) (joined tells.0) remark line)))
 
-four_parts : (p q r s : List ℕ) → ((p ++ q) ++ r) ++ s ≡ p ++ q ++ r ++ s
-four_parts p q r s = simp append_assoc
-
 -- a text that names a line
 pub named : (place : ℕ) (z a b c d y bytes e flaw : List ℕ) → z ≡ [] → a ≡ z ++ codes "line "
     → b ≡ a ++ decimal (place + 1) → c ≡ b ++ codes ": bad line: " → d ≡ c ++ flaw → y ≡ [] → bytes ≡ d
@@ -115,7 +112,7 @@ pub named : (place : ℕ) (z a b c d y bytes e flaw : List ℕ) → z ≡ [] →
 named place z a b c d y bytes e flaw z_is a_is b_is c_is d_is y_is is more =
     let first : a ≡ codes "line " = a_is ∙ ap (λ (l : List ℕ). l ++ codes "line ") z_is in
     let whole : d ≡ ((codes "line " ++ decimal (place + 1)) ++ codes ": bad line: ") ++ flaw = d_is ∙ ap (λ (l : List ℕ). l ++ flaw) (c_is ∙ ap (λ (l : List ℕ). l ++ codes ": bad line: ") (b_is ∙ ap (λ (l : List ℕ). l ++ decimal (place + 1)) first)) in
-    (flaw, more ∙ ap (λ (l : List ℕ). l ++ bytes) y_is ∙ is ∙ whole ∙ four_parts (codes "line ") (decimal (place + 1)) (codes ": bad line: ") flaw)
+    (flaw, more ∙ ap (λ (l : List ℕ). l ++ bytes) y_is ∙ is ∙ whole)
 
 -- ---- the first line
 

@@ -140,16 +140,6 @@ one_at_most false n e = omega arith
 
 -- ---- the line of a set-up
 
--- a text to which five parts were put
-chain : (z a b c d e bytes p q r s t : List ℕ) → z ≡ [] → a ≡ z ++ p → b ≡ a ++ q → c ≡ b ++ r → d ≡ c ++ s
-    → e ≡ d ++ t → bytes ≡ e → bytes ≡ (((p ++ q) ++ r) ++ s) ++ t
-chain z a b c d e bytes p q r s t z_is a_is b_is c_is d_is e_is is =
-    let first : a ≡ p = a_is ∙ ap (λ (l : List ℕ). l ++ p) z_is in
-    is ∙ e_is ∙ ap (λ (l : List ℕ). l ++ t) (d_is ∙ ap (λ (l : List ℕ). l ++ s) (c_is ∙ ap (λ (l : List ℕ). l ++ r) (b_is ∙ ap (λ (l : List ℕ). l ++ q) first)))
-
-five_parts : (p q r s t : List ℕ) → (((p ++ q) ++ r) ++ s) ++ t ≡ p ++ q ++ r ++ s ++ t
-five_parts p q r s t = simp append_assoc
-
 abbrev sizes_text : ℕ → ℕ → ℕ → ℕ → List ℕ → List ℕ
 sizes_text sq cq files start stop =
     codes "# setup --sq " ++ decimal sq ++ codes " --cq " ++ decimal cq ++ codes " --files " ++ decimal files ++ codes " --start " ++ decimal start ++ stop
@@ -161,11 +151,13 @@ pub setup_written : (g : Setup) (old new z a b c d e bytes stop : List ℕ) (sq 
     → c ≡ b ++ codes " --files " ++ decimal files → d ≡ c ++ codes " --start " ++ decimal start → e ≡ d ++ stop
     → bytes ≡ e → new ≡ old ++ bytes → new ≡ old ++ setup_text g
 setup_written g old new z a b c d e bytes stop sq cq files start sq_is cq_is files_is start_is stop_is z_is a_is b_is c_is d_is e_is is more =
-    let p : List ℕ = codes "# setup --sq " ++ decimal sq in
-    let q : List ℕ = codes " --cq " ++ decimal cq in
-    let r : List ℕ = codes " --files " ++ decimal files in
-    let s : List ℕ = codes " --start " ++ decimal start in
-    let whole : bytes ≡ sizes_text sq cq files start stop = chain z a b c d e bytes p q r s stop z_is a_is b_is c_is d_is e_is is ∙ five_parts p q r s stop in
+    let whole : bytes ≡ sizes_text sq cq files start stop =
+        is ∙ e_is
+        ∙ ap (λ (l : List ℕ). l ++ stop)
+        (d_is ∙ ap (λ (l : List ℕ). l ++ codes " --start " ++ decimal start)
+        (c_is ∙ ap (λ (l : List ℕ). l ++ codes " --files " ++ decimal files)
+        (b_is ∙ ap (λ (l : List ℕ). l ++ codes " --cq " ++ decimal cq)
+        (a_is ∙ ap (λ (l : List ℕ). l ++ codes "# setup --sq " ++ decimal sq) z_is)))) in
     more ∙ ap (λ (l : List ℕ). old ++ l)
     (whole
     ∙ ap (λ (n : ℕ). sizes_text n cq files start stop) sq_is
@@ -180,5 +172,4 @@ pub text_told : (g : Setup) (h : History) (a b c : List ℕ) → a ≡ [] → b 
     → (out : List (List ℕ)) × AreLinesOf out h × (c ≡ b ++ joined out) → Tells g h c []
 text_told g h a b c a_is b_is w =
     let start : b ≡ setup_text g = b_is ∙ ap (λ (l : List ℕ). l ++ setup_text g) a_is in
-    let end : joined w.0 ≡ joined w.0 ++ [] = sym (append-nil (joined w.0)) in
-    (w.0, w.1, w.2 ∙ ap (λ (l : List ℕ). l ++ joined w.0) start ∙ ap (λ (l : List ℕ). setup_text g ++ l) end)
+    (w.0, w.1, w.2 ∙ ap (λ (l : List ℕ). l ++ joined w.0) start ∙ sym (append-nil (setup_text g ++ joined w.0)))

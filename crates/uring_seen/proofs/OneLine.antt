@@ -2,8 +2,8 @@
 use Rattle.std.proofs.Common.{◌≡◌, ◌++◌, ℕ, ◌+◌, ◌<◌, ◌≤◌, Bool, true, false, List, [], ◌∷◌, length, take, drop, get_or, map, if◌then◌else◌, refl, sym, ap, subst, ◌∙◌, ◌⊎◌, inl, inr, arith, append_assoc, Option, Some}
 use mathlib.Core.List.{head-eq_of_cons-eq, tail-eq_of_cons-eq}
 use Rattle.std.specs.Prelude.{reverse, slice_get, option_map}
-use Rattle.std.proofs.lemmas.List.{reverse-append, take-append-drop, take_all, take_more}
-use Rattle.std.proofs.lemmas.Option.{get_or_from_slice_get, slice_get-map, slice_get_read}
+use Rattle.std.proofs.lemmas.List.{length-map, reverse-append, take-append-drop, take_all, take_more}
+use Rattle.std.proofs.lemmas.Option.{get_or_from_slice_get, slice_get-get_or, slice_get-map, slice_get_within}
 use Rattle.uring_entry.specs.Setup.{Setup}
 use Rattle.uring_core.specs.Core.{Core, FitsApart}
 use Rattle.uring_core.specs.StepAnswers.{CalledForApart}
@@ -30,10 +30,11 @@ pub record LastSeen (g : Setup) (e : Event) (past : History) : Type 0 where
 last_seen : (g : Setup) (h : History) (e : Event) (past : History) → IsLawfulApart g h
     → visible h ≡ e ∷ past → LastSeen g e past
 last_seen g [] e past lawful shows = absurd cc
-last_seen g (x ∷ h) e past lawful shows = go (is_hidden x.0) shows where
-  go : (b : Bool) → (if b then visible h else x ∷ visible h) ≡ e ∷ past → LastSeen g e past
-  go true is = last_seen g h e past lawful.1 is
-  go false is =
+last_seen g (x ∷ h) e past lawful shows = go (is_hidden x.0) (last_seen g h e past lawful.1) shows where
+  go : (b : Bool) → (visible h ≡ e ∷ past → LastSeen g e past) → (if b then visible h else x ∷ visible h) ≡ e ∷ past
+      → LastSeen g e past
+  go true before is = before is
+  go false before is =
       subst (λ (y : Event). LastSeen g y past) (head-eq_of_cons-eq is)
       (record { h = h; lawful = lawful.1; shows = tail-eq_of_cons-eq is; called = lawful.0 })
 
@@ -57,7 +58,7 @@ event_is g seen line s a e past shows only also same last =
     let once = record_once line e.0 s (text_of e.1) (text_of a) also.text shows.text in
     go e.0 e.1 once.0 once.1 also.bare last.called
   where
-    go : (t : Step) (b : Answer) → t ≡ s → text_of b ≡ text_of a → IsBare t b → CalledForApart g (world g last.h) t b → (t, b) ≡ (s, a)
+    go : (t : Step) (b : Answer) → t ≡ s → text_of b ≡ text_of a → IsBare t b → CalledForApart g (world g last.h) t b → ◌≡◌ {A = Event} (t, b) (s, a)
     go t b is text bare called =
         let may : MayShow g seen s b = record { h = last.h; lawful = last.lawful; shows = last.shows ∙ same; called = subst (λ (u : Step). CalledForApart g (world g last.h) u b) is called } in
         let answers : b ≡ a = only b may text (subst (λ (u : Step). IsBare u b) is bare) in
@@ -105,10 +106,10 @@ never_later g (line ∷ later) lines never = λ h lawful shown. elim shown [
 -- ---- lists
 
 -- the lines so far with one more, the newest first
-pub one_more : (lines : List (List ℕ)) (i : ℕ) (line : List ℕ) → i < length lines → slice_get lines i ≡ Some line
+pub one_more : (lines : List (List ℕ)) (i : ℕ) (line : List ℕ) → slice_get lines i ≡ Some line
     → reverse (take (i + 1) lines) ≡ line ∷ reverse (take i lines)
-one_more lines i line low is =
-    ap reverse (take_more lines i line low ∙ ap (λ (x : List ℕ). take i lines ++ x ∷ []) (get_or_from_slice_get lines i line line is)) ∙ reverse-append (take i lines) (line ∷ [])
+one_more lines i line is =
+    ap reverse (take_more lines i line (slice_get_within lines i line is) ∙ ap (λ (x : List ℕ). take i lines ++ x ∷ []) (get_or_from_slice_get lines i line line is)) ∙ reverse-append (take i lines) (line ∷ [])
 
 -- all lines, the newest first, behind the first ones
 pub split_lines : (lines : List (List ℕ)) (i : ℕ)
@@ -118,16 +119,16 @@ split_lines lines i = ap reverse (sym (take-append-drop i lines)) ∙ reverse-ap
 -- what is seen, as lists
 pub visible_is : (h : History) → history_of (seen_in h) ≡ visible h
 visible_is [] = refl
-visible_is (e ∷ h) = go (is_hidden e.0) where
-  go : (b : Bool) → history_of (if b then seen_in h else seen_in h ++ e ∷ []) ≡ (if b then visible h else e ∷ visible h)
-  go true = visible_is h
-  go false = reverse-append (seen_in h) (e ∷ []) ∙ ap (λ (k : History). e ∷ k) (visible_is h)
+visible_is (e ∷ h) = go (is_hidden e.0) (visible_is h) where
+  go : (b : Bool) → history_of (seen_in h) ≡ visible h
+      → history_of (if b then seen_in h else seen_in h ++ e ∷ []) ≡ (if b then visible h else e ∷ visible h)
+  go true before = before
+  go false before = reverse-append (seen_in h) (e ∷ []) ∙ ap (λ (k : History). e ∷ k) before
 
 -- the line of a place
-pub line_at : {X : Type 0} (v : X → List ℕ) (xs : List X) (i : ℕ) (x : X) → i < length xs
-    → x ≡ get_or xs i x → slice_get (map v xs) i ≡ Some (v x)
-line_at v xs i x low is =
-    slice_get-map v xs i ∙ ap (option_map v) (slice_get_read xs (length xs) i x refl low is)
+pub line_at : {X : Type 0} (v : X → List ℕ) (xs : List X) (i : ℕ) (d : X) → i < length xs
+    → slice_get (map v xs) i ≡ Some (v (get_or xs i d))
+line_at v xs i d low = slice_get-map v xs i ∙ ap (option_map v) (slice_get-get_or xs i d low)
 
 -- ---- the first lines
 
@@ -150,22 +151,22 @@ none_read core events shown fits no_event no_line =
     (record { setup = refl; reads = record { shown = refl; only = λ h lawful are. are }; fits = fits; paired = tt }))
 
 pub passed_read : (g : Setup) (lines : List (List ℕ)) (i : ℕ) (line : List ℕ) (old new : Core) (events : List Event) (shown : List (List ℕ))
-    → i < length lines → slice_get lines i ≡ Some line → new.setup ≡ old.setup → IsSeen old new line sight.Passed
+    → slice_get lines i ≡ Some line → new.setup ≡ old.setup → IsSeen old new line sight.Passed
     → AreRead g (take i lines) old events shown → AreRead g (take (i + 1) lines) new events shown
-passed_read g lines i line old new events shown low there same so r =
+passed_read g lines i line old new events shown there same so r =
     let made = so (history_of events) r.fits in
     record {
       setup = same ∙ r.setup;
-      reads = subst (λ (ls : List (List ℕ)). Reads g ls (history_of events)) (sym (one_more lines i line low there)) (reads_passed g (reverse (take i lines)) (history_of events) line made.0 r.reads);
+      reads = subst (λ (ls : List (List ℕ)). Reads g ls (history_of events)) (sym (one_more lines i line there)) (reads_passed g (reverse (take i lines)) (history_of events) line made.0 r.reads);
       fits = made.1;
       paired = r.paired;
     }
 
 pub shown_read : (g : Setup) (lines : List (List ℕ)) (i : ℕ) (line : List ℕ) (s : Step) (a : Answer) (old new : Core) (events events' : List Event) (shown shown' : List (List ℕ))
-    → i < length lines → slice_get lines i ≡ Some line → new.setup ≡ old.setup
+    → slice_get lines i ≡ Some line → new.setup ≡ old.setup
     → IsSeen old new line (sight.Shown s a) → events' ≡ events ++ (s, a) ∷ [] → shown' ≡ shown ++ line ∷ []
     → AreRead g (take i lines) old events shown → AreRead g (take (i + 1) lines) new events' shown'
-shown_read g lines i line s a old new events events' shown shown' low there same so more_events more_lines r =
+shown_read g lines i line s a old new events events' shown shown' there same so more_events more_lines r =
     subst (λ (es : List Event). AreRead g (take (i + 1) lines) new es shown') (sym more_events)
     (subst (λ (ls : List (List ℕ)). AreRead g (take (i + 1) lines) new (events ++ (s, a) ∷ []) ls) (sym more_lines)
     (let made = so (history_of events) r.fits in
@@ -174,20 +175,20 @@ shown_read g lines i line s a old new events events' shown shown' low there same
     let reads : Reads g (line ∷ reverse (take i lines)) ((s, a) ∷ history_of events) = reads_shown g (reverse (take i lines)) (history_of events) line s a made.0 only r.reads in
     record {
       setup = same ∙ r.setup;
-      reads = subst (λ (h : History). Reads g (reverse (take (i + 1) lines)) h) (sym later) (subst (λ (ls : List (List ℕ)). Reads g ls ((s, a) ∷ history_of events)) (sym (one_more lines i line low there)) reads);
+      reads = subst (λ (h : History). Reads g (reverse (take (i + 1) lines)) h) (sym later) (subst (λ (ls : List (List ℕ)). Reads g ls ((s, a) ∷ history_of events)) (sym (one_more lines i line there)) reads);
       fits = subst (λ (h : History). FitsApart new (submitted h)) (sym later) made.2;
       paired = paired_more shown events line (s, a) r.paired made.0;
     }))
 
 pub wrong_read : (g : Setup) (lines : List (List ℕ)) (i : ℕ) (line : List ℕ) (old new : Core) (events : List Event) (shown : List (List ℕ))
-    → i < length lines → slice_get lines i ≡ Some line → new.setup ≡ old.setup → IsSeen old new line sight.Wrong
+    → slice_get lines i ≡ Some line → new.setup ≡ old.setup → IsSeen old new line sight.Wrong
     → AreRead g (take i lines) old events shown → ShowsNever g (reverse lines)
-wrong_read g lines i line old new events shown low there same so r =
+wrong_read g lines i line old new events shown there same so r =
     let made = so (history_of events) r.fits in
     let none : HasNoAnswer g (history_of events) made.0 made.1 = subst (λ (k : Setup). HasNoAnswer k (history_of events) made.0 made.1) (same ∙ r.setup) made.3 in
     let here : ShowsNever g (line ∷ reverse (take i lines)) = reads_wrong g (reverse (take i lines)) (history_of events) line made.0 made.1 made.2 none r.reads in
     subst (ShowsNever g) (sym (split_lines lines (i + 1)))
-    (never_later g (reverse (drop (i + 1) lines)) (reverse (take (i + 1) lines)) (subst (ShowsNever g) (sym (one_more lines i line low there)) here))
+    (never_later g (reverse (drop (i + 1) lines)) (reverse (take (i + 1) lines)) (subst (ShowsNever g) (sym (one_more lines i line there)) here))
 
 pub hidden_read : (g : Setup) (lines : List (List ℕ)) (i : ℕ) (line : List ℕ) (old new : Core) (events : List Event) (shown : List (List ℕ))
     → slice_get lines i ≡ Some line → IsSeen old new line sight.Hidden
@@ -200,7 +201,9 @@ pub bad_read : (g : Setup) (lines : List (List ℕ)) (i : ℕ) (line : List ℕ)
 bad_read g lines i line old new events shown there so r =
     let made = so (history_of events) r.fits in (line, there, made.0, made.1)
 
-pub all_read : (g : Setup) (lines : List (List ℕ)) (i : ℕ) (core : Core) (events : List Event) (shown : List (List ℕ))
-    → length lines ≤ i → AreRead g (take i lines) core events shown → Reads g (reverse lines) (history_of events)
-all_read g lines i core events shown all r =
-    subst (λ (ls : List (List ℕ)). Reads g (reverse ls) (history_of events)) (take_all i lines all) r.reads
+pub all_read : {X : Type 0} (g : Setup) (v : X → List ℕ) (xs : List X) (i : ℕ) (core : Core) (events : List Event) (shown : List (List ℕ))
+    → length xs ≤ i → AreRead g (take i (map v xs)) core events shown
+    → Reads g (reverse (map v xs)) (history_of events)
+all_read g v xs i core events shown all r =
+    let whole : take i (map v xs) ≡ map v xs = take_all i (map v xs) (subst (λ (n : ℕ). n ≤ i) (sym (length-map xs v)) all) in
+    subst (λ (ls : List (List ℕ)). Reads g (reverse ls) (history_of events)) whole r.reads

@@ -123,12 +123,13 @@ other_side g _ a w of = absurd (let f : true ≡ false = of in cc)
 
 -- ---- histories
 
-pub submitted_side : (g : Setup) (h : History) → SameSide (world g h) (world g (submitted h))
+submitted_side : (g : Setup) (h : History) → SameSide (world g h) (world g (submitted h))
 submitted_side g [] = same_side (world g [])
-submitted_side g (e ∷ h) = go (is_submitting e.0) refl where
-  go : (b : Bool) → is_submitting e.0 ≡ b → SameSide (world g (e ∷ h)) (world g (if b then e ∷ submitted h else submitted h))
-  go true of = moved_side g e.0 e.1 (world g h) (world g (submitted h)) of (submitted_side g h)
-  go false of = side_then (world g (e ∷ h)) (world g h) (world g (submitted h)) (other_side g e.0 e.1 (world g h) of) (submitted_side g h)
+submitted_side g (e ∷ h) = go (is_submitting e.0) refl (submitted_side g h) where
+  go : (b : Bool) → is_submitting e.0 ≡ b → SameSide (world g h) (world g (submitted h))
+      → SameSide (world g (e ∷ h)) (world g (if b then e ∷ submitted h else submitted h))
+  go true of before = moved_side g e.0 e.1 (world g h) (world g (submitted h)) of before
+  go false of before = side_then (world g (e ∷ h)) (world g h) (world g (submitted h)) (other_side g e.0 e.1 (world g h) of) before
 
 -- a hidden step isn't of them
 hidden_other : (s : Step) → is_hidden s ≡ true → is_submitting s ≡ false
@@ -139,10 +140,11 @@ hidden_other _ is = absurd (let f : false ≡ true = is in cc)
 
 pub submitted_visible : (h : History) → submitted (visible h) ≡ submitted h
 submitted_visible [] = refl
-submitted_visible (e ∷ h) = go (is_hidden e.0) refl where
-  go : (b : Bool) → is_hidden e.0 ≡ b → submitted (if b then visible h else e ∷ visible h) ≡ submitted (e ∷ h)
-  go true is = submitted_visible h ∙ sym (ap (λ (b : Bool). if b then e ∷ submitted h else submitted h) (hidden_other e.0 is))
-  go false is = ap (λ (k : History). if is_submitting e.0 then e ∷ k else k) (submitted_visible h)
+submitted_visible (e ∷ h) = go (is_hidden e.0) refl (submitted_visible h) where
+  go : (b : Bool) → is_hidden e.0 ≡ b → submitted (visible h) ≡ submitted h
+      → submitted (if b then visible h else e ∷ visible h) ≡ submitted (e ∷ h)
+  go true is before = before ∙ sym (ap (λ (b : Bool). if b then e ∷ submitted h else submitted h) (hidden_other e.0 is))
+  go false is before = ap (λ (k : History). if is_submitting e.0 then e ∷ k else k) before
 
 -- what may be shown behind these events of such a step is called for behind those of them alone
 pub may_submitted : (g : Setup) (seen : History) (s : Step) (a : Answer) → is_submitting s ≡ true

@@ -11,8 +11,8 @@ returns-then-refused-clause-sight c =
     (λ seen so events fits. subst (λ (l : List ℕ). IsSeenAs c.sight_of_again.new.core events c.args.step.now l seen) (c.in_ok-refused.ensures.0 c.if-refused.true) (so events fits))
     c.sight_of_again.ensures.sight
 
-pub step-requires : goal.step-requires
-step-requires c = begin_no_finish c.args.step.now c.requires
+pub step-answer-requires : goal.step-answer-requires
+step-answer-requires c = begin_no_finish c.args.step.now c.requires
 
 pub returns-then-same-clause-sight : goal.returns-then-same-clause-sight
 returns-then-same-clause-sight c = λ events fits.

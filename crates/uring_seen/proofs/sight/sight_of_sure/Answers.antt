@@ -4,8 +4,8 @@ use Rattle.uring_seen.specs.Sights.{submitted}
 use Rattle.uring_seen.proofs.Showing.{sure_no_finish, sure_shown, sure_wrong}
 use Rattle.uring_seen.proofs.sight.sight_of_sure.Goals as goal
 
-pub step-requires : goal.step-requires
-step-requires c = sure_no_finish c.args.step.now c.requires
+pub step-answer-requires : goal.step-answer-requires
+step-answer-requires c = sure_no_finish c.args.step.now c.requires
 
 pub returns-then-same-clause-sight : goal.returns-then-same-clause-sight
 returns-then-same-clause-sight c = λ events fits.
