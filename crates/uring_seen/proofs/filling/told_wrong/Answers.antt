@@ -1,4 +1,4 @@
-use Rattle.std.proofs.Common.{List, subst}
+use Rattle.std.proofs.Common.{List, map, subst}
 use Rattle.uring_trace.proofs.ExplainLines.{if_ok_both}
 use Rattle.uring_core.specs.Histories.{Event, history_of}
 use Rattle.uring_seen.specs.Told.{IsFar}
@@ -13,5 +13,5 @@ told_reach-requires c = record {
 
 pub returns : goal.returns
 returns c =
-    if_ok_both c.told_reach.result _ _ _ (λ told is far. told_nothing c.args.setup.now _ told (never_none _ _ c.requires.never) is far)
+    if_ok_both c.told_reach.result _ _ _ (λ told is far. told_nothing c.args.setup.now (map (λ line. line.now) c.args.lines.now) told (never_none _ _ c.requires.never) is far)
     c.told_reach.ensures.verdict c.told_reach.ensures.text

@@ -1,5 +1,4 @@
-use Rattle.std.proofs.Common.{◌≡◌, None, arith, rules}
-use Rattle.std.proofs.lemmas.Grind.{common_steps}
+use Rattle.std.proofs.Common.{◌≡◌, None, rules}
 use Rattle.uring_entry.specs.Requests.{no_bytes}
 use Rattle.uring_seen.proofs.Texts.{unframed_none, unparted_none, number_none, result_none, completion_read}
 use Rattle.uring_seen.proofs.guess.completion_of.Goals as goal
@@ -24,16 +23,7 @@ returns-in_err-res c =
     let none : c.from_residual-in_err-res.result ≡ None = search rules in
     rw none (result_none _ _ _ _ c.in_ok-middle.ensures c.in_ok-before.ensures c.in_err-res.ensures.spells)
 
-e1 : (c : goal.After-new) → c.new.result ≡ record { user_data = c.in_ok-user_data.user_data; res = c.in_ok-res.res; payload = no_bytes }
-e1 c = search rules
-
-e2 : (c : goal.After-new) → c.new.result ≡ record { user_data = c.in_ok-user_data.user_data; res = c.in_ok-res.res; payload = no_bytes }
-e2 c = grind (arith, common_steps)
-
-e3 : (c : goal.After-new) → c.new.result ≡ record { user_data = c.in_ok-user_data.user_data; res = c.in_ok-res.res; payload = no_bytes }
-e3 c = cc
-
 pub returns : goal.returns
 returns c =
-    let is : c.new.result ≡ record { user_data = c.in_ok-user_data.user_data; res = c.in_ok-res.res; payload = no_bytes } = ? in
+    let is : c.new.result ≡ record { user_data = c.in_ok-user_data.user_data; res = c.in_ok-res.res; payload = no_bytes } = search rules in
     rw is (completion_read _ _ _ _ c.in_ok-user_data.user_data c.in_ok-res.res c.in_ok-middle.ensures c.in_ok-before.ensures c.in_ok-user_data.ensures.spells c.in_ok-res.ensures.spells)
