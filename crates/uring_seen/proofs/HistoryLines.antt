@@ -152,12 +152,12 @@ pub setup_written : (g : Setup) (old new z a b c d e bytes stop : List ℕ) (sq 
     → bytes ≡ e → new ≡ old ++ bytes → new ≡ old ++ setup_text g
 setup_written g old new z a b c d e bytes stop sq cq files start sq_is cq_is files_is start_is stop_is z_is a_is b_is c_is d_is e_is is more =
     let whole : bytes ≡ sizes_text sq cq files start stop =
-        is ∙ e_is
-        ∙ ap (λ (l : List ℕ). l ++ stop)
-        (d_is ∙ ap (λ (l : List ℕ). l ++ codes " --start " ++ decimal start)
-        (c_is ∙ ap (λ (l : List ℕ). l ++ codes " --files " ++ decimal files)
-        (b_is ∙ ap (λ (l : List ℕ). l ++ codes " --cq " ++ decimal cq)
-        (a_is ∙ ap (λ (l : List ℕ). l ++ codes "# setup --sq " ++ decimal sq) z_is)))) in
+    is ∙ e_is
+    ∙ ap (λ (l : List ℕ). l ++ stop)
+    (d_is ∙ ap (λ (l : List ℕ). l ++ codes " --start " ++ decimal start)
+    (c_is ∙ ap (λ (l : List ℕ). l ++ codes " --files " ++ decimal files)
+    (b_is ∙ ap (λ (l : List ℕ). l ++ codes " --cq " ++ decimal cq)
+    (a_is ∙ ap (λ (l : List ℕ). l ++ codes "# setup --sq " ++ decimal sq) z_is)))) in
     more ∙ ap (λ (l : List ℕ). old ++ l)
     (whole
     ∙ ap (λ (n : ℕ). sizes_text n cq files start stop) sq_is
