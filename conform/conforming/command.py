@@ -15,7 +15,7 @@ from conforming.scenarios import Scenario, scenarios
 from conforming.shrinking import shortened
 
 NO_RING = 77
-AS_FORESEEN, DIFFERS, UNFORESEEN, UNEXPLAINED, REFUSED, GAVE_UP, NOT_TRIED = "as foreseen", "differs as told", "no longer differs", "UNEXPLAINED", "REFUSED BY THE CHECK", "gave up", "not tried"
+AS_FORESEEN, DIFFERS, UNFORESEEN, UNEXPLAINED, APART, REFUSED, GAVE_UP, NOT_TRIED = "as foreseen", "differs as told", "no longer differs", "UNEXPLAINED", "THE SEARCHES DIFFER", "REFUSED BY THE CHECK", "gave up", "not tried"
 MOST_TRIES = 10
 
 
@@ -43,7 +43,7 @@ class Outcome:
         self.scenario, self.kind, self.why, self.seen, self.trace, self.first = scenario, kind, why, seen, trace, first
 
     def is_bad(self):
-        return self.kind in (UNEXPLAINED, REFUSED, UNFORESEEN)
+        return self.kind in (UNEXPLAINED, APART, REFUSED, UNFORESEEN)
 
     def is_explained(self):
         return self.kind in (AS_FORESEEN, UNFORESEEN)
@@ -114,9 +114,11 @@ class Report:
 def outcome_of(scenario, checker, is_linux=False):
     """What became of one run. `checker` has the words of the proved program that judges, or is None."""
     seen = record(scenario.text)
-    found = explain(scenario.text, seen, is_linux)
+    found = explain(scenario.text, seen, checker, is_linux)
     if found.kind == "gave up":
-        return Outcome(scenario, GAVE_UP, f"behind {found.states} states", seen)
+        return Outcome(scenario, GAVE_UP, found.why, seen)
+    if found.kind == "differ":
+        return Outcome(scenario, APART, found.why, seen, found.trace)
     if found.kind == "unexplained":
         return Outcome(scenario, DIFFERS if scenario.differs and not is_linux else UNEXPLAINED, found.why, seen, found.trace, found.first)
     wrong = judged(checker, found.trace) if checker else ""
@@ -139,7 +141,7 @@ def run_all(them, words, report):
 def is_unexplained(text, is_linux):
     """Whether a scenario's run is unexplained, of three tries at least once."""
     try:
-        return any(explain(text, record(text), is_linux).kind == "unexplained" for _ in range(3))
+        return any(explain(text, record(text), None if is_linux else program(), is_linux).kind == "unexplained" for _ in range(3))
     except NoTrace:
         return False
 
@@ -148,7 +150,7 @@ def shorter(outcome, is_linux):
     """An unexplained outcome of as short a scenario as is unexplained too. The same one, if it isn't again, which is said."""
     short = Scenario(outcome.scenario.name, shortened(outcome.scenario.text, lambda text: is_unexplained(text, is_linux)))
     for _ in range(MOST_TRIES):
-        found = outcome_of(short, None, is_linux)
+        found = outcome_of(short, None if is_linux else program(), is_linux)
         if found.kind == UNEXPLAINED:
             return found
     outcome.why += f" (and it wasn't seen again in {MOST_TRIES} runs)"
@@ -203,7 +205,7 @@ def conform(words):
     try:
         features()
         if words.planted:
-            return planted.find(report, scenarios(), words.linux)
+            return planted.find(report, scenarios(), None if words.no_check or words.linux else program(), words.linux)
         if words.litmus:
             return litmus.run(words, report, program())
         them = chosen(words)
@@ -211,9 +213,9 @@ def conform(words):
             print(f"conform: no scenario has {words.scenario} in its name", file=sys.stderr)
             return 2
         if words.linux:
-            print("conform: by Linux's own rules what is explained is so by the search alone", file=sys.stderr)
+            print("conform: by Linux's own rules what is explained is so by the quick search alone", file=sys.stderr)
         elif not program() and not words.no_check:
-            print("conform: the proved program isn't built, so what is explained is so by the search alone: ./uring prove", file=sys.stderr)
+            print("conform: the proved program isn't built, so all is judged by the quick search alone: ./uring prove", file=sys.stderr)
         run_all(them, words, report)
         return report.end()
     except NoRing as why:

@@ -1,6 +1,6 @@
 """Finds the steps that a recorder can't see, so that the whole is a lawful trace.
 
-Hidden are issues and ends that post nothing, flushes, and the moment of each post. The search puts each end as late as it may stand: just before the look that shows its completion. It goes back where that leads nowhere, and remembers where it was. A yes is worth what `uring check` says of the trace that is written; a no is as good as this search.
+Hidden are issues and ends that post nothing, flushes, and the moment of each post. The search puts each end as late as it may stand: just before the look that shows its completion. It goes back where that leads nowhere, and remembers where it was. It is the search where the proved program isn't built; where it is, `uring fill` decides, and this one tells how far a history comes that nobody explains.
 """
 
 import sys

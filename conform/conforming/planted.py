@@ -132,14 +132,14 @@ LINUX_MISTAKES = [
 ]
 
 
-def find(report, scenarios, is_linux):
-    """Judges each mistake, by the rules of the profile or by those of Linux. Returns the status: 1 if one wasn't found."""
+def find(report, scenarios, uring, is_linux):
+    """Judges each mistake, by the proved search if these are the words that run it, and by Linux's own rules if those are asked for. Returns the status: 1 if one wasn't found."""
     texts = {it.name: it.text for it in scenarios}
     missed, mistakes = 0, MISTAKES + LINUX_MISTAKES if is_linux else MISTAKES
     for name, scenario, change in mistakes:
         seen = record(texts[scenario])
         wrong = changed(seen, change)
-        found = wrong is not None and explain(texts[scenario], seen, is_linux).kind == "lawful" and explain(texts[scenario], wrong, is_linux).kind == "unexplained"
+        found = wrong is not None and explain(texts[scenario], seen, uring, is_linux).kind == "lawful" and explain(texts[scenario], wrong, uring, is_linux).kind == "unexplained"
         missed += not found
         report.say(f"{'found' if found else 'NOT FOUND'}: {name} ({scenario})")
     report.say(f"{len(mistakes) - missed} of {len(mistakes)} mistakes were found")

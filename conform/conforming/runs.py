@@ -1,8 +1,9 @@
-"""Runs a scenario on this machine's ring, and judges what was seen."""
+"""Runs a scenario on this machine's ring, and judges what was seen: by the quick search of fill.py, and where the proved program is built by `uring fill`."""
 
 import os
 import subprocess
 
+from conforming import gaps
 from conforming.fill import Fill, GaveUp
 from conforming.linux import LinuxFill
 from conforming.seen import Look, events_of
@@ -11,6 +12,8 @@ from conforming.setup import Setup
 TOP = os.path.dirname(os.path.dirname(os.path.dirname(os.path.abspath(__file__))))
 RECORDER = f"{TOP}/conform/out/record"
 NO_RING = 77
+MOST_HISTORIES = 200_000
+KINDS = {0: "lawful", 1: "unexplained", 3: "gave up"}
 
 
 class NoRing(Exception):
@@ -43,25 +46,47 @@ def features():
 
 
 class Verdict:
-    """What became of a run: `lawful` with a trace, `unexplained` with the trace that comes furthest and the first completion that no history reaches (its place, or None if it is none of them), or `gave up`."""
+    """What became of a run: `lawful` with a trace, `unexplained` with the trace that comes furthest and the first completion that no history reaches (its place, or None if it is none of them), `gave up`, or `differ` if the two searches don't agree."""
 
-    def __init__(self, kind, trace="", why="", states=0, first=None):
-        self.kind, self.trace, self.why, self.states, self.first = kind, trace, why, states, first
+    def __init__(self, kind, trace="", why="", first=None):
+        self.kind, self.trace, self.why, self.first = kind, trace, why, first
 
 
-def explain(scenario, recorded, is_linux=False):
-    """The verdict on what was recorded, by the search alone: by the rules of the profile, or by those of Linux."""
-    setup = Setup(scenario)
-    fill = (LinuxFill if is_linux else Fill)(setup, events_of(scenario, recorded))
+def quick(setup, events, is_linux):
+    """The verdict of the quick search, which isn't proved: by the rules of the profile, or by those of Linux."""
+    fill = (LinuxFill if is_linux else Fill)(setup, events)
     head = setup.line() + "\n"
     try:
         steps = fill.trace()
     except GaveUp:
-        return Verdict("gave up", states=len(fill.been))
+        return Verdict("gave up", why=f"behind {len(fill.been)} states")
     if steps is None:
         why, first = fill.why()
-        return Verdict("unexplained", head + "\n".join([*fill.furthest_trace(), f"# {why}"]) + "\n", why, len(fill.been), first)
-    return Verdict("lawful", head + "\n".join(steps) + "\n", states=len(fill.been))
+        return Verdict("unexplained", head + "\n".join([*fill.furthest_trace(), f"# {why}"]) + "\n", why, first)
+    return Verdict("lawful", head + "\n".join(steps) + "\n")
+
+
+def filled(uring, setup, events):
+    """The verdict of the proved search."""
+    ran = subprocess.run([*uring, "fill", "--most", str(MOST_HISTORIES)], input=gaps.text_of(setup, events), capture_output=True, text=True)
+    if ran.returncode not in KINDS:
+        raise NoTrace(ran.stderr.strip() or f"uring fill ended with status {ran.returncode}")
+    kind = KINDS[ran.returncode]
+    return Verdict(kind, ran.stdout, "" if kind == "lawful" else ran.stdout.splitlines()[-1].removeprefix("# "))
+
+
+def explain(scenario, recorded, uring=None, is_linux=False):
+    """The verdict on what was recorded: that of the proved program, if these are the words that run one. What no history explains is told by the quick search, which comes furthest by completions. Linux's own rules are the quick search's alone."""
+    setup, events = Setup(scenario), events_of(scenario, recorded)
+    found = quick(setup, events, is_linux)
+    if uring is None:
+        return found
+    proved = filled(uring, setup, events)
+    if "gave up" in (found.kind, proved.kind):
+        return found if found.kind == "lawful" else proved
+    if found.kind != proved.kind:
+        return Verdict("differ", proved.trace, f"{proved.kind} by the proved search, {found.kind} by the quick one")
+    return proved if proved.kind == "lawful" else found
 
 
 def judged(uring, trace):

@@ -15,6 +15,7 @@ mod telling;
 mod verdict;
 
 pub use check_loop::{check, check_in};
+pub use record_line::split_record;
 pub use setup_line::{Said, said_by, said_by_in};
 pub use uring_entry::Setup;
 pub use uring_text::TraceFault;

@@ -5,6 +5,7 @@ ghost use Rattle.std.specs.Prelude.{◌≤◌, length};
 
 mod crashing;
 mod fault;
+mod filled;
 mod listing;
 mod outlet;
 mod paged;
@@ -13,6 +14,7 @@ mod telling;
 
 use crate::crashing::{asked_of, kind_of, run_crash};
 use crate::fault::Fault;
+use crate::filled::run_fill;
 use crate::listing::{Wanted, claim_of, run_outcomes};
 use crate::outlet::Outlet;
 use crate::paged::{run_page, run_recorded_page};
@@ -143,6 +145,7 @@ fn run_words<R: Threads + Wait + Copy + Send + 'static>(
             let kind = kind_of(is_count, is_all, is_holds);
             run_crash(rt, &setup, file, &asked, kind, most, lines)
         }
+        Options::Fill { setup, most } => run_fill(rt, &setup, most),
         Options::Outcomes {
             setup,
             is_sorted,

@@ -46,7 +46,7 @@ pub(crate) fn run_recorded_page(rt: &HostRuntime, setup: &Setup, form: Form) -> 
 }
 
 /// All that a reader has.
-fn read_trace<R: Read>(alloc: Global, reader: &mut R) -> Result<Vec<u8>, TraceFault> {
+pub(crate) fn read_trace<R: Read>(alloc: Global, reader: &mut R) -> Result<Vec<u8>, TraceFault> {
     let mut trace = Vec::new(alloc);
     match reader.read_to_end(&mut trace) {
         Ok(_) => Ok(trace),

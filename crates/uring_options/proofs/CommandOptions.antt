@@ -7,7 +7,7 @@ use Rattle.clap.specs.Faults.{fault_of, level_fault, entered_fault, is_simple_an
 use Rattle.clap.specs.Simple.{Shape, argument_words, built, built_leaf, entered, inherited, marked_built, with_leaf_noted, is_simple, label_of, names_of, rows_at, subcommand_of}
 use Rattle.clap.specs.Walk.{Text, answers_to, nothing_held, rows_after, stop_after}
 use Rattle.clap.proofs.OnLiterals.{clap_on_literals}
-use Rattle.uring_options.specs.CommandLine.{uring, CommandOption, Run, Traces, Explains, Checks, Plays, Crashes, Lists, app_for, setup_options, own_options}
+use Rattle.uring_options.specs.CommandLine.{uring, CommandOption, Run, Traces, Explains, Checks, Plays, Crashes, Lists, Fills, app_for, setup_options, own_options}
 use Rattle.uring_options.specs.OptionRows.{TakesFor, TakesNamed}
 use Rattle.uring_options.proofs.OptionTexts.{parsers_for, only_parser, options_taken}
 use Rattle.uring_options.proofs.Walks.{Each, each_among, found_among, is_plain, neither_fails, rows_of_rules}
@@ -41,6 +41,7 @@ fits Checks = assumption
 fits Plays = assumption
 fits Crashes = assumption
 fits Lists = assumption
+fits Fills = assumption
 
 -- ---- the command that the words name
 
@@ -73,7 +74,10 @@ each_taken words = (
           taken_for Crashes (shape_for Crashes) (fits Crashes) words,
           (
             taken_for Lists (shape_for Lists) (fits Lists) words,
-            ((λ passes. nothing_taken), tt),
+            (
+              taken_for Fills (shape_for Fills) (fits Fills) words,
+              ((λ passes. nothing_taken), tt),
+            ),
           ),
         ),
       ),

@@ -18,7 +18,7 @@ use Rattle.uring_entry.proofs.Powers.{rounded_once}
 use Rattle.uring_options.specs.CommandLine.{uring, command_rows, Gives, Numbers, AreInRange, IsWithin, IsSetupOver, Writes, IsTooSmall, AskFor, AskForTooSmall, IsMemory, IsFaultOf}
 use Rattle.uring_options.specs.OptionRows.{AnswersNamed}
 use Rattle.uring_options.specs.declared.answers.Options.{Options}
-use Rattle.uring_options.specs.declared.answers.Options.TheVariants.{Trace, Explain, Graph, Timeline, Page, Json, Check, CheckPage, CheckJson, Play, Shared, Crash, Outcomes}
+use Rattle.uring_options.specs.declared.answers.Options.TheVariants.{Trace, Explain, Graph, Timeline, Page, Json, Check, CheckPage, CheckJson, Play, Shared, Crash, Outcomes, Fill}
 use Rattle.uring_options.specs.declared.answers.OptionsFault.{OptionsFault}
 use Rattle.uring_options.specs.declared.answers.OptionsFault.TheVariants.{Small, Words}
 
@@ -108,6 +108,8 @@ not_both words (Crash s file unit at seed is_count is_all most is_holds) (n, wri
     not_over words n (record s { stops = false }) writes over.1.0 small
 not_both words (Outcomes s sorted contents most line never always) (n, writes, over) small =
     not_over words n s writes over.1 small
+not_both words (Fill s most) (n, writes, over) small =
+    not_over words n (record s { stops = false }) writes over.1.0 small
 
 -- words without a fault fail by memory alone
 memory_alone : (kinds : Kinds) (e : Error) → kinds ≡ [] → HasKind kinds e → kind_of e ≡ OutOfMemory

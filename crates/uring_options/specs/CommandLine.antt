@@ -14,7 +14,7 @@ use Rattle.clap.specs.declared.builder.value_parser.ValueParser.TheVariants.{Sig
 use Rattle.clap.specs.declared.error.kind.ErrorKind.TheVariants.{OutOfMemory}
 use Rattle.uring_entry.specs.Setup.{Setup, IsSetupFor}
 use Rattle.uring_options.specs.declared.answers.Options.{Options}
-use Rattle.uring_options.specs.declared.answers.Options.TheVariants.{Trace, Explain, Graph, Timeline, Page, Json, Check, CheckPage, CheckJson, Play, Shared, Crash, Outcomes}
+use Rattle.uring_options.specs.declared.answers.Options.TheVariants.{Trace, Explain, Graph, Timeline, Page, Json, Check, CheckPage, CheckJson, Play, Shared, Crash, Outcomes, Fill}
 use Rattle.uring_options.specs.declared.answers.OptionsFault.{OptionsFault}
 use Rattle.uring_options.specs.declared.answers.OptionsFault.TheVariants.{Small, Words}
 
@@ -26,6 +26,7 @@ pub data Run : Type 0 where
   Plays : Run
   Crashes : Run
   Lists : Run
+  Fills : Run
 
 -- an option of a command: its name, and if it takes a number, the least and the most one
 abbrev pub CommandOption : Type 0
@@ -59,6 +60,7 @@ own_options Crashes = flag (codes "stop") ∷ number (codes "file") 0 63
 own_options Lists = flag (codes "results") ∷ flag (codes "contents")
     ∷ number (codes "most") 1 4294967295 ∷ number (codes "explain") 1 4294967295
     ∷ flag (codes "never") ∷ flag (codes "always") ∷ []
+own_options Fills = flag (codes "stop") ∷ number (codes "most") 1 4294967295 ∷ []
 
 -- to clap, an option of this name that takes a number, which this parser checks
 abbrev pub option_rule : Text → ValueParser → Rule
@@ -88,6 +90,7 @@ name_of Checks = codes "check"
 name_of Plays = codes "play"
 name_of Crashes = codes "crash"
 name_of Lists = codes "outcomes"
+name_of Fills = codes "fill"
 
 -- a command of the program with its options
 abbrev pub app_for : Run → App
@@ -103,7 +106,7 @@ with_commands_of app (run ∷ rest) =
 -- the program's command line, as clap sees a command
 abbrev pub uring : App
 uring =
-    with_commands_of (new_app (codes "uring")) (Traces ∷ Explains ∷ Checks ∷ Plays ∷ Crashes ∷ Lists ∷ [])
+    with_commands_of (new_app (codes "uring")) (Traces ∷ Explains ∷ Checks ∷ Plays ∷ Crashes ∷ Lists ∷ Fills ∷ [])
 
 -- the command, a trace without one
 abbrev pub run_of : Option (Text × List Row) → Run
@@ -114,6 +117,7 @@ run_of (Some named) =
     if bytes_eq named.0 (codes "play") then Plays else
     if bytes_eq named.0 (codes "crash") then Crashes else
     if bytes_eq named.0 (codes "outcomes") then Lists else
+    if bytes_eq named.0 (codes "fill") then Fills else
     Traces
 
 -- what the words after a command give, nothing without one
@@ -125,6 +129,7 @@ command_rows (Some named) =
     if bytes_eq named.0 (codes "play") then named.1 else
     if bytes_eq named.0 (codes "crash") then named.1 else
     if bytes_eq named.0 (codes "outcomes") then named.1 else
+    if bytes_eq named.0 (codes "fill") then named.1 else
     if bytes_eq named.0 (codes "trace") then named.1 else
     []
 
@@ -246,6 +251,8 @@ IsRunOver run rows n (Outcomes s is_sorted has_files most line is_never is_alway
     × IsGiven rows (codes "results") is_sorted × IsGiven rows (codes "contents") has_files
     × Gives rows (codes "most") most × Gives rows (codes "explain") line
     × IsGiven rows (codes "never") is_never × IsGiven rows (codes "always") is_always
+IsRunOver run rows n (Fill s most) =
+    (run ≡ Fills) × IsTracedOver rows n s × Gives rows (codes "most") most
 
 -- a completion ring is given, and is smaller after rounding than the submission ring
 pub record IsTooSmall (n : Numbers) : Type 0 where

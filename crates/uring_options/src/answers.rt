@@ -92,6 +92,13 @@ pub enum Options {
         /// Whether it is claimed that each outcome shows a line (`--always`).
         is_always: bool,
     },
+
+    /// `uring fill`: a history over this set-up that shows what was seen.
+    Fill {
+        setup: Setup,
+        /// After how many histories the search gives up (`--most`).
+        most: Option<u32>,
+    },
 }
 
 /// Why a command line is refused.

@@ -1,13 +1,13 @@
 //! The commands of `uring`, as clap knows them.
 
-ghost use Rattle.std.specs.Prelude.{◌≡◌, IfOk, false};
+ghost use Rattle.std.specs.Prelude.{◌≡◌, IfOk, codes, false};
 ghost use Rattle.clap.specs.Words.{app_of, rule_of, with_rule};
-ghost use Rattle.clap.specs.Simple.{with_subcommand};
+ghost use Rattle.clap.specs.Simple.{new_app, with_subcommand};
 ghost use Rattle.clap.specs.declared.builder.command.Command.TheViews.{out-Command};
 ghost use Rattle.uring_options.specs.OptionRows.{app_of_row, rule_of_row, with_rows_of};
 ghost use Rattle.uring_options.specs.CommandLine.{option_rule, flag_rule, uring};
 
-use crate::helps::{CLAIMS, IMAGES, ITEMS, REASONS, RECORDS, STEPS};
+use crate::helps::{CLAIMS, IMAGES, ITEMS, REASONS, RECORDS, SEEN, STEPS};
 use clap::builder::ValueParser;
 use clap::{Arg, ArgAction, Command};
 use std::alloc::{AllocError, Global};
@@ -186,6 +186,12 @@ const MOST: OptionRow = OptionRow {
     numbers: Some((1, 4_294_967_295)),
 };
 
+const HISTORIES: OptionRow = OptionRow {
+    id: "most",
+    help: "Give up after so many histories [default: never]",
+    numbers: Some((1, 4_294_967_295)),
+};
+
 const NUMBER: OptionRow = OptionRow {
     id: "explain",
     help: "Write a history that comes to the outcome of this line, counted from 1",
@@ -256,21 +262,37 @@ static OUTCOMES: CommandRow = CommandRow {
     ],
 };
 
+/// `uring fill`.
+static FILL: CommandRow = CommandRow {
+    name: "fill",
+    about: "Read what was seen of a ring, and write a history that shows it",
+    after_help: SEEN,
+    options: &[SQ, CQ, FILES, START, STOP, HISTORIES],
+};
+
 /// The program's command line.
 pub(crate) fn uring_command<'a>(alloc: Global) -> Result<Command<'a>, AllocError>
     ensures { IfOk result (λ command. app_of command ≡ uring) }
 {
-    let command = Command::new(alloc, "uring")
-        .about("The rings of io_uring, step by step")
-        .long_about(
-            "The rings of io_uring, step by step. Without a command it does `trace` with the defaults.",
-        );
+    let command = bare_command(alloc);
     let command = with_command(alloc, command, &TRACE)?;
     let command = with_command(alloc, command, &EXPLAIN)?;
     let command = with_command(alloc, command, &CHECK)?;
     let command = with_command(alloc, command, &PLAY)?;
     let command = with_command(alloc, command, &CRASH)?;
-    with_command(alloc, command, &OUTCOMES)
+    let command = with_command(alloc, command, &OUTCOMES)?;
+    with_command(alloc, command, &FILL)
+}
+
+/// The program's command line without its commands.
+fn bare_command<'a>(alloc: Global) -> Command<'a>
+    ensures { app_of result ≡ new_app (codes "uring") }
+{
+    Command::new(alloc, "uring")
+        .about("The rings of io_uring, step by step")
+        .long_about(
+            "The rings of io_uring, step by step. Without a command it does `trace` with the defaults.",
+        )
 }
 
 /// The command with one command more.

@@ -187,3 +187,24 @@ line N is written.
 
 With --most N the walk stops after N paths: what was found is right, and the last
 line says that there may be more. The status is 3 then, if it isn't known.";
+
+/// What `uring fill` reads and writes, for its help.
+pub(crate) const SEEN: &str = "\
+Lines are those of check --apart, but without the steps that can't be seen from
+outside: issue, finish and flush. They are put in, so that each answer is called
+for by the lines before it, each running request ends as its operation may, all
+requests have ended at the end, and all their completions were reaped:
+  a no-op with 0; an fsync with 0 or an error; a read or a write with 0 to its
+  length or an error; -125 is nobody's own error
+The history is written as check --apart reads it, and the status is 0.
+
+If there is none the status is 1. One that comes far is written, and behind it the
+first line that it doesn't show, or the end:
+  # none shows: STEP = ANSWER
+With --most N the search gives up after N histories. What came furthest by then is
+written, with # gave up before: STEP = ANSWER, and the status is 3.
+
+A line that is empty or begins with # is passed over, but the first one may say
+the set-up, as for check. A line that is no step with an answer, or one that
+can't be seen, is told on standard error with its number, and nothing is
+written; the status is then 2.";

@@ -15,5 +15,8 @@ crashed-requires c = rw c.in-crash.is at c.requires
 pub listed-requires : goal.listed-requires
 listed-requires c = rw c.in-outcomes.is at c.requires
 
+pub filled-requires : goal.filled-requires
+filled-requires c = rw c.in-fill.is at c.requires
+
 pub traced-requires : goal.traced-requires
 traced-requires c = rw c.in-trace.is at c.requires

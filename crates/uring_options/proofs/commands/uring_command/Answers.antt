@@ -1,16 +1,15 @@
-use Rattle.std.proofs.Common.{◌≡◌, ◌∙◌, ap, rules}
+use Rattle.std.proofs.Common.{◌∙◌, ap}
 use Rattle.std.proofs.lemmas.Result.{IfOk-weaker}
-use Rattle.std.specs.Prelude.{codes}
-use Rattle.clap.specs.Simple.{App, app_of, new_app, with_subcommand}
-use Rattle.uring_options.specs.CommandLine.{Traces, Explains, Checks, Plays, Crashes, Lists, app_for}
+use Rattle.clap.specs.Simple.{App, with_subcommand}
+use Rattle.uring_options.specs.CommandLine.{Traces, Explains, Checks, Plays, Crashes, Lists, Fills, app_for}
 use Rattle.uring_options.proofs.commands.uring_command.Goals as goal
 
 pub returns : goal.returns
 returns c =
-    let start : app_of c.long_about-command.result ≡ new_app (codes "uring") = search rules in
-    let trace = c.in_ok-command.ensures ∙ ap (λ (a : App). with_subcommand a (app_for Traces).top) start in
+    let trace = c.in_ok-command.ensures ∙ ap (λ (a : App). with_subcommand a (app_for Traces).top) c.bare_command-command.ensures in
     let explain = c.in_ok-command-2.ensures ∙ ap (λ (a : App). with_subcommand a (app_for Explains).top) trace in
     let check = c.in_ok-command-3.ensures ∙ ap (λ (a : App). with_subcommand a (app_for Checks).top) explain in
     let play = c.in_ok-command-4.ensures ∙ ap (λ (a : App). with_subcommand a (app_for Plays).top) check in
     let crash = c.in_ok-command-5.ensures ∙ ap (λ (a : App). with_subcommand a (app_for Crashes).top) play in
-    IfOk-weaker c.with_command-6.result _ _ (λ more h. h ∙ ap (λ (a : App). with_subcommand a (app_for Lists).top) crash) c.with_command-6.ensures
+    let list = c.in_ok-command-6.ensures ∙ ap (λ (a : App). with_subcommand a (app_for Lists).top) crash in
+    IfOk-weaker c.with_command-7.result _ _ (λ more h. h ∙ ap (λ (a : App). with_subcommand a (app_for Fills).top) list) c.with_command-7.ensures

@@ -1,0 +1,141 @@
+-- What is told of lines, by what the search came to.
+use Rattle.std.proofs.Common.{◌≡◌, ◌++◌, ◌+◌, ℕ, List, [], ◌∷◌, length, refl, sym, ap, subst, ◌∙◌, append_assoc, append-nil, arith, inl, inr}
+use Rattle.std.specs.Prelude.{codes, decimal, reverse, ◌==◌}
+use Rattle.std.proofs.lemmas.List.{reverse-reverse}
+use Rattle.std.proofs.lemmas.List.Splits.{length-slice_split}
+use Rattle.uring_entry.specs.Setup.{Setup}
+use Rattle.uring_core.specs.Histories.{Event, History, history_of, IsLawfulApart}
+use Rattle.uring_text.specs.Lines.{joined}
+use Rattle.uring_check.specs.SetupLines.{IsSaid}
+use Rattle.uring_check.specs.declared.setup_line.Said.{Said}
+use Rattle.uring_fill.specs.Filling.{seen_in, Begins, IsFilling}
+use Rattle.uring_fill.specs.Found.{HasNone, IsFound}
+use Rattle.uring_fill.specs.Parts.{IsReach}
+use Rattle.uring_fill.specs.declared.search.Filled.{Filled}
+use Rattle.uring_fill.proofs.Begun.{begins_all}
+use Rattle.uring_seen.specs.Seen.{visible, AreShown, Fills}
+use Rattle.uring_seen.specs.Sights.{Reads, ShowsNever, IsBadLine, IsHiddenLine}
+use Rattle.uring_seen.specs.Told.{setup_text, IsFar, Tells, TellsFar, HasNoFilling, Names, IsToldOf, IsToldBy, SaysFirst, IsAnswered, AreAnswered, lines_in}
+use Rattle.uring_seen.specs.declared.filling.Told.{Told}
+use Rattle.uring_seen.specs.declared.filling.Verdict.{Verdict}
+use Rattle.uring_seen.specs.declared.filling.Verdict.TheVariants as verdict
+use Rattle.uring_seen.proofs.OneLine.{visible_is}
+
+-- a history that shows what was read fills the lines
+pub fills_by : (g : Setup) (lines : List (List ℕ)) (seen : List Event) (h : History)
+    → Reads g lines (history_of seen) → IsFilling g seen h → Fills g lines h
+fills_by g lines seen h r f =
+    let shows : visible h ≡ history_of seen = sym (visible_is h) ∙ ap history_of f.shows in
+    record {
+      filling = subst (λ xs. IsFilling g xs h) (sym f.shows) f;
+      shown = subst (AreShown lines) (sym shows) r.shown;
+    }
+
+-- if there is none that shows what was read, the lines have none
+pub none_by : (g : Setup) (lines : List (List ℕ)) (seen : List Event) (place : ℕ)
+    → Reads g lines (history_of seen) → HasNone g seen place → HasNoFilling g lines
+none_by g lines seen place r none = λ h f.
+    let shows : history_of (seen_in h) ≡ history_of seen = visible_is h ∙ r.only h f.filling.lawful f.shown in
+    let same : seen_in h ≡ seen = sym (reverse-reverse (seen_in h)) ∙ ap reverse shows ∙ reverse-reverse seen in
+    none.none h (subst (λ xs. IsFilling g xs h) same f.filling)
+
+-- nor have they where no lawful history shows them
+pub never_none : (g : Setup) (lines : List (List ℕ)) → ShowsNever g lines → HasNoFilling g lines
+never_none g lines never = λ h f. never h f.filling.lawful f.shown
+
+-- ---- what is told of lines
+
+pub filling_begins : (g : Setup) (seen : List Event) (h : History) → IsFilling g seen h
+    → Begins (seen_in h) seen
+filling_begins g seen h f = begins_all (seen_in h) seen f.shows
+
+-- what a search found, as an arm has it
+pub found_at : (g : Setup) (xs seen : List Event) (filled x : Filled) → xs ≡ seen → filled ≡ x
+    → IsFound g xs filled → IsFound g seen x
+found_at g xs seen filled x same is found =
+    subst (λ (es : List Event). IsFound g es x) same (subst (λ (f : Filled). IsFound g xs f) is found)
+
+-- a history that a search found or came to is one that comes so far
+pub far_whole : (g : Setup) (seen : List Event) (h : History) → IsFilling g seen h → IsFar g seen h
+far_whole g seen h f = (f.lawful, filling_begins g seen h f)
+
+pub far_reach : (g : Setup) (seen events : List Event) (place : ℕ) → IsReach g seen events place
+    → IsFar g seen (history_of events)
+far_reach g seen events place r = (r.part.lawful, r.part.shows)
+
+pub told_found : (g : Setup) (lines : List (List ℕ)) (seen events : List Event) (told : Told)
+    → told.verdict ≡ verdict.Found → Reads g (reverse lines) (history_of seen) → IsFilling g seen (history_of events)
+    → Tells g (history_of events) told.text.items [] → IsToldOf g lines told.verdict told.text.items
+told_found g lines seen events told is r f tells =
+    subst (λ (v : Verdict). IsToldOf g lines v told.text.items) (sym is)
+    (history_of events, fills_by g (reverse lines) seen (history_of events) r f, tells)
+
+pub told_nothing : (g : Setup) (lines : List (List ℕ)) (told : Told) → HasNoFilling g (reverse lines)
+    → told.verdict ≡ verdict.Nothing → TellsFar g told.text.items → IsToldOf g lines told.verdict told.text.items
+told_nothing g lines told none is far =
+    subst (λ (v : Verdict). IsToldOf g lines v told.text.items) (sym is) (none, far)
+
+pub told_gave_up : (g : Setup) (lines : List (List ℕ)) (told : Told) → told.verdict ≡ verdict.GaveUp
+    → TellsFar g told.text.items → IsToldOf g lines told.verdict told.text.items
+told_gave_up g lines told is far = subst (λ (v : Verdict). IsToldOf g lines v told.text.items) (sym is) far
+
+pub told_hidden : (g : Setup) (lines : List (List ℕ)) (place : ℕ) (told : Told) → IsHiddenLine lines place
+    → told.verdict ≡ verdict.Bad → Names place told.text.items → IsToldOf g lines told.verdict told.text.items
+told_hidden g lines place told hidden is names =
+    subst (λ (v : Verdict). IsToldOf g lines v told.text.items) (sym is) (place, inr hidden, names)
+
+pub told_faulty : (g : Setup) (lines : List (List ℕ)) (place : ℕ) (told : Told) → IsBadLine lines place
+    → told.verdict ≡ verdict.Bad → Names place told.text.items → IsToldOf g lines told.verdict told.text.items
+told_faulty g lines place told bad is names =
+    subst (λ (v : Verdict). IsToldOf g lines v told.text.items) (sym is) (place, inl bad, names)
+
+-- ---- texts
+
+far_flat : (s j remark line : List ℕ)
+    → ((((s ++ j ++ []) ++ codes "# ") ++ remark) ++ line) ++ 10 ∷ []
+    ≡ s ++ j ++ (codes "# " ++ (remark ++ line ++ 10 ∷ []))
+far_flat s j remark line = simp (append-nil, append_assoc)
+
+-- a text of a history with a remark behind it
+pub tells_far : (g : Setup) (h : History) (a b c d e remark line : List ℕ) → IsLawfulApart g h
+    → Tells g h a [] → b ≡ a ++ codes "# " → c ≡ b ++ remark → d ≡ c ++ line → e ≡ d ++ 10 ∷ []
+    → TellsFar g e
+tells_far g h a b c d e remark line lawful tells p q r s =
+    let whole : e ≡ (((a ++ codes "# ") ++ remark) ++ line) ++ 10 ∷ [] = cc in
+    let text : e ≡ ((((setup_text g ++ joined tells.0 ++ []) ++ codes "# ") ++ remark) ++ line) ++ 10 ∷ [] = whole ∙ ap (λ (l : List ℕ). (((l ++ codes "# ") ++ remark) ++ line) ++ 10 ∷ []) tells.2 in
+    (h, lawful, (remark ++ line ++ 10 ∷ [], (tells.0, tells.1, text ∙ far_flat (setup_text g) (joined tells.0) remark line)))
+
+-- a text that names a line
+pub named : (place : ℕ) (z a b c d y bytes e flaw : List ℕ) → z ≡ [] → a ≡ z ++ codes "line "
+    → b ≡ a ++ decimal (place + 1) → c ≡ b ++ codes ": bad line: " → d ≡ c ++ flaw → y ≡ [] → bytes ≡ d
+    → e ≡ y ++ bytes → Names place e
+named place z a b c d y bytes e flaw z_is a_is b_is c_is d_is y_is is more =
+    let first : a ≡ codes "line " = a_is ∙ ap (λ (l : List ℕ). l ++ codes "line ") z_is in
+    let whole : d ≡ ((codes "line " ++ decimal (place + 1)) ++ codes ": bad line: ") ++ flaw = d_is ∙ ap (λ (l : List ℕ). l ++ flaw) (c_is ∙ ap (λ (l : List ℕ). l ++ codes ": bad line: ") (b_is ∙ ap (λ (l : List ℕ). l ++ decimal (place + 1)) first)) in
+    (flaw, more ∙ ap (λ (l : List ℕ). l ++ bytes) y_is ∙ is ∙ whole)
+
+-- ---- the first line
+
+-- bytes have a line at least
+some_line : (bytes : List ℕ) (lines : List (List ℕ)) → lines ≡ lines_in bytes
+    → (first : List ℕ) × (rest : List (List ℕ)) × (lines ≡ first ∷ rest)
+some_line bytes [] is =
+    let none : 0 ≡ length (lines_in bytes) = ap length is in
+    absurd (omega (arith, none, length-slice_split (λ b. b == 10) bytes))
+some_line bytes (first ∷ rest) is = (first, rest, refl)
+
+pub answered : (given : Setup) (bytes : List ℕ) (lines : List (List ℕ)) (told : Told) → lines ≡ lines_in bytes
+    → ((first : List ℕ) (rest : List (List ℕ)) → lines ≡ first ∷ rest → AreAnswered given lines told)
+    → IsAnswered given bytes told
+answered given bytes lines told is by =
+    let some = some_line bytes lines is in
+    subst (λ (ls : List (List ℕ)). AreAnswered given ls told) is (by some.0 some.1 some.2)
+
+-- what is told by what the first line says
+pub said_answered : (given : Setup) (lines : List (List ℕ)) (first : List ℕ) (rest : List (List ℕ)) (said x : Said) (told : Told)
+    → lines ≡ first ∷ rest → SaysFirst lines said → said ≡ x → IsToldBy given lines x told
+    → AreAnswered given lines told
+said_answered given lines first rest said x told is says same by =
+    let first_says : IsSaid first x = subst (λ (s : Said). IsSaid first s) same (subst (λ (ls : List (List ℕ)). SaysFirst ls said) is says) in
+    subst (λ (ls : List (List ℕ)). AreAnswered given ls told) (sym is)
+    (x, first_says, subst (λ (ls : List (List ℕ)). IsToldBy given ls x told) is by)

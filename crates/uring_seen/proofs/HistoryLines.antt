@@ -1,0 +1,175 @@
+-- The lines of a history that shows the first ones of the steps that were seen.
+use Rattle.std.proofs.Common.{◌≡◌, ◌++◌, ℕ, ◌+◌, ◌<◌, ◌≤◌, Bool, true, false, List, [], ◌∷◌, length, take, drop, get_or, if◌then◌else◌, refl, sym, ap, subst, ◌∙◌, arith, append_assoc, append-nil, Option, Some}
+use Rattle.std.specs.Prelude.{codes, decimal, slice_get}
+use Rattle.std.proofs.lemmas.List.{reverse-append, length-append, take-append-drop}
+use Rattle.uring_entry.specs.Setup.{Setup}
+use Rattle.uring_core.specs.Histories.{Event, History, history_of}
+use Rattle.uring_core.specs.declared.step.Step.{Step}
+use Rattle.uring_core.specs.declared.step.Step.TheVariants as step
+use Rattle.uring_text.specs.Lines.{ended, joined}
+use Rattle.uring_trace.specs.Text.{text_of}
+use Rattle.uring_fill.specs.Filling.{is_hidden, seen_in, Begins}
+use Rattle.uring_fill.proofs.Seeing.{taken_next}
+use Rattle.uring_fill.proofs.Begun.{begins_itself, begins_more, begins_on}
+use Rattle.uring_seen.specs.Seen.{Shows}
+use Rattle.uring_seen.specs.Sights.{ArePaired}
+use Rattle.uring_seen.specs.Told.{AreLinesOf, IsLineIf, IsLineOf, Tells, hidden_text, setup_text}
+
+-- ---- pairs
+
+pub paired_more : (lines : List (List ℕ)) (events : List Event) (line : List ℕ) (e : Event)
+    → ArePaired lines events → Shows line e → ArePaired (lines ++ line ∷ []) (events ++ e ∷ [])
+paired_more [] [] line e paired shows = (shows, tt)
+paired_more (l ∷ lines) (x ∷ events) line e paired shows = (paired.0, paired_more lines events line e paired.1 shows)
+paired_more [] (x ∷ events) line e paired shows = absurd paired
+paired_more (l ∷ lines) [] line e paired shows = absurd paired
+
+-- the line of an event
+pub record LineThere (lines : List (List ℕ)) (k : ℕ) (e : Event) : Type 0 where
+  pub line : List ℕ
+  pub there : slice_get lines k ≡ Some line
+  pub shows : Shows line e
+
+-- an event that comes behind so many of them
+pub paired_at : (lines : List (List ℕ)) (first rest : List Event) (e : Event)
+    → ArePaired lines (first ++ e ∷ rest) → LineThere lines (length first) e
+paired_at (l ∷ lines) [] rest e paired = record { line = l; there = refl; shows = paired.0 }
+paired_at (l ∷ lines) (x ∷ first) rest e paired =
+    let later : LineThere lines (length first) e = paired_at lines first rest e paired.1 in
+    record { line = later.line; there = later.there; shows = later.shows }
+paired_at [] [] rest e paired = absurd paired
+paired_at [] (x ∷ first) rest e paired = absurd paired
+
+-- ---- what a history shows
+
+seen_more : (h : History) (e : Event) → Begins (seen_in h) (seen_in (e ∷ h))
+seen_more h e = go (is_hidden e.0) where
+  go : (hidden : Bool) → Begins (seen_in h) (if hidden then seen_in h else seen_in h ++ e ∷ [])
+  go true = begins_itself (seen_in h)
+  go false = begins_more (seen_in h) e
+
+seen_before : (newer h : History) → Begins (seen_in h) (seen_in (newer ++ h))
+seen_before [] h = begins_itself (seen_in h)
+seen_before (e ∷ newer) h =
+    begins_on (seen_in h) (seen_in (newer ++ h)) (seen_in (e ∷ (newer ++ h))) (seen_before newer h) (seen_more (newer ++ h) e)
+
+part_begins : (events : List Event) (i : ℕ) → Begins (seen_in (history_of (take i events))) (seen_in (history_of events))
+part_begins events i =
+    subst (λ (k : History). Begins (seen_in (history_of (take i events))) (seen_in k))
+    (sym (reverse-append (take i events) (drop i events)) ∙ ap history_of (take-append-drop i events))
+    (seen_before (history_of (drop i events)) (history_of (take i events)))
+
+-- the line of an event that is seen
+pub line_there : (lines : List (List ℕ)) (events seen : List Event) (i : ℕ) (e : Event)
+    → ArePaired lines seen → Begins (seen_in (history_of events)) seen
+    → i < length events → e ≡ get_or events i e → is_hidden e.0 ≡ false
+    → LineThere lines (length (seen_in (history_of (take i events)))) e
+line_there lines events seen i e paired begins low is shown =
+    let so_far = seen_in (history_of (take i events)) in
+    let with : seen_in (history_of (take (i + 1) events)) ≡ so_far ++ e ∷ [] = ap seen_in (taken_next events i e low is) ∙ ap (λ (b : Bool). if b then so_far else so_far ++ e ∷ []) shown in
+    let b : Begins (seen_in (history_of (take (i + 1) events))) seen = begins_on (seen_in (history_of (take (i + 1) events))) (seen_in (history_of events)) seen (part_begins events (i + 1)) begins in
+    let all : seen ≡ so_far ++ e ∷ b.rest = b.is ∙ ap (λ (xs : List Event). xs ++ b.rest) with ∙ append_assoc so_far (e ∷ []) b.rest in
+    paired_at lines so_far b.rest e (subst (ArePaired lines) all paired)
+
+-- how many were seen
+pub count_more : (events : List Event) (i : ℕ) (e : Event) → i < length events → e ≡ get_or events i e
+    → length (seen_in (history_of (take (i + 1) events)))
+    ≡ length (seen_in (history_of (take i events))) + (if is_hidden e.0 then 0 else 1)
+count_more events i e low is =
+    ap (λ (k : History). length (seen_in k)) (taken_next events i e low is) ∙ go (is_hidden e.0)
+  where
+    go : (hidden : Bool) → length (if hidden then seen_in (history_of (take i events)) else seen_in (history_of (take i events)) ++ e ∷ []) ≡ length (seen_in (history_of (take i events))) + (if hidden then 0 else 1)
+    go true = omega arith
+    go false = length-append (seen_in (history_of (take i events))) (e ∷ [])
+
+-- ---- the text
+
+-- what was written of a history
+pub record IsWritten (old new : List ℕ) (h : History) : Type 0 where
+  pub out : List (List ℕ)
+  pub lines : AreLinesOf out h
+  pub text : new ≡ old ++ joined out
+
+pub nothing_written : (old : List ℕ) (events : List Event) → IsWritten old old (history_of (take 0 events))
+nothing_written old events = record { out = []; lines = tt; text = sym (append-nil old) }
+
+pub one_written : (old mid new : List ℕ) (events : List Event) (i : ℕ) (e : Event) (line : List ℕ)
+    → i < length events → e ≡ get_or events i e → IsLineOf line e → new ≡ mid ++ ended line
+    → IsWritten old mid (history_of (take i events)) → IsWritten old new (history_of (take (i + 1) events))
+one_written old mid new events i e line low is of more w = record {
+  out = line ∷ w.out;
+  lines = subst (AreLinesOf (line ∷ w.out)) (sym (taken_next events i e low is)) (of, w.lines);
+  text = more ∙ ap (λ (t : List ℕ). t ++ ended line) w.text ∙ append_assoc old (joined w.out) (ended line);
+}
+
+-- ---- the line of one event
+
+-- what the line of an event makes of a text
+abbrev pub HasLineOf : List ℕ → List ℕ → Event → Type 0
+HasLineOf old new e = (line : List ℕ) × IsLineOf line e × (new ≡ old ++ ended line)
+
+hidden_line : (e : Event) (s : Step) → e.0 ≡ s → is_hidden s ≡ true
+    → IsLineOf (hidden_text s ++ codes " = " ++ text_of e.1) e
+hidden_line e s is hidden =
+    subst (λ (t : Step). IsLineOf (hidden_text s ++ codes " = " ++ text_of e.1) (t, e.1)) (sym is)
+    (subst (λ (b : Bool). IsLineIf b (hidden_text s ++ codes " = " ++ text_of e.1) (s, e.1)) (sym hidden) refl)
+
+pub hidden_more : (old new : List ℕ) (e : Event) (s : Step) → e.0 ≡ s → is_hidden s ≡ true
+    → new ≡ old ++ ended (hidden_text s ++ codes " = " ++ text_of e.1) → HasLineOf old new e
+hidden_more old new e s is hidden more =
+    (hidden_text s ++ codes " = " ++ text_of e.1, hidden_line e s is hidden, more)
+
+pub shown_more : (lines : List (List ℕ)) (k : ℕ) (old new : List ℕ) (e : Event) → is_hidden e.0 ≡ false
+    → (line : List ℕ) × (slice_get lines k ≡ Some line) × Shows line e
+    → ((line : List ℕ) → slice_get lines k ≡ Some line → new ≡ old ++ ended line) → HasLineOf old new e
+shown_more lines k old new e seen there more =
+    (there.0, subst (λ (b : Bool). IsLineIf b there.0 e) (sym seen) there.2, more there.0 there.1)
+
+-- a step that is none of these can be seen
+pub unhidden : (s : Step) → ((n : ℕ) → s ≡ step.Issue n → ⊥) → ((n : ℕ) → s ≡ step.Finish n → ⊥)
+    → (s ≡ step.Flush → ⊥) → is_hidden s ≡ false
+unhidden (step.Issue n) issue finish flush = absurd (issue n refl)
+unhidden (step.Finish n) issue finish flush = absurd (finish n refl)
+unhidden step.Flush issue finish flush = absurd (flush refl)
+unhidden _ issue finish flush = refl
+
+-- it takes one line of what was seen, or none
+pub one_at_most : (hidden : Bool) (n : ℕ) → n ≡ (if hidden then 0 else 1) → n ≤ 1
+one_at_most true n e = omega arith
+one_at_most false n e = omega arith
+
+-- ---- the line of a set-up
+
+abbrev sizes_text : ℕ → ℕ → ℕ → ℕ → List ℕ → List ℕ
+sizes_text sq cq files start stop =
+    codes "# setup --sq " ++ decimal sq ++ codes " --cq " ++ decimal cq ++ codes " --files " ++ decimal files ++ codes " --start " ++ decimal start ++ stop
+
+pub setup_written : (g : Setup) (old new z a b c d e bytes stop : List ℕ) (sq cq files start : ℕ)
+    → sq ≡ g.sq → cq ≡ g.cq → files ≡ g.files → start ≡ g.start
+    → stop ≡ (if g.stops then codes " --stop\n" else codes "\n") → z ≡ []
+    → a ≡ z ++ codes "# setup --sq " ++ decimal sq → b ≡ a ++ codes " --cq " ++ decimal cq
+    → c ≡ b ++ codes " --files " ++ decimal files → d ≡ c ++ codes " --start " ++ decimal start → e ≡ d ++ stop
+    → bytes ≡ e → new ≡ old ++ bytes → new ≡ old ++ setup_text g
+setup_written g old new z a b c d e bytes stop sq cq files start sq_is cq_is files_is start_is stop_is z_is a_is b_is c_is d_is e_is is more =
+    let whole : bytes ≡ sizes_text sq cq files start stop =
+    is ∙ e_is
+    ∙ ap (λ (l : List ℕ). l ++ stop)
+    (d_is ∙ ap (λ (l : List ℕ). l ++ codes " --start " ++ decimal start)
+    (c_is ∙ ap (λ (l : List ℕ). l ++ codes " --files " ++ decimal files)
+    (b_is ∙ ap (λ (l : List ℕ). l ++ codes " --cq " ++ decimal cq)
+    (a_is ∙ ap (λ (l : List ℕ). l ++ codes "# setup --sq " ++ decimal sq) z_is)))) in
+    more ∙ ap (λ (l : List ℕ). old ++ l)
+    (whole
+    ∙ ap (λ (n : ℕ). sizes_text n cq files start stop) sq_is
+    ∙ ap (λ (n : ℕ). sizes_text g.sq n files start stop) cq_is
+    ∙ ap (λ (n : ℕ). sizes_text g.sq g.cq n start stop) files_is
+    ∙ ap (λ (n : ℕ). sizes_text g.sq g.cq g.files n stop) start_is
+    ∙ ap (λ (l : List ℕ). sizes_text g.sq g.cq g.files g.start l) stop_is)
+
+-- ---- all of it
+
+pub text_told : (g : Setup) (h : History) (a b c : List ℕ) → a ≡ [] → b ≡ a ++ setup_text g
+    → (out : List (List ℕ)) × AreLinesOf out h × (c ≡ b ++ joined out) → Tells g h c []
+text_told g h a b c a_is b_is w =
+    let start : b ≡ setup_text g = b_is ∙ ap (λ (l : List ℕ). l ++ setup_text g) a_is in
+    (w.0, w.1, w.2 ∙ ap (λ (l : List ℕ). l ++ joined w.0) start ∙ sym (append-nil (setup_text g ++ joined w.0)))

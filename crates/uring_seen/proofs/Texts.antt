@@ -1,0 +1,177 @@
+-- The texts of completions and numbers, each of one alone.
+use Rattle.std.proofs.Common.{◌≡◌, ◌≢◌, ℕ, ℤ, ◌+◌, ◌<◌, ◌≤◌, ◌^◌, ◌&&◌, Bool, true, false, List, [], ◌∷◌, ◌++◌, length, take, drop, get_or, Option, Some, None, refl, sym, ap, subst, ◌∙◌, append_assoc, inl, inr, arith}
+use mathlib.Core.List.{head-eq_of_cons-eq, tail-eq_of_cons-eq}
+use Rattle.std.specs.Prelude.{codes, pos, negsuc, decimal}
+use Rattle.std.specs.Char.{is_ascii_digit}
+use Rattle.std.specs.Fmt.{signed_decimal}
+use Rattle.std.specs.List.{AllByRecursion, list_all}
+use Rattle.std.proofs.lemmas.Bool.{and_parts, cases_lt}
+use Rattle.std.proofs.lemmas.Fmt.{digits_decimal}
+use Rattle.std.proofs.lemmas.List.{take-append-drop, drop_more, take_all, append_cancel_right}
+use Rattle.uring_entry.specs.Layout.{Cqe}
+use Rattle.uring_entry.specs.Requests.{no_bytes}
+use Rattle.uring_core.specs.declared.answer.Answer.TheVariants as answer
+use Rattle.uring_core.specs.declared.step.Step.TheVariants as step
+use Rattle.uring_text.specs.Completions.{completion_text, trimmed}
+use Rattle.uring_text.specs.Reading.{number_of, file_of}
+use Rattle.uring_text.specs.Spelling.{IsFile, SpellsNumber, IsNoNumber}
+use Rattle.uring_text.specs.Tokens.{hex_or_dash}
+use Rattle.uring_text.proofs.NumberLaws.{number_again, file_again}
+use Rattle.uring_text.proofs.Numbers.{own}
+use Rattle.uring_trace.specs.Text.{text_of}
+use Rattle.uring_seen.specs.Seen.{IsBare}
+use Rattle.uring_seen.specs.Sights.{IsCompletion, IsNoCompletion, IsFramed, IsUnframed, IsParted, IsUnparted}
+
+abbrev pub HasNoBlank : List ℕ → Type 0
+HasNoBlank xs = AllByRecursion (λ b. b ≢ 32) xs
+
+-- ---- numbers
+
+some_once : {X : Type 0} (a b : X) → Some a ≡ Some b → a ≡ b
+some_once a b e = cc
+
+pub number_once : (n m : ℕ) → n < 2 ^ 64 → m < 2 ^ 64 → decimal n ≡ decimal m → n ≡ m
+number_once n m p q e =
+    some_once n m (sym (number_again (2 ^ 64) n (omega arith) p) ∙ ap (number_of (2 ^ 64)) e ∙ number_again (2 ^ 64) m (omega arith) q)
+
+pub signed_once : (y z : ℤ) → IsFile y → IsFile z → signed_decimal y ≡ signed_decimal z → y ≡ z
+signed_once y z p q e = some_once y z (sym (file_again y p) ∙ ap file_of e ∙ file_again z q)
+
+no_digit : (b : ℕ) → is_ascii_digit b ≡ true → b ≢ 32
+no_digit b digit is = let no : is_ascii_digit 32 ≡ true = subst (λ (c : ℕ). is_ascii_digit c ≡ true) is digit in (let f : false ≡ true = no in cc)
+
+no_blank : (bs : List ℕ) → list_all is_ascii_digit bs ≡ true → HasNoBlank bs
+no_blank [] e = tt
+no_blank (b ∷ bs) e =
+    let parts = and_parts (is_ascii_digit b) (list_all is_ascii_digit bs) e in
+    (no_digit b parts.0, no_blank bs parts.1)
+
+pub decimal_unbroken : (n : ℕ) → n < 2 ^ 64 → HasNoBlank (decimal n)
+decimal_unbroken n p = no_blank (decimal n) (digits_decimal own n p)
+
+-- ---- the first blank
+
+pub blank_once : (xs ys us vs : List ℕ) → HasNoBlank xs → HasNoBlank us → xs ++ 32 ∷ ys ≡ us ++ 32 ∷ vs
+    → (xs ≡ us) × (ys ≡ vs)
+blank_once [] ys [] vs h k e = (refl, tail-eq_of_cons-eq e)
+blank_once [] ys (u ∷ us) vs h k e = absurd (k.0 (sym (head-eq_of_cons-eq e)))
+blank_once (x ∷ xs) ys [] vs h k e = absurd (h.0 (head-eq_of_cons-eq e))
+blank_once (x ∷ xs) ys (u ∷ us) vs h k e =
+    let same = blank_once xs ys us vs h.1 k.1 (tail-eq_of_cons-eq e) in
+    (ap (λ (b : ℕ). b ∷ xs) (head-eq_of_cons-eq e) ∙ ap (λ (l : List ℕ). u ∷ l) same.0, same.1)
+
+pub none_and_one : (xs ys : List ℕ) → HasNoBlank (xs ++ 32 ∷ ys) → ⊥
+none_and_one [] ys h = h.0 refl
+none_and_one (x ∷ xs) ys h = none_and_one xs ys h.1
+
+-- a cut before the first blank, or behind all
+pub record IsCut (text front back : List ℕ) (n : ℕ) : Type 0 where
+  pub front_is : front ≡ take n text
+  pub back_is : back ≡ drop n text
+  pub within : n ≤ length text
+  pub none : HasNoBlank (take n text)
+  pub here : n < length text → get_or text n 0 ≡ 32
+
+pub cut_parted : (text front back behind : List ℕ) (n : ℕ) → IsCut text front back n
+    → back ≡ 32 ∷ behind → IsParted text front behind
+cut_parted text front back behind n c e = record {
+  whole = sym (take-append-drop n text) ∙ ap (λ (l : List ℕ). l ++ drop n text) (sym c.front_is) ∙ ap (λ (l : List ℕ). front ++ l) (sym c.back_is ∙ e);
+  first = subst HasNoBlank (sym c.front_is) c.none;
+}
+
+pub cut_unparted : (text front back : List ℕ) (n : ℕ) → IsCut text front back n
+    → ((behind : List ℕ) → back ≢ 32 ∷ behind) → IsUnparted text
+cut_unparted text front back n c none = elim (cases_lt n (length text)) [
+  | inl lt ↦
+      let next : drop n text ≡ 32 ∷ drop (n + 1) text = drop_more text n 0 lt ∙ ap (λ (b : ℕ). b ∷ drop (n + 1) text) (c.here lt) in
+      absurd (none (drop (n + 1) text) (c.back_is ∙ next))
+  | inr ge ↦ subst HasNoBlank (take_all n text ge) c.none
+]
+
+-- ---- completions
+
+abbrev middle : ℕ → ℤ → List ℕ
+middle ud res = decimal ud ++ 32 ∷ signed_decimal res
+
+bare_text : (ud : ℕ) (res : ℤ)
+    → completion_text (record { user_data = ud; res = res; payload = no_bytes }) ≡ codes "cqe " ++ (middle ud res ++ codes " -")
+bare_text ud res = simp append_assoc refl
+
+pub completion_is : (text : List ℕ) (c : Cqe) → IsCompletion text c
+    → text ≡ codes "cqe " ++ (middle c.user_data c.res ++ codes " -")
+completion_is text c is =
+    sym is.text_is ∙ ap (λ (p : List ℕ). completion_text (record { user_data = c.user_data; res = c.res; payload = p })) is.bare.2
+    ∙ bare_text c.user_data c.res
+
+-- the parts of its text say what it is
+pub completion_once : (c d : Cqe) → text_of (answer.Reaped c) ≡ text_of (answer.Reaped d)
+    → IsBare step.Reap (answer.Reaped c) → IsBare step.Reap (answer.Reaped d) → c ≡ d
+completion_once c d same p q =
+    let left = completion_is (completion_text c) c (record { text_is = refl; bare = p }) in
+    let right = completion_is (completion_text d) d (record { text_is = refl; bare = q }) in
+    let texts : middle c.user_data c.res ++ codes " -" ≡ middle d.user_data d.res ++ codes " -" = ap (λ (l : List ℕ). drop 4 l) (sym left ∙ same ∙ right) in
+    let middles : middle c.user_data c.res ≡ middle d.user_data d.res = append_cancel_right (middle c.user_data c.res) (middle d.user_data d.res) (codes " -") texts in
+    let parts = blank_once (decimal c.user_data) (signed_decimal c.res) (decimal d.user_data) (signed_decimal d.res) (decimal_unbroken c.user_data p.0) (decimal_unbroken d.user_data q.0) middles in
+    let ud : c.user_data ≡ d.user_data = number_once c.user_data d.user_data p.0 q.0 parts.0 in
+    let res : c.res ≡ d.res = signed_once c.res d.res p.1 q.1 parts.1 in
+    let payload : c.payload ≡ d.payload = p.2 ∙ sym q.2 in
+    λ i. record { user_data = ud i; res = res i; payload = payload i }
+
+-- ---- a completion that is read
+
+-- a text that begins otherwise has no frame
+pub front_unframed : (text : List ℕ) → ((rest : List ℕ) → text ≢ codes "cqe " ++ rest) → IsUnframed text
+front_unframed text none = λ mid f. none (mid ++ codes " -") f
+
+-- nor one that ends otherwise
+pub back_unframed : (text rest : List ℕ) → text ≡ codes "cqe " ++ rest
+    → ((mid : List ℕ) → rest ≢ mid ++ codes " -") → IsUnframed text
+back_unframed text rest front none = λ mid f. none mid (ap (λ (l : List ℕ). drop 4 l) (sym front ∙ f))
+
+pub framed : (text rest mid : List ℕ) → text ≡ codes "cqe " ++ rest → rest ≡ mid ++ codes " -"
+    → IsFramed text mid
+framed text rest mid front back = front ∙ ap (λ (l : List ℕ). codes "cqe " ++ l) back
+
+middle_is : (text mid : List ℕ) (c : Cqe) → IsFramed text mid → IsCompletion text c
+    → mid ≡ middle c.user_data c.res
+middle_is text mid c f is =
+    append_cancel_right mid (middle c.user_data c.res) (codes " -") (ap (λ (l : List ℕ). drop 4 l) (sym f ∙ completion_is text c is))
+
+-- the text of a completion has a frame
+pub unframed_none : (text : List ℕ) → IsUnframed text → IsNoCompletion text
+unframed_none text none = λ c is. none (middle c.user_data c.res) (completion_is text c is)
+
+-- and a blank in it
+pub unparted_none : (text mid : List ℕ) → IsFramed text mid → IsUnparted mid → IsNoCompletion text
+unparted_none text mid f none = λ c is.
+    none_and_one (decimal c.user_data) (signed_decimal c.res) (subst HasNoBlank (middle_is text mid c f is) none)
+
+parts_are : (text mid before behind : List ℕ) (c : Cqe) → IsFramed text mid → IsParted mid before behind
+    → IsCompletion text c → (before ≡ decimal c.user_data) × (behind ≡ signed_decimal c.res)
+parts_are text mid before behind c f p is =
+    blank_once before behind (decimal c.user_data) (signed_decimal c.res) p.first (decimal_unbroken c.user_data is.bare.0) (sym p.whole ∙ middle_is text mid c f is)
+
+-- with a number before it
+pub number_none : (text mid before behind : List ℕ) → IsFramed text mid → IsParted mid before behind
+    → IsNoNumber (2 ^ 64) before → IsNoCompletion text
+number_none text mid before behind f p none = λ c is.
+    none c.user_data ((parts_are text mid before behind c f p is).0, is.bare.0)
+
+-- and a result behind it
+pub result_none : (text mid before behind : List ℕ) → IsFramed text mid → IsParted mid before behind
+    → ((z : ℤ) → IsFile z → signed_decimal z ≡ behind → ⊥) → IsNoCompletion text
+result_none text mid before behind f p none = λ c is.
+    none c.res is.bare.1 (sym (parts_are text mid before behind c f p is).1)
+
+pub completion_read : (text mid before behind : List ℕ) (n : ℕ) (z : ℤ) → IsFramed text mid
+    → IsParted mid before behind → SpellsNumber (2 ^ 64) before n → (signed_decimal z ≡ behind) × IsFile z
+    → IsCompletion text (record { user_data = n; res = z; payload = no_bytes })
+completion_read text mid before behind n z f p number result = record {
+  text_is =
+      bare_text n z
+      ∙ ap (λ (l : List ℕ). codes "cqe " ++ ((l ++ 32 ∷ signed_decimal z) ++ codes " -")) (sym number.0)
+      ∙ ap (λ (l : List ℕ). codes "cqe " ++ ((before ++ 32 ∷ l) ++ codes " -")) result.0
+      ∙ ap (λ (l : List ℕ). codes "cqe " ++ (l ++ codes " -")) (sym p.whole)
+      ∙ sym f;
+  bare = (number.1, result.1, refl);
+}

@@ -1,0 +1,3 @@
+pub mod Seen
+pub mod Sights
+pub mod Told
