@@ -1,13 +1,15 @@
 //! What the lines change of requests and completions.
 
+ghost use Rattle.std.specs.Prelude.{ℕ, IsOk};
+
 use crate::json_text::{push_count, push_member, push_name, push_quoted};
 use crate::requests::Requests;
+use crate::submission::push_value;
 use std::alloc::{AllocError, Global};
-use std::fmt::Write;
 use uring_entry::{opcode, succeeded};
 use uring_machine::{Counts, Doom, Machine, Sqe, Why};
-use uring_text::spelled_signed;
-use uring_trace::push_why;
+use uring_text::{TextMemory, push_number, push_signed, push_text, spelled_signed};
+use uring_trace::push_why_in;
 
 /// A line as it is looked at.
 #[derive(Clone, Copy)]
@@ -66,43 +68,49 @@ impl Changes {
     }
 
     /// Adds the requests that a call accepted.
-    pub(crate) fn accept(
+    pub(crate) fn accept<M: TextMemory>(
         &mut self,
+        memory: &M,
         text: &mut String,
         entries: &[Sqe],
         call: u64,
-    ) -> Result<(), AllocError> {
+    ) -> Result<(), AllocError>
+        ensures { ((n : ℕ) → M.grants memory.now n) → IsOk result }
+    {
         let mut is_first = true;
         for entry in entries {
             let number = self.requests.count();
-            self.requests.add(*entry, call, is_first)?;
-            self.outstanding.push(number)?;
-            push_change(text, number, "accepted")?;
-            text.push_str("}")?;
+            self.requests.add(memory, *entry, call, is_first)?;
+            push_value(memory, &mut self.outstanding, number)?;
+            push_change(memory, text, number, "accepted")?;
+            push_text(memory, text, "}")?;
             is_first = false;
         }
         Ok(())
     }
 
     /// Appends what has changed by a line.
-    pub(crate) fn look(
+    pub(crate) fn look<M: TextMemory>(
         &mut self,
+        memory: &M,
         text: &mut String,
         machine: &Machine,
         look: Look<'_>,
-    ) -> Result<(), AllocError> {
+    ) -> Result<(), AllocError>
+        ensures { ((n : ℕ) → M.grants memory.now n) → IsOk result }
+    {
         let counts = machine.counts();
         let put = counts.posted.saturating_sub(machine.overflowing());
         if counts == self.counts && put == self.put {
             return Ok(());
         }
         self.note_issue(look);
-        self.look_at_all(text, machine, look)?;
+        self.look_at_all(memory, text, machine, look)?;
         if counts.posted > self.counts.posted {
-            self.post(text, put, look)?;
+            self.post(memory, text, put, look)?;
         }
-        self.note_moves(text, put, counts.reaped)?;
-        self.note_safe(text, look)?;
+        self.note_moves(memory, text, put, counts.reaped)?;
+        self.note_safe(memory, text, look)?;
         self.put = put;
         self.counts = counts;
         Ok(())
@@ -119,21 +127,24 @@ impl Changes {
     }
 
     /// Looks at each outstanding request.
-    fn look_at_all(
+    fn look_at_all<M: TextMemory>(
         &mut self,
+        memory: &M,
         text: &mut String,
         machine: &Machine,
         look: Look<'_>,
-    ) -> Result<(), AllocError> {
+    ) -> Result<(), AllocError>
+        ensures { ((n : ℕ) → M.grants memory.now n) → IsOk result }
+    {
         let mut left = Vec::new(self.alloc);
         for place in 0..self.outstanding.len() {
             let Some(number) = self.outstanding.get(place).copied() else {
                 continue;
             };
             let why = machine.why(number);
-            self.look_at(text, number, why, look)?;
+            self.look_at(memory, text, number, why, look)?;
             if why != Why::HasEnded {
-                left.push(number)?;
+                push_value(memory, &mut left, number)?;
             }
         }
         self.outstanding = left;
@@ -141,13 +152,16 @@ impl Changes {
     }
 
     /// Appends how a request stands, if that has changed.
-    fn look_at(
+    fn look_at<M: TextMemory>(
         &mut self,
+        memory: &M,
         text: &mut String,
         number: u64,
         why: Why,
         look: Look<'_>,
-    ) -> Result<(), AllocError> {
+    ) -> Result<(), AllocError>
+        ensures { ((n : ℕ) → M.grants memory.now n) → IsOk result }
+    {
         let Some(request) = self.requests.get_mut(number) else {
             return Ok(());
         };
@@ -157,59 +171,97 @@ impl Changes {
         request.why = why;
         if why == Why::HasEnded {
             request.ended = Some(look.line);
-            return push_end(text, number, look);
+            return push_end(memory, text, number, look);
         }
-        push_change(text, number, state_of(why))?;
+        push_change(memory, text, number, state_of(why))?;
         if let Some(other) = other_of(why, look) {
-            push_count(text, "of", other)?;
+            push_count(memory, text, "of", other)?;
         }
-        self.push_reason(text, why)
+        self.push_reason(memory, text, why)
     }
 
     /// Appends why a request stands as it does, in the words of `explain`.
-    fn push_reason(&self, text: &mut String, why: Why) -> Result<(), AllocError> {
+    fn push_reason<M: TextMemory>(
+        &self,
+        memory: &M,
+        text: &mut String,
+        why: Why,
+    ) -> Result<(), AllocError>
+        ensures { ((n : ℕ) → M.grants memory.now n) → IsOk result }
+    {
         let mut words = String::new(self.alloc);
-        push_why(&mut words, why)?;
-        push_member(text, "why", words.as_bytes())?;
-        text.push_str("}")
+        push_why_in(memory, &mut words, why)?;
+        push_member(memory, text, "why", words.as_bytes())?;
+        push_text(memory, text, "}")
     }
 
     /// Notes that the request of this line has posted its completion: to the ring, or to the overflow list.
-    fn post(&mut self, text: &mut String, put: u64, look: Look<'_>) -> Result<(), AllocError> {
+    fn post<M: TextMemory>(
+        &mut self,
+        memory: &M,
+        text: &mut String,
+        put: u64,
+        look: Look<'_>,
+    ) -> Result<(), AllocError>
+        ensures { ((n : ℕ) → M.grants memory.now n) → IsOk result }
+    {
         let Some(number) = look.moved else {
             return Ok(());
         };
         let place = self.posters.len() as u64;
-        self.posters.push(number)?;
+        push_value(memory, &mut self.posters, number)?;
         if place >= put {
-            push_change(text, number, "overflow")?;
-            text.push_str("}")?;
+            push_change(memory, text, number, "overflow")?;
+            push_text(memory, text, "}")?;
         }
         Ok(())
     }
 
     /// Appends which completions were put into the ring, and which were reaped.
-    fn note_moves(&self, text: &mut String, put: u64, reaped: u64) -> Result<(), AllocError> {
+    fn note_moves<M: TextMemory>(
+        &self,
+        memory: &M,
+        text: &mut String,
+        put: u64,
+        reaped: u64,
+    ) -> Result<(), AllocError>
+        ensures { ((n : ℕ) → M.grants memory.now n) → IsOk result }
+    {
         for place in self.put..put {
-            self.push_posted(text, place, "ring")?;
+            self.push_posted(memory, text, place, "ring")?;
         }
         for place in self.counts.reaped..reaped {
-            self.push_posted(text, place, "reaped")?;
+            self.push_posted(memory, text, place, "reaped")?;
         }
         Ok(())
     }
 
     /// Appends what became of the completion that was posted at this place.
-    fn push_posted(&self, text: &mut String, place: u64, state: &str) -> Result<(), AllocError> {
+    fn push_posted<M: TextMemory>(
+        &self,
+        memory: &M,
+        text: &mut String,
+        place: u64,
+        state: &str,
+    ) -> Result<(), AllocError>
+        ensures { ((n : ℕ) → M.grants memory.now n) → IsOk result }
+    {
         let Some(number) = self.posters.get(place as usize) else {
             return Ok(());
         };
-        push_change(text, *number, state)?;
-        text.push_str("}")
+        push_change(memory, text, *number, state)?;
+        push_text(memory, text, "}")
     }
 
     /// Notes a write that has succeeded, and appends which writes a sync that has succeeded makes safe.
-    fn note_safe(&mut self, text: &mut String, look: Look<'_>) -> Result<(), AllocError> {
+    fn note_safe<M: TextMemory>(
+        &mut self,
+        memory: &M,
+        text: &mut String,
+        look: Look<'_>,
+    ) -> Result<(), AllocError>
+        ensures { ((n : ℕ) → M.grants memory.now n) → IsOk result }
+    {
         let Some(number) = look.moved else {
             return Ok(());
         };
@@ -220,29 +272,32 @@ impl Changes {
             return Ok(());
         }
         match request.entry.opcode() {
-            opcode::WRITE => Ok(self.writes.push(number)?),
-            opcode::FSYNC => self.make_safe(text, &request.entry, request.issued),
+            opcode::WRITE => push_value(memory, &mut self.writes, number),
+            opcode::FSYNC => self.make_safe(memory, text, &request.entry, request.issued),
             _ => Ok(()),
         }
     }
 
     /// Appends which writes a sync of a file makes safe: those of that file that had ended when it was issued.
-    fn make_safe(
+    fn make_safe<M: TextMemory>(
         &mut self,
+        memory: &M,
         text: &mut String,
         sync: &Sqe,
         issued: Option<u64>,
-    ) -> Result<(), AllocError> {
+    ) -> Result<(), AllocError>
+        ensures { ((n : ℕ) → M.grants memory.now n) → IsOk result }
+    {
         let mut left = Vec::new(self.alloc);
         for place in 0..self.writes.len() {
             let Some(number) = self.writes.get(place).copied() else {
                 continue;
             };
             if self.is_covered(number, sync, issued) {
-                push_change(text, number, "safe")?;
-                text.push_str("}")?;
+                push_change(memory, text, number, "safe")?;
+                push_text(memory, text, "}")?;
             } else {
-                left.push(number)?;
+                push_value(memory, &mut left, number)?;
             }
         }
         self.writes = left;
@@ -262,24 +317,39 @@ impl Changes {
 }
 
 /// Appends the beginning of a change.
-fn push_change(text: &mut String, number: u64, state: &str) -> Result<(), AllocError> {
+fn push_change<M: TextMemory>(
+    memory: &M,
+    text: &mut String,
+    number: u64,
+    state: &str,
+) -> Result<(), AllocError>
+    ensures { ((n : ℕ) → M.grants memory.now n) → IsOk result }
+{
     if !text.is_empty() {
-        text.push_str(",")?;
+        push_text(memory, text, ",")?;
     }
-    write!(text, "{{\"request\":{number}")?;
-    push_name(text, "is")?;
-    push_quoted(text, state.as_bytes())
+    push_text(memory, text, "{\"request\":")?;
+    push_number(memory, text, number)?;
+    push_name(memory, text, "is")?;
+    push_quoted(memory, text, state.as_bytes())
 }
 
 /// Appends that the request of this line has ended.
-fn push_end(text: &mut String, number: u64, look: Look<'_>) -> Result<(), AllocError> {
-    push_change(text, number, "ended")?;
+fn push_end<M: TextMemory>(
+    memory: &M,
+    text: &mut String,
+    number: u64,
+    look: Look<'_>,
+) -> Result<(), AllocError>
+    ensures { ((n : ℕ) → M.grants memory.now n) → IsOk result }
+{
+    push_change(memory, text, number, "ended")?;
     if let Some(found) = look.found {
-        push_count(text, "of", found)?;
+        push_count(memory, text, "of", found)?;
     }
-    let result = result_of(look.answer);
-    push_name(text, "result")?;
-    write!(text, "{result}}}")
+    push_name(memory, text, "result")?;
+    push_signed(memory, text, result_of(look.answer))?;
+    push_text(memory, text, "}")
 }
 
 /// The result in the answer of an end.

@@ -11,6 +11,6 @@ mod submission;
 mod viewer;
 mod watching;
 
-pub use checked::recorded_page;
+pub use checked::{recorded_page, recorded_page_in};
 pub use uring_text::TraceFault;
-pub use watching::{Form, page};
+pub use watching::{Form, page, page_in};
