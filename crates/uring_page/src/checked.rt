@@ -38,7 +38,7 @@ pub fn recorded_page_in<M: TextMemory, W: Write>(
     setup: &Setup,
     form: Form,
 ) -> Result<(), TraceFault>
-    ensures { ((n : ℕ) → M.grants memory.now n) → result ≢ Err TraceFault.Memory }
+    ensures granted { ((n : ℕ) → M.grants memory.now n) → result ≢ Err TraceFault.Memory }
 {
     let mut recorder = Recorder::new(memory, alloc, setup)?;
     let recorded = record_lines(memory, alloc, setup, &mut recorder, trace, report);
@@ -76,8 +76,24 @@ fn record_lines<M: TextMemory>(
 ) -> Result<(), TraceFault>
     ensures { ((n : ℕ) → M.grants memory.now n) → result ≢ Err TraceFault.Memory }
 {
-    let last = last_line(report);
     let mut explainer = Explainer::new_in(memory, alloc, setup)?;
+    let recorded = record_all(memory, alloc, &mut explainer, recorder, trace, report);
+    drop(explainer);
+    recorded
+}
+
+/// The same, by an explainer before the first line.
+fn record_all<M: TextMemory>(
+    memory: &M,
+    alloc: Global,
+    explainer: &mut Explainer,
+    recorder: &mut Recorder,
+    trace: &[u8],
+    report: &[u8],
+) -> Result<(), TraceFault>
+    ensures { ((n : ℕ) → M.grants memory.now n) → result ≢ Err TraceFault.Memory }
+{
+    let last = last_line(report);
     let mut number: u64 = 1;
     let mut rest = trace;
     for _ in 0..trace.len() {
@@ -85,16 +101,14 @@ fn record_lines<M: TextMemory>(
             break;
         };
         if number == last {
-            record_wrong(memory, recorder, line, report)?;
-            break;
+            return record_wrong(memory, recorder, line, report);
         }
-        if !record_line(memory, alloc, &mut explainer, recorder, line)? {
+        if !record_line(memory, alloc, explainer, recorder, line)? {
             break;
         }
         number = number.saturating_add(1);
         rest = behind;
     }
-    drop(explainer);
     Ok(())
 }
 

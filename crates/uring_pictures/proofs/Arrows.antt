@@ -7,6 +7,12 @@ use Rattle.uring_entry.specs.Why.{why_of}
 use Rattle.uring_entry.specs.declared.why.Why.{Why}
 use Rattle.uring_pictures.specs.Graphs.{arrows_below, arrows_text, call_of, first_of, is_chained, member_before, placed_text, in_chain, node_text, line_text, row_text}
 
+-- a part, and what is behind it
+pub two_parts : (front so after part more : List ℕ) → so ≡ front ++ part → after ≡ so ++ more
+    → after ≡ front ++ (part ++ more)
+two_parts front so after part more a b =
+    b ∙ ap (λ (l : List ℕ). l ++ more) a ∙ append_assoc front part more
+
 -- one part more
 pub part_more : (f : ℕ → List ℕ) (part : List ℕ) (n : ℕ) (front so after : List ℕ) → so ≡ front ++ f n
     → after ≡ so ++ part → f (suc n) ≡ f n ++ part → after ≡ front ++ f (n + 1)

@@ -58,18 +58,47 @@ pub fn graph_in<M: TextMemory, R: Read, W: Write, E: Write>(
     ensures granted { ((n : ℕ) → M.grants memory.now n) → result ≢ Err TraceFault.Memory }
 {
     let mut explainer = Explainer::new_in(memory, alloc, setup)?;
+    let drawn = draw_moment(
+        memory,
+        alloc,
+        &mut explainer,
+        reader,
+        writer,
+        errors,
+        setup,
+        at,
+    );
+    drop(explainer);
+    drawn
+}
+
+/// Takes in all lines, and draws the graph of the moment behind one of them.
+fn draw_moment<M: TextMemory, R: Read, W: Write, E: Write>(
+    memory: &M,
+    alloc: Global,
+    explainer: &mut Explainer,
+    reader: &mut R,
+    writer: &mut W,
+    errors: &mut E,
+    setup: &Setup,
+    at: Option<u64>,
+) -> Result<bool, TraceFault>
+    ensures drawn { IfOk result
+        (λ bad. HasTold setup.now explainer.old [] [] []
+        → Draws at setup.now bad (R.remaining reader.old) (R.remaining reader.new) (W.contents writer.old) (W.contents writer.new) (E.contents errors.old) (E.contents errors.new)) }
+    ensures granted { ((n : ℕ) → M.grants memory.now n) → result ≢ Err TraceFault.Memory }
+{
     let mut moment = Moment::new_in(memory, alloc, setup, at)?;
     let drawn = draw_all(
         memory,
         alloc,
-        &mut explainer,
+        explainer,
         &mut moment,
         reader,
         writer,
         errors,
     );
     drop(moment);
-    drop(explainer);
     drawn
 }
 

@@ -41,12 +41,29 @@ pub(crate) fn push_placed<M: TextMemory>(
     push_named(memory, text, "  subgraph cluster_call_", place.call)?;
     push_named(memory, text, " { label=\"call ", place.call)?;
     push_text(memory, text, "\"; ")?;
-    if place.is_chained {
-        push_chained(memory, text, place.first, number, entry, why)?;
-    } else {
-        push_node(memory, text, number, entry, why)?;
-    }
+    push_inner(memory, text, place, number, entry, why)?;
     push_text(memory, text, " }\n")
+}
+
+/// Appends a node, in the cluster of its chain if that has another member.
+fn push_inner<M: TextMemory>(
+    memory: &M,
+    text: &mut String,
+    place: Place,
+    number: u64,
+    entry: &Sqe,
+    why: Why,
+) -> Result<(), AllocError>
+    ensures line { OnOk result
+        (string_bytes text.new
+        ≡ string_bytes text.old ++ in_chain place.is_chained place.first (node_text number entry.now why)) }
+    ensures granted { ((n : ℕ) → M.grants memory.now n) → IsOk result }
+{
+    if place.is_chained {
+        push_chained(memory, text, place.first, number, entry, why)
+    } else {
+        push_node(memory, text, number, entry, why)
+    }
 }
 
 /// Appends a node in the cluster of its chain.
