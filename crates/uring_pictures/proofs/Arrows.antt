@@ -8,10 +8,23 @@ use Rattle.uring_entry.specs.declared.why.Why.{Why}
 use Rattle.uring_pictures.specs.Graphs.{arrows_below, arrows_text, call_of, first_of, is_chained, member_before, placed_text, in_chain, node_text, line_text, row_text}
 
 -- a part, and what is behind it
-pub two_parts : (front so after part more : List ℕ) → so ≡ front ++ part → after ≡ so ++ more
+two_parts : (front so after part more : List ℕ) → so ≡ front ++ part → after ≡ so ++ more
     → after ≡ front ++ (part ++ more)
 two_parts front so after part more a b =
     b ∙ ap (λ (l : List ℕ). l ++ more) a ∙ append_assoc front part more
+
+-- five parts
+pub five_parts : (old a b c d new p q r s t : List ℕ) → a ≡ old ++ p → b ≡ a ++ q → c ≡ b ++ r
+    → d ≡ c ++ s → new ≡ d ++ t → new ≡ old ++ (p ++ q ++ r ++ s ++ t)
+five_parts old a b c d new p q r s t i j k l m =
+    two_parts old a new p (q ++ r ++ s ++ t) i (two_parts a b new q (r ++ s ++ t) j (two_parts b c new r (s ++ t) k (two_parts c d new s t l m)))
+
+-- and seven
+pub seven_parts : (old a b c d e f new p q r s t u v : List ℕ) → a ≡ old ++ p → b ≡ a ++ q → c ≡ b ++ r
+    → d ≡ c ++ s → e ≡ d ++ t → f ≡ e ++ u → new ≡ f ++ v
+    → new ≡ old ++ (p ++ q ++ r ++ s ++ t ++ u ++ v)
+seven_parts old a b c d e f new p q r s t u v i j k l m n o =
+    two_parts old a new p (q ++ r ++ s ++ t ++ u ++ v) i (two_parts a b new q (r ++ s ++ t ++ u ++ v) j (five_parts b c d e f new r s t u v k l m n o))
 
 -- one part more
 pub part_more : (f : ℕ → List ℕ) (part : List ℕ) (n : ℕ) (front so after : List ℕ) → so ≡ front ++ f n

@@ -1,4 +1,4 @@
-use Rattle.std.proofs.Common.{ℕ, Option, ap, sym, subst, ◌∙◌}
+use Rattle.std.proofs.Common.{[], ◌∷◌, ◌++◌, ℕ, Option, ap, sym, subst, ◌∙◌}
 use Rattle.std.proofs.lemmas.Result.{on_ok_weaker}
 use Rattle.uring_pictures.specs.Following.{Following}
 use Rattle.uring_pictures.specs.Moments.{does_count}
@@ -11,5 +11,5 @@ returns-then-counts-clause-ok g c = on_ok_weaker c.end_counted.result (λ ends. 
 pub returns-clause-ok : goal.returns-clause-ok
 returns-clause-ok g c = λ at setup before f. (
   f.0 ∙ sym c.begin_line.ensures.at,
-  subst (λ a. Following at setup a c.begin_line.new.self.line c.begin_line.new.self.number _) (sym c.begin_line.ensures.accepted) (follows_passed at setup _ _ _ _ _ before (ap (λ (o : Option ℕ). does_count o c.args.self.now.number) f.0 ∙ sym c.counts.ensures ∙ c.if-counts.false) c.begin_line.ensures.line c.begin_line.ensures.number f.1),
+  subst (λ a. Following at setup a c.begin_line.new.self.line c.begin_line.new.self.number (before ++ 10 ∷ [])) (sym c.begin_line.ensures.accepted) (follows_passed at setup _ _ _ _ _ before (ap (λ (o : Option ℕ). does_count o c.args.self.now.number) f.0 ∙ sym c.counts.ensures ∙ c.if-counts.false) c.begin_line.ensures.line c.begin_line.ensures.number f.1),
 )
