@@ -2,13 +2,14 @@
 
 ghost use Rattle.std.specs.Prelude.{ℕ, IsOk};
 
-use crate::json_text::{push_count, push_member, push_name, push_quoted};
-use crate::requests::Requests;
+use crate::change_text::{other_of, push_change, push_end, push_state, result_of, state_of};
+use crate::json_text::{push_count, push_member};
+use crate::requests::{Request, Requests};
 use crate::submission::push_value;
 use std::alloc::{AllocError, Global};
 use uring_entry::{opcode, succeeded};
-use uring_machine::{Counts, Doom, Machine, Sqe, Why};
-use uring_text::{TextMemory, push_number, push_signed, push_text, spelled_signed};
+use uring_machine::{Counts, Machine, Sqe, Why};
+use uring_text::{TextMemory, push_text};
 use uring_trace::push_why_in;
 
 /// A line as it is looked at.
@@ -82,8 +83,7 @@ impl Changes {
             let number = self.requests.count();
             self.requests.add(memory, *entry, call, is_first)?;
             push_value(memory, &mut self.outstanding, number)?;
-            push_change(memory, text, number, "accepted")?;
-            push_text(memory, text, "}")?;
+            push_state(memory, text, number, "accepted")?;
             is_first = false;
         }
         Ok(())
@@ -106,14 +106,27 @@ impl Changes {
         }
         self.note_issue(look);
         self.look_at_all(memory, text, machine, look)?;
+        self.note_completions(memory, text, put, counts, look)?;
+        self.put = put;
+        self.counts = counts;
+        self.note_safe(memory, text, look)
+    }
+
+    /// Notes that a completion was posted, and appends which were put into the ring and which were reaped.
+    fn note_completions<M: TextMemory>(
+        &mut self,
+        memory: &M,
+        text: &mut String,
+        put: u64,
+        counts: Counts,
+        look: Look<'_>,
+    ) -> Result<(), AllocError>
+        ensures { ((n : ℕ) → M.grants memory.now n) → IsOk result }
+    {
         if counts.posted > self.counts.posted {
             self.post(memory, text, put, look)?;
         }
-        self.note_moves(memory, text, put, counts.reaped)?;
-        self.note_safe(memory, text, look)?;
-        self.put = put;
-        self.counts = counts;
-        Ok(())
+        self.note_moves(memory, text, put, counts.reaped)
     }
 
     /// Notes at which line a request was issued.
@@ -143,9 +156,7 @@ impl Changes {
             };
             let why = machine.why(number);
             self.look_at(memory, text, number, why, look)?;
-            if why != Why::HasEnded {
-                push_value(memory, &mut left, number)?;
-            }
+            push_unless_ended(memory, &mut left, number, why)?;
         }
         self.outstanding = left;
         Ok(())
@@ -162,17 +173,41 @@ impl Changes {
     ) -> Result<(), AllocError>
         ensures { ((n : ℕ) → M.grants memory.now n) → IsOk result }
     {
-        let Some(request) = self.requests.get_mut(number) else {
+        if !self.has_changed(number, why, look.line) {
             return Ok(());
+        }
+        if why == Why::HasEnded {
+            return push_end(memory, text, number, look);
+        }
+        self.push_standing(memory, text, number, why, look)
+    }
+
+    /// Notes how a request stands at this line. Returns whether that has changed.
+    fn has_changed(&mut self, number: u64, why: Why, line: u64) -> bool {
+        let Some(request) = self.requests.get_mut(number) else {
+            return false;
         };
         if request.why == why {
-            return Ok(());
+            return false;
         }
         request.why = why;
         if why == Why::HasEnded {
-            request.ended = Some(look.line);
-            return push_end(memory, text, number, look);
+            request.ended = Some(line);
         }
+        true
+    }
+
+    /// Appends how an outstanding request stands.
+    fn push_standing<M: TextMemory>(
+        &self,
+        memory: &M,
+        text: &mut String,
+        number: u64,
+        why: Why,
+        look: Look<'_>,
+    ) -> Result<(), AllocError>
+        ensures { ((n : ℕ) → M.grants memory.now n) → IsOk result }
+    {
         push_change(memory, text, number, state_of(why))?;
         if let Some(other) = other_of(why, look) {
             push_count(memory, text, "of", other)?;
@@ -210,11 +245,10 @@ impl Changes {
         };
         let place = self.posters.len() as u64;
         push_value(memory, &mut self.posters, number)?;
-        if place >= put {
-            push_change(memory, text, number, "overflow")?;
-            push_text(memory, text, "}")?;
+        if place < put {
+            return Ok(());
         }
-        Ok(())
+        push_state(memory, text, number, "overflow")
     }
 
     /// Appends which completions were put into the ring, and which were reaped.
@@ -249,8 +283,7 @@ impl Changes {
         let Some(number) = self.posters.get(place as usize) else {
             return Ok(());
         };
-        push_change(memory, text, *number, state)?;
-        push_text(memory, text, "}")
+        push_state(memory, text, *number, state)
     }
 
     /// Notes a write that has succeeded, and appends which writes a sync that has succeeded makes safe.
@@ -265,16 +298,23 @@ impl Changes {
         let Some(number) = look.moved else {
             return Ok(());
         };
-        let Some(request) = self.requests.get(number) else {
+        let Some(request) = self.succeeded_at(number, look) else {
             return Ok(());
         };
-        if request.ended != Some(look.line) || !succeeded(&request.entry, result_of(look.answer)) {
-            return Ok(());
-        }
         match request.entry.opcode() {
             opcode::WRITE => push_value(memory, &mut self.writes, number),
             opcode::FSYNC => self.make_safe(memory, text, &request.entry, request.issued),
             _ => Ok(()),
+        }
+    }
+
+    /// A request, if it has ended at this line and has succeeded.
+    fn succeeded_at(&self, number: u64, look: Look<'_>) -> Option<Request> {
+        let request = self.requests.get(number)?;
+        if request.ended == Some(look.line) && succeeded(&request.entry, result_of(look.answer)) {
+            Some(request)
+        } else {
+            None
         }
     }
 
@@ -293,12 +333,8 @@ impl Changes {
             let Some(number) = self.writes.get(place).copied() else {
                 continue;
             };
-            if self.is_covered(number, sync, issued) {
-                push_change(memory, text, number, "safe")?;
-                push_text(memory, text, "}")?;
-            } else {
-                push_value(memory, &mut left, number)?;
-            }
+            let is_safe = self.is_covered(number, sync, issued);
+            push_safe(memory, text, &mut left, number, is_safe)?;
         }
         self.writes = left;
         Ok(())
@@ -316,67 +352,34 @@ impl Changes {
     }
 }
 
-/// Appends the beginning of a change.
-fn push_change<M: TextMemory>(
+/// Adds a request to those that are left, unless it has ended.
+fn push_unless_ended<M: TextMemory>(
     memory: &M,
-    text: &mut String,
+    left: &mut Vec<u64>,
     number: u64,
-    state: &str,
+    why: Why,
 ) -> Result<(), AllocError>
     ensures { ((n : ℕ) → M.grants memory.now n) → IsOk result }
 {
-    if !text.is_empty() {
-        push_text(memory, text, ",")?;
+    if why == Why::HasEnded {
+        return Ok(());
     }
-    push_text(memory, text, "{\"request\":")?;
-    push_number(memory, text, number)?;
-    push_name(memory, text, "is")?;
-    push_quoted(memory, text, state.as_bytes())
+    push_value(memory, left, number)
 }
 
-/// Appends that the request of this line has ended.
-fn push_end<M: TextMemory>(
+/// Appends that a write is safe, or adds it to those that are left.
+fn push_safe<M: TextMemory>(
     memory: &M,
     text: &mut String,
+    left: &mut Vec<u64>,
     number: u64,
-    look: Look<'_>,
+    is_safe: bool,
 ) -> Result<(), AllocError>
     ensures { ((n : ℕ) → M.grants memory.now n) → IsOk result }
 {
-    push_change(memory, text, number, "ended")?;
-    if let Some(found) = look.found {
-        push_count(memory, text, "of", found)?;
-    }
-    push_name(memory, text, "result")?;
-    push_signed(memory, text, result_of(look.answer))?;
-    push_text(memory, text, "}")
-}
-
-/// The result in the answer of an end.
-fn result_of(answer: &[u8]) -> i32 {
-    match answer.strip_prefix(b"ended ") {
-        Some(result) => spelled_signed(result).unwrap_or(0),
-        None => 0,
-    }
-}
-
-/// The word for how an outstanding request stands.
-fn state_of(why: Why) -> &'static str {
-    match why {
-        Why::Runs => "runs",
-        Why::IsDoomed(_) => "doomed",
-        Why::Waits { .. } => "waits",
-        _ => "ready",
-    }
-}
-
-/// The request that holds one back, or that dooms it.
-fn other_of(why: Why, look: Look<'_>) -> Option<u64> {
-    match why {
-        Why::Waits { least, .. } => Some(least),
-        Why::IsDoomed(Doom::FaultOf(other)) => Some(other),
-        Why::IsDoomed(Doom::FailureOf(other)) => Some(other),
-        Why::IsDoomed(Doom::Cancel) => look.moved,
-        _ => None,
+    if is_safe {
+        push_state(memory, text, number, "safe")
+    } else {
+        push_value(memory, left, number)
     }
 }

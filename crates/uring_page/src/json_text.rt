@@ -81,6 +81,21 @@ pub(crate) fn push_count<M: TextMemory>(
     push_number(memory, text, number)
 }
 
+/// Appends a member of an object that is an array of these elements, behind another.
+pub(crate) fn push_array<M: TextMemory>(
+    memory: &M,
+    text: &mut String,
+    name: &str,
+    elements: &str,
+) -> Result<(), AllocError>
+    ensures { ((n : ℕ) → M.grants memory.now n) → IsOk result }
+{
+    push_name(memory, text, name)?;
+    push_text(memory, text, "[")?;
+    push_text(memory, text, elements)?;
+    push_text(memory, text, "]")
+}
+
 /// Appends a comma and the name of a member.
 pub(crate) fn push_name<M: TextMemory>(
     memory: &M,

@@ -1,12 +1,14 @@
 //! A run as data and as a page: what a trace shows as JSON, and the same in one HTML file that draws it.
 #![tactic(auto)]
 
+mod change_text;
 mod changes;
 mod checked;
 mod entries;
 mod json_text;
 mod recorder;
 mod requests;
+mod state_text;
 mod submission;
 mod viewer;
 mod watching;

@@ -3,13 +3,14 @@
 ghost use Rattle.std.specs.Prelude.{ℕ, IsOk};
 
 use crate::changes::{Changes, Look};
-use crate::json_text::{last_number, push_count, push_name, push_quoted, push_string};
+use crate::json_text::{last_number, push_array, push_count, push_name, push_quoted, push_string};
 use crate::requests::push_separator;
+use crate::state_text::{push_head, push_state};
 use crate::submission::Submission;
 use std::alloc::{AllocError, Global};
 use uring_entry::opcode;
-use uring_machine::{FileState, Found, Machine, Setup, Step};
-use uring_text::{KeptLine, TextMemory, push_number, push_signed, push_text};
+use uring_machine::{Found, Machine, Setup, Step};
+use uring_text::{KeptLine, TextMemory, push_number, push_text};
 use uring_trace::read_step_in;
 
 /// How many index words there are.
@@ -104,19 +105,35 @@ impl Recorder {
     ) -> Result<(), AllocError>
         ensures { ((n : ℕ) → M.grants memory.now n) → IsOk result }
     {
-        let line = self.number;
+        self.push_ended(memory, machine, told)?;
+        self.begin_line();
+        Ok(())
+    }
+
+    /// Appends the object of the line: what is told of it and what it has changed.
+    fn push_ended<M: TextMemory>(
+        &mut self,
+        memory: &M,
+        machine: &Machine,
+        told: Told<'_>,
+    ) -> Result<(), AllocError>
+        ensures { ((n : ℕ) → M.grants memory.now n) → IsOk result }
+    {
         self.push_line(memory)?;
         let (answer, reason) = split_told(told.text);
         self.push_told(memory, answer, reason, told.note)?;
         if let Some(step) = self.step {
             self.push_step(memory, machine, &step, answer)?;
         }
-        push_text(memory, &mut self.text, "}")?;
+        push_text(memory, &mut self.text, "}")
+    }
+
+    /// Begins the next line.
+    fn begin_line(&mut self) {
         self.step = None;
         self.found = None;
         self.line.clear();
-        self.number = line.saturating_add(1);
-        Ok(())
+        self.number = self.number.saturating_add(1);
     }
 
     /// Appends a line of a recorded trace whose answer isn't called for, with what a check told of it.
@@ -205,28 +222,67 @@ impl Recorder {
     {
         self.submission.take_in(memory, step, answer)?;
         let put = self.changes.put();
+        self.push_changes(memory, machine, step, answer)?;
+        self.push_index(memory, step, answer)?;
+        self.push_tail(memory, put)?;
+        self.push_file(memory, machine, step, answer)
+    }
+
+    /// Appends what a step has changed of requests and completions, if it has.
+    fn push_changes<M: TextMemory>(
+        &mut self,
+        memory: &M,
+        machine: &Machine,
+        step: &Step,
+        answer: &[u8],
+    ) -> Result<(), AllocError>
+        ensures { ((n : ℕ) → M.grants memory.now n) → IsOk result }
+    {
         let mut changes = String::new(self.alloc);
-        if matches!(step, Step::End) && answer.starts_with(b"taken ") {
-            let entries = self.submission.entries();
-            self.changes
-                .accept(memory, &mut changes, entries, self.submission.call())?;
+        self.note_changes(memory, &mut changes, machine, step, answer)?;
+        if changes.is_empty() {
+            return Ok(());
         }
+        push_array(memory, &mut self.text, "changes", changes.as_str())
+    }
+
+    /// Appends to `changes` what a step has changed.
+    fn note_changes<M: TextMemory>(
+        &mut self,
+        memory: &M,
+        changes: &mut String,
+        machine: &Machine,
+        step: &Step,
+        answer: &[u8],
+    ) -> Result<(), AllocError>
+        ensures { ((n : ℕ) → M.grants memory.now n) → IsOk result }
+    {
+        self.note_accepted(memory, changes, step, answer)?;
         let look = Look {
             line: self.number,
             moved: moved_by(step),
             found: self.found,
             answer,
         };
-        self.changes.look(memory, &mut changes, machine, look)?;
-        if !changes.is_empty() {
-            push_name(memory, &mut self.text, "changes")?;
-            push_text(memory, &mut self.text, "[")?;
-            push_text(memory, &mut self.text, changes.as_str())?;
-            push_text(memory, &mut self.text, "]")?;
+        self.changes.look(memory, changes, machine, look)
+    }
+
+    /// Appends to `changes` which requests a step has accepted.
+    fn note_accepted<M: TextMemory>(
+        &mut self,
+        memory: &M,
+        changes: &mut String,
+        step: &Step,
+        answer: &[u8],
+    ) -> Result<(), AllocError>
+        ensures { ((n : ℕ) → M.grants memory.now n) → IsOk result }
+    {
+        if !matches!(step, Step::End) || !answer.starts_with(b"taken ") {
+            return Ok(());
         }
-        self.push_index(memory, step, answer)?;
-        self.push_tail(memory, put)?;
-        self.push_file(memory, machine, step, answer)
+        let call = self.submission.call();
+        self.changes
+            .accept(memory, changes, self.submission.entries(), call)
     }
 
     /// Appends the head or tail that a step has stored or loaded.
@@ -288,44 +344,6 @@ impl Recorder {
         push_name(memory, &mut self.text, "file")?;
         push_state(memory, &mut self.text, fd, &state)
     }
-}
-
-/// Appends the set-up, and begins the lines.
-fn push_head<M: TextMemory>(memory: &M, text: &mut String, setup: &Setup) -> Result<(), AllocError>
-    ensures { ((n : ℕ) → M.grants memory.now n) → IsOk result }
-{
-    push_text(memory, text, "{\"form\":1,\"setup\":{\"sq\":")?;
-    push_number(memory, text, u64::from(setup.sq()))?;
-    push_count(memory, text, "cq", u64::from(setup.cq()))?;
-    push_count(memory, text, "files", u64::from(setup.files()))?;
-    push_count(memory, text, "start", u64::from(setup.start()))?;
-    push_text(memory, text, stops_text(setup.stops()))
-}
-
-/// Whether the ring stops, the end of the set-up, and the beginning of the lines.
-fn stops_text(stops: bool) -> &'static str {
-    if stops {
-        ",\"stops\":true},\"lines\":["
-    } else {
-        ",\"stops\":false},\"lines\":["
-    }
-}
-
-/// Appends how a file stands.
-fn push_state<M: TextMemory>(
-    memory: &M,
-    text: &mut String,
-    fd: i32,
-    state: &FileState,
-) -> Result<(), AllocError>
-    ensures { ((n : ℕ) → M.grants memory.now n) → IsOk result }
-{
-    push_text(memory, text, "{\"file\":")?;
-    push_signed(memory, text, fd)?;
-    push_count(memory, text, "length", u64::from(state.len))?;
-    push_count(memory, text, "writes", state.writes)?;
-    push_count(memory, text, "synced", state.synced)?;
-    push_text(memory, text, "}")
 }
 
 /// The request that a step issues or finishes.
