@@ -13,18 +13,25 @@ two_parts : (front so after part more : List ℕ) → so ≡ front ++ part → a
 two_parts front so after part more a b =
     b ∙ ap (λ (l : List ℕ). l ++ more) a ∙ append_assoc front part more
 
--- five parts
-pub five_parts : (old a b c d new p q r s t : List ℕ) → a ≡ old ++ p → b ≡ a ++ q → c ≡ b ++ r
-    → d ≡ c ++ s → new ≡ d ++ t → new ≡ old ++ (p ++ q ++ r ++ s ++ t)
-five_parts old a b c d new p q r s t i j k l m =
-    two_parts old a new p (q ++ r ++ s ++ t) i (two_parts a b new q (r ++ s ++ t) j (two_parts b c new r (s ++ t) k (two_parts c d new s t l m)))
+-- a part that is a word and a number
+named_part : (front so after part word number : List ℕ) → so ≡ front ++ part → after ≡ so ++ word ++ number
+    → after ≡ front ++ (part ++ word ++ number)
+named_part front so after part word number a b =
+    two_parts front (so ++ word) after (part ++ word) number (two_parts front so (so ++ word) part word a refl) b
 
--- and seven
-pub seven_parts : (old a b c d e f new p q r s t u v : List ℕ) → a ≡ old ++ p → b ≡ a ++ q → c ≡ b ++ r
-    → d ≡ c ++ s → e ≡ d ++ t → f ≡ e ++ u → new ≡ f ++ v
-    → new ≡ old ++ (p ++ q ++ r ++ s ++ t ++ u ++ v)
-seven_parts old a b c d e f new p q r s t u v i j k l m n o =
-    two_parts old a new p (q ++ r ++ s ++ t ++ u ++ v) i (two_parts a b new q (r ++ s ++ t ++ u ++ v) j (five_parts b c d e f new r s t u v k l m n o))
+-- what stands in a frame: two words with numbers, and three parts
+pub framed : (old a b c d new u k v l r s t : List ℕ) → a ≡ old ++ u ++ k → b ≡ a ++ v ++ l → c ≡ b ++ r
+    → d ≡ c ++ s → new ≡ d ++ t → new ≡ old ++ (u ++ k ++ v ++ l ++ r ++ s ++ t)
+framed old a b c d new u k v l r s t is_a is_b is_c is_d is =
+    two_parts old d new (u ++ k ++ v ++ l ++ r ++ s) t (two_parts old c d (u ++ k ++ v ++ l ++ r) s (two_parts old b c (u ++ k ++ v ++ l) r (named_part old a b (u ++ k) v l (is_a ∙ append_assoc old u k) is_b) is_c) is_d) is
+
+-- the parts of a label: the fifth is a word with a number
+pub labelled : (old a b c d e f new p q r s w k t u : List ℕ) → a ≡ old ++ p → b ≡ a ++ q → c ≡ b ++ r
+    → d ≡ c ++ s → e ≡ d ++ w ++ k → f ≡ e ++ t → new ≡ f ++ u
+    → new ≡ old ++ (p ++ q ++ r ++ s ++ w ++ k ++ t ++ u)
+labelled old a b c d e f new p q r s w k t u is_a is_b is_c is_d is_e is_f is =
+    let front : d ≡ old ++ (p ++ q ++ r ++ s) = two_parts old c d (p ++ q ++ r) s (two_parts old b c (p ++ q) r (two_parts old a b p q is_a is_b) is_c) is_d in
+    two_parts old f new (p ++ q ++ r ++ s ++ w ++ k ++ t) u (two_parts old e f (p ++ q ++ r ++ s ++ w ++ k) t (named_part old d e (p ++ q ++ r ++ s) w k front is_e) is_f) is
 
 -- one part more
 pub part_more : (f : ℕ → List ℕ) (part : List ℕ) (n : ℕ) (front so after : List ℕ) → so ≡ front ++ f n

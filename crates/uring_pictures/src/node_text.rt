@@ -8,7 +8,7 @@ use crate::graph_text::push_named;
 use std::alloc::AllocError;
 use uring_entry::opcode;
 use uring_machine::{Sqe, SqeFlags, Why};
-use uring_text::{TextMemory, push_text};
+use uring_text::{TextMemory, push_number, push_text};
 use uring_trace::push_why_in;
 
 /// Where a request stands.
@@ -99,7 +99,7 @@ fn push_node<M: TextMemory>(
         (string_bytes text.new ≡ string_bytes text.old ++ node_text number entry.now why) }
     ensures granted { ((n : ℕ) → M.grants memory.now n) → IsOk result }
 {
-    push_named(memory, text, "", number)?;
+    push_number(memory, text, number)?;
     push_text(memory, text, " [shape=")?;
     push_text(memory, text, shape(why))?;
     push_text(memory, text, ", label=\"")?;
@@ -119,7 +119,7 @@ fn push_label<M: TextMemory>(
         (string_bytes text.new ≡ string_bytes text.old ++ label_text number entry.now why) }
     ensures granted { ((n : ℕ) → M.grants memory.now n) → IsOk result }
 {
-    push_named(memory, text, "", number)?;
+    push_number(memory, text, number)?;
     push_text(memory, text, ": ")?;
     push_operation(memory, text, entry)?;
     push_flags(memory, text, entry)?;
