@@ -30,13 +30,21 @@ pub(crate) fn push_change<M: TextMemory>(
 ) -> Result<(), AllocError>
     ensures { ((n : ℕ) → M.grants memory.now n) → IsOk result }
 {
-    if !text.is_empty() {
-        push_text(memory, text, ",")?;
-    }
+    push_comma(memory, text)?;
     push_text(memory, text, "{\"request\":")?;
     push_number(memory, text, number)?;
     push_name(memory, text, "is")?;
     push_quoted(memory, text, state.as_bytes())
+}
+
+/// Appends a comma behind another change.
+fn push_comma<M: TextMemory>(memory: &M, text: &mut String) -> Result<(), AllocError>
+    ensures { ((n : ℕ) → M.grants memory.now n) → IsOk result }
+{
+    if text.is_empty() {
+        return Ok(());
+    }
+    push_text(memory, text, ",")
 }
 
 /// Appends that the request of this line has ended.

@@ -84,12 +84,19 @@ fn push_flags<M: TextMemory>(memory: &M, text: &mut String, entry: &Sqe) -> Resu
 {
     push_name(memory, text, "flags")?;
     push_text(memory, text, "\"")?;
+    push_letters(memory, text, entry)?;
+    push_text(memory, text, "\"")
+}
+
+/// Appends the letters of the flags that are set.
+fn push_letters<M: TextMemory>(memory: &M, text: &mut String, entry: &Sqe) -> Result<(), AllocError>
+    ensures { ((n : ℕ) → M.grants memory.now n) → IsOk result }
+{
     push_letter(memory, text, entry, SqeFlags::IO_DRAIN, "D")?;
     push_letter(memory, text, entry, SqeFlags::IO_LINK, "L")?;
     push_letter(memory, text, entry, SqeFlags::IO_HARDLINK, "H")?;
     push_letter(memory, text, entry, SqeFlags::ASYNC, "A")?;
-    push_letter(memory, text, entry, SqeFlags::CQE_SKIP_SUCCESS, "S")?;
-    push_text(memory, text, "\"")
+    push_letter(memory, text, entry, SqeFlags::CQE_SKIP_SUCCESS, "S")
 }
 
 /// Appends the letter of a flag that is set.
