@@ -10,7 +10,7 @@ use Rattle.uring_entry.specs.Submission.{Call, entries_from}
 use Rattle.uring_entry.specs.Requests.{Requests, entry_of, entry_outstanding, is_outstanding, has_ended, with_call}
 use Rattle.uring_core.specs.World.{World, ending, ending_of}
 use Rattle.uring_core.specs.Histories.{Event, History, world, IsLawfulApart}
-use Rattle.uring_core.specs.StepAnswers.{end_answer, end_answer_in}
+use Rattle.uring_core.specs.StepAnswers.{end_answer_in}
 use Rattle.uring_core.specs.declared.step.Step.{Step}
 use Rattle.uring_core.specs.declared.step.Step.TheVariants as step
 use Rattle.uring_core.specs.declared.answer.Answer.{Answer}

@@ -1,11 +1,11 @@
 -- The members of chains that a graph names.
-use Rattle.std.proofs.Common.{◌≡◌, ℕ, zero, suc, ◌<◌, ◌≤◌, Bool, true, false, Option, Some, None, refl, sym, ◌∙◌, subst, arith, inl, inr}
+use Rattle.std.proofs.Common.{◌≡◌, ℕ, zero, suc, Bool, true, false, Option, Some, None, refl, subst, arith, inl, inr}
 use Rattle.std.specs.Prelude.{is_some, if◌then◌else◌}
 use Rattle.std.proofs.lemmas.Bool.{both_ways, cases_Bool, cases_lt}
 use Rattle.uring_entry.specs.Requests.{Requests, entry_outstanding, is_last, is_joined}
 use Rattle.uring_entry.proofs.RequestLemmas.{is_joined-yes, is_joined-no, is_joined-inside}
 use Rattle.uring_pictures.specs.Graphs.{first_of, member_before}
-use Rattle.uring_pictures.specs.Members.{IsFirst, IsNearest, IsBefore}
+use Rattle.uring_pictures.specs.Members.{IsFirst, IsBefore}
 
 -- a member behind which the group goes on is joined with the next request too, and one that is joined with the next is with this one
 on : (r : Requests) (m n : ℕ) → is_last r n ≡ false → is_joined r m n ≡ true

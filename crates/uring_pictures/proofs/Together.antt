@@ -1,5 +1,5 @@
 -- What the explainer and the moment have taken in together.
-use Rattle.std.proofs.Common.{◌≡◌, ℕ, Bool, List, [], ◌++◌, Option, sym, subst}
+use Rattle.std.proofs.Common.{ℕ, Bool, List, [], Option, sym, subst}
 use Rattle.std.proofs.lemmas.List.{append-nil}
 use Rattle.std.specs.Io.KnownBytes.{Consumes, Keeps, IsAtEnd}
 use Rattle.uring_entry.specs.Setup.{Setup}

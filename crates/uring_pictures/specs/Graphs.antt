@@ -1,12 +1,12 @@
 -- The graph of the outstanding requests, in Graphviz's language: a node for each, whose shape tells how it stands, in the cluster of its call and of its chain; and arrows from each that waits, to the member of its chain before it, and to the least request for whose drain it waits. Our own rule.
-use Rattle.std.specs.Prelude.{ℕ, zero, suc, ◌+◌, Bool, not, ◌||◌, nat_lt, nat_le, List, [], ◌++◌, length, count_by, codes, Option, Some, None, is_some, if◌then◌else◌}
+use Rattle.std.specs.Prelude.{ℕ, zero, suc, Bool, not, ◌||◌, nat_lt, nat_le, List, [], ◌++◌, length, count_by, codes, Option, Some, None, is_some, if◌then◌else◌}
 use Rattle.std.specs.Fmt.{decimal}
 use Rattle.uring_entry.specs.Flags.{io_drain, io_link, io_hardlink, skip_success}
 use Rattle.uring_entry.specs.Layout.{Sqe, has, user_data_of}
 use Rattle.uring_entry.specs.Requests.{Requests, entry_outstanding, is_last}
 use Rattle.uring_entry.specs.Why.{why_of}
 use Rattle.uring_entry.specs.declared.why.Why.{Why}
-use Rattle.uring_entry.specs.declared.why.Why.TheVariants.{NeverAccepted, HasEnded, Runs, IsDoomed, Waits}
+use Rattle.uring_entry.specs.declared.why.Why.TheVariants.{Runs, IsDoomed, Waits}
 use Rattle.uring_entry.specs.declared.why.Since.{Since}
 use Rattle.uring_entry.specs.declared.why.Since.TheVariants.{SameGroup}
 use Rattle.uring_trace.specs.Reasons.{why_text, since_text}

@@ -1,4 +1,4 @@
-use Rattle.std.proofs.Common.{true, false, None, Some, refl, sym, ◌∙◌}
+use Rattle.std.proofs.Common.{true, false, refl, sym, ◌∙◌}
 use Rattle.uring_pictures.specs.Following.{requests_at}
 use Rattle.uring_pictures.proofs.Arrows.{before_next}
 use Rattle.uring_pictures.proofs.graph_text.next_before.Goals as goal

@@ -1,4 +1,3 @@
-use Rattle.std.proofs.Common.{refl}
 use Rattle.uring_pictures.proofs.accepted.Accepted.new_in.Goals as goal
 
 pub returns-clause-keeps : goal.returns-clause-keeps

@@ -1,4 +1,4 @@
-use Rattle.std.proofs.Common.{[], ◌∷◌, ◌++◌, ℕ, Option, ◌≡◌, true, ap, sym, subst, ◌∙◌, min, ◌+◌, ◌-◌, ◌^◌}
+use Rattle.std.proofs.Common.{[], ◌∷◌, ◌++◌, ℕ, Option, ap, sym, subst, ◌∙◌, min, ◌+◌, ◌-◌, ◌^◌}
 use Rattle.uring_pictures.specs.Moments.{does_count}
 use Rattle.uring_pictures.specs.Following.{Following}
 use Rattle.uring_pictures.proofs.Moments.{follows_line}
