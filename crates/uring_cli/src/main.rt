@@ -124,7 +124,7 @@ fn run_words<R: Threads + Wait + Copy + Send + 'static>(
             is_apart,
         } => run_check(rt, &setup, is_all, is_apart),
         Options::Explain(setup) => run_explain(rt, &setup),
-        Options::Graph(setup) => run_graph(rt, &setup),
+        Options::Graph { setup, at } => run_graph(rt, &setup, at),
         Options::Timeline(setup) => run_timeline(rt, &setup),
         Options::Page(setup) => run_page(rt, &setup, Form::Page),
         Options::Json(setup) => run_page(rt, &setup, Form::Json),
@@ -251,9 +251,20 @@ fn run_explain(rt: &HostRuntime, setup: &Setup) -> Result<u8, Fault> {
 }
 
 /// The graph of the trace that standard input has.
-fn run_graph(rt: &HostRuntime, setup: &Setup) -> Result<u8, Fault> {
+fn run_graph(rt: &HostRuntime, setup: &Setup, at: Option<u32>) -> Result<u8, Fault> {
+    let at = match at {
+        Some(line) => Some(u64::from(line)),
+        None => None,
+    };
     let (mut input, mut output) = (rt.stdin(), Outlet::new(rt.stdout()));
-    let drawn = graph(rt.alloc(), &mut input, &mut output, &mut rt.stderr(), setup);
+    let drawn = graph(
+        rt.alloc(),
+        &mut input,
+        &mut output,
+        &mut rt.stderr(),
+        setup,
+        at,
+    );
     Ok(status_behind(unless_closed(&output, drawn)?))
 }
 

@@ -9,7 +9,7 @@ use Rattle.clap.specs.declared.parser.matches.ArgMatches.TheViews.{out-ArgMatche
 use Rattle.uring_entry.specs.Setup.{Setup}
 use Rattle.uring_options.specs.declared.answers.Options.{Options}
 use Rattle.uring_options.specs.declared.answers.Options.TheVariants.{Explain, Graph, Timeline, Page, Json, Check, CheckPage, CheckJson, Play, Shared}
-use Rattle.uring_options.specs.CommandLine.{uring, Explains, Checks, Plays, Numbers, IsGiven, AreWorkers, IsSetupOver, IsTracedOver, IsRunOver}
+use Rattle.uring_options.specs.CommandLine.{Gives, uring, Explains, Checks, Plays, Numbers, IsGiven, AreWorkers, IsSetupOver, IsTracedOver, IsRunOver}
 use Rattle.uring_options.proofs.CommandOptions.{uring_is_simple}
 
 -- ---- the command
@@ -55,21 +55,21 @@ traced_over rows n s t over stops given is =
     (subst (IsSetupOver n) base over, subst (IsGiven rows (codes "stop")) (ap (λ (u : Setup). u.stops) (sym is)) given)
 
 -- what is explained over it, as the options of the pictures say
-pub explained_over : (rows : List Row) (n : Numbers) (s : Setup) (o : Options) (draws times pages tells : Bool)
-    → IsTracedOver rows n s → IsGiven rows (codes "graph") draws
+pub explained_over : (rows : List Row) (n : Numbers) (s : Setup) (o : Options) (draws times pages tells : Bool) (at : Option ℕ)
+    → IsTracedOver rows n s → IsGiven rows (codes "graph") draws → Gives rows (codes "at") at
     → IsGiven rows (codes "timeline") times → IsGiven rows (codes "page") pages
     → IsGiven rows (codes "json") tells
-    → o ≡ (if draws then Graph s else if times then Timeline s else if pages then Page s else if tells then Json s else Explain s)
+    → o ≡ (if draws then Graph s at else if times then Timeline s else if pages then Page s else if tells then Json s else Explain s)
     → IsRunOver Explains rows n o
-explained_over rows n s o true times pages tells over graph timeline page json is =
-    subst (IsRunOver Explains rows n) (sym is) (refl, over, graph)
-explained_over rows n s o false true pages tells over graph timeline page json is =
+explained_over rows n s o true times pages tells at over graph moment timeline page json is =
+    subst (IsRunOver Explains rows n) (sym is) (refl, over, graph, moment)
+explained_over rows n s o false true pages tells at over graph moment timeline page json is =
     subst (IsRunOver Explains rows n) (sym is) (refl, over, graph, timeline)
-explained_over rows n s o false false true tells over graph timeline page json is =
+explained_over rows n s o false false true tells at over graph moment timeline page json is =
     subst (IsRunOver Explains rows n) (sym is) (refl, over, graph, timeline, page)
-explained_over rows n s o false false false true over graph timeline page json is =
+explained_over rows n s o false false false true at over graph moment timeline page json is =
     subst (IsRunOver Explains rows n) (sym is) (refl, over, graph, timeline, page, json)
-explained_over rows n s o false false false false over graph timeline page json is =
+explained_over rows n s o false false false false at over graph moment timeline page json is =
     subst (IsRunOver Explains rows n) (sym is) (refl, over, graph, timeline, page, json)
 
 -- what is checked over it, as the options of a check say

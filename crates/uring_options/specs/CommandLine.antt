@@ -48,7 +48,8 @@ setup_options = number (codes "sq") 1 4096 ∷ number (codes "cq") 1 8192
 -- the further options of each command; calls of a play go on
 abbrev pub own_options : Run → List CommandOption
 own_options Traces = flag (codes "stop") ∷ flag (codes "echo") ∷ flag (codes "strict") ∷ []
-own_options Explains = flag (codes "stop") ∷ flag (codes "graph") ∷ flag (codes "timeline")
+own_options Explains = flag (codes "stop") ∷ flag (codes "graph")
+    ∷ number (codes "at") 0 4294967295 ∷ flag (codes "timeline")
     ∷ flag (codes "page") ∷ flag (codes "json") ∷ []
 own_options Checks = flag (codes "stop") ∷ flag (codes "all") ∷ flag (codes "apart")
     ∷ flag (codes "page") ∷ flag (codes "json") ∷ []
@@ -212,15 +213,15 @@ TellsVerdict rows false false = IsGiven rows (codes "page") false × IsGiven row
 abbrev pub IsDrawnCheck : List Row → Type 0
 IsDrawnCheck rows = IsGiven rows (codes "all") false × IsGiven rows (codes "apart") false
 
--- what a command runs, over the set-up that these rows and numbers give: `uring explain` the graph if `--graph` is given, else the timeline if `--timeline` is, else the page if `--page` is, else its data if `--json` is, and else the answers; `uring check` the verdict with `--all` or `--apart`, else the page if `--page` is given, else its data if `--json` is, and else the verdict; `uring play` a play over shared words if `--shared` is given, and else one over lanes; `uring crash` what is left of file 0 if none is given, in units of one byte if none is given
+-- what a command runs, over the set-up that these rows and numbers give: `uring explain` the graph if `--graph` is given, behind the line that `--at` gives, else the timeline if `--timeline` is, else the page if `--page` is, else its data if `--json` is, and else the answers; `uring check` the verdict with `--all` or `--apart`, else the page if `--page` is given, else its data if `--json` is, and else the verdict; `uring play` a play over shared words if `--shared` is given, and else one over lanes; `uring crash` what is left of file 0 if none is given, in units of one byte if none is given
 abbrev pub IsRunOver : Run → List Row → Numbers → Options → Type 0
 IsRunOver run rows n (Trace s echo strict) = (run ≡ Traces) × IsTracedOver rows n s
     × IsGiven rows (codes "echo") echo × IsGiven rows (codes "strict") strict
 IsRunOver run rows n (Explain s) = (run ≡ Explains) × IsTracedOver rows n s
     × IsGiven rows (codes "graph") false × IsGiven rows (codes "timeline") false
     × IsGiven rows (codes "page") false × IsGiven rows (codes "json") false
-IsRunOver run rows n (Graph s) =
-    (run ≡ Explains) × IsTracedOver rows n s × IsGiven rows (codes "graph") true
+IsRunOver run rows n (Graph s at) = (run ≡ Explains) × IsTracedOver rows n s
+    × IsGiven rows (codes "graph") true × Gives rows (codes "at") at
 IsRunOver run rows n (Timeline s) = (run ≡ Explains) × IsTracedOver rows n s
     × IsGiven rows (codes "graph") false × IsGiven rows (codes "timeline") true
 IsRunOver run rows n (Page s) = (run ≡ Explains) × IsTracedOver rows n s

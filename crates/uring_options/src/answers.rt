@@ -23,7 +23,11 @@ pub enum Options {
     Explain(Setup),
 
     /// `uring explain --graph`: the graph of the outstanding requests of a trace over this set-up.
-    Graph(Setup),
+    Graph {
+        setup: Setup,
+        /// Behind which line they are drawn (`--at`).
+        at: Option<u32>,
+    },
 
     /// `uring explain --timeline`: the lines at which each request of a trace over this set-up moved.
     Timeline(Setup),

@@ -153,19 +153,27 @@ fn explained(matches: &ArgMatches<'_>) -> Result<Options, OptionsFault>
 {
     let setup = traced_setup_of(matches)?;
     let graph = is_given(matches, "graph");
+    let at = given_number(matches, "at");
     let timeline = is_given(matches, "timeline");
     let page = is_given(matches, "page");
     let json = is_given(matches, "json");
-    Ok(explained_over(setup, graph, timeline, page, json))
+    Ok(explained_over(setup, graph, at, timeline, page, json))
 }
 
 /// What is written of a trace over the set-up: a picture, a page or its data if one is asked for, and else the answers with their reasons.
-fn explained_over(setup: Setup, graph: bool, timeline: bool, page: bool, json: bool) -> Options
+fn explained_over(
+    setup: Setup,
+    graph: bool,
+    at: Option<u32>,
+    timeline: bool,
+    page: bool,
+    json: bool,
+) -> Options
     ensures { result
-        ≡ (if graph then Options.Graph setup else if timeline then Options.Timeline setup else if page then Options.Page setup else if json then Options.Json setup else Options.Explain setup) }
+        ≡ (if graph then Options.Graph setup at else if timeline then Options.Timeline setup else if page then Options.Page setup else if json then Options.Json setup else Options.Explain setup) }
 {
     if graph {
-        Options::Graph(setup)
+        Options::Graph { setup, at }
     } else if timeline {
         Options::Timeline(setup)
     } else if page {

@@ -78,6 +78,12 @@ const GRAPH: OptionRow = OptionRow {
     numbers: None,
 };
 
+const GRAPH_AT: OptionRow = OptionRow {
+    id: "at",
+    help: "Draw the graph of the moment behind so many lines [default: behind the last]",
+    numbers: Some((0, 4_294_967_295)),
+};
+
 const TIMELINE: OptionRow = OptionRow {
     id: "timeline",
     help: "Write no answers, but a row for each request, with the lines at which it moved",
@@ -223,7 +229,9 @@ static EXPLAIN: CommandRow = CommandRow {
     name: "explain",
     about: "Do as trace does, and write behind an answer its reason",
     after_help: REASONS,
-    options: &[SQ, CQ, FILES, START, STOP, GRAPH, TIMELINE, PAGE, JSON],
+    options: &[
+        SQ, CQ, FILES, START, STOP, GRAPH, GRAPH_AT, TIMELINE, PAGE, JSON,
+    ],
 };
 
 /// `uring check`.

@@ -67,7 +67,8 @@ Lines that ask how things stand, and their answers:
 With one of these no answers are written; of several the first listed counts:
   --graph        when the input ends, the outstanding requests as a graph for
                  Graphviz's dot: an ellipse runs, an octagon is doomed, a box
-                 waits, a diamond may start
+                 waits, a diamond may start; with --at N as they were behind
+                 line N
   --timeline     when the input ends, a row for each request: the lines at which
                  it was accepted, started and ended, and its completion posted
                  and reaped

@@ -1,3 +1,7 @@
-pub mod Lines
+pub mod Calls
+pub mod Moments
+pub mod Arrows
+mod Members
 pub mod Streams
+pub mod Together
 pub mod Pictures

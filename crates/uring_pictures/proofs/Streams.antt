@@ -44,24 +44,24 @@ abbrev pub Far : Setup → Known → Known → Known → Known → Explainer →
 Far setup a r x e s = (bytes : List ℕ) × (text : List ℕ) × (notes : List ℕ) × Consumes a r bytes
     × Appends x e notes × HasTold setup s bytes text notes
 
-pub far_start : (setup : Setup) (a x : Known) (s : Explainer) → HasTold setup s [] [] []
+unfoldable pub far_start : (setup : Setup) (a x : Known) (s : Explainer) → HasTold setup s [] [] []
     → Far setup a a x x s
 far_start setup a x s h = ([], [], [], Consumes-nil a, Appends-nil x, h)
 
 -- a read that was interrupted
-pub far_again : (setup : Setup) (a r r' x e : Known) (s : Explainer) → Keeps r r'
+unfoldable pub far_again : (setup : Setup) (a r r' x e : Known) (s : Explainer) → Keeps r r'
     → Far setup a r x e s → Far setup a r' x e s
 far_again setup a r r' x e s h so = (so.0, so.1, so.2, Consumes-kept a r r' so.0 so.3 h, so.4, so.5)
 
 -- bytes that were read
-pub far_on : (setup : Setup) (a r r' x e e' : Known) (s s' : Explainer) (more : List ℕ)
+unfoldable pub far_on : (setup : Setup) (a r r' x e e' : Known) (s s' : Explainer) (more : List ℕ)
     → Consumes r r' more → TakesIn s s' more e e' → Far setup a r x e s → Far setup a r' x e' s'
 far_on setup a r r' x e e' s s' more read takes so =
     let took = takes setup so.0 so.1 so.2 so.5 in
     (so.0 ++ more, so.1 ++ took.0, so.2 ++ took.1, Consumes-trans a r r' so.0 more so.3 read, Appends-trans x e e' so.2 took.1 so.4 took.2, took.3)
 
 -- the end of the input
-pub far_end : (setup : Setup) (bad : Bool) (a r r' x e e' : Known) (s s' : Explainer)
+unfoldable pub far_end : (setup : Setup) (bad : Bool) (a r r' x e e' : Known) (s s' : Explainer)
     → Consumes r r' [] → IsAtEnd r' → EndsIn bad s s' e e' → Far setup a r x e s
     → ReadsAll setup bad s' a r' x e'
 far_end setup bad a r r' x e e' s s' read end ends so =

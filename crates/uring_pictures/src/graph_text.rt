@@ -1,121 +1,204 @@
 //! The graph of the outstanding requests, in Graphviz's language.
 
-ghost use Rattle.std.specs.Prelude.{◌≡◌, ◌++◌, ℕ, OnOk, IsOk, string_bytes, decimal};
-ghost use Rattle.uring_core.specs.Histories.{History, world};
-ghost use Rattle.uring_machine.specs.Machine.{Fits};
-ghost use Rattle.uring_pictures.specs.Graphs.{graph_of, request_text, node_text, edge_text, shape_of, standing_text};
+ghost use Rattle.std.specs.Prelude.{◌≡◌, ◌++◌, ◌+◌, ◌-◌, ◌^◌, ◌<◌, ℕ, OnOk, IsOk, string_bytes, decimal};
+ghost use Rattle.uring_core.specs.Histories.{History};
+ghost use Rattle.uring_pictures.specs.Following.{Keeps, requests_at};
+ghost use Rattle.uring_pictures.specs.Graphs.{graph_of, nodes_below, arrows_below, first_of, is_chained, member_before, row_text, arrows_text, chain_arrow, drain_arrow};
 
+use crate::accepted::Accepted;
+use crate::node_text::{Place, push_placed};
 use std::alloc::AllocError;
-use uring_machine::{Machine, Why};
+use uring_machine::{Since, Why};
 use uring_text::{TextMemory, push_number, push_text};
-use uring_trace::{push_since_in, push_why_in};
+use uring_trace::push_since_in;
 
 /// Appends the graph of the outstanding requests. Here and below: if the memory grants whatever is asked for, there is no error.
 pub(crate) fn push_graph<M: TextMemory>(
     memory: &M,
     text: &mut String,
-    machine: &Machine,
+    accepted: &Accepted,
 ) -> Result<(), AllocError>
     ensures graph { OnOk result
-        ((h : History) → Fits machine.now h
-        → string_bytes text.new ≡ string_bytes text.old ++ graph_of (world machine.now.core.setup h).requests) }
+        ((h : History) → Keeps accepted.now h
+        → string_bytes text.new ≡ string_bytes text.old ++ graph_of (requests_at accepted.now h)) }
     ensures granted { ((n : ℕ) → M.grants memory.now n) → IsOk result }
 {
     push_text(memory, text, "digraph requests {\n")?;
-    let accepted = machine.counts().accepted;
-    for number in 0..accepted {
-        push_request(memory, text, number, machine.why(number))?;
-    }
+    push_nodes(memory, text, accepted, accepted.count())?;
+    push_arrows(memory, text, accepted, accepted.count())?;
     push_text(memory, text, "}\n")
 }
 
-/// Appends the lines of a request, if it is outstanding.
-fn push_request<M: TextMemory>(
+/// Appends the lines of the outstanding ones of the first requests, so many.
+fn push_nodes<M: TextMemory>(
     memory: &M,
     text: &mut String,
-    number: u64,
-    why: Why,
+    accepted: &Accepted,
+    count: u64,
 ) -> Result<(), AllocError>
-    ensures lines { OnOk result
-        (string_bytes text.new ≡ string_bytes text.old ++ request_text number why) }
+    ensures nodes { OnOk result
+        ((h : History) → Keeps accepted.now h
+        → string_bytes text.new ≡ string_bytes text.old ++ nodes_below (requests_at accepted.now h) count) }
     ensures granted { ((n : ℕ) → M.grants memory.now n) → IsOk result }
 {
-    match why {
-        Why::NeverAccepted | Why::HasEnded => Ok(()),
-        _ => {
-            push_node(memory, text, number, why)?;
-            push_edge(memory, text, number, why)
-        }
+    let mut first: u64 = 0;
+    for number in 0..count {
+        push_row(memory, text, accepted, number, first)?;
+        first = next_first(accepted, number, first);
+    }
+    Ok(())
+}
+
+/// The first member of the chain of the next request.
+fn next_first(accepted: &Accepted, number: u64, first: u64) -> u64
+    requires { number < 2 ^ 64 - 1 }
+    ensures { (h : History) → Keeps accepted.now h
+        → first ≡ first_of (requests_at accepted.now h) number
+        → result ≡ first_of (requests_at accepted.now h) (number + 1) }
+{
+    if accepted.ends_chain(number) {
+        number + 1
+    } else {
+        first
     }
 }
 
-/// Appends the line of a node.
-fn push_node<M: TextMemory>(
+/// Appends the line of a request, if it is outstanding.
+fn push_row<M: TextMemory>(
     memory: &M,
     text: &mut String,
+    accepted: &Accepted,
     number: u64,
-    why: Why,
+    first: u64,
 ) -> Result<(), AllocError>
-    ensures line { OnOk result
-        (string_bytes text.new ≡ string_bytes text.old ++ node_text number why) }
+    requires { number < 2 ^ 64 - 1 }
+    ensures row { OnOk result
+        ((h : History) → Keeps accepted.now h
+        → first ≡ first_of (requests_at accepted.now h) number
+        → string_bytes text.new ≡ string_bytes text.old ++ row_text (requests_at accepted.now h) number) }
     ensures granted { ((n : ℕ) → M.grants memory.now n) → IsOk result }
 {
-    push_named(memory, text, "  ", number)?;
-    push_text(memory, text, " [shape=")?;
-    push_text(memory, text, shape(why))?;
-    push_named(memory, text, ", label=\"", number)?;
-    push_text(memory, text, ": ")?;
-    push_standing(memory, text, why)?;
-    push_text(memory, text, "\"];\n")
+    let Some(entry) = accepted.outstanding(number) else {
+        return Ok(());
+    };
+    let place = Place {
+        call: accepted.call(number),
+        first,
+        is_chained: has_others(accepted, number, first),
+    };
+    push_placed(memory, text, place, number, &entry, accepted.why(number))
 }
 
-/// The shape that tells how a request stands.
-fn shape(why: Why) -> &'static str
-    ensures { result.now ≡ shape_of why }
+/// Whether the chain of a request has another member.
+fn has_others(accepted: &Accepted, number: u64, first: u64) -> bool
+    requires { number < 2 ^ 64 - 1 }
+    ensures { (h : History) → Keeps accepted.now h
+        → first ≡ first_of (requests_at accepted.now h) number
+        → result ≡ is_chained (requests_at accepted.now h) number }
 {
-    match why {
-        Why::Runs => "ellipse",
-        Why::IsDoomed(_) => "octagon",
-        Why::Waits { .. } => "box",
-        _ => "diamond",
+    !accepted.ends_chain(number) || first < number
+}
+
+/// Appends the arrows from the first requests, so many.
+fn push_arrows<M: TextMemory>(
+    memory: &M,
+    text: &mut String,
+    accepted: &Accepted,
+    count: u64,
+) -> Result<(), AllocError>
+    ensures arrows { OnOk result
+        ((h : History) → Keeps accepted.now h
+        → string_bytes text.new ≡ string_bytes text.old ++ arrows_below (requests_at accepted.now h) count) }
+    ensures granted { ((n : ℕ) → M.grants memory.now n) → IsOk result }
+{
+    let mut before: Option<u64> = None;
+    for number in 0..count {
+        push_both(memory, text, number, before, accepted.why(number))?;
+        before = next_before(accepted, number, before);
+    }
+    Ok(())
+}
+
+/// The last outstanding member of the chain of the next request before that one.
+fn next_before(accepted: &Accepted, number: u64, before: Option<u64>) -> Option<u64>
+    requires { number < 2 ^ 64 - 1 }
+    ensures { (h : History) → Keeps accepted.now h
+        → before ≡ member_before (requests_at accepted.now h) number
+        → result ≡ member_before (requests_at accepted.now h) (number + 1) }
+{
+    if accepted.ends_chain(number) {
+        return None;
+    }
+    match accepted.outstanding(number) {
+        Some(_) => Some(number),
+        None => before,
     }
 }
 
-/// Appends how a request stands. For whom one waits is told at its edge.
-fn push_standing<M: TextMemory>(memory: &M, text: &mut String, why: Why) -> Result<(), AllocError>
-    ensures standing { OnOk result
-        (string_bytes text.new ≡ string_bytes text.old ++ standing_text why) }
-    ensures granted { ((n : ℕ) → M.grants memory.now n) → IsOk result }
-{
-    match why {
-        Why::Waits { .. } => push_text(memory, text, "waits"),
-        _ => push_why_in(memory, text, why),
-    }
-}
-
-/// Appends the line of the edge to the request that is waited for, if there is one.
-fn push_edge<M: TextMemory>(
+/// Appends the arrows from a request, if it waits.
+fn push_both<M: TextMemory>(
     memory: &M,
     text: &mut String,
     number: u64,
+    before: Option<u64>,
     why: Why,
 ) -> Result<(), AllocError>
-    ensures line { OnOk result
-        (string_bytes text.new ≡ string_bytes text.old ++ edge_text number why) }
+    ensures arrows { OnOk result
+        (string_bytes text.new ≡ string_bytes text.old ++ arrows_text number before why) }
     ensures granted { ((n : ℕ) → M.grants memory.now n) → IsOk result }
 {
     let Why::Waits { least, since } = why else {
         return Ok(());
     };
+    push_chain_arrow(memory, text, number, before)?;
+    push_drain_arrow(memory, text, number, least, since)
+}
+
+/// Appends the arrow to the member of its chain before it, if one is outstanding.
+fn push_chain_arrow<M: TextMemory>(
+    memory: &M,
+    text: &mut String,
+    number: u64,
+    before: Option<u64>,
+) -> Result<(), AllocError>
+    ensures line { OnOk result
+        (string_bytes text.new ≡ string_bytes text.old ++ chain_arrow number before) }
+    ensures granted { ((n : ℕ) → M.grants memory.now n) → IsOk result }
+{
+    let Some(before) = before else {
+        return Ok(());
+    };
+    push_named(memory, text, "  ", number)?;
+    push_named(memory, text, " -> ", before)?;
+    push_text(memory, text, " [label=\"")?;
+    push_since_in(memory, text, before, Since::SameGroup)?;
+    push_text(memory, text, "\"];\n")
+}
+
+/// Appends the arrow to the least request that it waits for, unless that is a member of its chain.
+fn push_drain_arrow<M: TextMemory>(
+    memory: &M,
+    text: &mut String,
+    number: u64,
+    least: u64,
+    since: Since,
+) -> Result<(), AllocError>
+    ensures line { OnOk result
+        (string_bytes text.new ≡ string_bytes text.old ++ drain_arrow number least since) }
+    ensures granted { ((n : ℕ) → M.grants memory.now n) → IsOk result }
+{
+    if matches!(since, Since::SameGroup) {
+        return Ok(());
+    }
     push_named(memory, text, "  ", number)?;
     push_named(memory, text, " -> ", least)?;
-    push_text(memory, text, " [label=\"")?;
+    push_text(memory, text, " [style=dashed, label=\"")?;
     push_since_in(memory, text, least, since)?;
     push_text(memory, text, "\"];\n")
 }
 
 /// Appends a word, with the blanks around it, and a number.
-fn push_named<M: TextMemory>(
+pub(crate) fn push_named<M: TextMemory>(
     memory: &M,
     text: &mut String,
     word: &str,

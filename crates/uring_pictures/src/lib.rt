@@ -1,8 +1,12 @@
 //! Pictures of a trace: the outstanding requests as a graph, and a timeline of all requests.
 #![tactic(auto)]
 
+mod accepted;
 mod drawing;
 mod graph_text;
+pub mod laws;
+mod moment;
+mod node_text;
 mod rows;
 mod watching;
 

@@ -9,9 +9,16 @@ use uring_pictures::{graph, timeline};
 const INPUT: &str =
     "fill 0 nop 1 -\nindex 0\ntail\nbegin 1\ntake\nend\nissue 0\nfinish 0\ncqtail\nreap\nhead\nfill 0 nop 2 L\nfill 1 nop 3 -\nfill 2 nop 4 D\nfill 3 op 99 5 -\nindex 0\nindex 1\nindex 2\nindex 3\ntail\nbegin 4\ntake\ntake\ntake\ntake\nend\nissue 1\noops";
 
-/// Request 0 has ended and is no node. 2 is behind 1 in its chain; 3 drains, and waits for 1, the least before it that hasn't ended; 4 has a fault.
+/// Behind the last line request 0 has ended and is no node. 2 is behind 1 in its chain; 3 drains, and waits for 1, the least before it that hasn't ended; 4 has a fault. All four are of the second call.
 const GRAPH: &str =
-    "digraph requests {\n  1 [shape=ellipse, label=\"1: runs\"];\n  2 [shape=box, label=\"2: waits\"];\n  2 -> 1 [label=\"a member of its group\"];\n  3 [shape=box, label=\"3: waits\"];\n  3 -> 1 [label=\"its own group drains\"];\n  4 [shape=octagon, label=\"4: doomed: an operation that is not served\"];\n}\n";
+    "digraph requests {\n  subgraph cluster_call_1 { label=\"call 1\"; subgraph cluster_chain_1 { label=\"chain from 1\"; 1 [shape=ellipse, label=\"1: nop, link\\nuser data 2\\nruns\"]; } }\n  subgraph cluster_call_1 { label=\"call 1\"; subgraph cluster_chain_1 { label=\"chain from 1\"; 2 [shape=box, label=\"2: nop\\nuser data 3\\nwaits\"]; } }\n  subgraph cluster_call_1 { label=\"call 1\"; 3 [shape=box, label=\"3: nop, drain\\nuser data 4\\nwaits\"]; }\n  subgraph cluster_call_1 { label=\"call 1\"; 4 [shape=octagon, label=\"4: op 99\\nuser data 5\\ndoomed: an operation that is not served\"]; }\n  2 -> 1 [label=\"a member of its group\"];\n  3 -> 1 [style=dashed, label=\"its own group drains\"];\n}\n";
+
+/// Behind line 6, at which the first call ends, request 0 may start.
+const EARLY: &str =
+    "digraph requests {\n  subgraph cluster_call_0 { label=\"call 0\"; 0 [shape=diamond, label=\"0: nop\\nuser data 1\\nwaits for nobody\"]; }\n}\n";
+
+/// Behind line 5 none was accepted.
+const NONE: &str = "digraph requests {\n}\n";
 
 /// The lines are counted from 1 on: the calls end at lines 6 and 26.
 const TIMELINE: &str =
@@ -21,15 +28,15 @@ const TIMELINE: &str =
 const NOTES: &str =
     "uring: line 28: bad line: column 1: `oops`, wanted: fill, index, tail, head, begin, take, end, issue, finish, flush, cqtail, reap, cqhead, close or next\n";
 
-/// Whether the graph and the notes are these.
-fn is_graph(alloc: Global) -> Result<bool, Fail> {
+/// Whether the graph of the moment behind this line is this one, and the notes are those of all lines.
+fn is_graph(alloc: Global, at: Option<u64>, wanted: &str) -> Result<bool, Fail> {
     let setup = Setup::new(4, None, 1, 0)?;
     let mut picture = Vec::new(alloc);
     let mut notes = Vec::new(alloc);
     let mut input = INPUT.as_bytes();
-    let result = graph(alloc, &mut input, &mut picture, &mut notes, &setup);
+    let result = graph(alloc, &mut input, &mut picture, &mut notes, &setup, at);
     let is_so = result == Ok(true)
-        && picture.as_slice() == GRAPH.as_bytes()
+        && picture.as_slice() == wanted.as_bytes()
         && notes.as_slice() == NOTES.as_bytes();
     drop(picture);
     drop(notes);
@@ -53,7 +60,10 @@ fn is_timeline(alloc: Global) -> Result<bool, Fail> {
 
 #[test]
 fn outstanding_requests_are_drawn(rt: HostRuntime) -> Result<(), Fail> {
-    assert!(rt; is_graph(rt.alloc())?);
+    assert!(rt; is_graph(rt.alloc(), None, GRAPH)?);
+    assert!(rt; is_graph(rt.alloc(), Some(28), GRAPH)?);
+    assert!(rt; is_graph(rt.alloc(), Some(6), EARLY)?);
+    assert!(rt; is_graph(rt.alloc(), Some(5), NONE)?);
     Ok(())
 }
 

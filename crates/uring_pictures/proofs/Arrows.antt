@@ -1,0 +1,92 @@
+-- The parts of a graph, one by one.
+use Rattle.std.proofs.Common.{◌≡◌, ℕ, suc, ◌+◌, List, ◌++◌, Bool, Option, Some, None, refl, ap, sym, ◌∙◌, append_assoc, arith}
+use Rattle.std.specs.Prelude.{codes, if◌then◌else◌, is_some}
+use Rattle.uring_entry.specs.Layout.{Sqe}
+use Rattle.uring_entry.specs.Requests.{Requests, is_last, entry_outstanding}
+use Rattle.uring_entry.specs.Why.{why_of}
+use Rattle.uring_entry.specs.declared.why.Why.{Why}
+use Rattle.uring_pictures.specs.Graphs.{arrows_below, arrows_text, call_of, first_of, is_chained, member_before, placed_text, in_chain, node_text, line_text, row_text}
+
+-- a part, and what is behind it
+two_parts : (front so after part more : List ℕ) → so ≡ front ++ part → after ≡ so ++ more
+    → after ≡ front ++ (part ++ more)
+two_parts front so after part more a b =
+    b ∙ ap (λ (l : List ℕ). l ++ more) a ∙ append_assoc front part more
+
+-- a part that is a word and a number
+named_part : (front so after part word number : List ℕ) → so ≡ front ++ part → after ≡ so ++ word ++ number
+    → after ≡ front ++ (part ++ word ++ number)
+named_part front so after part word number a b =
+    two_parts front (so ++ word) after (part ++ word) number (two_parts front so (so ++ word) part word a refl) b
+
+-- what stands in a frame: two words with numbers, and three parts
+pub framed : (old a b c d new u k v l r s t : List ℕ) → a ≡ old ++ u ++ k → b ≡ a ++ v ++ l → c ≡ b ++ r
+    → d ≡ c ++ s → new ≡ d ++ t → new ≡ old ++ (u ++ k ++ v ++ l ++ r ++ s ++ t)
+framed old a b c d new u k v l r s t is_a is_b is_c is_d is =
+    two_parts old d new (u ++ k ++ v ++ l ++ r ++ s) t (two_parts old c d (u ++ k ++ v ++ l ++ r) s (two_parts old b c (u ++ k ++ v ++ l) r (named_part old a b (u ++ k) v l (is_a ∙ append_assoc old u k) is_b) is_c) is_d) is
+
+-- the parts of a label: the fifth is a word with a number
+pub labelled : (old a b c d e f new p q r s w k t u : List ℕ) → a ≡ old ++ p → b ≡ a ++ q → c ≡ b ++ r
+    → d ≡ c ++ s → e ≡ d ++ w ++ k → f ≡ e ++ t → new ≡ f ++ u
+    → new ≡ old ++ (p ++ q ++ r ++ s ++ w ++ k ++ t ++ u)
+labelled old a b c d e f new p q r s w k t u is_a is_b is_c is_d is_e is_f is =
+    let front : d ≡ old ++ (p ++ q ++ r ++ s) = two_parts old c d (p ++ q ++ r) s (two_parts old b c (p ++ q) r (two_parts old a b p q is_a is_b) is_c) is_d in
+    two_parts old f new (p ++ q ++ r ++ s ++ w ++ k ++ t) u (two_parts old e f (p ++ q ++ r ++ s ++ w ++ k) t (named_part old d e (p ++ q ++ r ++ s) w k front is_e) is_f) is
+
+-- one part more
+pub part_more : (f : ℕ → List ℕ) (part : List ℕ) (n : ℕ) (front so after : List ℕ) → so ≡ front ++ f n
+    → after ≡ so ++ part → f (suc n) ≡ f n ++ part → after ≡ front ++ f (n + 1)
+part_more f part n front so after a b is =
+    let next : suc n ≡ n + 1 = omega arith in
+    b ∙ ap (λ (l : List ℕ). l ++ part) a ∙ append_assoc front (f n) part ∙ ap (λ (l : List ℕ). front ++ l) (sym is) ∙ ap (λ (k : ℕ). front ++ f k) next
+
+-- the first member of the next request's chain
+pub first_next : (r : Requests) (n : ℕ) (last : Bool) (first : ℕ) → last ≡ is_last r n → first ≡ first_of r n
+    → (if last then n + 1 else first) ≡ first_of r (n + 1)
+first_next r n last first is same =
+    let next : suc n ≡ n + 1 = omega arith in
+    ap (λ (b : Bool). if b then n + 1 else first) is ∙ ap (λ (k : ℕ). if is_last r n then n + 1 else k) same ∙ ap (λ (k : ℕ). if is_last r n then k else first_of r n) (sym next) ∙ ap (first_of r) next
+
+-- the outstanding member before the next request
+pub before_next : (r : Requests) (n : ℕ) (last : Bool) (found : Option Sqe) (before : Option ℕ) → last ≡ is_last r n
+    → found ≡ entry_outstanding r n → before ≡ member_before r n
+    → (if last then None else if is_some found then Some n else before) ≡ member_before r (n + 1)
+before_next r n last found before is has same =
+    let next : suc n ≡ n + 1 = omega arith in
+    ap (λ (b : Bool). if b then None else if is_some found then Some n else before) is
+    ∙ ap (λ (o : Option Sqe). if is_last r n then None else if is_some o then Some n else before) has
+    ∙ ap (λ (o : Option ℕ). if is_last r n then None else if is_some (entry_outstanding r n) then Some n else o) same
+    ∙ ap (member_before r) next
+
+-- the parts of a graph together
+pub whole_graph : (front one two three four nodes arrows : List ℕ) → one ≡ front ++ codes "digraph requests {\n"
+    → two ≡ one ++ nodes → three ≡ two ++ arrows → four ≡ three ++ codes "}\n"
+    → four ≡ front ++ (codes "digraph requests {\n" ++ nodes ++ arrows ++ codes "}\n")
+whole_graph front one two three four nodes arrows a b c d =
+    d ∙ ap (λ (l : List ℕ). l ++ codes "}\n") (c ∙ ap (λ (l : List ℕ). l ++ arrows) (b ∙ ap (λ (l : List ℕ). l ++ nodes) a))
+    ∙ simp append_assoc refl
+
+-- the line of a request, by what is asked of it
+pub row_placed : (r : Requests) (n : ℕ) (e : Sqe) (call first : ℕ) (chained : Bool) (why : Why) (before after : List ℕ)
+    → after ≡ before ++ placed_text call (in_chain chained first (node_text n e why))
+    → call ≡ call_of r n → first ≡ first_of r n → chained ≡ is_chained r n → why ≡ why_of r n
+    → Some e ≡ entry_outstanding r n → after ≡ before ++ row_text r n
+row_placed r n e call first chained why before after is calls same others stands found =
+    is ∙ ap (λ (k : ℕ). before ++ placed_text k (in_chain chained first (node_text n e why))) calls
+    ∙ ap (λ (k : ℕ). before ++ placed_text (call_of r n) (in_chain chained k (node_text n e why))) same
+    ∙ ap (λ (b : Bool). before ++ placed_text (call_of r n) (in_chain b (first_of r n) (node_text n e why))) others
+    ∙ ap (λ (w : Why). before ++ placed_text (call_of r n) (in_chain (is_chained r n) (first_of r n) (node_text n e w))) stands
+    ∙ ap (λ (o : Option Sqe). before ++ line_text r n o) found
+
+-- so many parts, counted otherwise
+pub up_to_same : (f : ℕ → List ℕ) (n m : ℕ) (front after : List ℕ) → after ≡ front ++ f n → n ≡ m
+    → after ≡ front ++ f m
+up_to_same f n m front after is same = is ∙ ap (λ (k : ℕ). front ++ f k) same
+
+-- the arrows of one request more
+pub arrows_more : (r : Requests) (n : ℕ) (before : Option ℕ) (why : Why) (front so after : List ℕ)
+    → so ≡ front ++ arrows_below r n → after ≡ so ++ arrows_text n before why
+    → before ≡ member_before r n → why ≡ why_of r n → after ≡ front ++ arrows_below r (n + 1)
+arrows_more r n before why front so after a b same stands =
+    part_more (arrows_below r) (arrows_text n (member_before r n) (why_of r n)) n front so after a
+    (b ∙ ap (λ (o : Option ℕ). so ++ arrows_text n o why) same ∙ ap (λ (w : Why). so ++ arrows_text n (member_before r n) w) stands) refl

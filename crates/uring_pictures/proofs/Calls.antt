@@ -1,0 +1,157 @@
+-- What a step makes of the entries and cuts that are kept.
+use Rattle.std.proofs.Common.{◌≡◌, ℕ, ◌+◌, ◌<◌, ◌≤◌, Bool, true, false, not, ◌&&◌, List, [], ◌∷◌, ◌++◌, length, take, Option, Some, None, refl, sym, ap, subst, ◌∙◌, arith}
+use Rattle.std.specs.Prelude.{if◌then◌else◌}
+use Rattle.std.specs.Option.{option_to_list}
+use Rattle.std.proofs.lemmas.Bool.{lt-ltb}
+use Rattle.std.proofs.lemmas.List.{take_more, take_all, take-append-le, length-append}
+use Rattle.uring_entry.specs.Setup.{Setup}
+use Rattle.uring_entry.specs.Layout.{Sqe, zero_entry}
+use Rattle.uring_entry.specs.Submission.{Call, entries_from}
+use Rattle.uring_entry.specs.Requests.{Requests, entry_of, entry_outstanding, is_outstanding, has_ended, with_call}
+use Rattle.uring_core.specs.World.{World, ending, ending_of}
+use Rattle.uring_core.specs.Histories.{Event, History, world, IsLawfulApart}
+use Rattle.uring_core.specs.StepAnswers.{end_answer_in}
+use Rattle.uring_core.specs.declared.step.Step.{Step}
+use Rattle.uring_core.specs.declared.step.Step.TheVariants as step
+use Rattle.uring_core.specs.declared.answer.Answer.{Answer}
+use Rattle.uring_core.specs.declared.answer.Answer.TheVariants as answer
+use Rattle.uring_core.proofs.Moves.{Move, stays, accepts, starts, ends_doomed, ends_cancel, ends_run, move_of}
+use Rattle.uring_core.proofs.Sound.{sound_of}
+use Rattle.uring_core.proofs.SoundRequests.{IsSoundRequests}
+use Rattle.uring_machine.specs.Machine.{Machine, Fits}
+use Rattle.uring_pictures.specs.Following.{Closes, HasAll, Keeping, Keeps, MakesStep, is_taken}
+use Rattle.uring_pictures.specs.declared.accepted.Accepted.{Accepted}
+
+-- no call closes by this step
+abbrev pub ClosesNone : Step → Answer → Type 0
+ClosesNone s a = (accepted missed head : ℕ) → s ≡ step.End → a ≡ answer.Taken accepted missed head → ⊥
+
+-- the same entries and cuts
+abbrev HasSameLists : Requests → Requests → Type 0
+HasSameLists r q = (r.accepted ≡ q.accepted) × (r.cuts ≡ q.cuts)
+
+same_lists : (r : Requests) (s : Step) (a : Answer) (q : Requests) → Move r s a q → ClosesNone s a
+    → HasSameLists r q
+same_lists r s a q (stays _ _ no_start no_end) none = (refl, refl)
+same_lists r s a q (accepts accepted missed head entries) none =
+    absurd (none accepted missed head refl refl)
+same_lists r s a q (starts n outstanding idle spared ready no_cancel) none = (refl, refl)
+same_lists r s a q (ends_doomed n outstanding) none = (refl, refl)
+same_lists r s a q (ends_cancel n outstanding spared ready cancel) none = (refl, refl)
+same_lists r s a q (ends_run n res bytes running) none = (refl, refl)
+
+-- a step by which no call closes
+keeps_step : (m m' : Machine) (entries : List Sqe) (cuts : List ℕ) (s : Step) (a : Answer) (h : History)
+    → m'.core.setup ≡ m.core.setup → ((k : History) → Fits m k → Fits m' ((s, a) ∷ k))
+    → ClosesNone s a → Keeping m entries cuts h → Keeping m' entries cuts ((s, a) ∷ h)
+keeps_step m m' entries cuts s a h same fits none k =
+    let now : Fits m' ((s, a) ∷ h) = fits h k.fits in
+    let lawful : IsLawfulApart m.core.setup ((s, a) ∷ h) = subst (λ (g : Setup). IsLawfulApart g ((s, a) ∷ h)) same now.core.lawful in
+    let lists = same_lists (world m.core.setup h).requests s a (world m.core.setup ((s, a) ∷ h)).requests (move_of m.core.setup s a h lawful) none in
+    record {
+      fits = now;
+      entries = subst (λ (g : Setup). entries ≡ (world g ((s, a) ∷ h)).requests.accepted) (sym same) (k.entries ∙ lists.0);
+      cuts = subst (λ (g : Setup). cuts ≡ (world g ((s, a) ∷ h)).requests.cuts) (sym same) (k.cuts ∙ lists.1);
+    }
+
+-- The end of a call accepts the entries that it took.
+
+closed_by : (g : Setup) (w : World) (call : Option Call) (accepted missed head : ℕ) → w.submission.call ≡ call
+    → answer.Taken accepted missed head ≡ end_answer_in g w call
+    → (entries : List Sqe) × ((ending w (answer.Taken accepted missed head)).requests ≡ with_call w.requests entries)
+closed_by g w None accepted missed head opened is = absurd cc
+closed_by g w (Some call) accepted missed head opened is =
+    (entries_from w.submission call.count, ap (λ (c : Option Call). (ending_of w c).requests) opened)
+
+closed : (g : Setup) (h : History) (accepted missed head : ℕ)
+    → IsLawfulApart g ((step.End, answer.Taken accepted missed head) ∷ h)
+    → (entries : List Sqe) × ((world g ((step.End, answer.Taken accepted missed head) ∷ h)).requests ≡ with_call (world g h).requests entries)
+closed g h accepted missed head lawful =
+    closed_by g (world g h) (world g h).submission.call accepted missed head refl lawful.0
+
+-- what wasn't accepted hasn't ended
+unended_by : (r : Requests) (n : ℕ) (ended : Bool) → IsSoundRequests r → length r.accepted ≤ n
+    → has_ended r n ≡ ended → has_ended r n ≡ false
+unended_by r n false sound beyond is = is
+unended_by r n true sound beyond is =
+    let within : n < length r.accepted = sound.ended_accepted n is in absurd (omega (arith, within, beyond))
+
+-- the entries that are kept, seen from the requests behind the call
+has_all : (r : Requests) (more : List Sqe) → IsSoundRequests r → HasAll r.accepted (with_call r more)
+has_all r more sound = record {
+  front = sym (take-append-le (length r.accepted) r.accepted more (omega arith) ∙ take_all (length r.accepted) r.accepted (omega arith));
+  fewer = let all = length-append r.accepted more in omega (arith, all);
+  unended = λ n beyond. unended_by r n (has_ended r n) sound beyond refl;
+}
+
+taken_as : (a : Answer) → is_taken a ≡ true
+    → (accepted : ℕ) × (missed : ℕ) × (head : ℕ) × (a ≡ answer.Taken accepted missed head)
+taken_as (answer.Taken accepted missed head) is = (accepted, missed, head, refl)
+taken_as answer.Filled is = absurd cc
+taken_as answer.Staged is = absurd cc
+taken_as _ is = absurd cc
+
+-- a step by which a call closes, whose entries are added
+keeps_call : (old at new : Accepted) (accepted missed head : ℕ) (h : History)
+    → at.machine.core.setup ≡ old.machine.core.setup
+    → ((k : History) → Fits old.machine k → Fits at.machine ((step.End, answer.Taken accepted missed head) ∷ k))
+    → at.entries.items ≡ old.entries.items → at.cuts.items ≡ old.cuts.items → Closes at new → Keeps old h
+    → Keeping at.machine new.entries.items new.cuts.items ((step.End, answer.Taken accepted missed head) ∷ h)
+keeps_call old at new accepted missed head h same fits kept marked closes k =
+    let e : Event = (step.End, answer.Taken accepted missed head) in
+    let g = at.machine.core.setup in
+    let now : Fits at.machine (e ∷ h) = fits h k.fits in
+    let more = closed g h accepted missed head now.core.lawful in
+    let before : at.entries.items ≡ (world g h).requests.accepted = kept ∙ subst (λ (s : Setup). old.entries.items ≡ (world s h).requests.accepted) (sym same) k.entries in
+    let ends : at.cuts.items ≡ (world g h).requests.cuts = marked ∙ subst (λ (s : Setup). old.cuts.items ≡ (world s h).requests.cuts) (sym same) k.cuts in
+    let all : HasAll at.entries.items (world g (e ∷ h)).requests = subst (λ (q : Requests). HasAll at.entries.items q) (sym more.1) (subst (λ (xs : List Sqe). HasAll xs (with_call (world g h).requests more.0)) (sym before) (has_all (world g h).requests more.0 (sound_of g h now.core.lawful.1).requests)) in
+    let cuts_now : (world g (e ∷ h)).requests.cuts ≡ (world g h).requests.cuts ++ length (world g (e ∷ h)).requests.accepted ∷ [] = subst (λ (q : Requests). q.cuts ≡ (world g h).requests.cuts ++ length q.accepted ∷ []) (sym more.1) refl in
+    record {
+      fits = now;
+      entries = closes.entries (e ∷ h) now all;
+      cuts = closes.cuts (e ∷ h) now ∙ ap (λ (ks : List ℕ). ks ++ length (world g (e ∷ h)).requests.accepted ∷ []) ends ∙ sym cuts_now;
+    }
+
+pub call_made : (old at new : Accepted) (a : Answer) → is_taken a ≡ true
+    → at.machine.core.setup ≡ old.machine.core.setup
+    → ((k : History) → Fits old.machine k → Fits at.machine ((step.End, a) ∷ k))
+    → at.entries.items ≡ old.entries.items → at.cuts.items ≡ old.cuts.items → Closes at new
+    → MakesStep old new step.End
+call_made old at new a is same fits kept marked closes =
+    let t = taken_as a is in
+    record {
+      answer = a;
+      same = ap (λ (m : Machine). m.core.setup) closes.same ∙ same;
+      keeps = λ h k. subst (λ (m : Machine). Keeping m new.entries.items new.cuts.items ((step.End, a) ∷ h)) (sym closes.same) (subst (λ (b : Answer). Keeping at.machine new.entries.items new.cuts.items ((step.End, b) ∷ h)) (sym t.3) (keeps_call old at new t.0 t.1 t.2 h same (subst (λ (b : Answer). (k : History) → Fits old.machine k → Fits at.machine ((step.End, b) ∷ k)) t.3 fits) kept marked closes k));
+    }
+
+-- a step by which none closes
+pub step_made : (old new : Accepted) (s : Step) (a : Answer) → new.machine.core.setup ≡ old.machine.core.setup
+    → ((k : History) → Fits old.machine k → Fits new.machine ((s, a) ∷ k))
+    → new.entries.items ≡ old.entries.items → new.cuts.items ≡ old.cuts.items → ClosesNone s a
+    → MakesStep old new s
+step_made old new s a same fits kept marked none = record {
+  answer = a;
+  same = same;
+  keeps = λ h k.
+      let n = keeps_step old.machine new.machine old.entries.items old.cuts.items s a h same fits none k in
+      record { fits = n.fits; entries = kept ∙ n.entries; cuts = marked ∙ n.cuts };
+}
+
+pub closes_none : (a : Answer) → is_taken a ≡ false → ClosesNone step.End a
+closes_none a is accepted missed head end taken = absurd (let no : true ≡ false = sym (ap is_taken taken) ∙ is in cc)
+
+-- One entry more.
+
+outstanding_entry : (r : Requests) (n : ℕ) → n < length r.accepted → has_ended r n ≡ false
+    → entry_outstanding r n ≡ Some (entry_of r n)
+outstanding_entry r n within opened =
+    let out : is_outstanding r n ≡ true = ap (λ b. b && not (has_ended r n)) (lt-ltb n (length r.accepted) within) ∙ ap (λ b. not b) opened in
+    ap (λ b. if b then Some (entry_of r n) else None) out
+
+pub entry_added : (r : Requests) (n : ℕ) (so after : List Sqe) (found : Option Sqe)
+    → so ≡ take n r.accepted → after ≡ so ++ option_to_list found → found ≡ entry_outstanding r n
+    → n < length r.accepted → has_ended r n ≡ false → after ≡ take (n + 1) r.accepted
+entry_added r n so after found front is has within opened =
+    is ∙ ap (λ (o : Option Sqe). so ++ option_to_list o) (has ∙ outstanding_entry r n within opened)
+    ∙ ap (λ (l : List Sqe). l ++ entry_of r n ∷ []) front ∙ sym (take_more r.accepted n zero_entry within)

@@ -1,0 +1,169 @@
+-- What a moment keeps, byte by byte and line by line.
+use Rattle.std.proofs.Common.{◌≡◌, ◌≢◌, ℕ, ◌+◌, ◌-◌, ◌^◌, min, true, false, List, [], ◌∷◌, ◌++◌, length, Option, Some, None, refl, sym, ap, subst, ◌∙◌, arith}
+use Rattle.std.specs.Prelude.{if◌then◌else◌}
+use Rattle.uring_entry.specs.Setup.{Setup}
+use Rattle.uring_core.specs.Histories.{History, history_of}
+use Rattle.uring_core.specs.declared.step.Step.{Step}
+use Rattle.uring_text.specs.Lines.{with_last}
+use Rattle.uring_text.specs.KeptLine.{KeptLine, kept_of}
+use Rattle.uring_text.proofs.Splits.{split_more, split_end, last_some}
+use Rattle.uring_trace.specs.Spelling.{IsStep, IsBad}
+use Rattle.uring_trace.specs.Exchanges.{Exchange, events_of}
+use Rattle.uring_trace.specs.Explanations.{line_number}
+use Rattle.uring_trace.proofs.Sessions.{one_more}
+use Rattle.uring_pictures.specs.Following.{Keeps, MakesStep, ReadsLine, Following, Followed}
+use Rattle.uring_pictures.specs.Moments.{does_count, up_to}
+use Rattle.uring_pictures.specs.declared.accepted.Accepted.{Accepted}
+
+-- What becomes of a line: a step, or none.
+
+pub line_made : (old new : Accepted) (line : List ℕ) (s : Step) → IsStep line s → MakesStep old new s
+    → ReadsLine old new line
+line_made old new line s is made =
+    record { event = Some (s, made.answer); read = is; same = made.same; keeps = made.keeps }
+
+pub line_passed : (a : Accepted) (line : List ℕ) → IsBad line → ReadsLine a a line
+line_passed a line none = record { event = None; read = none; same = refl; keeps = λ h k. k }
+
+-- nothing yet
+pub follows_none : (at : Option ℕ) (setup : Setup) (a : Accepted) (kept : KeptLine) → kept ≡ kept_of []
+    → a.machine.core.setup ≡ setup → Keeps a [] → Following at setup a kept 1 []
+follows_none at setup a kept empty same keeps = record {
+  lines = [];
+  rest = [];
+  splits = record { whole = refl; each = tt; unbroken = tt };
+  keeps_line = empty;
+  numbered = omega arith;
+  exchanges = [];
+  taken = refl;
+  each = tt;
+  same = same;
+  keeps = keeps;
+}
+
+-- a byte of a line
+pub follows_byte : (at : Option ℕ) (setup : Setup) (a : Accepted) (kept kept' : KeptLine) (number : ℕ) (before : List ℕ) (b : ℕ)
+    → b ≢ 10 → ((line : List ℕ) → kept ≡ kept_of line → kept' ≡ kept_of (line ++ b ∷ []))
+    → Following at setup a kept number before
+    → Following at setup a kept' number (before ++ b ∷ [])
+follows_byte at setup a kept kept' number before b ne more f = record {
+  lines = f.lines;
+  rest = f.rest ++ b ∷ [];
+  splits = split_more before f.lines f.rest b ne f.splits;
+  keeps_line = more f.rest f.keeps_line;
+  numbered = f.numbered;
+  exchanges = f.exchanges;
+  taken = f.taken;
+  each = f.each;
+  same = f.same;
+  keeps = f.keeps;
+}
+
+-- a line that counts, and one that doesn't
+counted : (at : Option ℕ) (line : List ℕ) (lines : List (List ℕ)) (number : ℕ) → number ≡ line_number (length lines)
+    → does_count at number ≡ true → up_to at (line ∷ lines) ≡ line ∷ up_to at lines
+counted at line lines number is counts =
+    ap (λ b. if b then line ∷ up_to at lines else up_to at lines) (ap (does_count at) (sym is) ∙ counts)
+
+passed : (at : Option ℕ) (line : List ℕ) (lines : List (List ℕ)) (number : ℕ) → number ≡ line_number (length lines)
+    → does_count at number ≡ false → up_to at (line ∷ lines) ≡ up_to at lines
+passed at line lines number is counts =
+    ap (λ b. if b then line ∷ up_to at lines else up_to at lines) (ap (does_count at) (sym is) ∙ counts)
+
+-- one exchange more
+kept_more : (a a' : Accepted) (line : List ℕ) (xs : List Exchange) (r : ReadsLine a a' line)
+    → Keeps a (history_of (events_of xs))
+    → Keeps a' (history_of (events_of (record { line = line; event = r.event } ∷ xs)))
+kept_more a a' line xs r k =
+    subst (λ (h : History). Keeps a' h) (one_more r.event (events_of xs)) (r.keeps (history_of (events_of xs)) k)
+
+next_number : (lines : List (List ℕ)) (line : List ℕ) (number number' : ℕ) → number ≡ line_number (length lines)
+    → number' ≡ min (number + 1) (2 ^ 64 - 1) → number' ≡ line_number (length (line ∷ lines))
+next_number lines line number number' is next = omega (arith, is, next)
+
+-- the end of a line that counts
+pub follows_line : (at : Option ℕ) (setup : Setup) (a a' : Accepted) (kept kept' : KeptLine) (number number' : ℕ) (before : List ℕ)
+    → does_count at number ≡ true → kept' ≡ kept_of [] → number' ≡ min (number + 1) (2 ^ 64 - 1)
+    → ((line : List ℕ) → kept ≡ kept_of line → ReadsLine a a' line)
+    → Following at setup a kept number before
+    → Following at setup a' kept' number' (before ++ 10 ∷ [])
+follows_line at setup a a' kept kept' number number' before counts empty next reads f =
+    let r = reads f.rest f.keeps_line in
+    record {
+      lines = f.rest ∷ f.lines;
+      rest = [];
+      splits = split_end before f.lines f.rest f.splits;
+      keeps_line = empty;
+      numbered = next_number f.lines f.rest number number' f.numbered next;
+      exchanges = record { line = f.rest; event = r.event } ∷ f.exchanges;
+      taken = ap (λ (l : List (List ℕ)). f.rest ∷ l) f.taken ∙ sym (counted at f.rest f.lines number f.numbered counts);
+      each = (r.read, f.each);
+      same = r.same ∙ f.same;
+      keeps = kept_more a a' f.rest f.exchanges r f.keeps;
+    }
+
+-- and of one that doesn't
+pub follows_passed : (at : Option ℕ) (setup : Setup) (a : Accepted) (kept kept' : KeptLine) (number number' : ℕ) (before : List ℕ)
+    → does_count at number ≡ false → kept' ≡ kept_of [] → number' ≡ min (number + 1) (2 ^ 64 - 1)
+    → Following at setup a kept number before
+    → Following at setup a kept' number' (before ++ 10 ∷ [])
+follows_passed at setup a kept kept' number number' before counts empty next f = record {
+  lines = f.rest ∷ f.lines;
+  rest = [];
+  splits = split_end before f.lines f.rest f.splits;
+  keeps_line = empty;
+  numbered = next_number f.lines f.rest number number' f.numbered next;
+  exchanges = f.exchanges;
+  taken = f.taken ∙ sym (passed at f.rest f.lines number f.numbered counts);
+  each = f.each;
+  same = f.same;
+  keeps = f.keeps;
+}
+
+-- the end of the input, behind the end of a line
+pub followed_none : (at : Option ℕ) (setup : Setup) (a : Accepted) (kept : KeptLine) (number : ℕ) (bytes : List ℕ)
+    → ((line : List ℕ) → kept ≡ kept_of line → line ≡ [])
+    → Following at setup a kept number bytes → Followed at setup a bytes
+followed_none at setup a kept number bytes none f = record {
+  lines = f.lines;
+  rest = f.rest;
+  splits = f.splits;
+  exchanges = f.exchanges;
+  taken = f.taken ∙ ap (λ (l : List ℕ). up_to at (with_last f.lines l)) (sym (none f.rest f.keeps_line));
+  each = f.each;
+  same = f.same;
+  keeps = f.keeps;
+}
+
+-- in a line that counts
+pub followed_last : (at : Option ℕ) (setup : Setup) (a a' : Accepted) (kept : KeptLine) (number : ℕ) (bytes : List ℕ)
+    → ((line : List ℕ) → kept ≡ kept_of line → line ≢ []) → does_count at number ≡ true
+    → ((line : List ℕ) → kept ≡ kept_of line → ReadsLine a a' line)
+    → Following at setup a kept number bytes → Followed at setup a' bytes
+followed_last at setup a a' kept number bytes some counts reads f =
+    let r = reads f.rest f.keeps_line in
+    record {
+      lines = f.lines;
+      rest = f.rest;
+      splits = f.splits;
+      exchanges = record { line = f.rest; event = r.event } ∷ f.exchanges;
+      taken = ap (λ (l : List (List ℕ)). f.rest ∷ l) f.taken ∙ sym (ap (up_to at) (last_some f.lines f.rest (some f.rest f.keeps_line)) ∙ counted at f.rest f.lines number f.numbered counts);
+      each = (r.read, f.each);
+      same = r.same ∙ f.same;
+      keeps = kept_more a a' f.rest f.exchanges r f.keeps;
+    }
+
+-- and in one that doesn't
+pub followed_passed : (at : Option ℕ) (setup : Setup) (a : Accepted) (kept : KeptLine) (number : ℕ) (bytes : List ℕ)
+    → ((line : List ℕ) → kept ≡ kept_of line → line ≢ []) → does_count at number ≡ false
+    → Following at setup a kept number bytes → Followed at setup a bytes
+followed_passed at setup a kept number bytes some counts f = record {
+  lines = f.lines;
+  rest = f.rest;
+  splits = f.splits;
+  exchanges = f.exchanges;
+  taken = f.taken ∙ sym (ap (up_to at) (last_some f.lines f.rest (some f.rest f.keeps_line)) ∙ passed at f.rest f.lines number f.numbered counts);
+  each = f.each;
+  same = f.same;
+  keeps = f.keeps;
+}

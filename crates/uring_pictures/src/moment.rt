@@ -1,0 +1,205 @@
+//! The moment behind some line of a trace: the requests as the lines up to it have left them.
+
+ghost use Rattle.std.specs.Prelude.{◌≡◌, ◌≢◌, ◌+◌, ◌-◌, ◌^◌, ◌++◌, ◌∷◌, [], ℕ, List, min, true, Option, IfOk, IsOk, OnOk, MatchOption};
+ghost use Rattle.uring_entry.specs.Setup.{Setup};
+ghost use Rattle.uring_text.specs.KeptLine.{kept_of};
+ghost use Rattle.uring_trace.specs.Spelling.{IsStep, IsBad};
+ghost use Rattle.uring_pictures.specs.Following.{Follows, HasFollowed, ReadsLine};
+ghost use Rattle.uring_pictures.specs.Moments.{does_count};
+
+use crate::accepted::Accepted;
+use std::alloc::{AllocError, Global};
+use uring_machine::{Setup, Step};
+use uring_memory::Memory;
+use uring_text::{KeptLine, TextMemory};
+use uring_trace::read_step_in;
+
+/// The requests as the lines up to some line leave them, and what is kept of the unfinished line.
+#[derive(Drop)]
+pub(crate) struct Moment {
+    alloc: Global,
+    // The number of the last line that counts, from 1 on; each does without one.
+    at: Option<u64>,
+    accepted: Accepted,
+    line: KeptLine,
+    // The number of the unfinished line, from 1 on.
+    number: u64,
+}
+
+impl Moment {
+    /// Before the first line. Here and below: if the memory grants whatever is asked for, there is no error.
+    pub(crate) fn new_in<M: Memory>(
+        memory: &M,
+        alloc: Global,
+        setup: &Setup,
+        at: Option<u64>,
+    ) -> Result<Moment, AllocError>
+        ensures ok { IfOk result (λ m. Follows at setup.now m []) }
+        ensures granted { ((n : ℕ) → M.grants memory.now n) → IsOk result }
+    {
+        let line = KeptLine::new_in(memory, alloc)?;
+        Ok(Moment {
+            alloc,
+            at,
+            accepted: Accepted::new_in(memory, alloc, setup)?,
+            line,
+            number: 1,
+        })
+    }
+
+    /// The requests.
+    pub(crate) fn accepted(&self) -> &Accepted
+        ensures { result.now ≡ self.now.accepted }
+    {
+        &self.accepted
+    }
+
+    /// Takes in the next bytes.
+    pub(crate) fn feed_in<M: TextMemory>(
+        &mut self,
+        memory: &M,
+        bytes: &[u8],
+    ) -> Result<(), AllocError>
+        ensures ok { OnOk result
+            ((at : Option ℕ) (setup : Setup) (before : List ℕ) → Follows at setup self.old before
+            → Follows at setup self.new (before ++ bytes.now)) }
+        ensures granted { ((n : ℕ) → M.grants memory.now n) → IsOk result }
+    {
+        for byte in bytes {
+            self.take(memory, *byte)?;
+        }
+        Ok(())
+    }
+
+    /// Ends the input.
+    pub(crate) fn finish_in<M: TextMemory>(&mut self, memory: &M) -> Result<(), AllocError>
+        ensures ok { OnOk result
+            ((at : Option ℕ) (setup : Setup) (bytes : List ℕ) → Follows at setup self.old bytes
+            → HasFollowed at setup self.new bytes) }
+        ensures granted { ((n : ℕ) → M.grants memory.now n) → IsOk result }
+    {
+        if self.line.is_empty() {
+            return Ok(());
+        }
+        self.end_last(memory)
+    }
+
+    /// Reads a last line that has no end, if it counts.
+    fn end_last<M: TextMemory>(&mut self, memory: &M) -> Result<(), AllocError>
+        ensures ok { OnOk result
+            (((line : List ℕ) → self.old.line ≡ kept_of line → line ≢ [])
+            → (at : Option ℕ) (setup : Setup) (bytes : List ℕ) → Follows at setup self.old bytes
+            → HasFollowed at setup self.new bytes) }
+        ensures granted { ((n : ℕ) → M.grants memory.now n) → IsOk result }
+    {
+        if self.counts() {
+            return self.read_line(memory);
+        }
+        Ok(())
+    }
+
+    /// Takes in one byte.
+    fn take<M: TextMemory>(&mut self, memory: &M, byte: u8) -> Result<(), AllocError>
+        ensures ok { OnOk result
+            ((at : Option ℕ) (setup : Setup) (before : List ℕ) → Follows at setup self.old before
+            → Follows at setup self.new (before ++ byte ∷ [])) }
+        ensures granted { ((n : ℕ) → M.grants memory.now n) → IsOk result }
+    {
+        if byte == b'\n' {
+            self.end_line(memory)?;
+        } else {
+            self.keep(byte);
+        }
+        Ok(())
+    }
+
+    /// Takes in one byte of a line, which isn't its end.
+    fn keep(&mut self, byte: u8)
+        requires { byte ≢ 10 }
+        ensures { (at : Option ℕ) (setup : Setup) (before : List ℕ) → Follows at setup self.old before
+            → Follows at setup self.new (before ++ byte ∷ []) }
+    {
+        self.line.push(byte);
+    }
+
+    /// Whether the unfinished line counts.
+    fn counts(&self) -> bool
+        ensures { result ≡ does_count self.now.at self.now.number }
+    {
+        match self.at {
+            Some(at) => self.number <= at,
+            None => true,
+        }
+    }
+
+    /// Reads the line if it counts, and begins the next one.
+    fn end_line<M: TextMemory>(&mut self, memory: &M) -> Result<(), AllocError>
+        ensures ok { OnOk result
+            ((at : Option ℕ) (setup : Setup) (before : List ℕ) → Follows at setup self.old before
+            → Follows at setup self.new (before ++ 10 ∷ [])) }
+        ensures granted { ((n : ℕ) → M.grants memory.now n) → IsOk result }
+    {
+        if self.counts() {
+            return self.end_counted(memory);
+        }
+        self.begin_line();
+        Ok(())
+    }
+
+    /// Reads the line, which counts, and begins the next one.
+    fn end_counted<M: TextMemory>(&mut self, memory: &M) -> Result<(), AllocError>
+        ensures ok { OnOk result
+            (does_count self.old.at self.old.number ≡ true
+            → (at : Option ℕ) (setup : Setup) (before : List ℕ) → Follows at setup self.old before
+            → Follows at setup self.new (before ++ 10 ∷ [])) }
+        ensures granted { ((n : ℕ) → M.grants memory.now n) → IsOk result }
+    {
+        self.read_line(memory)?;
+        self.begin_line();
+        Ok(())
+    }
+
+    /// Begins the next line.
+    fn begin_line(&mut self)
+        ensures line { self.new.line ≡ kept_of [] }
+        ensures number { self.new.number ≡ min (self.old.number + 1) (2 ^ 64 - 1) }
+        ensures at { self.new.at ≡ self.old.at }
+        ensures accepted { self.new.accepted ≡ self.old.accepted }
+    {
+        self.line.clear();
+        self.number = self.number.saturating_add(1);
+    }
+
+    /// Makes the step that the line is, if it is one.
+    fn read_line<M: TextMemory>(&mut self, memory: &M) -> Result<(), AllocError>
+        ensures read { OnOk result
+            ((line : List ℕ) → self.old.line ≡ kept_of line
+            → ReadsLine self.old.accepted self.new.accepted line) }
+        ensures line { self.new.line ≡ self.old.line }
+        ensures number { self.new.number ≡ self.old.number }
+        ensures at { self.new.at ≡ self.old.at }
+        ensures granted { ((n : ℕ) → M.grants memory.now n) → IsOk result }
+    {
+        match step_of(memory, self.alloc, &self.line)? {
+            Some(step) => self.accepted.step_in(memory, step),
+            None => Ok(()),
+        }
+    }
+}
+
+/// The step that a line is, if it is one. A line of more than 300 bytes is none.
+fn step_of<M: Memory>(
+    memory: &M,
+    alloc: Global,
+    line: &KeptLine,
+) -> Result<Option<Step>, AllocError>
+    ensures step { IfOk result
+        (λ read. (bytes : List ℕ) → line.now ≡ kept_of bytes
+        → MatchOption read (IsBad bytes) (IsStep bytes)) }
+    ensures granted { ((n : ℕ) → M.grants memory.now n) → IsOk result }
+{
+    match line.whole() {
+        Some(bytes) => read_step_in(memory, alloc, bytes),
+        None => Ok(None),
+    }
+}
