@@ -11,3 +11,5 @@ pub mod Stepping
 pub mod Whole
 pub mod ReadingForms
 pub mod VolumeForms
+pub mod TimeForm
+pub mod ShownForm
