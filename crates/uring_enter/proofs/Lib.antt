@@ -7,3 +7,4 @@ mod TimeoutRows
 mod TimeoutRuns
 mod TimesKept
 mod ShowingRuns
+mod CancelRuns

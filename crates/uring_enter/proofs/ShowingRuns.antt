@@ -1,10 +1,10 @@
 -- The laws of what is shown.
-use Rattle.std.proofs.Common.{◌≡◌, ℕ, ◌+◌, ◌-◌, ◌*◌, ◌/◌, ◌%◌, ◌^◌, ◌<◌, ◌≤◌, List, [], ◌∷◌, ◌∙◌, sym, ap, subst, ⊎_elim, arith}
+use Rattle.std.proofs.Common.{◌≡◌, ℕ, ◌+◌, ◌-◌, ◌*◌, ◌/◌, ◌%◌, ◌^◌, ◌<◌, ◌≤◌, [], ◌∷◌, ◌∙◌, sym, ap, subst, ⊎_elim, arith}
 use Rattle.std.proofs.lemmas.Bool.{cases_order}
-use Rattle.std.proofs.lemmas.Nat.{div-add-mod', pow_below}
+use Rattle.std.proofs.lemmas.Nat.{div-add-mod'}
 use Rattle.std.proofs.Math.Pow.{mod-mod-pow}
-use Rattle.uring_enter.specs.Showing.{Change, Posted, Written, Reaped, posted, written, reaped}
-use Rattle.uring_enter.specs.ShowingLaws.{IsShowing, ShowsWhatWasPosted, StandsApart}
+use Rattle.uring_enter.specs.Showing.{Posted, Written, Reaped}
+use Rattle.uring_enter.specs.ShowingLaws.{ShowsWhatWasPosted, StandsApart}
 
 pub shows_what_was_posted : ShowsWhatWasPosted
 shows_what_was_posted entries [] run = (omega arith, omega arith, omega arith)

@@ -1,16 +1,15 @@
 -- What is kept of the timeouts of a ring, and what is told of it.
-use Rattle.std.proofs.Common.{◌≡◌, ℕ, ◌≤◌, ◌<◌, ◌+◌, ◌-◌, ◌^◌, min, max, ℤ, pos, Bool, true, false, not, ◌&&◌, ◌||◌, eqb, ltb, leb, length, take, set, zero, suc, List, [], ◌∷◌, ◌++◌, ◌⊎◌, inl, inr, Option, Some, None, map, filter, refl, sym, ap, subst, arith, ◌∙◌, if◌then◌else◌}
+use Rattle.std.proofs.Common.{◌≡◌, ℕ, ◌≤◌, ◌<◌, ◌+◌, ◌-◌, min, ℤ, Bool, true, false, ◌&&◌, eqb, ltb, leb, length, take, set, zero, suc, List, [], ◌∷◌, ◌++◌, inl, inr, Option, Some, None, map, filter, refl, sym, ap, subst, arith, ◌∙◌, if◌then◌else◌}
 use Rattle.std.specs.Prelude.{Contains, MatchOption, is_some}
-use Rattle.std.proofs.lemmas.Bool.{ltb-false, ltb-true, leb-true, leb-false, lt-ltb, or_parts, false≢true, cases_order}
+use Rattle.std.proofs.lemmas.Bool.{ltb-false, leb-true, leb-false, lt-ltb, or_parts, false≢true, cases_order}
 use Rattle.std.proofs.lemmas.List.{take_more_set}
-use Rattle.uring_enter.specs.declared.timeout.Start.{Start}
 use Rattle.uring_enter.specs.declared.timeout.Timeout.{Timeout}
 use Rattle.uring_enter.specs.declared.wait.Around.{Around}
 use Rattle.uring_enter.specs.declared.wait.Woken.{Woken}
-use Rattle.uring_enter.specs.declared.wait.Woken.TheVariants.{Over, TimedOut, Other}
-use Rattle.uring_enter.specs.Timeouts.{Event, Started, Changed, Ended, later, time, posted, started, running, is_other, with_expiry, ends_before, IsNext, IsNextOf, is_over, outcome, NoneIsOver, IsDueOf, IsBy, IsEarliest, HasNone, IsRow, EndsNone, EndsWith, AreApart}
-use Rattle.uring_enter.specs.Kept.{KeepsTime, due_of, earliest_of, outcome_at, outcome_found}
-use Rattle.uring_enter.specs.Waits.{has_any, IsReached, IsWoken, IsPassing, IsPassingBy, woken_of, passing_of}
+use Rattle.uring_enter.specs.declared.wait.Woken.TheVariants.{TimedOut, Other}
+use Rattle.uring_enter.specs.Timeouts.{Event, Changed, later, time, posted, running, is_other, with_expiry, ends_before, IsNext, IsNextOf, is_over, outcome, NoneIsOver, IsDueOf, IsEarliest, HasNone, IsRow, EndsNone, EndsWith, AreApart}
+use Rattle.uring_enter.specs.Kept.{due_of, earliest_of, outcome_at, outcome_found}
+use Rattle.uring_enter.specs.Waits.{has_any, IsWoken, IsPassing, IsPassingBy, woken_of, passing_of}
 
 -- none is among none
 none_among : (rows : List Timeout) (t : Timeout) → rows ≡ [] → Contains rows t → ⊥

@@ -1,5 +1,5 @@
 -- Glue: the time of a ring, and rows of timeouts, that have come so far.
-use Rattle.std.specs.Prelude.{◌≡◌, ℕ, ◌≤◌, length, take, ℤ, pos, Bool, true, false, ◌&&◌, nat_lt, nat_le, min, List, Option, Some, None, if◌then◌else◌}
+use Rattle.std.specs.Prelude.{◌≡◌, ℕ, ◌≤◌, length, take, ℤ, pos, ◌&&◌, nat_lt, nat_le, min, List, Option, Some, None, if◌then◌else◌}
 use Rattle.uring_enter.specs.Replies.{error}
 use Rattle.uring_enter.specs.declared.timeout.Timeout.{Timeout}
 use Rattle.uring_enter.specs.declared.times.Times.{Times}

@@ -9,3 +9,4 @@ pub mod Waits
 pub mod Showing
 pub mod ShowingLaws
 pub mod Cancels
+pub mod CancelLaws

@@ -1,5 +1,5 @@
 -- Which completions the application is shown in ring memory, and which it has reaped, by what has happened so far, the newest first. Completions count from 0, in the order in which they were posted. io_uring(7), Reading completion events; io_uring_setup(2), the flags of the submission ring; but where our own rule is named.
-use Rattle.std.specs.Prelude.{◌≡◌, ℕ, ◌+◌, ◌-◌, ◌%◌, ◌^◌, ◌<◌, ◌≤◌, Bool, true, false, ◌&&◌, nat_lt, nat_le, Option, Some, None, List, [], ◌∷◌, if◌then◌else◌}
+use Rattle.std.specs.Prelude.{◌≡◌, ℕ, ◌+◌, ◌-◌, ◌%◌, ◌^◌, ◌<◌, ◌≤◌, Bool, ◌&&◌, nat_lt, nat_le, Option, Some, None, List, [], ◌∷◌, if◌then◌else◌}
 use Rattle.uring_enter.specs.declared.showing.Store.{Store}
 use Rattle.uring_enter.specs.declared.showing.Store.TheVariants.{Cell, Tail}
 use Rattle.uring_enter.specs.declared.showing.Shown.{Shown}

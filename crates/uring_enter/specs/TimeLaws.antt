@@ -1,8 +1,8 @@
 -- What holds of the timeouts of every ring, whatever happens. io_uring_enter(2), IORING_OP_TIMEOUT, but where our own rule is named.
-use Rattle.std.specs.Prelude.{◌≡◌, ℕ, ◌≤◌, ◌^◌, ◌-◌, Bool, true, false, ◌||◌, ◌==◌, ◌⊎◌, IsSome, List, [], ◌∷◌, ◌++◌, Contains}
+use Rattle.std.specs.Prelude.{◌≡◌, ℕ, ◌≤◌, Bool, true, false, ◌||◌, ◌==◌, ◌⊎◌, IsSome, List, [], ◌∷◌, ◌++◌, Contains}
 use Rattle.uring_enter.specs.declared.timeout.Timeout.{Timeout}
 use Rattle.uring_enter.specs.Timeouts.{Event, later, time, posted, enough_after, running, IsNext, outcome, has_counted, AreApart}
-use Rattle.uring_enter.specs.Timeouts.{Started, Posted, Changed, Stopped, Clock, Slept, Passed, Ended}
+use Rattle.uring_enter.specs.Timeouts.{Started, Changed, Clock, Slept, Passed, Ended}
 
 -- a run: a number isn't started again while it runs; time is let pass only until the one is over that ends next; and only one ends that runs, and whose count is reached or whose time is over
 abbrev pub IsRun : List Event → Type 0

@@ -3,6 +3,7 @@
 
 mod asked;
 mod cancel;
+mod cancel_laws;
 mod command;
 mod enter;
 mod laws;
@@ -17,6 +18,9 @@ mod wait;
 
 pub use asked::{Asked, Policy};
 pub use cancel::{Cancel, Outstanding, Sought};
+pub use cancel_laws::{
+    asks_what_matters, cancels_all_that_fit, cancels_the_oldest, cancels_what_fits,
+};
 pub use command::Command;
 pub use enter::{Before, Enter, WrongReply};
 pub use laws::{ends_for_a_reason, gives_up_in_vain, sleeps_in_vain, submits_once};

@@ -1,5 +1,4 @@
-use Rattle.std.proofs.Common.{◌≡◌, ℕ, take, Some, Option, ap, sym, subst, arith}
-use Rattle.uring_enter.specs.declared.timeout.Timeout.{Timeout}
+use Rattle.std.proofs.Common.{◌≡◌, ℕ, take, subst, arith}
 use Rattle.uring_enter.specs.Timeouts.{IsNextOf}
 use Rattle.uring_enter.proofs.TimeoutOrder.{next_more}
 use Rattle.uring_enter.proofs.timeout_rows.next_of.Goals as goal
