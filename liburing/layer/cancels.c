@@ -1,7 +1,7 @@
 /* The core knows one cancel, by user data, which fails if it finds its request running. All others are no-ops to it, and so
  * is one on whose success a link or a skipped completion stands. Those are looked for here: a request that runs, or that the
- * core would let start, is marked, and ends with -125 when it is next gone on with. As in the kernel, one that waits behind a
- * link or a drain isn't found.
+ * core would let start, is marked, and ends with -125 when it is next gone on with. Which are found is the library's decision: as
+ * in the kernel, one that waits behind a link or a drain isn't.
  */
 #define _GNU_SOURCE
 #include "cancels.h"
@@ -10,6 +10,7 @@
 #include "ring.h"
 #include "steps.h"
 #include "timeouts.h"
+#include "wulgach_cancel.h"
 
 #include <errno.h>
 #include <fcntl.h>
@@ -58,63 +59,65 @@ static void look_again_at(struct ring *ring, const struct request *request)
 void cancel_request(struct ring *ring, struct request *request)
 {
     look_again_at(ring, request);
+    if (is_timeout(request))
+        stop_timeout(ring, request);
     request->is_cancelled = true;
     request->is_refused = false;
 }
 
-/* Whether a request can be found at all. */
-static bool can_be_found(struct ring *ring, const struct request *request)
+/* A request as a cancel sees it, but for whether it could start now. */
+static struct wulgach_outstanding seen_of(const struct request *request)
 {
-    if (request->mapping != TOKEN || request->is_cancelled)
-        return false;
-    return request->state == RUNS ? is_cancellable(request) : can_issue(ring, request->number);
+    return (struct wulgach_outstanding){
+        .user_data = request->entry.user_data,
+        .file = (uintptr_t)request->file,
+        .fd = (uint32_t)request->entry.fd,
+        .is_registered = request->entry.flags & IOSQE_FIXED_FILE,
+        .is_assigned = request->is_assigned,
+        .is_free = request->mapping == TOKEN && !request->is_cancelled,
+        .runs = request->state == RUNS,
+        .is_waiting = is_cancellable(request),
+    };
 }
 
-struct key {
-    uint64_t user_data;
-    uint32_t flags;
-    int fd;
-    const struct file *file;
-};
-
-static bool fits(const struct key *key, const struct request *request)
+/* Has a cancel look at a request. The core is asked whether that could start only where it matters. */
+static bool look_for(struct ring *ring, struct wulgach_cancel *cancel, const struct request *request)
 {
-    if (key->flags & IORING_ASYNC_CANCEL_ANY)
-        return true;
-    if (!(key->flags & IORING_ASYNC_CANCEL_FD))
-        return request->entry.user_data == key->user_data;
-    bool is_registered = request->entry.flags & IOSQE_FIXED_FILE;
-    return key->file ? is_registered && request->file == key->file : !is_registered && request->is_assigned && request->entry.fd == key->fd;
+    struct wulgach_outstanding seen = seen_of(request);
+    seen.may_start = wulgach_cancel_asks(cancel, &seen) && can_issue(ring, request->number);
+    return wulgach_cancel_sees(cancel, &seen);
 }
 
-/* Cancels what fits: all of them, or the oldest. Returns how many there were. */
-static int32_t cancel_all(struct ring *ring, const struct key *key, const struct request *canceller)
+/* Cancels what is sought, and returns what the canceller ends with. */
+static int32_t cancel_all(struct ring *ring, const struct wulgach_sought *sought, const struct request *canceller)
 {
-    int32_t count = 0;
-    bool is_one = !(key->flags & (IORING_ASYNC_CANCEL_ALL | IORING_ASYNC_CANCEL_ANY));
-    for (size_t i = 0; i < ring->requests.count && !(is_one && count > 0); i++) {
+    struct wulgach_cancel cancel;
+    wulgach_cancel_begin(&cancel, sought);
+    for (size_t i = 0; i < ring->requests.count; i++) {
         struct request *request = ring->requests.rows[i];
-        if (request != canceller && fits(key, request) && can_be_found(ring, request)) {
+        if (request != canceller && look_for(ring, &cancel, request))
             cancel_request(ring, request);
-            count++;
-        }
     }
-    return is_one ? (count > 0 ? 0 : -ENOENT) : count;
+    return wulgach_cancel_result(&cancel);
 }
 
 static int32_t cancel_by(struct ring *ring, const struct request *canceller)
 {
     const struct io_uring_sqe *entry = &canceller->entry;
-    struct key key = {.user_data = entry->addr, .flags = entry->cancel_flags, .fd = entry->fd};
-    struct file *file = NULL;
-    if (key.flags & IORING_ASYNC_CANCEL_FD) {
-        bool is_fixed = key.flags & IORING_ASYNC_CANCEL_FD_FIXED || entry->flags & IOSQE_FIXED_FILE;
-        file = is_fixed ? use_file(ring, (uint32_t)entry->fd) : NULL;
-        if (is_fixed ? !file : fcntl(entry->fd, F_GETFD) < 0)
-            return -EBADF;
-        key.file = file;
-    }
-    int32_t res = cancel_all(ring, &key, canceller);
+    uint32_t flags = entry->cancel_flags;
+    struct wulgach_sought sought = {
+        .user_data = entry->addr,
+        .fd = (uint32_t)entry->fd,
+        .is_any = flags & IORING_ASYNC_CANCEL_ANY,
+        .is_all = flags & IORING_ASYNC_CANCEL_ALL,
+        .is_by_fd = flags & IORING_ASYNC_CANCEL_FD,
+        .is_fixed = flags & IORING_ASYNC_CANCEL_FD_FIXED || entry->flags & IOSQE_FIXED_FILE,
+    };
+    struct file *file = sought.is_by_fd && sought.is_fixed ? use_file(ring, sought.fd) : NULL;
+    if (sought.is_by_fd && (sought.is_fixed ? !file : fcntl(entry->fd, F_GETFD) < 0))
+        return -EBADF;
+    sought.file = (uintptr_t)file;
+    int32_t res = cancel_all(ring, &sought, canceller);
     release_file(file);
     return res;
 }
@@ -122,9 +125,12 @@ static int32_t cancel_by(struct ring *ring, const struct request *canceller)
 /* The oldest request of an operation and a user data that can be found. */
 static struct request *find_request(struct ring *ring, uint8_t code, uint64_t user_data)
 {
+    struct wulgach_sought sought = {.user_data = user_data};
+    struct wulgach_cancel cancel;
+    wulgach_cancel_begin(&cancel, &sought);
     for (size_t i = 0; i < ring->requests.count; i++) {
         struct request *request = ring->requests.rows[i];
-        if (request->entry.opcode == code && request->entry.user_data == user_data && can_be_found(ring, request))
+        if (request->entry.opcode == code && look_for(ring, &cancel, request))
             return request;
     }
     return NULL;

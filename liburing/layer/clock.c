@@ -25,21 +25,21 @@ bool is_time_real(void)
     return is_real;
 }
 
-int64_t real_time(void)
+uint64_t real_time(void)
 {
     struct timespec now;
     clock_gettime(CLOCK_MONOTONIC, &now);
-    return (int64_t)now.tv_sec * 1000000000 + now.tv_nsec;
+    return wulgach_time_of(now.tv_sec, now.tv_nsec);
 }
 
 void start_clock(struct ring *ring)
 {
+    wulgach_times_begin(&ring->times);
     ring->origin = is_time_real() ? real_time() : 0;
 }
 
 void catch_up(struct ring *ring)
 {
-    int64_t now = is_time_real() ? real_time() - ring->origin : 0;
-    if (ring->now < now)
-        ring->now = now;
+    if (is_time_real())
+        wulgach_times_move_to(&ring->times, wulgach_time_left(real_time(), ring->origin));
 }

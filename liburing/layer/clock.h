@@ -8,7 +8,7 @@
 bool is_time_real(void);
 
 /* Nanoseconds of a real clock. */
-int64_t real_time(void);
+uint64_t real_time(void);
 
 /* Lets a ring's time begin. */
 void start_clock(struct ring *ring);

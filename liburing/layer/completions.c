@@ -16,11 +16,11 @@
 
 bool reserve_completions(struct completions *completions, size_t more)
 {
-    if (completions->first > 0 && completions->first >= completions->count) {
-        memcpy(completions->queue, completions->queue + completions->first, completions->count * sizeof *completions->queue);
+    if (completions->first > 0 && completions->first >= completions->at.posted) {
+        memcpy(completions->queue, completions->queue + completions->first, completions->at.posted * sizeof *completions->queue);
         completions->first = 0;
     }
-    size_t need = completions->first + completions->count + more;
+    size_t need = completions->first + completions->at.posted + more;
     if (need <= completions->room)
         return true;
     struct posted *queue = realloc(completions->queue, 2 * need * sizeof *queue);
@@ -40,10 +40,10 @@ bool note_end(struct ring *ring, const struct request *request, int32_t res, int
 {
     struct completions *completions = &ring->completions;
     struct wulgach_completion last;
-    if (wulgach_core_rest(&ring->core, completions->count, &last) != 0)
+    if (wulgach_core_rest(&ring->core, completions->at.posted, &last) != 0)
         return false;
     demand(last.user_data == request->token && last.res == told, "the core posted something else");
-    *posted_at(completions, completions->count++) = (struct posted){
+    *posted_at(completions, completions->at.posted) = (struct posted){
         .user_data = request->entry.user_data,
         .res = res,
         .flags = request->flags,
@@ -51,45 +51,53 @@ bool note_end(struct ring *ring, const struct request *request, int32_t res, int
         .told = told,
         .is_async = request->call != ring->call_number,
     };
+    wulgach_shown_post(&completions->at);
     return true;
+}
+
+/* Stores a completion into the cell of its position. */
+static void store_completion(struct memory *memory, const struct posted *posted, uint32_t position)
+{
+    struct io_uring_cqe *cell = completion_at(memory, position);
+    cell->user_data = posted->user_data;
+    cell->res = posted->res;
+    cell->flags = posted->flags;
+    if (memory->completion_cells > 1)
+        cell[1] = (struct io_uring_cqe){0};
+}
+
+/* Stores what the core's tail shows, in the library's order. Says whether an eventfd is told of any of it. */
+static bool store_shown(struct ring *ring)
+{
+    struct completions *completions = &ring->completions;
+    uint32_t tail = load_cq_tail(ring);
+    bool is_told = false;
+    struct wulgach_store store;
+    demand(wulgach_shown_takes(&completions->at, tail), "the core shows more than it posted");
+    for (;;) {
+        wulgach_shown_store(&completions->at, tail, &store);
+        if (!store.is_cell)
+            break;
+        const struct posted *posted = posted_at(completions, store.place);
+        store_completion(&ring->memory, posted, store.position);
+        is_told |= posted->is_async || !ring->is_eventfd_async;
+    }
+    store_word(&ring->memory.cq->tail, store.position);
+    return is_told;
 }
 
 void show(struct ring *ring)
 {
-    struct completions *completions = &ring->completions;
-    struct memory *memory = &ring->memory;
-    completions->is_behind = false;
-    if (completions->shown < completions->count) {
-        uint32_t tail = load_cq_tail(ring);
-        bool is_told = false;
-        demand(tail - completions->head <= completions->count, "the core shows more than it posted");
-        while (completions->shown < tail - completions->head) {
-            uint32_t at = completions->head + (uint32_t)completions->shown;
-            const struct posted *posted = posted_at(completions, completions->shown++);
-            struct io_uring_cqe *cell = completion_at(memory, at);
-            cell->user_data = posted->user_data;
-            cell->res = posted->res;
-            cell->flags = posted->flags;
-            if (memory->completion_cells > 1)
-                cell[1] = (struct io_uring_cqe){0};
-            is_told |= posted->is_async || !ring->is_eventfd_async;
-        }
-        store_word(&memory->cq->tail, tail);
-        if (is_told)
-            tell_eventfd(ring);
-    }
-    uint32_t flags = 0;
-    if (completions->shown < completions->count) {
-        flags |= IORING_SQ_CQ_OVERFLOW;
-        if (!(load_word(&memory->sq->flags) & IORING_SQ_CQ_OVERFLOW))
-            note_rule(COMPLETION_OVERFLOWS);
-    }
-    /* Makes a peek that finds nothing call: so requests go on, and a descriptor that polls is readable no more. */
-    if (ring->requests.count > 0 || ring->is_readable)
-        flags |= IORING_SQ_TASKRUN;
-    if (ring->flags & IORING_SETUP_SQPOLL)
-        flags |= IORING_SQ_NEED_WAKEUP;
-    store_word(&memory->sq->flags, flags);
+    struct wulgach_shown *at = &ring->completions.at;
+    struct sq_words *sq = ring->memory.sq;
+    ring->completions.is_behind = false;
+    if (wulgach_shown_overflows(at) && store_shown(ring))
+        tell_eventfd(ring);
+    if (wulgach_shown_overflows(at) && !(load_word(&sq->flags) & IORING_SQ_CQ_OVERFLOW))
+        note_rule(COMPLETION_OVERFLOWS);
+    /* A call may bring something: so a peek that finds nothing calls, requests go on, and a descriptor that polls is readable no more. */
+    bool may_bring = ring->requests.count > 0 || ring->is_readable;
+    store_word(&sq->flags, wulgach_shown_flags(at, may_bring, ring->flags & IORING_SETUP_SQPOLL));
 }
 
 void show_ends(struct ring *ring)
@@ -104,25 +112,22 @@ static void reap(struct ring *ring, uint32_t count)
     struct completions *completions = &ring->completions;
     reap_oldest(ring, count);
     completions->first += count;
-    completions->count -= count;
-    completions->shown -= count;
-    completions->head += count;
+    wulgach_shown_reap(&completions->at, count);
     ring->has_changed = true;
 }
 
 bool hear(struct ring *ring, bool is_flushing)
 {
-    struct completions *completions = &ring->completions;
-    uint32_t count = load_word(&ring->memory.cq->head) - completions->head;
-    if (count > completions->shown)
+    struct wulgach_shown *at = &ring->completions.at;
+    uint32_t count;
+    if (wulgach_shown_heard(at, load_word(&ring->memory.cq->head), &count) != 0)
         return false;
     if (count == 0 && !is_flushing)
         return true;
     show_ends(ring);
     if (count > 0)
         reap(ring, count);
-    bool has_overflowed = completions->shown < completions->count, has_room = completions->shown < ring->memory.cq_entries;
-    if (has_overflowed ? is_flushing && has_room : count > 0) {
+    if (wulgach_shown_loads_head(at, count, is_flushing, ring->memory.cq_entries)) {
         flush(ring);
         show(ring);
     }

@@ -4,6 +4,8 @@
 #ifndef COMPLETIONS_H
 #define COMPLETIONS_H
 
+#include "wulgach_shown.h"
+
 #include <stdbool.h>
 #include <stddef.h>
 #include <stdint.h>
@@ -19,10 +21,9 @@ struct posted {
 
 struct completions {
     struct posted *queue;   /* the oldest first, from `first` on */
-    size_t first, count, room;
-    size_t shown;           /* how many of them stand in ring memory; the others have overflowed, or are to be shown */
+    size_t first, room;
+    struct wulgach_shown at;    /* how many there are, and stand in ring memory; the others have overflowed, or are to be shown */
     bool is_behind;         /* some ended since ring memory was last brought up to date */
-    uint32_t head;          /* the completion ring's head as the core knows it */
 };
 
 struct ring;

@@ -54,8 +54,10 @@ void end_of(struct ring *ring, struct request *request, int32_t res, int32_t tol
     if (told >= 0 && request->entry.flags & IOSQE_CQE_SKIP_SUCCESS)
         record_silent_end(ring, request);
     bool is_cancel = request->mapping == CANCEL;
-    ring->posted += note_end(ring, request, res, told) && !is_timeout(request);
-    ring->expired += is_timeout(request) && request->state == RUNS && !request->is_cancelled;
+    if (note_end(ring, request, res, told) && !is_timeout(request))
+        wulgach_times_post(&ring->times, 1);
+    if (is_timeout(request) || is_linked_timeout(request))
+        stop_timeout(ring, request);
     disarm_linked_timeout(ring, request);
     if (request->file)
         unwatch(ring, request->file->fd);
@@ -63,7 +65,7 @@ void end_of(struct ring *ring, struct request *request, int32_t res, int32_t tol
     ring->running -= request->state == RUNS;
     look_again_behind(ring, request);
     ring->drains -= request->is_draining;
-    ring->counting -= request->enough > 0;
+    ring->counting -= request->state == RUNS && has_count(request);
     end_request(&ring->requests, request);
     forget_refusals(ring, told == TOLD_SUCCESS && !is_cancel);
     ring->completions.is_behind = true;
@@ -96,7 +98,7 @@ int32_t shown_of(struct ring *ring, const struct request *request, int32_t res)
         return shown_of_cancel(ring, request, res);
     if (request->mapping == REFUSED && res == -EINVAL)
         return request->fault;
-    return request->has_fired && res == -ECANCELED ? -ETIME : res;
+    return is_linked_timeout(request) && res == -ECANCELED ? wulgach_timeout_linked_outcome(request->has_fired) : res;
 }
 
 void end_extra(struct ring *ring, struct request *request, int32_t res)

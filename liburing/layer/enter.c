@@ -15,7 +15,6 @@
 #include "ring.h"
 #include "streams.h"
 #include "submit.h"
-#include "times.h"
 #include "trace.h"
 #include "waiting.h"
 #include "wulgach_enter.h"
@@ -30,8 +29,8 @@
 struct waiting {
     uint32_t to_submit, min_complete;
     bool is_looking;        /* it gets events, and waits for none */
-    int64_t limit;          /* in nanoseconds, or negative */
-    int64_t deadline;       /* in the ring's time, or negative */
+    struct wulgach_limit limit;     /* how long it waits at most, in nanoseconds, */
+    struct wulgach_limit deadline;  /* and until when in the ring's time */
     sigset_t signals;       /* the mask while the call sleeps */
 };
 
@@ -40,7 +39,6 @@ static int read_waiting(struct waiting *waiting, uint32_t flags, const void *arg
 {
     uint64_t signals = (uintptr_t)argument;
     size_t signals_size = size;
-    waiting->limit = -1;
     if (flags & IORING_ENTER_EXT_ARG) {
         struct io_uring_getevents_arg extended;
         struct __kernel_timespec time;
@@ -51,7 +49,7 @@ static int read_waiting(struct waiting *waiting, uint32_t flags, const void *arg
         signals = extended.sigmask;
         signals_size = extended.sigmask_sz;
         if (extended.ts)
-            waiting->limit = nanoseconds_of(&time);
+            waiting->limit = (struct wulgach_limit){.at = wulgach_time_of(time.tv_sec, time.tv_nsec), .is_set = true};
     }
     if (!signals)
         return 0;
@@ -91,7 +89,8 @@ static int submit_published(struct ring *ring, uint32_t to_submit)
 static enum wulgach_reply_kind submit_entries(struct ring *ring, struct waiting *waiting, struct wulgach_reply *reply)
 {
     int submitted = ring->flags & IORING_SETUP_SQPOLL ? submit_published(ring, waiting->to_submit) : submit(ring, waiting->to_submit);
-    waiting->deadline = waiting->limit < 0 ? -1 : add_times(ring->now, waiting->limit);
+    waiting->deadline = waiting->limit;
+    waiting->deadline.at = wulgach_time_later(ring->times.time, waiting->limit.at);
     if (waiting->is_looking && count_ready(ring) == 0)
         record_break();
     reply->number = (uint32_t)(submitted < 0 ? -submitted : submitted);
@@ -127,7 +126,7 @@ static enum wulgach_reply_kind go_on_fully(struct ring *ring)
 static enum wulgach_reply_kind sleep_on(struct ring *ring, const struct waiting *waiting, struct wulgach_reply *reply)
 {
     show_readiness(ring);
-    int result = wait_for_any(ring, waiting->deadline, &waiting->signals);
+    int result = wait_for_any(ring, &waiting->deadline, &waiting->signals);
     switch (result) {
     case 0:
         return WULGACH_WOKEN;
@@ -167,7 +166,7 @@ static enum wulgach_reply_kind do_wanted(struct ring *ring, struct waiting *wait
 static void see(struct ring *ring, struct wulgach_reply *reply)
 {
     reply->ready = count_ready(ring);
-    reply->expired = ring->expired;
+    reply->expired = ring->times.expired;
     reply->is_due = has_expired(ring);
 }
 

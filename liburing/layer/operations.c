@@ -233,9 +233,9 @@ static int32_t call_system(struct ring *ring, struct request *request)
     case IORING_OP_SYNC_FILE_RANGE:
         return result_of(sync_file_range(request->fd, (off_t)entry->off, entry->len, entry->sync_range_flags));
     case IORING_OP_TIMEOUT:
-        return has_counted(ring, request) ? 0 : -ETIME;
+        return end_timeout(ring, request);
     case IORING_OP_LINK_TIMEOUT:
-        return request->has_fired ? -ETIME : -ECANCELED;
+        return wulgach_timeout_linked_outcome(request->has_fired);
     case IORING_OP_REMOVE_BUFFERS:
         return remove_buffers(ring, entry);
     case IORING_OP_PROVIDE_BUFFERS:

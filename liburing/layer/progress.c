@@ -71,7 +71,7 @@ static enum outcome finish_running(struct ring *ring, struct request *request)
             return IS_RUNNING;
         }
         /* One whose completion finds the ring full ends with it. */
-        if (goes_on_behind(request, res) && ring->completions.count < ring->memory.cq_entries) {
+        if (goes_on_behind(request, res) && ring->completions.at.posted < ring->memory.cq_entries) {
             post_extra(ring, request->entry.user_data, res, request->flags | IORING_CQE_F_MORE);
             return IS_RUNNING;
         }
@@ -101,7 +101,7 @@ static void start(struct ring *ring, struct request *request)
     if (is_poll(request) && request->started == 0)
         request->started = start_poll(request);
     arm_linked_timeout(ring, request);
-    ring->counting += request->enough > 0;
+    ring->counting += has_count(request);
     look_again(ring, place_of(&ring->requests, request->number));
     if (request->is_stream)
         look_at(ring, request);

@@ -147,7 +147,7 @@ void show_readiness(struct ring *ring)
     if (ring->ready_fd < 0)
         return;
     watch_streams(ring, ring->called_fd);
-    bool has_ready = count_ready(ring) > 0, has_overflowed = ring->completions.shown < ring->completions.count;
+    bool has_ready = count_ready(ring) > 0, has_overflowed = wulgach_shown_overflows(&ring->completions.at);
     bool is_readable = has_ready || has_overflowed || can_go_on(ring) || can_pass_time(ring);
     if (is_readable == ring->is_readable)
         return;

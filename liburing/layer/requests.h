@@ -38,10 +38,7 @@ struct request {
     uint64_t token;                 /* the user data that the core has */
     uint64_t call;                  /* the number of the call that submitted it */
     bool is_cancelled;              /* a cancel found it running */
-    bool is_armed;                  /* a linked timeout: the request before it has started */
-    bool has_fired;                 /* and was cancelled by it */
-    int64_t expiry;                 /* a timeout's, in virtual time */
-    uint64_t enough;                /* of a timeout with a count: how many completions the ring has posted by then */
+    bool has_fired;                 /* a linked timeout: the request before it was cancelled by it */
     int epoll;                      /* what tells of the events of a poll that goes on; or negative */
     /* What the entry points to, copied when it is submitted: the application may reuse it at once. */
     struct iovec *vectors;

@@ -12,6 +12,7 @@
 #include "requests.h"
 #include "restrictions.h"
 #include "wulgach.h"
+#include "wulgach_times.h"
 
 #include <linux/io_uring.h>
 #include <poll.h>
@@ -60,8 +61,6 @@ struct ring {
     struct request **ways;              /* room for the ways of a choice: as many as there are requests */
     size_t ways_room;
     uint32_t returns;                   /* how often in a row the choice was to return */
-    uint64_t posted;                    /* how many completions a timeout with a count has counted so far */
-    uint64_t expired;                   /* how many timeouts have ended by their time or their count */
     struct files files;                 /* registered */
     struct buffers buffers;
     struct group *groups;               /* of provided buffers */
@@ -77,9 +76,10 @@ struct ring {
     struct restrictions restrictions;
     uint64_t accepted;                  /* how many requests were accepted so far */
     struct completions completions;     /* posted and not reaped */
-    int64_t now;                        /* virtual time in nanoseconds */
-    int64_t origin;                     /* where time is real: when it was 0 */
-    int64_t slept_until;                /* the real time up to which what was slept is in it */
+    struct wulgach_times times;         /* its time, in nanoseconds, and how many timeouts run: */
+    struct wulgach_timeout *timeouts;   /* these, */
+    size_t timeouts_room;               /* and for how many there is room */
+    uint64_t origin;                    /* where time is real: when it was 0 */
     bool has_complained;                /* that the application stored a wrong head was said */
     bool has_trace;                     /* whether it is known where steps and answers go: */
     int trace_file;                     /* there, where trace isn't NULL */

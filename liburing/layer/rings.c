@@ -67,6 +67,7 @@ void free_ring(struct ring *ring)
     free_inbox(&ring->inbox);
     unregister_eventfd(ring, 0, 0);
     free(ring->ways);
+    free(ring->timeouts);
     close_trace(ring);
     pthread_mutex_destroy(&ring->lock);
     free(ring);
@@ -134,6 +135,7 @@ static int make_ring(struct ring **made, uint32_t entries, struct io_uring_param
     pthread_mutex_init(&ring->lock, NULL);
     make_inbox(&ring->inbox);
     make_files(&ring->files);
+    wulgach_shown_begin(&ring->completions.at);
     ring->ready_fd = -1;
     ring->eventfd = -1;
     ring->is_disabled = params->flags & IORING_SETUP_R_DISABLED;

@@ -7,7 +7,6 @@
 #include "clock.h"
 #include "descriptors.h"
 #include "operations.h"
-#include "times.h"
 
 #include <errno.h>
 #include <poll.h>
@@ -26,20 +25,13 @@ bool has_threads(void)
     return stat("/proc/self/task", &status) == 0 && status.st_nlink > 3;
 }
 
-/* Adds what has passed since `start` to virtual time. What another sleeper has added isn't added again. */
-static void add_slept(struct ring *ring, int64_t start)
+/* Adds what has passed since `start` to the ring's time. */
+static void add_slept(struct ring *ring, uint64_t start)
 {
-    int64_t end = real_time();
-    if (is_time_real()) {
+    if (is_time_real())
         catch_up(ring);
-        return;
-    }
-    if (start < ring->slept_until)
-        start = ring->slept_until;
-    if (end > start) {
-        ring->now = add_times(ring->now, end - start);
-        ring->slept_until = end;
-    }
+    else
+        wulgach_times_sleep(&ring->times, start, real_time());
 }
 
 static nfds_t list_streams(const struct ring *ring, struct pollfd *streams)
@@ -66,20 +58,20 @@ static void leave(struct ring *ring, const struct sleeper *sleeper)
 }
 
 /* Polls without the ring's lock. */
-static int poll_unlocked(struct ring *ring, struct pollfd *polled, nfds_t count, int64_t limit, const sigset_t *signals)
+static int poll_unlocked(struct ring *ring, struct pollfd *polled, nfds_t count, const struct wulgach_limit *limit, const sigset_t *signals)
 {
-    struct timespec time = {limit / 1000000000, limit % 1000000000};
+    struct timespec time = {(time_t)(limit->at / 1000000000), (long)(limit->at % 1000000000)};
     pthread_mutex_unlock(&ring->lock);
     /* A message that came before that is posted, and wakes this thread. */
     visit_ring(ring);
-    int result = ppoll(polled, count, limit < 0 ? NULL : &time, signals);
+    int result = ppoll(polled, count, limit->is_set ? &time : NULL, signals);
     if (result < 0)
         result = -errno;
     pthread_mutex_lock(&ring->lock);
     return result;
 }
 
-int sleep_until(struct ring *ring, int64_t until, const sigset_t *signals)
+int sleep_until(struct ring *ring, const struct wulgach_limit *until, const sigset_t *signals)
 {
     struct pollfd *polled = calloc(ring->requests.count + 1, sizeof *polled);
     if (!polled)
@@ -89,16 +81,18 @@ int sleep_until(struct ring *ring, int64_t until, const sigset_t *signals)
     ring->sleepers = &self;
     nfds_t count = list_streams(ring, polled);
     polled[count++] = (struct pollfd){.fd = self.wake, .events = POLLIN};
-    int64_t limit = until < 0 ? -1 : until > ring->now ? until - ring->now : 0;
-    bool is_nap = self.wake < 0 && (limit < 0 || limit > NAP);
-    int64_t start = real_time();
-    int result = poll_unlocked(ring, polled, count, is_nap ? NAP : limit, signals);
+    struct wulgach_limit limit = {.at = wulgach_time_left(until->at, ring->times.time), .is_set = until->is_set};
+    bool is_nap = self.wake < 0 && (!limit.is_set || limit.at > NAP);
+    if (is_nap)
+        limit = (struct wulgach_limit){.at = NAP, .is_set = true};
+    uint64_t start = real_time();
+    int result = poll_unlocked(ring, polled, count, &limit, signals);
     leave(ring, &self);
     free(polled);
     add_slept(ring, start);
     ring->moment++;
-    if (result == 0 && !is_nap && ring->now < until)
-        ring->now = until;
+    if (result == 0 && !is_nap && until->is_set)
+        wulgach_times_move_to(&ring->times, until->at);
     return result < 0 ? result : 0;
 }
 

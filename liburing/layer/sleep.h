@@ -15,10 +15,9 @@ struct sleeper {
 /* Whether the process has another thread, which could call on a ring. */
 bool has_threads(void);
 
-/* Sleeps until a stream is ready, another thread's call has changed something, or virtual time would be `until`
- * (never, if that is negative). Adds the time that was slept to virtual time. Returns 0 or the negative of an error
+/* Sleeps until a stream is ready, another thread's call has changed something, or the ring's time would be `until`. Adds the time that was slept to virtual time. Returns 0 or the negative of an error
  * number. */
-int sleep_until(struct ring *ring, int64_t until, const sigset_t *signals);
+int sleep_until(struct ring *ring, const struct wulgach_limit *until, const sigset_t *signals);
 
 /* Wakes the threads that sleep on a ring, if anything has changed since they were last woken. */
 void wake_sleepers(struct ring *ring);

@@ -1,4 +1,5 @@
-/* Time is virtual, and a ring's begins when it is made: an absolute time of a real clock counts by what is left of it now.
+/* Time is virtual, and a ring's begins when it is made: an absolute time of a real clock counts by what is left of it now. Which
+ * timeouts run, who ends next and how is the library's decision.
  *
  * A linked timeout is a member of its chain to the core, behind the request that it limits. Time runs for it while that
  * request runs, and over, cancels it. If the request succeeds, the core lets the timeout start: it ends with -125, as a
@@ -8,10 +9,11 @@
 #define _GNU_SOURCE
 #include "timeouts.h"
 #include "cancels.h"
+#include "fault.h"
 #include "ring.h"
-#include "times.h"
 
 #include <errno.h>
+#include <stdlib.h>
 #include <time.h>
 
 bool is_timeout(const struct request *request)
@@ -33,33 +35,70 @@ bool is_well_formed_timeout(const struct io_uring_sqe *entry)
     return (flags & IORING_TIMEOUT_CLOCK_MASK) != IORING_TIMEOUT_CLOCK_MASK && !(entry->opcode == IORING_OP_LINK_TIMEOUT && entry->off);
 }
 
-static int64_t time_of_clock(uint32_t flags)
+bool has_count(const struct request *request)
+{
+    return is_timeout(request) && request->entry.off > 0;
+}
+
+static uint64_t time_of_clock(uint32_t flags)
 {
     struct timespec now;
     clock_gettime(flags & IORING_TIMEOUT_BOOTTIME ? CLOCK_BOOTTIME : flags & IORING_TIMEOUT_REALTIME ? CLOCK_REALTIME : CLOCK_MONOTONIC, &now);
-    return (int64_t)now.tv_sec * 1000000000 + now.tv_nsec;
+    return wulgach_time_of(now.tv_sec, now.tv_nsec);
 }
 
-/* When a time that an entry gives is over, in virtual time. */
-static int64_t expiry_of(const struct ring *ring, const struct __kernel_timespec *time, uint32_t flags)
+/* How much later than now the time is over that an entry gives. */
+static uint64_t time_left(const struct request *timeout)
 {
-    int64_t left = nanoseconds_of(time);
-    if (flags & IORING_TIMEOUT_ABS) {
-        int64_t now = time_of_clock(flags);
-        left = left > now ? left - now : 0;
-    }
-    return add_times(ring->now, left);
+    uint32_t flags = timeout->entry.timeout_flags;
+    uint64_t time = wulgach_time_of(timeout->time->tv_sec, timeout->time->tv_nsec);
+    return flags & IORING_TIMEOUT_ABS ? wulgach_time_left(time, time_of_clock(flags)) : time;
 }
 
-void start_timeout(struct ring *ring, struct request *timeout)
+bool reserve_timeouts(struct ring *ring, size_t count)
 {
-    timeout->expiry = expiry_of(ring, timeout->time, timeout->entry.timeout_flags);
-    timeout->enough = timeout->entry.off ? ring->posted + timeout->entry.off : 0;
+    if (count <= ring->timeouts_room)
+        return true;
+    struct wulgach_timeout *timeouts = realloc(ring->timeouts, count * sizeof *timeouts);
+    if (!timeouts)
+        return false;
+    ring->timeouts = timeouts;
+    ring->timeouts_room = count;
+    return true;
+}
+
+static void run(struct ring *ring, const struct request *timeout)
+{
+    struct wulgach_start start = {
+        .number = timeout->number,
+        .more = time_left(timeout),
+        .count = timeout->entry.off,
+        .is_linked = is_linked_timeout(timeout),
+    };
+    demand(wulgach_times_start(&ring->times, ring->timeouts, ring->timeouts_room, &start) == 0, "there is no room for a timeout");
+}
+
+void start_timeout(struct ring *ring, const struct request *timeout)
+{
+    if (!timeout->is_cancelled)
+        run(ring, timeout);
+}
+
+void stop_timeout(struct ring *ring, const struct request *timeout)
+{
+    wulgach_times_stop(&ring->times, ring->timeouts, ring->timeouts_room, timeout->number);
+}
+
+int32_t end_timeout(struct ring *ring, const struct request *timeout)
+{
+    int32_t res;
+    demand(wulgach_times_end(&ring->times, ring->timeouts, ring->timeouts_room, timeout->number, &res) == 0, "a timeout ends before its time and its count");
+    return res;
 }
 
 bool has_counted(const struct ring *ring, const struct request *timeout)
 {
-    return timeout->enough > 0 && ring->posted >= timeout->enough;
+    return ring->counting > 0 && wulgach_times_outcome(&ring->times, ring->timeouts, ring->timeouts_room, timeout->number) == 0;
 }
 
 /* The timeout that is linked behind a request, or NULL. */
@@ -77,10 +116,8 @@ void arm_linked_timeout(struct ring *ring, struct request *request)
 {
     bool has_link = request->entry.flags & (IOSQE_IO_LINK | IOSQE_IO_HARDLINK);
     struct request *timeout = has_link ? timeout_behind(ring, request) : NULL;
-    if (!timeout)
-        return;
-    timeout->is_armed = true;
-    timeout->expiry = expiry_of(ring, timeout->time, timeout->entry.timeout_flags);
+    if (timeout)
+        run(ring, timeout);
 }
 
 void disarm_linked_timeout(struct ring *ring, const struct request *request)
@@ -88,17 +125,20 @@ void disarm_linked_timeout(struct ring *ring, const struct request *request)
     bool has_link = request->entry.flags & (IOSQE_IO_LINK | IOSQE_IO_HARDLINK);
     struct request *timeout = has_link ? timeout_behind(ring, request) : NULL;
     if (timeout)
-        timeout->is_armed = false;
+        stop_timeout(ring, timeout);
 }
 
-void fire_linked_timeout(struct ring *ring, struct request *timeout)
+void fire_linked_timeout(struct ring *ring, const struct wulgach_timeout *timeout)
 {
-    timeout->is_armed = false;
+    struct request *linked = request_of(&ring->requests, timeout->number);
+    uint64_t limited;
+    end_timeout(ring, linked);
+    demand(wulgach_timeout_cancels(timeout, &limited) == 0, "a timeout isn't linked");
     for (size_t i = 0; i < ring->requests.count; i++) {
         struct request *request = ring->requests.rows[i];
-        if (request->number + 1 == timeout->number && request->state == RUNS && is_cancellable(request)) {
+        if (request->number == limited && request->state == RUNS && is_cancellable(request)) {
             cancel_request(ring, request);
-            timeout->has_fired = true;
+            linked->has_fired = true;
         }
     }
 }
@@ -108,10 +148,9 @@ int32_t change_timeout(struct ring *ring, struct request *timeout, const struct 
     *timeout->time = *change->time;
     timeout->entry.timeout_flags &= ~(uint32_t)(IORING_TIMEOUT_ABS | IORING_TIMEOUT_CLOCK_MASK);
     timeout->entry.timeout_flags |= change->entry.timeout_flags & (IORING_TIMEOUT_ABS | IORING_TIMEOUT_CLOCK_MASK);
-    ring->counting -= timeout->enough > 0;
-    timeout->enough = 0;
+    ring->counting -= timeout->state == RUNS && has_count(timeout);
     timeout->entry.off = 0;
-    timeout->expiry = expiry_of(ring, timeout->time, timeout->entry.timeout_flags);
+    wulgach_times_change(&ring->times, ring->timeouts, ring->timeouts_room, timeout->number, time_left(timeout));
     return 0;
 }
 
@@ -119,7 +158,8 @@ int32_t change_linked_timeout(struct ring *ring, const struct request *change)
 {
     for (size_t i = 0; i < ring->requests.count; i++) {
         struct request *timeout = ring->requests.rows[i];
-        if (is_linked_timeout(timeout) && timeout->is_armed && timeout->entry.user_data == change->entry.addr)
+        bool is_meant = is_linked_timeout(timeout) && timeout->entry.user_data == change->entry.addr;
+        if (is_meant && wulgach_times_runs(&ring->times, ring->timeouts, ring->timeouts_room, timeout->number))
             return change_timeout(ring, timeout, change);
     }
     return -ENOENT;

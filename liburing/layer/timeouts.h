@@ -3,6 +3,7 @@
 #define TIMEOUTS_H
 
 #include "requests.h"
+#include "wulgach_times.h"
 
 struct ring;
 
@@ -12,8 +13,20 @@ bool is_linked_timeout(const struct request *request);
 
 bool is_well_formed_timeout(const struct io_uring_sqe *entry);
 
-/* A timeout has started: time runs. */
-void start_timeout(struct ring *ring, struct request *timeout);
+/* Whether a timeout has a count. */
+bool has_count(const struct request *request);
+
+/* Makes sure that so many timeouts can run; false if memory was refused. */
+bool reserve_timeouts(struct ring *ring, size_t count);
+
+/* A timeout has started: time runs, unless a cancel has found it already. */
+void start_timeout(struct ring *ring, const struct request *timeout);
+
+/* It was cancelled, or has ended: no time runs any more. */
+void stop_timeout(struct ring *ring, const struct request *timeout);
+
+/* A running timeout ends. Returns its result. */
+int32_t end_timeout(struct ring *ring, const struct request *timeout);
 
 /* A request has started: time runs for a timeout that is linked behind it. */
 void arm_linked_timeout(struct ring *ring, struct request *request);
@@ -24,8 +37,8 @@ void disarm_linked_timeout(struct ring *ring, const struct request *request);
 /* Whether as many completions were posted as a timeout counts. */
 bool has_counted(const struct ring *ring, const struct request *timeout);
 
-/* The time of a linked timeout is over: the request before it is cancelled. */
-void fire_linked_timeout(struct ring *ring, struct request *timeout);
+/* The time of a linked timeout is over: the request that it limits is cancelled. */
+void fire_linked_timeout(struct ring *ring, const struct wulgach_timeout *timeout);
 
 /* Sets the time of a running timeout, or of a linked one. Returns 0 or the negative of an error number. */
 int32_t change_timeout(struct ring *ring, struct request *timeout, const struct request *change);

@@ -10,38 +10,19 @@
 
 #include <errno.h>
 
-/* The running timeout that ends first, or NULL. Of equal ones it is the one that was submitted first. */
-static struct request *next_timeout(const struct ring *ring)
-{
-    struct request *next = NULL;
-    for (size_t i = 0; i < ring->requests.count; i++) {
-        struct request *request = ring->requests.rows[i];
-        bool is_running = is_linked_timeout(request) ? request->is_armed : is_timeout(request) && request->state == RUNS;
-        if (is_running && (!next || request->expiry < next->expiry))
-            next = request;
-    }
-    return next;
-}
-
 bool has_expired(const struct ring *ring)
 {
-    const struct request *timeout = next_timeout(ring);
-    return timeout && timeout->expiry <= ring->now;
+    struct wulgach_timeout timeout;
+    return wulgach_times_due(&ring->times, ring->timeouts, ring->timeouts_room, &timeout) == 0;
 }
 
-static void move_time(struct ring *ring, int64_t time)
+static void fire(struct ring *ring, const struct wulgach_timeout *timeout)
 {
-    if (ring->now < time)
-        ring->now = time;
-}
-
-static void fire(struct ring *ring, struct request *timeout)
-{
-    move_time(ring, timeout->expiry);
-    if (is_linked_timeout(timeout))
+    wulgach_times_pass(&ring->times, timeout);
+    if (timeout->is_linked)
         fire_linked_timeout(ring, timeout);
     else
-        finish_timeout(ring, timeout);
+        finish_timeout(ring, request_of(&ring->requests, timeout->number));
 }
 
 /* Whether a transfer on a stream waits. */
@@ -53,49 +34,71 @@ static bool is_streaming(const struct ring *ring)
     return false;
 }
 
-/* When there is something to do whatever others do; negative: never. */
-static int64_t next_time(const struct ring *ring, int64_t deadline)
+/* What a ring waits for beside time. Of other threads it is only asked where no timeout runs, since it doesn't matter else. */
+static struct wulgach_around look_around(const struct ring *ring)
 {
-    const struct request *timeout = next_timeout(ring);
-    if (!timeout)
-        return deadline;
-    return deadline >= 0 && deadline < timeout->expiry ? deadline : timeout->expiry;
+    bool has_streams = is_streaming(ring);
+    return (struct wulgach_around){
+        .has_streams = has_streams,
+        .has_threads = !has_streams && ring->times.count == 0 && has_threads(),
+        .is_real = is_time_real(),
+    };
 }
 
-int wait_for_any(struct ring *ring, int64_t deadline, const sigset_t *signals)
+/* Waits as the library says. Returns 0 or the negative of an error number. */
+static int wait_as(struct ring *ring, const struct wulgach_wait *wait, const sigset_t *signals)
 {
-    int64_t until = next_time(ring, deadline);
-    if (is_streaming(ring) || (!next_timeout(ring) && has_threads()) || (is_time_real() && until >= 0)) {
-        int result = sleep_until(ring, until, signals);
-        if (result < 0)
-            return result;
-    } else if (until < 0) {
+    switch (wait->kind) {
+    case WULGACH_WAIT_SLEEP:
+        return sleep_until(ring, &wait->until, signals);
+    case WULGACH_WAIT_MOVE:
+        wulgach_times_move_to(&ring->times, wait->until.at);
+        return 0;
+    default:
         /* (a thread may have ended since, and left a message) */
         return has_messages(ring) && can_post_extra(ring) ? 0 : -EDEADLK;
-    } else {
-        move_time(ring, until);
     }
-    if (has_expired(ring))
-        fire(ring, next_timeout(ring));
-    else if (deadline >= 0 && deadline <= ring->now)
-        return -ETIME;
-    return 0;
+}
+
+int wait_for_any(struct ring *ring, const struct wulgach_limit *deadline, const sigset_t *signals)
+{
+    struct wulgach_around around = look_around(ring);
+    struct wulgach_wait wait;
+    wulgach_times_wait(&ring->times, ring->timeouts, ring->timeouts_room, &around, deadline, &wait);
+    int result = wait_as(ring, &wait, signals);
+    if (result < 0 || wait.kind == WULGACH_WAIT_NEVER)
+        return result;
+    struct wulgach_woken woken;
+    wulgach_times_woken(&ring->times, ring->timeouts, ring->timeouts_room, deadline, &woken);
+    if (woken.kind == WULGACH_WOKEN_OVER)
+        fire(ring, &woken.timeout);
+    return woken.kind == WULGACH_WOKEN_TIMED_OUT ? -ETIME : 0;
+}
+
+/* The timeout that ends if time passes at once. */
+static bool find_passing(const struct ring *ring, struct wulgach_timeout *timeout)
+{
+    struct wulgach_around around = look_around(ring);
+    return wulgach_times_passing(&ring->times, ring->timeouts, ring->timeouts_room, &around, timeout) == 0;
 }
 
 bool can_pass_time(const struct ring *ring)
 {
-    return is_time_real() ? has_expired(ring) : next_timeout(ring) && !is_streaming(ring);
+    struct wulgach_timeout timeout;
+    return find_passing(ring, &timeout);
 }
 
 void pass_time(struct ring *ring)
 {
-    if (can_pass_time(ring))
-        fire(ring, next_timeout(ring));
+    struct wulgach_timeout timeout;
+    if (find_passing(ring, &timeout))
+        fire(ring, &timeout);
 }
 
 void pass_real_time(struct ring *ring)
 {
+    struct wulgach_timeout timeout;
     catch_up(ring);
-    while (is_time_real() && has_expired(ring))
-        fire(ring, next_timeout(ring));
+    while (is_time_real() && wulgach_times_due(&ring->times, ring->timeouts, ring->timeouts_room, &timeout) == 0)
+        fire(ring, &timeout);
 }

@@ -7,10 +7,10 @@
 #include <signal.h>
 
 /* Waits until something may go on: a stream is ready, a timeout has ended, or another thread's call has changed
- * something. Time is virtual, but where a stream or a thread is waited for. `deadline` is in virtual time, or negative;
+ * something. Time is virtual, but where a stream or a thread is waited for. `deadline` is in the ring's time;
  * `signals` the mask to sleep with. Returns 0; -ETIME at the deadline, -EINTR, or -EDEADLK if there is nothing to wait
  * for. */
-int wait_for_any(struct ring *ring, int64_t deadline, const sigset_t *signals);
+int wait_for_any(struct ring *ring, const struct wulgach_limit *deadline, const sigset_t *signals);
 
 /* Whether the time of a timeout is over that hasn't ended yet. */
 bool has_expired(const struct ring *ring);

@@ -155,9 +155,9 @@ void reap_oldest(struct ring *ring, uint32_t count)
 {
     const struct completions *completions = &ring->completions;
     const struct posted *oldest = completions->queue + completions->first;
-    uint32_t tail = completions->head + (uint32_t)completions->shown;
+    uint32_t tail = completions->at.head + completions->at.shown;
     for (uint32_t from = 0, some; from < count; from += some) {
         some = count - from < MOST_REAPED ? count - from : MOST_REAPED;
-        reap_some(ring, oldest + from, some, tail, completions->head + from + some);
+        reap_some(ring, oldest + from, some, tail, completions->at.head + from + some);
     }
 }

@@ -14,3 +14,5 @@ pub mod VolumeForms
 pub mod Cuts
 pub mod Crashing
 pub mod Outcomes
+pub mod TimeForm
+pub mod ShownForm

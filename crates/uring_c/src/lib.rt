@@ -3,6 +3,7 @@
 
 mod answer_words;
 mod box_memory;
+mod cancel_exports;
 mod completion_words;
 mod core_calls;
 mod core_exports;
@@ -28,9 +29,12 @@ mod outcomes_place;
 mod parts;
 mod set_up_exports;
 mod set_up_words;
+mod shown_exports;
 mod slot;
 mod state_words;
 mod step_words;
+mod time_exports;
+mod time_words;
 mod volume_calls;
 mod volume_exports;
 mod volume_memory;

@@ -2,3 +2,9 @@ mod Next
 mod Commands
 mod Running
 mod Ending
+mod TimeoutOrder
+mod TimeoutRows
+mod TimeoutRuns
+mod TimesKept
+mod ShowingRuns
+mod CancelRuns

@@ -2,3 +2,11 @@ pub mod Replies
 pub mod Due
 pub mod After
 pub mod Laws
+pub mod Timeouts
+pub mod Kept
+pub mod TimeLaws
+pub mod Waits
+pub mod Showing
+pub mod ShowingLaws
+pub mod Cancels
+pub mod CancelLaws

@@ -1,14 +1,35 @@
-//! One call of io_uring_enter(2), as decisions: what it does next, when it may sleep and what it returns. Whoever carries it out replies with what became of each thing that it wants, and has no choice left but that of what goes on.
+//! One call of io_uring_enter(2), as decisions: what it does next, when it may sleep and what it returns; the time of a ring with its timeouts; what its application is shown; and what a cancel finds. Whoever carries it out replies with what became of each thing that it wants, and has no choice left but that of what goes on.
 #![tactic(auto)]
 
 mod asked;
+mod cancel;
+mod cancel_laws;
 mod command;
 mod enter;
 mod laws;
 mod reply;
+mod showing;
+mod showing_laws;
+mod time_laws;
+mod timeout;
+mod timeout_rows;
+mod times;
+mod wait;
 
 pub use asked::{Asked, Policy};
+pub use cancel::{Cancel, Outstanding, Sought};
+pub use cancel_laws::{
+    asks_what_matters, cancels_all_that_fit, cancels_the_oldest, cancels_what_fits,
+};
 pub use command::Command;
 pub use enter::{Before, Enter, WrongReply};
 pub use laws::{ends_for_a_reason, gives_up_in_vain, sleeps_in_vain, submits_once};
 pub use reply::{Reply, Sight};
+pub use showing::{Shown, Store};
+pub use showing_laws::{shows_what_was_posted, stands_apart};
+pub use time_laws::{
+    ends_alone, ends_in_time, ends_once, never_goes_back, passes_none_over, runs_apart,
+};
+pub use timeout::{Start, Timeout, later, left_until, linked_outcome, nanoseconds_of};
+pub use times::{NoRoom, Times};
+pub use wait::{Around, Wait, Woken};

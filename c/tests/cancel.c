@@ -1,0 +1,48 @@
+/* What a cancel finds: each call once, with what the manual page calls for, written by hand. */
+#include "wulgach_cancel.h"
+
+#include <stdio.h>
+#include <stdlib.h>
+
+static void demand(bool holds, const char *what)
+{
+    if (!holds) {
+        printf("FAILED: %s\n", what);
+        exit(1);
+    }
+}
+
+/* Looks at three requests with user data 1, 1 and 2, of which the first is behind a link. */
+static int32_t look(const struct wulgach_sought *sought, const bool *wanted)
+{
+    static const struct wulgach_outstanding requests[] = {
+        {.user_data = 1, .fd = 4, .is_assigned = true, .is_free = true},
+        {.user_data = 1, .fd = 5, .is_assigned = true, .is_free = true, .runs = true, .is_waiting = true},
+        {.user_data = 2, .file = 9, .is_registered = true, .is_assigned = true, .is_free = true, .may_start = true},
+    };
+    struct wulgach_cancel cancel;
+    wulgach_cancel_begin(&cancel, sought);
+    for (int i = 0; i < 3; i++)
+        demand(wulgach_cancel_sees(&cancel, &requests[i]) == wanted[i], "which request is cancelled");
+    return wulgach_cancel_result(&cancel);
+}
+
+int main(void)
+{
+    struct wulgach_cancel cancel;
+    struct wulgach_outstanding waits = {.user_data = 1, .is_free = true};
+    struct wulgach_sought one = {.user_data = 1}, nobody = {.user_data = 3}, any = {.is_any = true}, all = {.user_data = 1, .is_all = true};
+    struct wulgach_sought fd = {.fd = 5, .is_by_fd = true}, file = {.file = 9, .is_by_fd = true, .is_fixed = true};
+    demand(look(&one, (bool[]){false, true, false}) == 0, "one by its user data");
+    demand(look(&nobody, (bool[]){false, false, false}) == -2, "nobody");
+    demand(look(&any, (bool[]){false, true, true}) == 2, "any");
+    demand(look(&all, (bool[]){false, true, false}) == 1, "all by their user data");
+    demand(look(&fd, (bool[]){false, true, false}) == 0, "one by its descriptor");
+    demand(look(&file, (bool[]){false, false, true}) == 0, "one by its file");
+    wulgach_cancel_begin(&cancel, &one);
+    demand(wulgach_cancel_asks(&cancel, &waits), "it matters whether one that fits could start");
+    waits.may_start = true;
+    demand(wulgach_cancel_sees(&cancel, &waits) && !wulgach_cancel_asks(&cancel, &waits), "once one is found, it doesn't");
+    printf("cancel: as called for\n");
+    return 0;
+}

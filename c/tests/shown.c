@@ -1,0 +1,45 @@
+/* What the application of a ring is shown: each call once, on a ring of two entries whose positions wrap, with what the header calls for,
+ * written by hand. */
+#include "wulgach_shown.h"
+
+#include <stdio.h>
+#include <stdlib.h>
+
+static void demand(bool holds, const char *what)
+{
+    if (!holds) {
+        printf("FAILED: %s\n", what);
+        exit(1);
+    }
+}
+
+int main(void)
+{
+    struct wulgach_shown shown;
+    struct wulgach_store store;
+    uint32_t count = 7, first = UINT32_MAX;
+    wulgach_shown_begin(&shown);
+    demand(shown.head == 0 && shown.shown == 0 && shown.posted == 0 && !wulgach_shown_overflows(&shown), "nothing was posted");
+    shown.head = first;
+    for (int i = 0; i < 3; i++)
+        wulgach_shown_post(&shown);
+    demand(wulgach_shown_overflows(&shown) && wulgach_shown_takes(&shown, 2) && !wulgach_shown_takes(&shown, 3), "three were posted");
+    for (uint32_t place = 0; place < 2; place++) {
+        wulgach_shown_store(&shown, 1, &store);
+        demand(store.is_cell && store.place == place && store.position == (uint32_t)(first + place), "a completion is stored into its cell");
+    }
+    wulgach_shown_store(&shown, 1, &store);
+    demand(!store.is_cell && store.position == 1, "the tail comes last");
+    demand(wulgach_shown_flags(&shown, false, false) == 2 && wulgach_shown_flags(&shown, true, true) == 7, "one has overflowed");
+    demand(wulgach_shown_heard(&shown, 2, &count) == -22 && count == 7, "a head past the tail is refused");
+    demand(wulgach_shown_heard(&shown, 0, &count) == 0 && count == 1, "one was reaped");
+    demand(!wulgach_shown_loads_head(&shown, 1, true, 2), "there is no room yet");
+    wulgach_shown_reap(&shown, count);
+    demand(shown.head == 0 && shown.shown == 1 && shown.posted == 2, "it is gone");
+    demand(wulgach_shown_loads_head(&shown, 1, true, 2) && !wulgach_shown_loads_head(&shown, 1, false, 2), "what has overflowed is asked for");
+    wulgach_shown_store(&shown, 2, &store);
+    demand(store.is_cell && store.place == 1 && store.position == 1 && wulgach_shown_flags(&shown, false, true) == 1, "the last one is stored");
+    demand(wulgach_shown_loads_head(&shown, 1, false, 2) && !wulgach_shown_loads_head(&shown, 0, true, 2), "the head is loaded if any was reaped");
+    printf("shown: as called for\n");
+    return 0;
+}

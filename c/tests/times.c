@@ -1,0 +1,118 @@
+/* The time of a ring and its timeouts: each call once, with what the manual page and the header call for, written by hand. */
+#include "wulgach_times.h"
+
+#include <stdio.h>
+#include <stdlib.h>
+
+enum { ROOM = 3, SECOND = 1000000000 };
+
+static void demand(bool holds, const char *what)
+{
+    if (!holds) {
+        printf("FAILED: %s\n", what);
+        exit(1);
+    }
+}
+
+static struct wulgach_times times;
+static struct wulgach_timeout rows[ROOM];
+
+static int32_t start(uint64_t number, uint64_t more, uint64_t count, bool is_linked)
+{
+    struct wulgach_start start = {number, more, count, is_linked};
+    return wulgach_times_start(&times, rows, ROOM, &start);
+}
+
+static void check_sums(void)
+{
+    demand(wulgach_time_of(1, 5) == SECOND + 5, "a second and five nanoseconds");
+    demand(wulgach_time_of(-1, 5) == 0 && wulgach_time_of(0, -5) == 0, "a negative time is none");
+    demand(wulgach_time_of(INT64_MAX, 0) == INT64_MAX, "a time past the largest is the largest");
+    demand(wulgach_time_later(INT64_MAX, INT64_MAX) == INT64_MAX && wulgach_time_later(2, 3) == 5, "a later time");
+    demand(wulgach_time_left(5, 3) == 2 && wulgach_time_left(3, 5) == 0, "what is left");
+}
+
+/* Of equal ones the one that was submitted first ends first, each at its time and once. */
+static void check_order(void)
+{
+    struct wulgach_timeout next;
+    struct wulgach_around around = {false, false, false};
+    int32_t res = 1;
+    wulgach_times_begin(&times);
+    demand(wulgach_times_passing(&times, rows, ROOM, &around, &next) == -2, "no timeout runs");
+    demand(start(7, 20, 0, false) == 0 && start(4, 20, 0, false) == 0 && start(9, 10, 0, false) == 0, "three start");
+    demand(start(11, 1, 0, false) == -12, "there is no room for a fourth");
+    demand(wulgach_times_runs(&times, rows, ROOM, 9) && !wulgach_times_runs(&times, rows, ROOM, 11), "they run");
+    demand(wulgach_times_due(&times, rows, ROOM, &next) == -2 && wulgach_times_end(&times, rows, ROOM, 9, &res) == -2 && res == 1, "none is over");
+    for (uint64_t i = 0; i < ROOM; i++) {
+        static const uint64_t order[ROOM] = {9, 4, 7};
+        demand(wulgach_times_passing(&times, rows, ROOM, &around, &next) == 0 && next.number == order[i], "who ends next");
+        wulgach_times_pass(&times, &next);
+        demand(times.time == (i == 0 ? 10 : 20), "time has passed");
+        demand(wulgach_times_end(&times, rows, ROOM, next.number, &res) == 0 && res == -62 && times.expired == i + 1, "it ends");
+    }
+    demand(times.count == 0, "none runs any more");
+}
+
+static void check_counts_and_changes(void)
+{
+    int32_t res;
+    wulgach_times_begin(&times);
+    demand(start(1, 100, 2, false) == 0 && start(2, 100, 0, false) == 0, "two start");
+    wulgach_times_post(&times, 1);
+    demand(wulgach_times_outcome(&times, rows, ROOM, 1) == -2, "one completion isn't two");
+    wulgach_times_post(&times, 1);
+    demand(wulgach_times_outcome(&times, rows, ROOM, 1) == 0 && wulgach_times_outcome(&times, rows, ROOM, 2) == -2, "two are");
+    demand(wulgach_times_end(&times, rows, ROOM, 1, &res) == 0 && res == 0, "it ends by its count");
+    wulgach_times_move_to(&times, 50);
+    wulgach_times_change(&times, rows, ROOM, 2, 7);
+    demand(rows[0].number == 2 && rows[0].expiry == 57, "its time is changed");
+    wulgach_times_move_to(&times, 40);
+    demand(times.time == 50, "time doesn't go back");
+    wulgach_times_stop(&times, rows, ROOM, 2);
+    demand(times.count == 0 && times.expired == 1, "a cancelled one doesn't count as ended");
+    wulgach_times_sleep(&times, 1000, 1010);
+    wulgach_times_sleep(&times, 1005, 1015);
+    demand(times.time == 65, "what two slept at once counts once");
+}
+
+static void check_waits(void)
+{
+    struct wulgach_around none = {false, false, false}, stream = {true, false, false}, thread = {false, true, false};
+    struct wulgach_limit never = {0, false}, soon = {5, true};
+    struct wulgach_wait wait;
+    struct wulgach_woken woken;
+    uint64_t limited = 0;
+    wulgach_times_begin(&times);
+    wulgach_times_wait(&times, rows, ROOM, &none, &never, &wait);
+    demand(wait.kind == WULGACH_WAIT_NEVER, "there is nothing to wait for");
+    wulgach_times_wait(&times, rows, ROOM, &thread, &never, &wait);
+    demand(wait.kind == WULGACH_WAIT_SLEEP && !wait.until.is_set, "another thread may call");
+    demand(start(3, 10, 0, true) == 0, "a linked timeout starts");
+    wulgach_times_wait(&times, rows, ROOM, &stream, &soon, &wait);
+    demand(wait.kind == WULGACH_WAIT_SLEEP && wait.until.is_set && wait.until.at == 5, "it sleeps to its limit");
+    wulgach_times_wait(&times, rows, ROOM, &none, &never, &wait);
+    demand(wait.kind == WULGACH_WAIT_MOVE && wait.until.at == 10, "time moves on to a timeout");
+    wulgach_times_woken(&times, rows, ROOM, &soon, &woken);
+    demand(woken.kind == WULGACH_WOKEN_OTHER, "nothing has come");
+    wulgach_times_move_to(&times, 5);
+    wulgach_times_woken(&times, rows, ROOM, &soon, &woken);
+    demand(woken.kind == WULGACH_WOKEN_TIMED_OUT, "the limit is over");
+    wulgach_times_move_to(&times, 10);
+    wulgach_times_woken(&times, rows, ROOM, &soon, &woken);
+    demand(woken.kind == WULGACH_WOKEN_OVER && woken.timeout.number == 3, "the timeout is");
+    demand(wulgach_timeout_cancels(&woken.timeout, &limited) == 0 && limited == 2, "it cancels the request before it");
+    demand(wulgach_timeout_linked_outcome(true) == -62 && wulgach_timeout_linked_outcome(false) == -125, "how a linked one ends");
+    woken.timeout.is_linked = false;
+    demand(wulgach_timeout_cancels(&woken.timeout, &limited) == -2, "one that isn't linked cancels none");
+}
+
+int main(void)
+{
+    check_sums();
+    check_order();
+    check_counts_and_changes();
+    check_waits();
+    printf("times: as called for\n");
+    return 0;
+}

@@ -1,0 +1,61 @@
+/* Wulgach: what a cancel finds among the requests that haven't ended, as decisions, for whoever keeps a ring as the kernel does. The
+ * functions are in the library of wulgach.h, and proved as those are. The layer under liburing calls them.
+ */
+#ifndef WULGACH_CANCEL_H
+#define WULGACH_CANCEL_H
+
+#include <stdbool.h>
+#include <stdint.h>
+
+#ifdef __cplusplus
+extern "C" {
+#endif
+
+/* What a cancel looks for. */
+struct wulgach_sought {
+    uint64_t user_data;
+    uint64_t file;      /* a registered file, by a number that no other has */
+    uint32_t fd;
+    bool is_any;        /* any request: IORING_ASYNC_CANCEL_ANY */
+    bool is_all;        /* all that it finds, and not just the first: IORING_ASYNC_CANCEL_ALL */
+    bool is_by_fd;      /* by what a request is carried out on: IORING_ASYNC_CANCEL_FD */
+    bool is_fixed;      /* and that is a registered file: IORING_ASYNC_CANCEL_FD_FIXED */
+};
+
+/* A request that hasn't ended, as a cancel sees it. */
+struct wulgach_outstanding {
+    uint64_t user_data;
+    uint64_t file;      /* the registered file that it is carried out on, or a number that none has */
+    uint32_t fd;        /* the descriptor that its entry names */
+    bool is_registered; /* its entry names a registered file */
+    bool is_assigned;   /* on what it is carried out is known */
+    bool is_free;       /* a cancel may choose it: no other has yet, and it is no cancel itself */
+    bool runs;          /* it has started */
+    bool is_waiting;    /* of one that runs: it waits for something */
+    bool may_start;     /* of one that doesn't run: it could start now */
+};
+
+/* A cancel that looks at requests, the oldest first. It is the caller's memory, and its fields are the library's. */
+struct wulgach_cancel {
+    struct wulgach_sought sought;
+    uint32_t count;
+};
+
+/* A cancel that hasn't looked at any request. */
+void wulgach_cancel_begin(struct wulgach_cancel *cancel, const struct wulgach_sought *sought);
+
+/* Whether it matters to the cancel if the next request, which doesn't run, could start now. If not, may_start may be anything. */
+bool wulgach_cancel_asks(const struct wulgach_cancel *cancel, const struct wulgach_outstanding *request);
+
+/* Looks at the next request, and says whether it is cancelled: it fits, and it waits for something or could start now; and the cancel is
+ * of all, or has found none before. */
+bool wulgach_cancel_sees(struct wulgach_cancel *cancel, const struct wulgach_outstanding *request);
+
+/* What the cancel ends with, once it has looked at all: how many it has cancelled, or of one 0, or -2 (ENOENT) if there was none. */
+int32_t wulgach_cancel_result(const struct wulgach_cancel *cancel);
+
+#ifdef __cplusplus
+}
+#endif
+
+#endif

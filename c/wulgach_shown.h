@@ -1,0 +1,64 @@
+/* Wulgach: which completions the application of a ring is shown, as decisions, for whoever keeps a ring as the kernel does: which are
+ * stored into which cells, when the tail is, and what a head says. The functions are in the library of wulgach.h, and proved as those
+ * are. The layer under liburing calls them.
+ */
+#ifndef WULGACH_SHOWN_H
+#define WULGACH_SHOWN_H
+
+#include <stdbool.h>
+#include <stdint.h>
+
+#ifdef __cplusplus
+extern "C" {
+#endif
+
+/* Completions that were posted and aren't reaped, as far as is known. They have places, from 0 on, the oldest first. */
+struct wulgach_shown {
+    uint32_t head;      /* the completion ring's */
+    uint32_t shown;     /* how many stand in their cells */
+    uint64_t posted;    /* how many there are */
+};
+
+/* What is to be stored into ring memory next. */
+struct wulgach_store {
+    uint32_t place;     /* the completion at this place */
+    uint32_t position;  /* into the cell of this position; or, if it is no completion, this is the tail */
+    bool is_cell;
+};
+
+/* Nothing was posted. */
+void wulgach_shown_begin(struct wulgach_shown *shown);
+
+/* A completion was posted. */
+void wulgach_shown_post(struct wulgach_shown *shown);
+
+/* Whether a tail shows no more than was posted. */
+bool wulgach_shown_takes(const struct wulgach_shown *shown, uint32_t tail);
+
+/* Writes what is to be stored next, where this is the tail that the application is to see. A completion then counts as stored. The
+ * tail comes last, once all that it shows stand in their cells, each stored once, in the order in which they were posted. */
+void wulgach_shown_store(struct wulgach_shown *shown, uint32_t tail, struct wulgach_store *store);
+
+/* Writes how many completions the application has reaped, by the head that it has stored, and returns 0. -22 (EINVAL) exactly if that
+ * is past the tail; then nothing is written. */
+int32_t wulgach_shown_heard(const struct wulgach_shown *shown, uint32_t head, uint32_t *count);
+
+/* So many were reaped. */
+void wulgach_shown_reap(struct wulgach_shown *shown, uint32_t count);
+
+/* Whether some were posted that don't stand in the ring. */
+bool wulgach_shown_overflows(const struct wulgach_shown *shown);
+
+/* Whether the dispatcher loads the head, now that so many were reaped, in a ring of so many entries: where some have overflowed only
+ * if they are asked for and there is room, else if any was reaped. */
+bool wulgach_shown_loads_head(const struct wulgach_shown *shown, uint32_t count, bool is_asked, uint32_t entries);
+
+/* The flags word of the submission ring: IORING_SQ_CQ_OVERFLOW, IORING_SQ_TASKRUN if a call may bring something, and
+ * IORING_SQ_NEED_WAKEUP if a thread takes entries, which sleeps. */
+uint32_t wulgach_shown_flags(const struct wulgach_shown *shown, bool may_bring, bool has_thread);
+
+#ifdef __cplusplus
+}
+#endif
+
+#endif

@@ -1,0 +1,152 @@
+/* Wulgach: the time of a ring and its timeouts, as decisions, for whoever keeps a ring as the kernel does: which timeouts run, who
+ * ends next and how, until when a call may sleep. The functions are in the library of wulgach.h, and proved as those are. The layer
+ * under liburing calls them.
+ *
+ * Times are in nanoseconds; one past the largest, 2^63 - 1, is the largest. A ring's time begins at 0 and never goes back.
+ */
+#ifndef WULGACH_TIMES_H
+#define WULGACH_TIMES_H
+
+#include <stdbool.h>
+#include <stddef.h>
+#include <stdint.h>
+
+#ifdef __cplusplus
+extern "C" {
+#endif
+
+/* A timeout that starts. */
+struct wulgach_start {
+    uint64_t number;    /* of its request, in the order in which requests are submitted */
+    uint64_t more;      /* how long it runs */
+    uint64_t count;     /* once so many completions more were posted, it ends; 0: it has no count */
+    bool is_linked;     /* it limits the request before it */
+};
+
+/* A timeout that runs. */
+struct wulgach_timeout {
+    uint64_t number;
+    uint64_t expiry;    /* when its time is over */
+    uint64_t enough;    /* its count is reached once the ring has posted so many completions; 0: it has no count */
+    bool is_linked;
+};
+
+/* A ring's time. The timeouts that run are the first `count` of the rows that each call is given: they are the caller's memory, the
+ * same in each call, or moved with what is in them. */
+struct wulgach_times {
+    uint64_t time;
+    uint64_t slept_until;   /* the library's own */
+    uint64_t posted;        /* how many completions were posted */
+    uint64_t expired;       /* how many timeouts have ended by their time or their count, but linked ones */
+    uint64_t count;
+};
+
+/* A time until which something lasts at most, if it is set. */
+struct wulgach_limit {
+    uint64_t at;
+    bool is_set;
+};
+
+/* What a ring waits for, beside time. */
+struct wulgach_around {
+    bool has_streams;   /* a request waits for a descriptor */
+    bool has_threads;   /* another thread may make a call */
+    bool is_real;       /* time passes by itself */
+};
+
+enum wulgach_wait_kind {
+    WULGACH_WAIT_SLEEP = 0,     /* sleep until then at most, or until woken */
+    WULGACH_WAIT_MOVE = 1,      /* don't sleep: move time on to then */
+    WULGACH_WAIT_NEVER = 2      /* there is nothing to wait for */
+};
+
+/* How a call waits where nothing can go on. */
+struct wulgach_wait {
+    struct wulgach_limit until;
+    uint32_t kind;      /* enum wulgach_wait_kind */
+};
+
+enum wulgach_woken_kind {
+    WULGACH_WOKEN_OVER = 0,         /* the time of this timeout is over */
+    WULGACH_WOKEN_TIMED_OUT = 1,    /* the call's own limit is */
+    WULGACH_WOKEN_OTHER = 2         /* neither: something may go on */
+};
+
+/* What has come when a call has waited. */
+struct wulgach_woken {
+    struct wulgach_timeout timeout; /* OVER */
+    uint32_t kind;                  /* enum wulgach_woken_kind */
+};
+
+/* The nanoseconds of a time in seconds and nanoseconds: 0 if it is negative. */
+uint64_t wulgach_time_of(int64_t seconds, int64_t nanoseconds);
+
+/* So much later than a time. */
+uint64_t wulgach_time_later(uint64_t time, uint64_t more);
+
+/* How much is left until a time of a clock that says `now`: 0 if it is over. */
+uint64_t wulgach_time_left(uint64_t time, uint64_t now);
+
+/* A ring's time begins, and no timeout runs. */
+void wulgach_times_begin(struct wulgach_times *times);
+
+/* A timeout starts. -12 (ENOMEM) exactly if there is no row for it; then nothing changes. Its number is that of none that runs. */
+int32_t wulgach_times_start(struct wulgach_times *times, struct wulgach_timeout *rows, size_t room, const struct wulgach_start *start);
+
+/* The time of the timeout of this number is changed: it is over so much later than now, and has no count any more. */
+void wulgach_times_change(struct wulgach_times *times, struct wulgach_timeout *rows, size_t room, uint64_t number, uint64_t more);
+
+/* The timeout of this number runs no more: it was cancelled or removed, or the request before it has ended. */
+void wulgach_times_stop(struct wulgach_times *times, struct wulgach_timeout *rows, size_t room, uint64_t number);
+
+/* The timeout of this number ends: its result is 0 if its count is reached, else -62 (ETIME) if its time is over. -2 (ENOENT) exactly
+ * if neither is so of one that runs; then nothing changes. */
+int32_t wulgach_times_end(struct wulgach_times *times, struct wulgach_timeout *rows, size_t room, uint64_t number, int32_t *res);
+
+/* The result with which it would end now; -2 (ENOENT): it wouldn't. */
+int32_t wulgach_times_outcome(const struct wulgach_times *times, const struct wulgach_timeout *rows, size_t room, uint64_t number);
+
+/* Whether a timeout of this number runs. */
+bool wulgach_times_runs(const struct wulgach_times *times, const struct wulgach_timeout *rows, size_t room, uint64_t number);
+
+/* So many completions were posted. */
+void wulgach_times_post(struct wulgach_times *times, uint64_t count);
+
+/* A clock says that it is so late, or a call's own limit does. */
+void wulgach_times_move_to(struct wulgach_times *times, uint64_t now);
+
+/* A call has slept from then to then, by a real clock. What two calls slept at once counts once. */
+void wulgach_times_sleep(struct wulgach_times *times, uint64_t start, uint64_t stop);
+
+/* Nothing else can go on, and time passes until this timeout is over. */
+void wulgach_times_pass(struct wulgach_times *times, const struct wulgach_timeout *timeout);
+
+/* Writes the timeout that ends next, and returns 0, if its time is over; else returns -2 (ENOENT), and writes nothing. The one ends
+ * next that is over first, and of equal ones the one that was submitted first. */
+int32_t wulgach_times_due(const struct wulgach_times *times, const struct wulgach_timeout *rows, size_t room, struct wulgach_timeout *timeout);
+
+/* The same of the one that is to end where nothing else can go on and nobody waits: where time passes by itself one that is over,
+ * else the one that ends next, unless a descriptor is waited for. */
+int32_t wulgach_times_passing(const struct wulgach_times *times, const struct wulgach_timeout *rows, size_t room, const struct wulgach_around *around, struct wulgach_timeout *timeout);
+
+/* Writes how a call waits that has this limit, where nothing can go on. It sleeps while a descriptor is waited for; while another
+ * thread may call, if no timeout runs; and where time passes by itself, if there is anything that it brings. Else time moves on at
+ * once. Neither goes past the limit or the time of a timeout. */
+void wulgach_times_wait(const struct wulgach_times *times, const struct wulgach_timeout *rows, size_t room, const struct wulgach_around *around, const struct wulgach_limit *limit, struct wulgach_wait *wait);
+
+/* Writes what has come when it has waited. */
+void wulgach_times_woken(const struct wulgach_times *times, const struct wulgach_timeout *rows, size_t room, const struct wulgach_limit *limit, struct wulgach_woken *woken);
+
+/* How a timeout ends that is linked behind a request which has ended: with -62 (ETIME) if it has cancelled it, else with -125
+ * (ECANCELED). */
+int32_t wulgach_timeout_linked_outcome(bool has_cancelled);
+
+/* Writes the number of the request that a linked timeout limits, and returns 0; or returns -2 (ENOENT), and writes nothing, if it is
+ * none. */
+int32_t wulgach_timeout_cancels(const struct wulgach_timeout *timeout, uint64_t *number);
+
+#ifdef __cplusplus
+}
+#endif
+
+#endif

@@ -1,0 +1,44 @@
+//! What a cancel finds, for C: the functions of `c/wulgach_cancel.h`.
+ghost use Rattle.std.specs.Prelude.{◌≡◌, List, [], ◌∷◌};
+ghost use Rattle.uring_enter.specs.declared.cancel.Outstanding.{Outstanding};
+ghost use Rattle.uring_enter.specs.declared.cancel.Sought.{Sought};
+ghost use Rattle.uring_enter.specs.Cancels.{result_of, is_cancelled, is_asked, HasSeen};
+
+use uring_enter::{Cancel, Outstanding, Sought};
+
+/// A cancel that hasn't looked at any request.
+#[unsafe(no_mangle)]
+pub extern "C" fn wulgach_cancel_begin(cancel: &mut Cancel, sought: &Sought)
+    ensures { HasSeen sought.now [] cancel.new }
+{
+    *cancel = Cancel::begin(*sought);
+}
+
+/// Whether it matters to the cancel if the next request, which doesn't run, could start now.
+#[unsafe(no_mangle)]
+pub extern "C" fn wulgach_cancel_asks(cancel: &Cancel, request: &Outstanding) -> bool
+    ensures { (sought : Sought) (seen : List Outstanding) → HasSeen sought seen cancel.now
+        → result ≡ is_asked sought seen request.now }
+{
+    cancel.asks(request)
+}
+
+/// Looks at the next request, and says whether it is cancelled.
+#[unsafe(no_mangle)]
+pub extern "C" fn wulgach_cancel_sees(cancel: &mut Cancel, request: &Outstanding) -> bool
+    ensures cancelled { (sought : Sought) (seen : List Outstanding) → HasSeen sought seen cancel.old
+        → result ≡ is_cancelled sought seen request.now }
+    ensures after { (sought : Sought) (seen : List Outstanding) → HasSeen sought seen cancel.old
+        → HasSeen sought (request.now ∷ seen) cancel.new }
+{
+    cancel.sees(request)
+}
+
+/// What the cancel ends with, once it has looked at all.
+#[unsafe(no_mangle)]
+pub extern "C" fn wulgach_cancel_result(cancel: &Cancel) -> i32
+    ensures { (sought : Sought) (seen : List Outstanding) → HasSeen sought seen cancel.now
+        → result ≡ result_of sought seen }
+{
+    cancel.result()
+}

@@ -1,0 +1,123 @@
+//! What the application is shown, for C: the functions of `c/wulgach_shown.h`.
+ghost use Rattle.std.specs.Prelude.{◌≡◌, ◌+◌, ◌-◌, ◌^◌, ◌<◌, ◌≤◌, ℕ, pos, negsuc, MatchOption, List, [], ◌∷◌, nat_le};
+ghost use Rattle.uring_enter.specs.Showing.{Change, Posted, Reaped, KeepsShown, IsTold, posted, written, reaped, store_of, behind_store, heard_of, overflows, loads_head, flags_of};
+ghost use Rattle.uring_c.specs.ShownForm.{words_of_store};
+
+use uring_enter::{Shown, Store};
+
+/// What is to be stored next: `struct wulgach_store` of the header.
+#[repr(C)]
+#[derive(Clone, Copy, Drop)]
+pub struct StoreWords {
+    pub place: u32,
+    pub position: u32,
+    pub is_cell: bool,
+}
+
+/// Nothing was posted.
+#[unsafe(no_mangle)]
+pub extern "C" fn wulgach_shown_begin(shown: &mut Shown)
+    ensures { KeepsShown [] shown.new }
+{
+    *shown = Shown::begin();
+}
+
+/// A completion was posted.
+#[unsafe(no_mangle)]
+pub extern "C" fn wulgach_shown_post(shown: &mut Shown)
+    ensures { (log : List Change) → KeepsShown log shown.old → shown.old.posted < 2 ^ 64 - 1
+        → KeepsShown (Posted ∷ log) shown.new }
+{
+    shown.post();
+}
+
+/// Whether a tail shows no more than was posted.
+#[unsafe(no_mangle)]
+pub extern "C" fn wulgach_shown_takes(shown: &Shown, tail: u32) -> bool
+    ensures { (log : List Change) (n : ℕ) → KeepsShown log shown.now → IsTold log tail n
+        → result ≡ nat_le n (posted log) }
+{
+    shown.takes(tail)
+}
+
+/// Writes what is to be stored next, where this is the tail that the application is to see.
+#[unsafe(no_mangle)]
+pub extern "C" fn wulgach_shown_store(shown: &mut Shown, tail: u32, store: &mut StoreWords)
+    ensures store { (log : List Change) (n : ℕ) → KeepsShown log shown.old → IsTold log tail n
+        → n ≤ posted log → store.new ≡ words_of_store (store_of log n) }
+    ensures after { (log : List Change) (n : ℕ) → KeepsShown log shown.old → IsTold log tail n
+        → n ≤ posted log → KeepsShown (behind_store log n) shown.new }
+{
+    *store = store_words(shown.store(tail));
+}
+
+fn store_words(store: Store) -> StoreWords
+    ensures { result ≡ words_of_store store }
+{
+    match store {
+        Store::Cell(place, position) => StoreWords {
+            place,
+            position,
+            is_cell: true,
+        },
+        Store::Tail(position) => StoreWords {
+            place: 0,
+            position,
+            is_cell: false,
+        },
+    }
+}
+
+/// Writes how many completions the application has reaped, by the head that it has stored, and returns 0. Returns -22, and writes nothing, exactly if that is past the tail.
+#[unsafe(no_mangle)]
+pub extern "C" fn wulgach_shown_heard(shown: &Shown, head: u32, count: &mut u32) -> i32
+    ensures { (log : List Change) (n : ℕ) → KeepsShown log shown.now → IsTold log head n
+        → MatchOption (heard_of log n) ((result ≡ negsuc 21) × (count.new ≡ count.old))
+        (λ more. (result ≡ pos 0) × (count.new ≡ more)) }
+{
+    let Some(more) = shown.heard(head) else {
+        return -22;
+    };
+    *count = more;
+    0
+}
+
+/// So many were reaped.
+#[unsafe(no_mangle)]
+pub extern "C" fn wulgach_shown_reap(shown: &mut Shown, count: u32)
+    ensures { (log : List Change) → KeepsShown log shown.old → reaped log + count ≤ written log
+        → KeepsShown (Reaped count ∷ log) shown.new }
+{
+    shown.reap(count);
+}
+
+/// Whether some were posted that don't stand in the ring.
+#[unsafe(no_mangle)]
+pub extern "C" fn wulgach_shown_overflows(shown: &Shown) -> bool
+    ensures { (log : List Change) → KeepsShown log shown.now → result ≡ overflows log }
+{
+    shown.overflows()
+}
+
+/// Whether the dispatcher loads the head, now that so many were reaped.
+#[unsafe(no_mangle)]
+pub extern "C" fn wulgach_shown_loads_head(
+    shown: &Shown,
+    count: u32,
+    is_asked: bool,
+    entries: u32,
+) -> bool
+    ensures { (log : List Change) → KeepsShown log shown.now
+        → result ≡ loads_head log count is_asked entries }
+{
+    shown.loads_head(count, is_asked, entries)
+}
+
+/// The flags word of the submission ring.
+#[unsafe(no_mangle)]
+pub extern "C" fn wulgach_shown_flags(shown: &Shown, may_bring: bool, has_thread: bool) -> u32
+    ensures { (log : List Change) → KeepsShown log shown.now
+        → result ≡ flags_of (overflows log) may_bring has_thread }
+{
+    shown.flags(may_bring, has_thread)
+}

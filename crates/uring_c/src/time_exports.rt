@@ -1,0 +1,255 @@
+//! The time of a ring and its timeouts for C: the functions of `c/wulgach_times.h`. Rows are the caller's memory.
+ghost use Rattle.std.specs.Prelude.{◌≡◌, ◌↔◌, ◌⊎◌, ◌≤◌, ◌-◌, pos, negsuc, length, true, false, MatchOption, List, [], ◌∷◌, None, Some};
+ghost use Rattle.uring_enter.specs.declared.wait.Wait.{Wait};
+ghost use Rattle.uring_enter.specs.declared.wait.Woken.{Woken};
+ghost use Rattle.uring_enter.specs.Timeouts.{Event, Started, Posted, Changed, Stopped, Clock, Slept, Passed, Ended};
+ghost use Rattle.uring_enter.specs.Timeouts.{later, nanoseconds_of, running, outcome, is_over, cancelled_by, linked_outcome};
+ghost use Rattle.uring_enter.specs.Timeouts.{NoneIsOver, IsNext, AreApart, HasNone, IsRow, EndsNone, EndsWith};
+ghost use Rattle.uring_enter.specs.Kept.{KeepsTime};
+ghost use Rattle.uring_enter.specs.Waits.{IsWait, IsWoken, IsPassing};
+ghost use Rattle.uring_c.specs.TimeForm.{limit_of, words_of_wait, words_of_woken};
+
+use crate::time_words::{LimitWords, WaitWords, WokenWords, wait_words, woken_words};
+use uring_enter::{
+    Around, Start, Timeout, Times, later, left_until, linked_outcome, nanoseconds_of,
+};
+
+/// The nanoseconds of a time in seconds and nanoseconds.
+#[unsafe(no_mangle)]
+pub extern "C" fn wulgach_time_of(seconds: i64, nanoseconds: i64) -> u64
+    ensures { result ≡ nanoseconds_of seconds nanoseconds }
+{
+    nanoseconds_of(seconds, nanoseconds)
+}
+
+/// So much later than a time.
+#[unsafe(no_mangle)]
+pub extern "C" fn wulgach_time_later(time: u64, more: u64) -> u64
+    ensures { result ≡ later time more }
+{
+    later(time, more)
+}
+
+/// How much is left until a time of a clock that says `now`.
+#[unsafe(no_mangle)]
+pub extern "C" fn wulgach_time_left(time: u64, now: u64) -> u64
+    ensures { result ≡ time - now }
+{
+    left_until(time, now)
+}
+
+/// A ring's time begins, and no timeout runs.
+#[unsafe(no_mangle)]
+pub extern "C" fn wulgach_times_begin(times: &mut Times)
+    ensures { (rows : List Timeout) → KeepsTime [] times.new rows }
+{
+    *times = Times::begin();
+}
+
+/// A timeout starts. -12 exactly if there is no row for it; then nothing changes.
+#[unsafe(no_mangle)]
+pub extern "C" fn wulgach_times_start(times: &mut Times, rows: &mut [Timeout], start: &Start) -> i32
+    ensures started { (log : List Event) → KeepsTime log times.old rows.old
+        → result ≡ pos 0 → KeepsTime (Started start.now ∷ log) times.new rows.new }
+    ensures refused { (result ≡ negsuc 11) ↔ (length rows.old ≤ times.old.count) }
+    ensures results { (result ≡ pos 0 → ⊥) → (result ≡ negsuc 11) × (times.new ≡ times.old) × (rows.new ≡ rows.old) }
+{
+    match times.start(rows, *start) {
+        Ok(()) => 0,
+        Err(_) => -12,
+    }
+}
+
+/// The time of the timeout of this number is changed.
+#[unsafe(no_mangle)]
+pub extern "C" fn wulgach_times_change(
+    times: &mut Times,
+    rows: &mut [Timeout],
+    number: u64,
+    more: u64,
+)
+    ensures { (log : List Event) → KeepsTime log times.old rows.old
+        → KeepsTime (Changed number more ∷ log) times.new rows.new }
+{
+    times.change(rows, number, more);
+}
+
+/// The timeout of this number runs no more.
+#[unsafe(no_mangle)]
+pub extern "C" fn wulgach_times_stop(times: &mut Times, rows: &mut [Timeout], number: u64)
+    ensures { (log : List Event) → KeepsTime log times.old rows.old
+        → KeepsTime (Stopped number ∷ log) times.new rows.new }
+{
+    times.stop(rows, number);
+}
+
+/// The timeout of this number ends, and its result is written. -2 exactly if none runs of this number whose count is reached or whose time is over; then nothing changes.
+#[unsafe(no_mangle)]
+pub extern "C" fn wulgach_times_end(
+    times: &mut Times,
+    rows: &mut [Timeout],
+    number: u64,
+    res: &mut i32,
+) -> i32
+    ensures ended { (log : List Event) → KeepsTime log times.old rows.old → result ≡ pos 0
+        → (t : Timeout) × IsRow number (running log) t × (outcome log t ≡ Some res.new)
+        × KeepsTime (Ended t ∷ log) times.new rows.new }
+    ensures none { (log : List Event) → KeepsTime log times.old rows.old → AreApart (running log)
+        → (result ≡ pos 0 → ⊥) → EndsNone log number }
+    ensures kept { (result ≡ pos 0 → ⊥) → (result ≡ negsuc 1) × (times.new ≡ times.old)
+        × (rows.new ≡ rows.old) × (res.new ≡ res.old) }
+{
+    let Some(ended) = times.end(rows, number) else {
+        return -2;
+    };
+    *res = ended;
+    0
+}
+
+/// The result with which the timeout of this number would end now, or -2.
+#[unsafe(no_mangle)]
+pub extern "C" fn wulgach_times_outcome(times: &Times, rows: &[Timeout], number: u64) -> i32
+    ensures { (log : List Event) → KeepsTime log times.now rows.now → AreApart (running log)
+        → ((result ≡ negsuc 1) × EndsNone log number) ⊎ EndsWith log number result }
+{
+    match times.outcome(rows, number) {
+        Some(res) => res,
+        None => -2,
+    }
+}
+
+/// Whether a timeout of this number runs.
+#[unsafe(no_mangle)]
+pub extern "C" fn wulgach_times_runs(times: &Times, rows: &[Timeout], number: u64) -> bool
+    ensures runs { (log : List Event) → KeepsTime log times.now rows.now → result ≡ true
+        → (t : Timeout) × IsRow number (running log) t }
+    ensures none { (log : List Event) → KeepsTime log times.now rows.now → result ≡ false
+        → HasNone number (running log) }
+{
+    times.runs(rows, number)
+}
+
+/// So many completions were posted.
+#[unsafe(no_mangle)]
+pub extern "C" fn wulgach_times_post(times: &mut Times, count: u64)
+    ensures { (log : List Event) (rows : List Timeout) → KeepsTime log times.old rows
+        → KeepsTime (Posted count ∷ log) times.new rows }
+{
+    times.post(count);
+}
+
+/// A clock says that it is so late, or a call's own limit does.
+#[unsafe(no_mangle)]
+pub extern "C" fn wulgach_times_move_to(times: &mut Times, now: u64)
+    ensures { (log : List Event) (rows : List Timeout) → KeepsTime log times.old rows
+        → KeepsTime (Clock now ∷ log) times.new rows }
+{
+    times.move_to(now);
+}
+
+/// A call has slept from then to then, by a real clock.
+#[unsafe(no_mangle)]
+pub extern "C" fn wulgach_times_sleep(times: &mut Times, start: u64, stop: u64)
+    ensures { (log : List Event) (rows : List Timeout) → KeepsTime log times.old rows
+        → KeepsTime (Slept start stop ∷ log) times.new rows }
+{
+    times.sleep(start, stop);
+}
+
+/// Nothing else can go on, and time passes until this timeout is over.
+#[unsafe(no_mangle)]
+pub extern "C" fn wulgach_times_pass(times: &mut Times, timeout: &Timeout)
+    ensures { (log : List Event) (rows : List Timeout) → KeepsTime log times.old rows
+        → KeepsTime (Passed timeout.now ∷ log) times.new rows }
+{
+    times.pass(*timeout);
+}
+
+/// Writes the timeout that ends next, and returns 0, if its time is over. Else returns -2, and writes nothing.
+#[unsafe(no_mangle)]
+pub extern "C" fn wulgach_times_due(times: &Times, rows: &[Timeout], timeout: &mut Timeout) -> i32
+    ensures due { (log : List Event) → KeepsTime log times.now rows.now → result ≡ pos 0
+        → IsNext (running log) timeout.new × (is_over log timeout.new ≡ true) }
+    ensures none { (log : List Event) → KeepsTime log times.now rows.now → (result ≡ pos 0 → ⊥)
+        → (result ≡ negsuc 1) × NoneIsOver log × (timeout.new ≡ timeout.old) }
+{
+    write_found(times.due(rows), timeout)
+}
+
+/// Writes the timeout that is to end where nothing else can go on and nobody waits, and returns 0. If there is none, it returns -2, and writes nothing.
+#[unsafe(no_mangle)]
+pub extern "C" fn wulgach_times_passing(
+    times: &Times,
+    rows: &[Timeout],
+    around: &Around,
+    timeout: &mut Timeout,
+) -> i32
+    ensures passing { (log : List Event) → KeepsTime log times.now rows.now → result ≡ pos 0
+        → IsPassing log around.now (Some timeout.new) }
+    ensures none { (log : List Event) → KeepsTime log times.now rows.now → (result ≡ pos 0 → ⊥)
+        → (result ≡ negsuc 1) × IsPassing log around.now None × (timeout.new ≡ timeout.old) }
+{
+    write_found(times.passing(rows, *around), timeout)
+}
+
+/// Writes what was found, if anything was.
+fn write_found(found: Option<Timeout>, timeout: &mut Timeout) -> i32
+    ensures { MatchOption found ((result ≡ negsuc 1) × (timeout.new ≡ timeout.old))
+        (λ t. (result ≡ pos 0) × (timeout.new ≡ t)) }
+{
+    let Some(found) = found else {
+        return -2;
+    };
+    *timeout = found;
+    0
+}
+
+/// Writes how a call waits that has this limit, where nothing can go on.
+#[unsafe(no_mangle)]
+pub extern "C" fn wulgach_times_wait(
+    times: &Times,
+    rows: &[Timeout],
+    around: &Around,
+    limit: &LimitWords,
+    wait: &mut WaitWords,
+)
+    ensures { (log : List Event) → KeepsTime log times.now rows.now
+        → (w : Wait) × IsWait log around.now (limit_of limit.now) w × (wait.new ≡ words_of_wait w) }
+{
+    *wait = wait_words(times.wait(rows, *around, limit.limit()));
+}
+
+/// Writes what has come for a call that has this limit, and has waited.
+#[unsafe(no_mangle)]
+pub extern "C" fn wulgach_times_woken(
+    times: &Times,
+    rows: &[Timeout],
+    limit: &LimitWords,
+    woken: &mut WokenWords,
+)
+    ensures { (log : List Event) → KeepsTime log times.now rows.now
+        → (w : Woken) × IsWoken log (limit_of limit.now) w × (woken.new ≡ words_of_woken w) }
+{
+    *woken = woken_words(times.woken(rows, limit.limit()));
+}
+
+/// How a timeout ends that is linked behind a request which has ended.
+#[unsafe(no_mangle)]
+pub extern "C" fn wulgach_timeout_linked_outcome(has_cancelled: bool) -> i32
+    ensures { result ≡ linked_outcome has_cancelled }
+{
+    linked_outcome(has_cancelled)
+}
+
+/// Writes the number of the request that a linked timeout limits, and returns 0. If it is none, it returns -2, and writes nothing.
+#[unsafe(no_mangle)]
+pub extern "C" fn wulgach_timeout_cancels(timeout: &Timeout, number: &mut u64) -> i32
+    ensures { MatchOption (cancelled_by timeout.now) ((result ≡ negsuc 1) × (number.new ≡ number.old))
+        (λ limited. (result ≡ pos 0) × (number.new ≡ limited)) }
+{
+    let Some(limited) = timeout.limits() else {
+        return -2;
+    };
+    *number = limited;
+    0
+}

@@ -1,0 +1,72 @@
+-- The laws of cancels.
+use Rattle.std.proofs.Common.{◌≡◌, ℕ, ◌≤◌, Bool, true, false, not, ◌&&◌, ◌||◌, List, [], ◌∷◌, refl, arith, if◌then◌else◌}
+use Rattle.std.proofs.lemmas.Bool.{false≢true, true≢false}
+use Rattle.uring_enter.specs.declared.cancel.Sought.{Sought}
+use Rattle.uring_enter.specs.declared.cancel.Outstanding.{Outstanding}
+use Rattle.uring_enter.specs.Cancels.{is_of_all, fits, can_be_found, finds_any, one_more, count_of}
+use Rattle.uring_enter.specs.CancelLaws.{CancelsWhatFits, CancelsAllThatFit, CancelsTheOldest, AsksWhatMatters}
+
+fits_by : (b f g : Bool) → (b && f && g) ≡ true → (f ≡ true) × (g ≡ true)
+fits_by true true true is = (refl, refl)
+fits_by true true false is = absurd (false≢true is)
+fits_by true false g is = absurd (false≢true is)
+fits_by false f g is = absurd (false≢true is)
+
+pub cancels_what_fits : CancelsWhatFits
+cancels_what_fits s earlier r is =
+    fits_by (is_of_all s || not (finds_any s earlier)) (fits s r) (can_be_found r) is
+
+all_by : (all any f g : Bool) → all ≡ true → f ≡ true → g ≡ true → ((all || not any) && f && g) ≡ true
+all_by true any true true one two three = refl
+all_by true any true false one two three = absurd (false≢true three)
+all_by true any false g one two three = absurd (false≢true two)
+all_by false any f g one two three = absurd (false≢true one)
+
+pub cancels_all_that_fit : CancelsAllThatFit
+cancels_all_that_fit s earlier r one two three =
+    all_by (is_of_all s) (finds_any s earlier) (fits s r) (can_be_found r) one two three
+
+oldest_by : (all any f g : Bool) → all ≡ false → ((all || not any) && f && g) ≡ true → any ≡ false
+oldest_by true any f g one is = absurd (true≢false one)
+oldest_by false true f g one is = absurd (false≢true is)
+oldest_by false false f g one is = refl
+
+-- what one cancel more counts, of one
+record IsOne (any : Bool) (count : ℕ) : Type 0 where
+  pub none : any ≡ false → count ≡ 0
+  pub most : count ≤ 1
+
+one_by : (all any f g : Bool) (count : ℕ) → all ≡ false → IsOne any count
+    → IsOne ((f && g) || any) (one_more count ((all || not any) && f && g))
+one_by true any f g count one before = absurd (true≢false one)
+one_by false true true true count one before = record { none = λ is. absurd (true≢false is); most = before.most }
+one_by false true true false count one before = record { none = λ is. absurd (true≢false is); most = before.most }
+one_by false true false g count one before = record { none = λ is. absurd (true≢false is); most = before.most }
+one_by false false true true count one before =
+    let zero_before : count ≡ 0 = before.none refl in
+    record { none = λ is. absurd (true≢false is); most = omega (arith, zero_before) }
+one_by false false true false count one before = record { none = before.none; most = before.most }
+one_by false false false g count one before = record { none = before.none; most = before.most }
+
+one_of : (s : Sought) (seen : List Outstanding) → is_of_all s ≡ false → IsOne (finds_any s seen) (count_of s seen)
+one_of s [] one = record { none = λ is. refl; most = omega arith }
+one_of s (r ∷ earlier) one =
+    one_by (is_of_all s) (finds_any s earlier) (fits s r) (can_be_found r) (count_of s earlier) one (one_of s earlier one)
+
+pub cancels_the_oldest : CancelsTheOldest
+cancels_the_oldest s earlier one = (
+  λ r is. oldest_by (is_of_all s) (finds_any s earlier) (fits s r) (can_be_found r) one is,
+  (one_of s earlier one).most,
+)
+
+asks_by : (b f free runs waiting : Bool) → (b && f && free && not runs) ≡ false
+    → (b && f && (free && (if runs then waiting else true))) ≡ (b && f && (free && (if runs then waiting else false)))
+asks_by false f free runs waiting is = refl
+asks_by true false free runs waiting is = refl
+asks_by true true false runs waiting is = refl
+asks_by true true true true waiting is = refl
+asks_by true true true false waiting is = absurd (true≢false is)
+
+pub asks_what_matters : AsksWhatMatters
+asks_what_matters s earlier r is =
+    asks_by (is_of_all s || not (finds_any s earlier)) (fits s r) r.is_free r.runs r.is_waiting is

@@ -1,0 +1,273 @@
+-- The laws of timeouts.
+use Rattle.std.proofs.Common.{◌≡◌, ℕ, ◌≤◌, ◌<◌, ◌+◌, ◌-◌, ◌^◌, max, ℤ, pos, Bool, true, false, not, ◌&&◌, eqb, ltb, cond, length, get_or, List, [], ◌∷◌, ◌++◌, ◌⊎◌, inl, inr, Some, None, map, filter, refl, sym, ap, subst, arith, ◌∙◌, if◌then◌else◌}
+use Rattle.std.specs.Prelude.{Contains, All, IsSome}
+use Rattle.std.proofs.lemmas.Bool.{eqb-true, eqb-false, ltb-false, leb-true, or_parts, not-true, not_from_false, ne_eqb, false≢true}
+use Rattle.std.proofs.lemmas.List.{length-map, get_or-map}
+use Rattle.std.proofs.lemmas.List.Elements.{All-contains, All-filter, All-push, All-map, All-weaker, All-nil, All-cons, All-contains_itself, filter_passes, Contains-get_or, Contains-push_cases, Contains-append_right}
+use Rattle.uring_enter.specs.declared.timeout.Start.{Start}
+use Rattle.uring_enter.specs.declared.timeout.Timeout.{Timeout}
+use Rattle.uring_enter.specs.Timeouts.{Event, later, time, started, running, is_other, with_expiry, ends_before, has_counted, is_over, AreApart}
+use Rattle.uring_enter.specs.Timeouts.{Started, Posted, Changed, Stopped, Clock, Slept, Passed, Ended}
+use Rattle.uring_enter.specs.Replies.{error}
+use Rattle.uring_enter.specs.TimeLaws.{IsRun, NeverGoesBack, WasGiven, EndsInTime, starts, EndsOnce, EndsAlone, RunsApart, is_virtual, PassesNoneOver}
+
+pub never_goes_back : NeverGoesBack
+never_goes_back log (Started s) = omega arith
+never_goes_back log (Posted count) = omega arith
+never_goes_back log (Changed number more) = omega arith
+never_goes_back log (Stopped number) = omega arith
+never_goes_back log (Clock now) = omega arith
+never_goes_back log (Slept start stop) = omega arith
+never_goes_back log (Passed t) = omega arith
+never_goes_back log (Ended t) = omega arith
+
+-- what a change of one time makes of what all were given
+given_by : (earlier : List Event) (number more : ℕ) (t : Timeout) (b : Bool) → eqb t.number number ≡ b
+    → WasGiven earlier t
+    → WasGiven (Changed number more ∷ earlier) (if b then record t { expiry = later (time earlier) more; enough = 0 } else t)
+given_by earlier number more t true same given = inl (eqb-true t.number number same, refl, refl)
+given_by earlier number more t false other given = inr given
+
+given_changed : (earlier : List Event) (number more : ℕ) (t : Timeout) → WasGiven earlier t
+    → WasGiven (Changed number more ∷ earlier) (with_expiry number (later (time earlier) more) t)
+given_changed earlier number more t given = given_by earlier number more t (eqb t.number number) refl given
+
+all_given : (log : List Event) → All (WasGiven log) (running log)
+all_given [] = All-nil (WasGiven [])
+all_given (Started s ∷ earlier) =
+    All-push (WasGiven (Started s ∷ earlier)) (running earlier) (started earlier s)
+    (All-weaker (WasGiven earlier) (WasGiven (Started s ∷ earlier)) (λ t given. inr given) (running earlier) (all_given earlier))
+    (inl (refl, refl, refl))
+all_given (Changed number more ∷ earlier) =
+    All-map (WasGiven (Changed number more ∷ earlier)) (with_expiry number (later (time earlier) more)) (running earlier)
+    (All-weaker (WasGiven earlier) (λ t. WasGiven (Changed number more ∷ earlier) (with_expiry number (later (time earlier) more) t)) (λ t given. given_changed earlier number more t given) (running earlier) (all_given earlier))
+all_given (Stopped number ∷ earlier) = All-filter (is_other number) (WasGiven earlier) (running earlier) (all_given earlier)
+all_given (Ended t ∷ earlier) = All-filter (is_other t.number) (WasGiven earlier) (running earlier) (all_given earlier)
+all_given (Posted count ∷ earlier) = all_given earlier
+all_given (Clock now ∷ earlier) = all_given earlier
+all_given (Slept start stop ∷ earlier) = all_given earlier
+all_given (Passed t ∷ earlier) = all_given earlier
+
+-- one that ends has counted enough, or its time is over
+over : (counted late : Bool) (x y : ℤ) → IsSome (if counted then Some x else (if late then Some y else None))
+    → (counted ≡ true) ⊎ (late ≡ true)
+over true late x y ends = inl refl
+over false true x y ends = inr refl
+over false false x y ends = absurd (false≢true ends)
+
+pub ends_in_time : EndsInTime
+ends_in_time log t run = (
+  All-contains (WasGiven log) (running log) t (all_given log) run.1,
+  elim (over (has_counted log t) (is_over log t) (pos 0) (error 62) run.2) [
+    | inl counted ↦ inl counted
+    | inr late ↦ inr (leb-true t.expiry (time log) late)
+  ],
+)
+
+-- none of a number runs, nor behind events that don't start it
+abbrev IsNot : ℕ → Timeout → Type 0
+IsNot number t = t.number ≡ number → ⊥
+
+other_is_not : (number : ℕ) (t : Timeout) → is_other number t ≡ true → IsNot number t
+other_is_not number t other = eqb-false t.number number (not-true (eqb t.number number) other)
+
+none_after_filter : (number : ℕ) (rows : List Timeout) → All (IsNot number) (filter (is_other number) rows)
+none_after_filter number rows =
+    All-weaker (λ t. is_other number t ≡ true) (IsNot number) (λ t other. other_is_not number t other)
+    (filter (is_other number) rows) (filter_passes (is_other number) rows)
+
+is_not_by : (number expiry : ℕ) (t : Timeout) (b : Bool) → IsNot number t
+    → IsNot number (if b then record t { expiry = expiry; enough = 0 } else t)
+is_not_by number expiry t true other = other
+is_not_by number expiry t false other = other
+
+changed_is_not : (number changed expiry : ℕ) (t : Timeout) → IsNot number t → IsNot number (with_expiry changed expiry t)
+changed_is_not number changed expiry t other = is_not_by number expiry t (eqb t.number changed) other
+
+started_is_not : (log : List Event) (s : Start) (number : ℕ) → eqb s.number number ≡ false → IsNot number (started log s)
+started_is_not log s number other = eqb-false s.number number other
+
+none_behind : (number : ℕ) (newer earlier : List Event) → starts number newer ≡ false
+    → All (IsNot number) (running earlier) → All (IsNot number) (running (newer ++ earlier))
+none_behind number [] earlier quiet none = none
+none_behind number (Started s ∷ newer) earlier quiet none =
+    let parts = or_parts (eqb s.number number) (starts number newer) quiet in
+    All-push (IsNot number) (running (newer ++ earlier)) (started (newer ++ earlier) s)
+    (none_behind number newer earlier parts.1 none) (started_is_not (newer ++ earlier) s number parts.0)
+none_behind number (Changed changed more ∷ newer) earlier quiet none =
+    let f : Timeout → Timeout = with_expiry changed (later (time (newer ++ earlier)) more) in
+    All-map (IsNot number) f (running (newer ++ earlier))
+    (All-weaker (IsNot number) (λ t. IsNot number (f t)) (λ t other. changed_is_not number changed (later (time (newer ++ earlier)) more) t other)
+    (running (newer ++ earlier)) (none_behind number newer earlier quiet none))
+none_behind number (Stopped stopped ∷ newer) earlier quiet none =
+    All-filter (is_other stopped) (IsNot number) (running (newer ++ earlier)) (none_behind number newer earlier quiet none)
+none_behind number (Ended t ∷ newer) earlier quiet none =
+    All-filter (is_other t.number) (IsNot number) (running (newer ++ earlier)) (none_behind number newer earlier quiet none)
+none_behind number (Posted count ∷ newer) earlier quiet none = none_behind number newer earlier quiet none
+none_behind number (Clock now ∷ newer) earlier quiet none = none_behind number newer earlier quiet none
+none_behind number (Slept start stop ∷ newer) earlier quiet none = none_behind number newer earlier quiet none
+none_behind number (Passed t ∷ newer) earlier quiet none = none_behind number newer earlier quiet none
+
+pub ends_once : EndsOnce
+ends_once newer earlier t u quiet runs same =
+    All-contains (IsNot t.number) (running (newer ++ Ended t ∷ earlier)) u
+    (none_behind t.number newer (Ended t ∷ earlier) quiet (none_after_filter t.number (running earlier))) runs same
+
+-- whoever passes a test is among those that a filter keeps
+abbrev Among : (Timeout → Bool) → List Timeout → Timeout → Type 0
+Among p kept u = p u ≡ true → Contains kept u
+
+among_more : (p : Timeout → Bool) (x : Timeout) (kept : List Timeout) (b : Bool) (u : Timeout)
+    → Among p kept u → Among p (cond b (x ∷ kept) kept) u
+among_more p x kept true u among passes = Contains-append_right (x ∷ []) kept u (among passes)
+among_more p x kept false u among passes = among passes
+
+among_itself : (p : Timeout → Bool) (x : Timeout) (kept : List Timeout)
+    → Among p (cond (p x) (x ∷ kept) kept) x
+among_itself p x kept passes =
+    let P : Bool → Type 0 = λ b. Contains (cond b (x ∷ kept) kept) x in
+    let first : Contains (x ∷ kept) x = (0, omega arith, refl) in subst P (sym passes) first
+
+all_among : (p : Timeout → Bool) (rows : List Timeout) → All (Among p (filter p rows)) rows
+all_among p [] = All-nil (Among p [])
+all_among p (x ∷ rows) =
+    All-cons (Among p (filter p (x ∷ rows))) x rows (among_itself p x (filter p rows))
+    (All-weaker (Among p (filter p rows)) (Among p (filter p (x ∷ rows))) (λ u among. among_more p x (filter p rows) (p x) u among) rows (all_among p rows))
+
+of_filter : (p : Timeout → Bool) (rows : List Timeout) (t : Timeout) → Contains (filter p rows) t → Contains rows t
+of_filter p rows t among =
+    All-contains (Contains rows) (filter p rows) t (All-filter p (Contains rows) rows (All-contains_itself rows)) among
+
+pub ends_alone : EndsAlone
+ends_alone log t u runs other =
+    All-contains (Among (is_other t.number) (filter (is_other t.number) (running log))) (running log) u
+    (all_among (is_other t.number) (running log)) runs (not_from_false (eqb u.number t.number) (ne_eqb u.number t.number other))
+
+-- what is among those whose time was changed
+of_map : (f : Timeout → Timeout) (rows : List Timeout) (t : Timeout) → Contains (map f rows) t
+    → (x : Timeout) × Contains rows x × (f x ≡ t)
+of_map f rows t among =
+    let below : among.0 < length rows = omega (arith, among.1, length-map rows f) in (
+      get_or rows among.0 t,
+      Contains-get_or rows among.0 t below,
+      sym (get_or-map f rows among.0 t t below) ∙ among.2,
+    )
+
+kept_by : (expiry : ℕ) (t : Timeout) (b : Bool)
+    → (if b then record t { expiry = expiry; enough = 0 } else t).number ≡ t.number
+kept_by expiry t true = refl
+kept_by expiry t false = refl
+
+number_kept : (number expiry : ℕ) (t : Timeout) → (with_expiry number expiry t).number ≡ t.number
+number_kept number expiry t = kept_by expiry t (eqb t.number number)
+
+apart_filter : (p : Timeout → Bool) (rows : List Timeout) → AreApart rows → AreApart (filter p rows)
+apart_filter p rows apart t u first second same =
+    apart t u (of_filter p rows t first) (of_filter p rows u second) same
+
+apart_changed : (number expiry : ℕ) (rows : List Timeout) → AreApart rows
+    → AreApart (map (with_expiry number expiry) rows)
+apart_changed number expiry rows apart t u first second same =
+    let f : Timeout → Timeout = with_expiry number expiry in
+    let from = of_map f rows t first in
+    let to = of_map f rows u second in
+    let numbers : from.0.number ≡ to.0.number =
+    sym (number_kept number expiry from.0) ∙ ap (λ (v : Timeout). v.number) from.2 ∙ same
+    ∙ sym (ap (λ (v : Timeout). v.number) to.2) ∙ number_kept number expiry to.0 in
+    sym from.2 ∙ ap f (apart from.0 to.0 from.1 to.1 numbers) ∙ to.2
+
+apart_push : (rows : List Timeout) (s : Timeout) → AreApart rows
+    → ((t : Timeout) → Contains rows t → t.number ≡ s.number → ⊥) → AreApart (rows ++ s ∷ [])
+apart_push rows s apart new t u first second same =
+    elim (Contains-push_cases rows s t first) [
+      | inl old ↦ elim (Contains-push_cases rows s u second) [
+        | inl both ↦ apart t u old both same
+        | inr is ↦ absurd (new t old (same ∙ sym (ap (λ (v : Timeout). v.number) is)))
+      ]
+      | inr is ↦ elim (Contains-push_cases rows s u second) [
+        | inl old ↦ absurd (new u old (sym same ∙ sym (ap (λ (v : Timeout). v.number) is)))
+        | inr too ↦ sym is ∙ too
+      ]
+    ]
+
+pub runs_apart : RunsApart
+runs_apart [] run = λ t u first second same. absurd (omega (arith, first.1))
+runs_apart (Started s ∷ earlier) run =
+    apart_push (running earlier) (started earlier s) (runs_apart earlier run.0) run.1
+runs_apart (Changed number more ∷ earlier) run =
+    apart_changed number (later (time earlier) more) (running earlier) (runs_apart earlier run)
+runs_apart (Stopped number ∷ earlier) run = apart_filter (is_other number) (running earlier) (runs_apart earlier run)
+runs_apart (Ended t ∷ earlier) run = apart_filter (is_other t.number) (running earlier) (runs_apart earlier run.0)
+runs_apart (Posted count ∷ earlier) run = runs_apart earlier run
+runs_apart (Clock now ∷ earlier) run = runs_apart earlier run
+runs_apart (Slept start stop ∷ earlier) run = runs_apart earlier run
+runs_apart (Passed t ∷ earlier) run = runs_apart earlier run.0
+
+-- over at the earliest then, and at the largest time at the latest
+record Within (now : ℕ) (t : Timeout) : Type 0 where
+  pub low : now ≤ t.expiry
+  pub high : t.expiry ≤ 2 ^ 63 - 1
+
+record IsWithin (log : List Event) : Type 0 where
+  pub now : time log ≤ 2 ^ 63 - 1
+  pub all : All (Within (time log)) (running log)
+
+within_later : (now more : ℕ) → now ≤ 2 ^ 63 - 1 → (t : Timeout) → t.expiry ≡ later now more → Within now t
+within_later now more small t is = record { low = omega (arith, is); high = omega (arith, is) }
+
+within_by : (now more : ℕ) → now ≤ 2 ^ 63 - 1 → (t : Timeout) (b : Bool) → Within now t
+    → Within now (if b then record t { expiry = later now more; enough = 0 } else t)
+within_by now more small t true within =
+    within_later now more small (record t { expiry = later now more; enough = 0 }) refl
+within_by now more small t false within = within
+
+within_changed : (now number more : ℕ) → now ≤ 2 ^ 63 - 1 → (t : Timeout) → Within now t
+    → Within now (with_expiry number (later now more) t)
+within_changed now number more small t within = within_by now more small t (eqb t.number number) within
+
+within_passed : (now : ℕ) (t u : Timeout) → Within now u → ends_before u t ≡ false → Within (max t.expiry now) u
+within_passed now t u within after =
+    let no_sooner : t.expiry ≤ u.expiry = ltb-false u.expiry t.expiry (or_parts (ltb u.expiry t.expiry) (eqb u.expiry t.expiry && ltb u.number t.number) after).0 in
+    record { low = omega (arith, within.low, no_sooner); high = within.high }
+
+all_within : (log : List Event) → IsRun log → is_virtual log ≡ true → IsWithin log
+all_within [] run only = record { now = omega arith; all = All-nil (Within 0) }
+all_within (Started s ∷ earlier) run only =
+    let before = all_within earlier run.0 only in
+    record {
+      now = before.now;
+      all = All-push (Within (time earlier)) (running earlier) (started earlier s) before.all
+          (within_later (time earlier) s.more before.now (started earlier s) refl);
+    }
+all_within (Changed number more ∷ earlier) run only =
+    let before = all_within earlier run only in
+    let f : Timeout → Timeout = with_expiry number (later (time earlier) more) in
+    record {
+      now = before.now;
+      all = All-map (Within (time earlier)) f (running earlier)
+          (All-weaker (Within (time earlier)) (λ t. Within (time earlier) (f t)) (λ t within. within_changed (time earlier) number more before.now t within) (running earlier) before.all);
+    }
+all_within (Stopped number ∷ earlier) run only =
+    let before = all_within earlier run only in
+    record { now = before.now; all = All-filter (is_other number) (Within (time earlier)) (running earlier) before.all }
+all_within (Ended t ∷ earlier) run only =
+    let before = all_within earlier run.0 only in
+    record { now = before.now; all = All-filter (is_other t.number) (Within (time earlier)) (running earlier) before.all }
+all_within (Posted count ∷ earlier) run only =
+    let before = all_within earlier run only in record { now = before.now; all = before.all }
+all_within (Clock now ∷ earlier) run only = absurd (false≢true only)
+all_within (Slept start stop ∷ earlier) run only = absurd (false≢true only)
+all_within (Passed t ∷ earlier) run only =
+    let before = all_within earlier run.0 only in
+    let rows = running earlier in
+    let first = All-contains (Within (time earlier)) rows t before.all run.1.0 in
+    record {
+      now = omega (arith, first.high, before.now);
+      all = All-weaker (Contains rows) (Within (time (Passed t ∷ earlier)))
+          (λ u among. within_passed (time earlier) t u (All-contains (Within (time earlier)) rows u before.all among) (run.1.1 u among))
+          rows (All-contains_itself rows);
+    }
+
+pub passes_none_over : PassesNoneOver
+passes_none_over log run only t runs =
+    (All-contains (Within (time log)) (running log) t (all_within log run only).all runs).low

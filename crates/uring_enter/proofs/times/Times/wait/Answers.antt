@@ -1,0 +1,11 @@
+use Rattle.std.proofs.Common.{ap, ◌∙◌}
+use Rattle.uring_enter.specs.Waits.{wait_of}
+use Rattle.uring_enter.proofs.TimesKept.{any_is}
+use Rattle.uring_enter.proofs.times.Times.wait.Goals as goal
+
+pub returns : goal.returns
+returns c log keeps = (
+  c.sleeps_until-until.result,
+  c.sleeps_until-until.ensures log keeps,
+  c.wait_of.ensures ∙ ap (λ b. wait_of c.args.around b c.sleeps_until-until.result) (any_is log c.args.self.now.count c.args.rows.now keeps.within keeps.running),
+)

@@ -1,0 +1,61 @@
+-- What a cancel finds among the requests that haven't ended. io_uring_enter(2), IORING_OP_ASYNC_CANCEL, but where our own rule is named.
+use Rattle.std.specs.Prelude.{◌≡◌, ℕ, ℤ, pos, ◌+◌, ◌-◌, ◌^◌, Bool, true, false, not, ◌&&◌, ◌||◌, ◌==◌, min, List, [], ◌∷◌, if◌then◌else◌}
+use Rattle.uring_enter.specs.declared.cancel.Sought.{Sought}
+use Rattle.uring_enter.specs.declared.cancel.Outstanding.{Outstanding}
+use Rattle.uring_enter.specs.declared.cancel.Cancel.{Cancel}
+use Rattle.uring_enter.specs.Replies.{error}
+
+-- whether a cancel is of all that it finds
+abbrev pub is_of_all : Sought → Bool
+is_of_all s = s.is_all || s.is_any
+
+-- whether a request is carried out on the descriptor, or on the registered file, that a cancel looks for
+abbrev pub fits_fd : Sought → Outstanding → Bool
+fits_fd s r =
+    if s.is_fixed then r.is_registered && r.file == s.file else
+    not r.is_registered && r.is_assigned && r.fd == s.fd
+
+-- whether a request is what a cancel looks for: any, by what it is carried out on, or by its user data
+abbrev pub fits : Sought → Outstanding → Bool
+fits s r =
+    if s.is_any then true else
+    if s.is_by_fd then fits_fd s r else
+    r.user_data == s.user_data
+
+-- whether a request can be found at all: it waits for something, or could start now. One behind a link or a drain can't; what the kernel does
+abbrev pub can_be_found : Outstanding → Bool
+can_be_found r = r.is_free && (if r.runs then r.is_waiting else r.may_start)
+
+-- whether any of these fits and can be found
+abbrev pub finds_any : Sought → List Outstanding → Bool
+finds_any s [] = false
+finds_any s (r ∷ earlier) = (fits s r && can_be_found r) || finds_any s earlier
+
+-- whether a request is cancelled, behind those that were looked at before: it fits and can be found, and the cancel is of all, or found none before
+abbrev pub is_cancelled : Sought → List Outstanding → Outstanding → Bool
+is_cancelled s earlier r = (is_of_all s || not (finds_any s earlier)) && fits s r && can_be_found r
+
+abbrev pub one_more : ℕ → Bool → ℕ
+one_more count counts = if counts then min (count + 1) (2 ^ 32 - 1) else count
+
+-- how many are cancelled
+abbrev pub count_of : Sought → List Outstanding → ℕ
+count_of s [] = 0
+count_of s (r ∷ earlier) = one_more (count_of s earlier) (is_cancelled s earlier r)
+
+-- what a cancel ends with: of all, how many it has cancelled; of one, 0, or -2 (ENOENT) if there was none
+abbrev pub result_of : Sought → List Outstanding → ℤ
+result_of s seen =
+    if is_of_all s then pos (min (count_of s seen) (2 ^ 31 - 1)) else
+    if finds_any s seen then pos 0 else error 2
+
+-- whether it matters that a request could start now
+abbrev pub is_asked : Sought → List Outstanding → Outstanding → Bool
+is_asked s earlier r =
+    (is_of_all s || not (finds_any s earlier)) && fits s r && r.is_free && not r.runs
+
+-- glue: a cancel that has looked at these, the newest first
+pub record HasSeen (s : Sought) (seen : List Outstanding) (cancel : Cancel) : Type 0 where
+  pub sought : cancel.sought ≡ s
+  pub count : cancel.count ≡ count_of s seen
+  pub none : (cancel.count == 0) ≡ not (finds_any s seen)

@@ -1,0 +1,175 @@
+//! What a cancel finds among the requests that haven't ended. io_uring_enter(2), IORING_OP_ASYNC_CANCEL.
+
+ghost use Rattle.std.specs.Prelude.{◌≡◌, List, [], ◌∷◌};
+ghost use Rattle.uring_enter.specs.declared.cancel.Outstanding.{Outstanding};
+ghost use Rattle.uring_enter.specs.declared.cancel.Sought.{Sought};
+ghost use Rattle.uring_enter.specs.Cancels.{is_of_all, fits, fits_fd, can_be_found, one_more, result_of, is_cancelled, is_asked, HasSeen};
+
+/// What a cancel looks for, and whether it is content with one.
+#[repr(C)]
+#[derive(Clone, Copy, Debug, PartialEq, Eq, Drop)]
+pub struct Sought {
+    /// The user data, if it looks by that.
+    pub user_data: u64,
+
+    /// The registered file, by a number that no other has, if it looks by one.
+    pub file: u64,
+
+    /// The descriptor, if it looks by one.
+    pub fd: u32,
+
+    /// It looks for any request. IORING_ASYNC_CANCEL_ANY.
+    pub is_any: bool,
+
+    /// It cancels all that it finds, and not just the first. IORING_ASYNC_CANCEL_ALL.
+    pub is_all: bool,
+
+    /// It looks by what a request is carried out on. IORING_ASYNC_CANCEL_FD.
+    pub is_by_fd: bool,
+
+    /// And that is a registered file. IORING_ASYNC_CANCEL_FD_FIXED.
+    pub is_fixed: bool,
+}
+
+/// A request that hasn't ended, as a cancel sees it.
+#[repr(C)]
+#[derive(Clone, Copy, Debug, PartialEq, Eq, Drop)]
+pub struct Outstanding {
+    pub user_data: u64,
+
+    /// The registered file that it is carried out on, by a number that no other has.
+    pub file: u64,
+
+    /// The descriptor that its entry names.
+    pub fd: u32,
+
+    /// Its entry names a registered file.
+    pub is_registered: bool,
+
+    /// On what it is carried out is known.
+    pub is_assigned: bool,
+
+    /// A cancel may choose it: no other has yet, and it is no cancel itself.
+    pub is_free: bool,
+
+    /// It has started.
+    pub runs: bool,
+
+    /// Of one that runs: it waits for something.
+    pub is_waiting: bool,
+
+    /// Of one that doesn't run: it could start now.
+    pub may_start: bool,
+}
+
+/// A cancel that looks at requests, the oldest first.
+#[repr(C)]
+#[derive(Clone, Copy, Debug, PartialEq, Eq, Drop)]
+pub struct Cancel {
+    pub sought: Sought,
+
+    /// How many it has cancelled.
+    pub count: u32,
+}
+
+impl Cancel {
+    /// A cancel that hasn't looked at any request.
+    pub fn begin(sought: Sought) -> Cancel
+        ensures { HasSeen sought [] result }
+    {
+        Cancel { sought, count: 0 }
+    }
+
+    /// Whether it matters to the cancel if the next request, which doesn't run, could start now.
+    pub fn asks(&self, request: &Outstanding) -> bool
+        ensures { (sought : Sought) (seen : List Outstanding) → HasSeen sought seen self.now
+            → result ≡ is_asked sought seen request.now }
+    {
+        let is_meant = fits(self.sought, request);
+        let is_of_all = is_of_all(self.sought);
+        (is_of_all || self.count == 0) && is_meant && request.is_free && !request.runs
+    }
+
+    /// Looks at the next request, and says whether it is cancelled.
+    pub fn sees(&mut self, request: &Outstanding) -> bool
+        ensures cancelled { (sought : Sought) (seen : List Outstanding) → HasSeen sought seen self.old
+            → result ≡ is_cancelled sought seen request.now }
+        ensures after { (sought : Sought) (seen : List Outstanding) → HasSeen sought seen self.old
+            → HasSeen sought (request.now ∷ seen) self.new }
+    {
+        let is_meant = fits(self.sought, request);
+        let is_there = can_be_found(request);
+        let is_of_all = is_of_all(self.sought);
+        let is_cancelled = (is_of_all || self.count == 0) && is_meant && is_there;
+        self.count = one_more(self.count, is_cancelled);
+        is_cancelled
+    }
+
+    /// What the cancel ends with, once it has looked at all: how many it has cancelled, or of one 0, or -2 if there was none.
+    pub fn result(&self) -> i32
+        ensures { (sought : Sought) (seen : List Outstanding) → HasSeen sought seen self.now
+            → result ≡ result_of sought seen }
+    {
+        if is_of_all(self.sought) {
+            self.count.min(0x7fff_ffff) as i32
+        } else if self.count == 0 {
+            -2
+        } else {
+            0
+        }
+    }
+}
+
+/// Whether a cancel is of all that it finds.
+fn is_of_all(sought: Sought) -> bool
+    ensures { result ≡ is_of_all sought }
+{
+    sought.is_all || sought.is_any
+}
+
+/// Whether a request is what a cancel looks for.
+fn fits(sought: Sought, request: &Outstanding) -> bool
+    ensures { result ≡ fits sought request.now }
+{
+    if sought.is_any {
+        true
+    } else if sought.is_by_fd {
+        fits_fd(sought, request)
+    } else {
+        request.user_data == sought.user_data
+    }
+}
+
+/// Whether a request is carried out on what a cancel looks for.
+fn fits_fd(sought: Sought, request: &Outstanding) -> bool
+    ensures { result ≡ fits_fd sought request.now }
+{
+    if sought.is_fixed {
+        request.is_registered && request.file == sought.file
+    } else {
+        !request.is_registered && request.is_assigned && request.fd == sought.fd
+    }
+}
+
+/// Whether a request can be found at all.
+fn can_be_found(request: &Outstanding) -> bool
+    ensures { result ≡ can_be_found request.now }
+{
+    request.is_free
+        && if request.runs {
+            request.is_waiting
+        } else {
+            request.may_start
+        }
+}
+
+/// How many, with this one if it counts.
+fn one_more(count: u32, counts: bool) -> u32
+    ensures { result ≡ one_more count counts }
+{
+    if counts {
+        count.saturating_add(1)
+    } else {
+        count
+    }
+}

@@ -1,0 +1,23 @@
+//! What holds of every cancel, whatever it looks at. Each law is the contract of a function that does nothing.
+
+ghost use Rattle.uring_enter.specs.CancelLaws.{CancelsWhatFits, CancelsAllThatFit, CancelsTheOldest, AsksWhatMatters};
+
+/// What is cancelled fits, and can be found.
+pub fn cancels_what_fits()
+    ensures { CancelsWhatFits }
+{}
+
+/// A cancel of all cancels all that fits and can be found.
+pub fn cancels_all_that_fit()
+    ensures { CancelsAllThatFit }
+{}
+
+/// Another cancels the oldest, and no more than one.
+pub fn cancels_the_oldest()
+    ensures { CancelsTheOldest }
+{}
+
+/// Where it isn't asked whether a request could start, it doesn't matter.
+pub fn asks_what_matters()
+    ensures { AsksWhatMatters }
+{}

@@ -1,0 +1,108 @@
+//! A timeout, and the times that it is given.
+
+ghost use Rattle.std.specs.Prelude.{◌≡◌, ◌-◌};
+ghost use Rattle.uring_enter.specs.Timeouts.{later, nanoseconds_of, ends_before, with_expiry, cancelled_by, linked_outcome};
+
+/// A timeout that starts. io_uring_enter(2), IORING_OP_TIMEOUT and IORING_OP_LINK_TIMEOUT.
+#[repr(C)]
+#[derive(Clone, Copy, Debug, PartialEq, Eq, Drop)]
+pub struct Start {
+    /// The number of its request, in the order in which requests are submitted.
+    pub number: u64,
+
+    /// How long it runs, in nanoseconds.
+    pub more: u64,
+
+    /// How many completions it counts: once as many were posted, it ends. If 0, it has no count.
+    pub count: u64,
+
+    /// Whether it limits the request before it, to which it is linked.
+    pub is_linked: bool,
+}
+
+/// A timeout that runs.
+#[repr(C)]
+#[derive(Clone, Copy, Debug, PartialEq, Eq, Drop)]
+pub struct Timeout {
+    /// The number of its request.
+    pub number: u64,
+
+    /// When its time is over, in nanoseconds of the ring's time.
+    pub expiry: u64,
+
+    /// Its count is reached once the ring has posted so many completions. If 0, it has no count.
+    pub enough: u64,
+
+    /// Whether it limits the request before it, to which it is linked.
+    pub is_linked: bool,
+}
+
+impl Timeout {
+    /// The number of the request that it cancels when its time is over: the one before it, if it is linked to it.
+    pub fn limits(&self) -> Option<u64>
+        ensures { result ≡ cancelled_by self.now }
+    {
+        if self.is_linked {
+            Some(self.number.saturating_sub(1))
+        } else {
+            None
+        }
+    }
+}
+
+/// How a timeout ends that is linked behind a request which has ended: with -62 if it has cancelled it, else with -125. io_uring_enter(2), IORING_OP_LINK_TIMEOUT.
+pub fn linked_outcome(has_cancelled: bool) -> i32
+    ensures { result ≡ linked_outcome has_cancelled }
+{
+    if has_cancelled { -62 } else { -125 }
+}
+
+/// So much later than a time. A time past the largest is the largest, 2^63 - 1 nanoseconds. Our own rule.
+pub fn later(time: u64, more: u64) -> u64
+    ensures { result ≡ later time more }
+{
+    time.saturating_add(more).min((1 << 63) - 1)
+}
+
+/// How much is left until a time of a clock that says `now`. What is over has nothing left.
+pub fn left_until(time: u64, now: u64) -> u64
+    ensures { result ≡ time - now }
+{
+    time.saturating_sub(now)
+}
+
+/// The nanoseconds of a time in seconds and nanoseconds. A negative time is none, and one past the largest is the largest. Our own rule.
+pub fn nanoseconds_of(seconds: i64, nanoseconds: i64) -> u64
+    ensures { result ≡ nanoseconds_of seconds nanoseconds }
+{
+    if seconds < 0 {
+        return 0;
+    }
+    let whole = seconds.unsigned_abs().saturating_mul(1_000_000_000);
+    if nanoseconds < 0 {
+        later(whole.saturating_sub(nanoseconds.unsigned_abs()), 0)
+    } else {
+        later(whole, nanoseconds.unsigned_abs())
+    }
+}
+
+/// Whether one ends before another: the one that is over first, and of equal ones the one that was submitted first.
+pub(crate) fn ends_before(one: Timeout, other: Timeout) -> bool
+    ensures { result ≡ ends_before one other }
+{
+    one.expiry < other.expiry || (one.expiry == other.expiry && one.number < other.number)
+}
+
+/// A timeout with this time, if it has this number.
+pub(crate) fn with_expiry(timeout: Timeout, number: u64, expiry: u64) -> Timeout
+    ensures { result ≡ with_expiry number expiry timeout }
+{
+    if timeout.number != number {
+        return timeout;
+    }
+    Timeout {
+        expiry,
+        enough: 0,
+        ..timeout
+    }
+}

@@ -1,0 +1,129 @@
+//! How a call waits where nothing can go on, and what has come when it wakes.
+
+ghost use Rattle.std.specs.Prelude.{◌≡◌, ◌<◌, List};
+ghost use Rattle.uring_enter.specs.Timeouts.{Event};
+ghost use Rattle.uring_enter.specs.Kept.{KeepsTime};
+ghost use Rattle.uring_enter.specs.Waits.{wait_of, woken_of, passing_of, IsWait, IsWoken, IsPassing};
+
+use crate::timeout::Timeout;
+use crate::times::{Times, due_of};
+
+/// What a ring waits for, beside time.
+#[repr(C)]
+#[derive(Clone, Copy, Debug, PartialEq, Eq, Drop)]
+pub struct Around {
+    /// A request waits for a descriptor.
+    pub has_streams: bool,
+
+    /// Another thread may make a call.
+    pub has_threads: bool,
+
+    /// Time passes by itself.
+    pub is_real: bool,
+}
+
+/// How a call waits.
+#[derive(Clone, Copy, Debug, PartialEq, Eq, Drop)]
+pub enum Wait {
+    /// It sleeps until then at most, or until it is woken.
+    Sleep(Option<u64>),
+
+    /// It doesn't sleep: time moves on to then.
+    MoveTo(u64),
+
+    /// There is nothing to wait for.
+    Never,
+}
+
+/// What has come when a call has waited.
+#[derive(Clone, Copy, Debug, PartialEq, Eq, Drop)]
+pub enum Woken {
+    /// The time of this timeout is over.
+    Over(Timeout),
+
+    /// The call's own limit is.
+    TimedOut,
+
+    /// Neither: something may go on.
+    Other,
+}
+
+impl Times {
+    /// How a call waits that has this limit.
+    pub fn wait(&self, rows: &[Timeout], around: Around, limit: Option<u64>) -> Wait
+        ensures { (log : List Event) → KeepsTime log self.now rows.now
+            → IsWait log around limit result }
+    {
+        let until = self.sleeps_until(rows, limit);
+        wait_of(around, 0 < self.count, until)
+    }
+
+    /// What has come for a call that has this limit, and has waited.
+    pub fn woken(&self, rows: &[Timeout], limit: Option<u64>) -> Woken
+        ensures { (log : List Event) → KeepsTime log self.now rows.now
+            → IsWoken log limit result }
+    {
+        woken_of(self.due(rows), limit, self.time)
+    }
+
+    /// The timeout that is to end where nothing else can go on and nobody waits: where time passes by itself one that is over, else the next, unless a descriptor is waited for.
+    pub fn passing(&self, rows: &[Timeout], around: Around) -> Option<Timeout>
+        ensures { (log : List Event) → KeepsTime log self.now rows.now
+            → IsPassing log around result }
+    {
+        passing_of(around, self.time, self.next(rows))
+    }
+}
+
+/// What has come, if this one is over or none is.
+fn woken_of(due: Option<Timeout>, limit: Option<u64>, now: u64) -> Woken
+    ensures { result ≡ woken_of due limit now }
+{
+    match (due, limit) {
+        (Some(timeout), _) => Woken::Over(timeout),
+        (None, None) => Woken::Other,
+        (None, Some(limit)) => {
+            if limit <= now {
+                Woken::TimedOut
+            } else {
+                Woken::Other
+            }
+        }
+    }
+}
+
+/// Who is to end, if this one ends next.
+fn passing_of(around: Around, now: u64, next: Option<Timeout>) -> Option<Timeout>
+    ensures { result ≡ passing_of around now next }
+{
+    if around.is_real {
+        due_of(now, next)
+    } else if around.has_streams {
+        None
+    } else {
+        next
+    }
+}
+
+/// How a call waits until then at most.
+fn wait_of(around: Around, has_timeouts: bool, until: Option<u64>) -> Wait
+    ensures { result ≡ wait_of around has_timeouts until }
+{
+    let is_waiting = around.has_streams || (around.has_threads && !has_timeouts);
+    match until {
+        None => {
+            if is_waiting {
+                Wait::Sleep(None)
+            } else {
+                Wait::Never
+            }
+        }
+        Some(until) => {
+            if is_waiting || around.is_real {
+                Wait::Sleep(Some(until))
+            } else {
+                Wait::MoveTo(until)
+            }
+        }
+    }
+}
