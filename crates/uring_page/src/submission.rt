@@ -1,10 +1,7 @@
 //! What the application has filled and staged, and what the open call has taken of it.
 
-ghost use Rattle.std.specs.Prelude.{ℕ, IsOk};
-
 use std::alloc::{AllocError, Global};
 use uring_machine::{Setup, Sqe, Step};
-use uring_memory::Memory;
 use uring_text::is_name;
 
 /// The entries that an open call took, and what they are taken from. It is read off the steps and their answers.
@@ -24,15 +21,13 @@ pub(crate) struct Submission {
 
 impl Submission {
     /// Before the first step.
-    pub(crate) fn new<M: Memory>(
-        memory: &M,
-        alloc: Global,
-        setup: Setup,
-    ) -> Result<Submission, AllocError>
-        ensures { ((n : ℕ) → M.grants memory.now n) → IsOk result }
-    {
+    pub(crate) fn new(alloc: Global, setup: Setup) -> Result<Submission, AllocError> {
+        let mut slots = Vec::new(alloc);
+        for _ in 0..setup.sq() {
+            slots.push(None)?;
+        }
         Ok(Submission {
-            slots: memory.filled(alloc, None, setup.sq() as usize)?,
+            slots,
             staged: Vec::new(alloc),
             taken: 0,
             entries: Vec::new(alloc),
@@ -41,27 +36,18 @@ impl Submission {
     }
 
     /// Takes in a step with its answer.
-    pub(crate) fn take_in<M: Memory>(
-        &mut self,
-        memory: &M,
-        step: &Step,
-        answer: &[u8],
-    ) -> Result<(), AllocError>
-        ensures { ((n : ℕ) → M.grants memory.now n) → IsOk result }
-    {
+    pub(crate) fn take_in(&mut self, step: &Step, answer: &[u8]) -> Result<(), AllocError> {
         match step {
             Step::Fill { slot, entry } if is_name(answer, "ok") => {
                 self.fill(*slot, *entry);
                 Ok(())
             }
-            Step::Index { word } if is_name(answer, "ok") => {
-                push_value(memory, &mut self.staged, *word)
-            }
+            Step::Index { word } if is_name(answer, "ok") => Ok(self.staged.push(*word)?),
             Step::Begin { .. } if answer.starts_with(b"call ") => {
                 self.begin();
                 Ok(())
             }
-            Step::Take if answer.starts_with(b"entry ") => self.take(memory),
+            Step::Take if answer.starts_with(b"entry ") => self.take(),
             Step::Take if is_name(answer, "dropped") => {
                 self.taken = self.taken.saturating_add(1);
                 Ok(())
@@ -94,13 +80,11 @@ impl Submission {
     }
 
     /// Takes the entry that the next word names.
-    fn take<M: Memory>(&mut self, memory: &M) -> Result<(), AllocError>
-        ensures { ((n : ℕ) → M.grants memory.now n) → IsOk result }
-    {
+    fn take(&mut self) -> Result<(), AllocError> {
         let entry = self.next_entry();
         self.taken = self.taken.saturating_add(1);
         match entry {
-            Some(entry) => push_value(memory, &mut self.entries, entry),
+            Some(entry) => Ok(self.entries.push(entry)?),
             None => Ok(()),
         }
     }
@@ -113,17 +97,4 @@ impl Submission {
             None => None,
         }
     }
-}
-
-/// Appends a value to a list.
-pub(crate) fn push_value<M: Memory, T: Drop>(
-    memory: &M,
-    list: &mut Vec<T>,
-    value: T,
-) -> Result<(), AllocError>
-    ensures { ((n : ℕ) → M.grants memory.now n) → IsOk result }
-{
-    memory.reserve(list, 1)?;
-    list.push_reserved(value);
-    Ok(())
 }
