@@ -62,21 +62,16 @@ bool has_counted(const struct ring *ring, const struct request *timeout)
     return timeout->enough > 0 && ring->posted >= timeout->enough;
 }
 
-/* The timeout that is linked behind a request, or NULL. */
-static struct request *timeout_behind(const struct ring *ring, const struct request *request)
+struct request *timeout_behind(const struct ring *ring, const struct request *request)
 {
-    for (size_t i = 0; i < ring->requests.count; i++) {
-        struct request *next = ring->requests.rows[i];
-        if (next->number == request->number + 1)
-            return next->is_linked && is_linked_timeout(next) ? next : NULL;
-    }
-    return NULL;
+    bool has_link = request->entry.flags & (IOSQE_IO_LINK | IOSQE_IO_HARDLINK);
+    struct request *next = has_link ? request_or_none(&ring->requests, request->number + 1) : NULL;
+    return next && next->is_linked && is_linked_timeout(next) ? next : NULL;
 }
 
 void arm_linked_timeout(struct ring *ring, struct request *request)
 {
-    bool has_link = request->entry.flags & (IOSQE_IO_LINK | IOSQE_IO_HARDLINK);
-    struct request *timeout = has_link ? timeout_behind(ring, request) : NULL;
+    struct request *timeout = timeout_behind(ring, request);
     if (!timeout)
         return;
     timeout->is_armed = true;
@@ -85,21 +80,18 @@ void arm_linked_timeout(struct ring *ring, struct request *request)
 
 void disarm_linked_timeout(struct ring *ring, const struct request *request)
 {
-    bool has_link = request->entry.flags & (IOSQE_IO_LINK | IOSQE_IO_HARDLINK);
-    struct request *timeout = has_link ? timeout_behind(ring, request) : NULL;
+    struct request *timeout = timeout_behind(ring, request);
     if (timeout)
         timeout->is_armed = false;
 }
 
 void fire_linked_timeout(struct ring *ring, struct request *timeout)
 {
+    struct request *limited = request_or_none(&ring->running, timeout->number - 1);
     timeout->is_armed = false;
-    for (size_t i = 0; i < ring->requests.count; i++) {
-        struct request *request = ring->requests.rows[i];
-        if (request->number + 1 == timeout->number && request->state == RUNS && is_cancellable(request)) {
-            cancel_request(ring, request);
-            timeout->has_fired = true;
-        }
+    if (limited && is_cancellable(limited)) {
+        cancel_request(ring, limited);
+        timeout->has_fired = true;
     }
 }
 

@@ -15,6 +15,9 @@ bool is_well_formed_timeout(const struct io_uring_sqe *entry);
 /* A timeout has started: time runs. */
 void start_timeout(struct ring *ring, struct request *timeout);
 
+/* The timeout that is linked behind a request, or NULL. */
+struct request *timeout_behind(const struct ring *ring, const struct request *request);
+
 /* A request has started: time runs for a timeout that is linked behind it. */
 void arm_linked_timeout(struct ring *ring, struct request *request);
 

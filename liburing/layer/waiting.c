@@ -10,15 +10,20 @@
 
 #include <errno.h>
 
-/* The running timeout that ends first, or NULL. Of equal ones it is the one that was submitted first. */
+/* The one that ends first; each may be NULL. Of equal ones it is the one that was submitted first. */
+static struct request *earlier(struct request *one, struct request *later)
+{
+    return !one || (later && later->expiry < one->expiry) ? later : one;
+}
+
+/* The timeout that ends first of those for which time runs, or NULL: running ones, and those that are linked behind what runs. */
 static struct request *next_timeout(const struct ring *ring)
 {
     struct request *next = NULL;
-    for (size_t i = 0; i < ring->requests.count; i++) {
-        struct request *request = ring->requests.rows[i];
-        bool is_running = is_linked_timeout(request) ? request->is_armed : is_timeout(request) && request->state == RUNS;
-        if (is_running && (!next || request->expiry < next->expiry))
-            next = request;
+    for (size_t i = 0; i < ring->running.count; i++) {
+        struct request *request = ring->running.rows[i], *behind = timeout_behind(ring, request);
+        next = earlier(next, is_timeout(request) ? request : NULL);
+        next = earlier(next, behind && behind->is_armed ? behind : NULL);
     }
     return next;
 }
@@ -47,8 +52,8 @@ static void fire(struct ring *ring, struct request *timeout)
 /* Whether a transfer on a stream waits. */
 static bool is_streaming(const struct ring *ring)
 {
-    for (size_t i = 0; i < ring->requests.count; i++)
-        if (ring->requests.rows[i]->state == RUNS && ring->requests.rows[i]->is_stream)
+    for (size_t i = 0; i < ring->running.count; i++)
+        if (ring->running.rows[i]->is_stream)
             return true;
     return false;
 }
