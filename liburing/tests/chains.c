@@ -60,19 +60,27 @@ static int64_t lesser(int64_t one, int64_t other)
     return one < other ? one : other;
 }
 
-/* Twice the length takes twice the time: at most 2.3 times, of two lengths that both are long. The least of some rounds counts,
- * since other work on the machine only adds to it; and of more, while it isn't so. */
-static void expect_linear(struct beside beside)
+/* A chain takes at most so many tenths of the time of one of half its length. The least of some rounds counts, since other work on
+ * the machine only adds to it; and of more, while it isn't so. */
+static void expect_growth(unsigned length, int64_t tenths, struct beside beside)
 {
     int64_t half = INT64_MAX, whole = INT64_MAX;
     for (int round = 0; round < 60; round++) {
-        half = lesser(half, time_of_chain(LONGEST / 2, beside));
-        whole = lesser(whole, time_of_chain(LONGEST, beside));
-        if (round >= 8 && 10 * whole <= 23 * half)
+        half = lesser(half, time_of_chain(length / 2, beside));
+        whole = lesser(whole, time_of_chain(length, beside));
+        if (round >= 8 && 10 * whole <= tenths * half)
             return;
     }
-    printf("%s: %d members take %.2f ms, and half of them %.2f\n", test, LONGEST, (double)whole / 1e6, (double)half / 1e6);
+    printf("%s: %u members take %.2f ms, and half of them %.2f\n", test, length, (double)whole / 1e6, (double)half / 1e6);
     exit(1);
+}
+
+/* Twice the length takes twice the time, at most 2.3 times. What the longest one needs doesn't fit beside other work into a
+ * processor's own cache: so it has 3 times, where the square would be 4. */
+static void expect_linear(struct beside beside)
+{
+    expect_growth(LONGEST / 2, 23, beside);
+    expect_growth(LONGEST, 30, beside);
 }
 
 static void test_growth(void)
