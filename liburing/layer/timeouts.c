@@ -98,7 +98,7 @@ int32_t end_timeout(struct ring *ring, const struct request *timeout)
 
 bool has_counted(const struct ring *ring, const struct request *timeout)
 {
-    return ring->counting > 0 && wulgach_times_outcome(&ring->times, ring->timeouts, ring->timeouts_room, timeout->number) == 0;
+    return has_count(timeout) && wulgach_times_outcome(&ring->times, ring->timeouts, ring->timeouts_room, timeout->number) == 0;
 }
 
 struct request *timeout_behind(const struct ring *ring, const struct request *request)
