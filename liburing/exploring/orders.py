@@ -19,12 +19,10 @@ class Orders:
         self.left, self.runs, self.failed, self.repeated, self.outputs = [([], [])], 0, 0, 0, {}
 
     def variables(self):
-        return {"WULGACH_WAYS": "all"} if self.is_reduced else {"WULGACH_DUPLICATE": "cut"}
+        return {"WULGACH_WAYS": "all"} if self.is_reduced else {}
 
     def add(self, ways, asleep, run):
-        """A run that began with these ways. Each of its later choices was way 0, and its other ways are left. A run whose last given way the core refused only repeats another."""
-        if run.is_duplicate:
-            return
+        """A run that began with these ways. Each of its later choices was way 0, and its other ways are left."""
         self.runs += 1
         self.outputs[run.output] = self.outputs.get(run.output, 0) + 1
         made = [way for _, way, _, _ in run.choices]

@@ -14,7 +14,7 @@ RETURN = Way("r", 0, 0, None, False)
 
 
 class Node:
-    """A moment at which something went on: the choice's number, or None if there was one way; the ways, of which those that can't go on are None; and which of them it was."""
+    """A moment at which something went on: the choice's number, or None if there was one way; the ways; and which of them it was."""
 
     def __init__(self, at, ways):
         self.at, self.ways, self.chosen = at, ways, None if at is not None else 0
@@ -39,8 +39,6 @@ class Outlook:
                 by_choice[int(words[0])].chosen = int(words[1])
 
     def way(self, ring, word):
-        if word[0] == "x":
-            return None
         return RETURN if word == "r" else Way(word[0], ring, word[1:], self.requests[ring, word[1:]], False)
 
     def seen_here(self, way):
@@ -141,7 +139,7 @@ def others_of(node, way, asleep, made):
     before, left = dict(asleep), []
     before.setdefault(key_of(way), way)
     for number, other in enumerate(node.ways):
-        if number != node.chosen and other and key_of(other) not in asleep:
+        if number != node.chosen and key_of(other) not in asleep:
             left.append((made[: node.at] + [number], list(before.values())))
             before[key_of(other)] = other
     return left

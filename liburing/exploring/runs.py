@@ -14,7 +14,7 @@ import types
 from exploring.reducing import Outlook
 from exploring.serving import ACCOUNT_SIZE, ROOM, Lost, Server
 
-OF_RUN = struct.Struct("<5Q")
+OF_RUN = struct.Struct("<4Q")
 
 
 class Program:
@@ -196,10 +196,10 @@ def read_rules(account):
 
 
 class Run:
-    """A run: its status, what it printed, how many choices it made and in which order, whether it only repeats another and was cut; and where they were recorded, its choices (number, way, of how many, in words) and its traces."""
+    """A run: its status, what it printed, how many choices it made and in which order; and where they were recorded, its choices (number, way, of how many, in words) and its traces."""
 
     def __init__(self, environment, told, output):
-        status, is_late, rings, choosers, self.choice_count, self.order, self.is_duplicate = told
+        status, is_late, rings, choosers, self.choice_count, self.order = told
         self.environment, self.policy, self.output = environment, environment["WULGACH_POLICY"], output
         self.status = "none: it took too long" if is_late else status
         self.has_ring = rings > 0
@@ -215,7 +215,7 @@ class Run:
 
     def outlook(self):
         """What could go on at each choice, if that was recorded."""
-        return Outlook(line.split(" ") for line in self.record if line != "duplicate")
+        return Outlook(line.split(" ") for line in self.record)
 
     def fails(self):
         return self.status != 0

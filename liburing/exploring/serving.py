@@ -10,8 +10,8 @@ import tempfile
 
 # Where the folders of runs lie: where TMPDIR says, else in memory, if there is such a place.
 ROOM = os.environ.get("TMPDIR") or ("/dev/shm" if os.access("/dev/shm", os.W_OK) else None)
-# status, too late, rings, processes that chose, choices, order, cut, bytes printed
-TOLD = struct.Struct("<iI6Q")
+# status, too late, rings, processes that chose, choices, order, bytes printed
+TOLD = struct.Struct("<iI5Q")
 ACCOUNT_SIZE = 4096
 
 

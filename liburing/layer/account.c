@@ -88,12 +88,6 @@ void note_choice(const char *what)
     shared->choices++;
 }
 
-void note_cut(void)
-{
-    if (account())
-        shared->is_cut = 1;
-}
-
 void note_rules(enum rule rule, uint64_t count)
 {
     if (account())

@@ -27,8 +27,7 @@ struct account {
     _Atomic uint64_t choosers;   /* processes that made a choice */
     _Atomic uint64_t choices;
     _Atomic uint64_t order;      /* the sum, over the processes, of a hash of what was chosen */
-    _Atomic uint64_t is_cut;     /* the run repeats another, and was ended */
-    uint64_t unused[3];
+    uint64_t unused[4];
     struct {
         char name[RULE_NAME];
         _Atomic uint64_t count;
@@ -38,10 +37,9 @@ struct account {
 /* The account, mapped when it is first asked for; or NULL: none is wanted. */
 struct account *account(void);
 
-/* Notes a ring, a choice in words, a run that is cut, a rule. */
+/* Notes a ring, a choice in words, a rule. */
 void note_made_ring(void);
 void note_choice(const char *what);
-void note_cut(void);
 void note_rule(enum rule rule);
 void note_rules(enum rule rule, uint64_t count);
 

@@ -5,6 +5,7 @@
  */
 #define _GNU_SOURCE
 #include "cancels.h"
+#include "ends.h"
 #include "files.h"
 #include "polls.h"
 #include "ring.h"
@@ -51,9 +52,8 @@ bool is_cancellable(const struct request *request)
 /* One that was passed over is looked at again. */
 static void look_again_at(struct ring *ring, const struct request *request)
 {
-    size_t place = place_of(&ring->requests, request->number);
-    if (ring->passed > place)
-        ring->passed = place;
+    if (request->state == RUNS)
+        look_again(ring, place_of(&ring->running, request->number));
 }
 
 void cancel_request(struct ring *ring, struct request *request)
@@ -62,7 +62,7 @@ void cancel_request(struct ring *ring, struct request *request)
     if (is_timeout(request))
         stop_timeout(ring, request);
     request->is_cancelled = true;
-    request->is_refused = false;
+    request->has_to_wait = false;
 }
 
 /* A request as a cancel sees it, but for whether it could start now. */
@@ -145,7 +145,7 @@ static int32_t change_poll(struct ring *ring, struct request *poll, const struct
     }
     if (change->len & IORING_POLL_UPDATE_USER_DATA)
         poll->entry.user_data = change->off;
-    poll->is_refused = false;
+    poll->has_to_wait = false;
     poll->looked_at = UINT64_MAX;
     return poll->state == RUNS ? start_poll(poll) : 0;
 }

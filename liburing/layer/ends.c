@@ -1,6 +1,5 @@
-/* What the end of a request makes of others: its completion is queued, what waited for it may be asked for again, and what
- * the application sees of it may differ from what the core says. A refusal of the core's is remembered until the next end,
- * since nothing else makes a request ready.
+/* What the end of a request makes of others: its completion is queued, what had to wait is carried out again, and what the
+ * application sees of it may differ from what the core says.
  */
 #include "ends.h"
 #include "cancels.h"
@@ -12,26 +11,18 @@
 
 #include <errno.h>
 
-void note_refusal(struct ring *ring, struct request *request)
+void note_wait(struct ring *ring, struct request *request)
 {
-    request->is_refused = true;
-    ring->has_refusals = true;
+    request->has_to_wait = true;
+    ring->have_to_wait = true;
 }
 
-/* Forgets refusals, since a request has ended. What a link puts behind an outstanding request stays refused, unless the
- * end was a failure: only that can let it end without the one before it. So a long chain is asked for once each. */
-static void forget_refusals(struct ring *ring, bool is_success)
+/* A request has ended: who had to wait is carried out again. */
+static void forget_waits(struct ring *ring)
 {
-    struct request **rows = ring->requests.rows;
-    if (!ring->has_refusals)
-        return;
-    ring->has_refusals = false;
-    for (size_t i = 0; i < ring->requests.count; i++) {
-        bool is_behind = rows[i]->is_linked && i > 0 && rows[i - 1]->number + 1 == rows[i]->number;
-        if (!is_behind || !is_success)
-            rows[i]->is_refused = false;
-        ring->has_refusals |= rows[i]->is_refused;
-    }
+    for (size_t i = 0; ring->have_to_wait && i < ring->running.count; i++)
+        ring->running.rows[i]->has_to_wait = false;
+    ring->have_to_wait = false;
 }
 
 void look_again(struct ring *ring, size_t place)
@@ -41,10 +32,16 @@ void look_again(struct ring *ring, size_t place)
 }
 
 /* Where an end can change which other requests can be finished, all are looked at again. */
-static void look_again_behind(struct ring *ring, const struct request *ended)
+static void look_again_behind(struct ring *ring)
 {
-    bool is_plain = ring->counting == 0 && ring->drains == 0 && !ring->has_refusals;
-    look_again(ring, is_plain ? place_of(&ring->requests, ended->number) : 0);
+    if (ring->counting > 0 || ring->drains > 0 || ring->have_to_wait)
+        look_again(ring, 0);
+}
+
+static void stop_running(struct ring *ring, const struct request *ended)
+{
+    look_again(ring, place_of(&ring->running, ended->number));
+    take_request(&ring->running, ended);
 }
 
 void end_of(struct ring *ring, struct request *request, int32_t res, int32_t told)
@@ -53,7 +50,6 @@ void end_of(struct ring *ring, struct request *request, int32_t res, int32_t tol
     note_outcome(request, told);
     if (told >= 0 && request->entry.flags & IOSQE_CQE_SKIP_SUCCESS)
         record_silent_end(ring, request);
-    bool is_cancel = request->mapping == CANCEL;
     if (note_end(ring, request, res, told) && !is_timeout(request))
         wulgach_times_post(&ring->times, 1);
     if (is_timeout(request) || is_linked_timeout(request))
@@ -62,21 +58,22 @@ void end_of(struct ring *ring, struct request *request, int32_t res, int32_t tol
     if (request->file)
         unwatch(ring, request->file->fd);
     ring->has_changed = true;
-    ring->running -= request->state == RUNS;
-    look_again_behind(ring, request);
+    look_again_behind(ring);
+    if (request->state == RUNS)
+        stop_running(ring, request);
     ring->drains -= request->is_draining;
     ring->counting -= request->state == RUNS && has_count(request);
     end_request(&ring->requests, request);
-    forget_refusals(ring, told == TOLD_SUCCESS && !is_cancel);
+    forget_waits(ring);
     ring->completions.is_behind = true;
 }
 
 /* A cancel found its request running. The kernel ends one that waits; here it ends so when it is next gone on with. */
 static bool cancel_running(struct ring *ring, uint64_t target)
 {
-    for (size_t i = 0; i < ring->requests.count; i++) {
-        struct request *request = ring->requests.rows[i];
-        if (request->state == RUNS && request->entry.user_data == target) {
+    for (size_t i = 0; i < ring->running.count; i++) {
+        struct request *request = ring->running.rows[i];
+        if (request->entry.user_data == target) {
             if (is_cancellable(request))
                 cancel_request(ring, request);
             return request->is_cancelled;

@@ -10,13 +10,13 @@
  * failure's number is what `uring trace` gives for an fsync of a descriptor that no file has. */
 enum { TOLD_SUCCESS = 0, TOLD_FAILURE = -EBADF };
 
-/* The core isn't to be asked for a request again before another has ended. */
-void note_refusal(struct ring *ring, struct request *request);
+/* A running request isn't to be carried out again before another has ended, or its descriptor is slept for. */
+void note_wait(struct ring *ring, struct request *request);
 
-/* Of the requests from a place on it isn't known any more that they can't be finished. */
+/* Of the running requests from a place on it isn't known any more that they can't be finished. */
 void look_again(struct ring *ring, size_t place);
 
-/* A request has ended: its completion is queued, and who was refused may be ready now. */
+/* A request has ended: its completion is queued, and who had to wait needn't perhaps now. */
 void end_of(struct ring *ring, struct request *request, int32_t res, int32_t told);
 
 /* What the application sees of a request that the core ends without letting it start. */

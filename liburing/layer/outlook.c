@@ -62,24 +62,27 @@ static char letter_of(struct ring *ring, const struct request *way)
     struct wulgach_why why;
     if (way->state == RUNS)
         return 'f';
-    if (!can_issue(ring, way->number))
-        return 'x';
     bool is_doomed = wulgach_core_why(&ring->core, way->number, &why) == 0 && why.kind == WULGACH_DOOMED;
     if (is_doomed || way->mapping != TOKEN)
         return 'e';
     return is_choosing_events() ? 'i' : 'b';
 }
 
-void record_ways(struct ring *ring, const uint64_t *at, struct request **ways, uint32_t ways_count, bool may_return)
+void record_ways(const struct ring *ring, const uint64_t *at)
 {
-    if (!is_recording_ways())
-        return;
     if (at)
         record_line("ways %" PRIu64 " %" PRIu32, *at, ring->index);
     else
         record_line("ways - %" PRIu32, ring->index);
-    for (uint32_t i = 0; i < ways_count; i++)
-        record_line(" %c%" PRIu64, letter_of(ring, ways[i]), ways[i]->number);
+}
+
+void record_way(struct ring *ring, const struct request *way)
+{
+    record_line(" %c%" PRIu64, letter_of(ring, way), way->number);
+}
+
+void record_return(bool may_return)
+{
     record_line(may_return ? " r\n" : "\n");
 }
 

@@ -6,7 +6,7 @@
  *                       says) and in a file, and how many they are. KIND is `plain` if all that it does is to move these
  *                       bytes, or nothing; else `other`
  *   ways AT RING WAY..  what can go on at choice AT, or at none (-), since there is one way: `i3` starts request 3, `e3` ends
- *                       it without starting it, `f3` finishes it, `b3` does both, `r` returns, and `x` can't go on
+ *                       it without starting it, `f3` finishes it, `b3` does both, and `r` returns
  *   silent RING NUMBER  a request has ended without a completion
  *   break               time passes; or a peek begins that finds nothing, and returns once anything has gone on. What could
  *                       go on before means something else behind it
@@ -18,8 +18,10 @@
 
 void record_accepted(const struct ring *ring, const struct request *request);
 
-/* At choice `at`, or at none. */
-void record_ways(struct ring *ring, const uint64_t *at, struct request **ways, uint32_t ways_count, bool may_return);
+/* The parts of a line of ways, where they are recorded: that it is of choice `at`, or of none; each way; whether returning is one. */
+void record_ways(const struct ring *ring, const uint64_t *at);
+void record_way(struct ring *ring, const struct request *way);
+void record_return(bool may_return);
 
 void record_silent_end(const struct ring *ring, const struct request *request);
 

@@ -7,8 +7,6 @@
  *   WULGACH_CHOICES   PREFIX: a process that sets a ring up makes a file PREFIX.PID, and writes a line there for each
  *                     choice: its number, which way, of how many, and in words
  *   WULGACH_WAYS      if it is set, what could go on at each choice stands there too (outlook.h)
- *   WULGACH_DUPLICATE if it is set, the process ends where the core refuses the last listed choice, since a list without
- *                     it gives the same run. The last line of its choices is then the word duplicate
  */
 #define _GNU_SOURCE
 #include "policy.h"
@@ -30,8 +28,6 @@ static struct {
     uint64_t random;        /* the state of the generator */
     uint32_t *list;
     uint64_t list_count;
-    uint64_t listed_end;    /* behind the last choice that the list gives */
-    bool is_cutting;        /* whether a run that repeats another is cut */
     bool is_recording;
     bool is_recording_ways;
     FILE *record;
@@ -65,7 +61,7 @@ static uint64_t read_number(const char **at)
     return number;
 }
 
-static uint64_t read_list(const char *at)
+static void read_list(const char *at)
 {
     uint64_t place = 0;
     while (*at) {
@@ -81,7 +77,6 @@ static uint64_t read_list(const char *at)
         else
             demand(*at == '\0', "WULGACH_POLICY: a comma is missing");
     }
-    return place;
 }
 
 /* SEED:DEPTH or SEED:DEPTH:CHOICES. The seed also rolls what nobody plays for. */
@@ -116,7 +111,7 @@ static void read_name(const char *name)
         read_priorities(name + 4);
     } else if (strncmp(name, "list:", 5) == 0) {
         chosen_by.policy = LISTED;
-        chosen_by.listed_end = read_list(name + 5);
+        read_list(name + 5);
     } else {
         stop_program("WULGACH_POLICY is order, lazy, seed:N, pct:SEED:DEPTH or list:ITEMS");
     }
@@ -129,7 +124,6 @@ static void read_environment(void)
     read_name(name && *name ? name : "order");
     demand(!grain || strcmp(grain, "ends") == 0 || strcmp(grain, "events") == 0, "WULGACH_CHOOSE is ends or events");
     chosen_by.is_choosing_events = !grain || strcmp(grain, "events") == 0;
-    chosen_by.is_cutting = getenv("WULGACH_DUPLICATE");
     chosen_by.is_recording = record && *record;
     chosen_by.is_recording_ways = chosen_by.is_recording && getenv("WULGACH_WAYS");
 }
@@ -240,18 +234,6 @@ void record_choice(uint64_t at, uint32_t count, uint32_t chosen, const char *wha
     note_choice(what);
     record("%" PRIu64 " %" PRIu32 " %" PRIu32 " %s\n", at, chosen, count, what);
     pthread_mutex_unlock(&chosen_by.lock);
-}
-
-void refuse_choice(uint64_t at)
-{
-    if (chosen_by.policy != LISTED)
-        return;
-    if (chosen_by.is_cutting && at + 1 == chosen_by.listed_end) {
-        note_cut();
-        record("duplicate\n");
-        _exit(1);
-    }
-    put_listed(at, 0);
 }
 
 void lock_choices(void)

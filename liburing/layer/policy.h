@@ -26,12 +26,9 @@ bool is_choosing_events(void);
 /* Counts a choice, and returns its number. Only policies that choose make any. */
 uint64_t count_choice(void);
 
-/* Which of `count` ways, from 0, choice `at` is. Asked again, a seed may say another one. By priorities it is rolled too:
- * that is for choices in which nobody plays, as whether an operation has a fault. */
+/* Which of `count` ways, from 0, choice `at` is. By priorities it is rolled too: that is for choices in which nobody plays, as
+ * whether an operation has a fault. */
 uint32_t choose(uint64_t at, uint32_t count);
-
-/* The core doesn't allow what was chosen: it is to be chosen again. A list then says 0. */
-void refuse_choice(uint64_t at);
 
 /* A ring was set up: the record of choices is there from now on, if there is to be one. */
 void note_ring(void);

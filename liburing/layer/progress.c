@@ -1,5 +1,5 @@
 /* Goes on with a ring's requests. Whether a request may start, and what its end makes of others, is the core's decision:
- * the layer asks for one, and is refused if it isn't ready.
+ * the layer asks which can be issued.
  */
 #include "progress.h"
 #include "ends.h"
@@ -21,7 +21,7 @@
 
 bool can_finish(struct ring *ring, struct request *request)
 {
-    if (request->is_refused)
+    if (request->has_to_wait)
         return false;
     if (request->is_cancelled)
         return true;
@@ -50,7 +50,7 @@ static bool can_make_ready(const struct request *request)
 }
 
 /* Finishes a running request. It goes on running if it would have to wait. */
-static enum outcome finish_running(struct ring *ring, struct request *request)
+static void finish_running(struct ring *ring, struct request *request)
 {
     int32_t res = -ECANCELED;
     if (request->is_cancelled) {
@@ -67,13 +67,13 @@ static enum outcome finish_running(struct ring *ring, struct request *request)
         if (can_make_ready(request))
             ring->moment++;
         if (res == WOULD_WAIT) {
-            note_refusal(ring, request);
-            return IS_RUNNING;
+            note_wait(ring, request);
+            return;
         }
         /* One whose completion finds the ring full ends with it. */
         if (goes_on_behind(request, res) && ring->completions.at.posted < ring->memory.cq_entries) {
             post_extra(ring, request->entry.user_data, res, request->flags | IORING_CQE_F_MORE);
-            return IS_RUNNING;
+            return;
         }
     }
     int32_t told = is_success(request, res) ? TOLD_SUCCESS : TOLD_FAILURE;
@@ -85,14 +85,13 @@ static enum outcome finish_running(struct ring *ring, struct request *request)
     }
     finish(ring, request->number, told);
     end_of(ring, request, res, told);
-    return HAS_ENDED;
 }
 
 /* The core let a request start. */
 static void start(struct ring *ring, struct request *request)
 {
     request->state = RUNS;
-    ring->running++;
+    look_again(ring, insert_request(&ring->running, request));
     if (!request->is_assigned)
         assign(ring, request);
     log_start(ring, request);
@@ -102,56 +101,43 @@ static void start(struct ring *ring, struct request *request)
         request->started = start_poll(request);
     arm_linked_timeout(ring, request);
     ring->counting += has_count(request);
-    look_again(ring, place_of(&ring->requests, request->number));
     if (request->is_stream)
         look_at(ring, request);
 }
 
-/* Issues a request that waits: it starts, or ends without being carried out, or the core refuses it. */
-static enum outcome issue_waiting(struct ring *ring, struct request *request)
+/* Issues a request that can be issued. True if it has started: else it has ended without being carried out. */
+static bool issue_waiting(struct ring *ring, struct request *request)
 {
     int32_t res;
     note_standing(ring, request);
     uint32_t kind = issue(ring, request->number, &res);
-    switch (kind) {
-    case WULGACH_NOT_READY:
-        note_refusal(ring, request);
-        return IS_REFUSED;
-    case WULGACH_ENDED:
+    if (kind == WULGACH_ENDED) {
         end_of(ring, request, shown_of(ring, request, res), res);
-        return HAS_ENDED;
-    default:
-        demand(kind == WULGACH_RUN, "the core doesn't issue a request");
-        start(ring, request);
-        return IS_RUNNING;
+        return false;
     }
+    demand(kind == WULGACH_RUN, "the core doesn't issue a request");
+    start(ring, request);
+    return true;
 }
 
-enum outcome go_on_with(struct ring *ring, struct request *request)
+void go_on_with(struct ring *ring, struct request *request)
 {
-    if (request->state == RUNS)
-        return finish_running(ring, request);
-    enum outcome outcome = issue_waiting(ring, request);
     bool is_one_choice = policy() == IN_ORDER || policy() == LAZY || !is_choosing_events();
-    if (outcome == IS_RUNNING && is_one_choice && can_finish(ring, request))
-        return finish_running(ring, request);
-    return outcome;
+    if (request->state == RUNS)
+        finish_running(ring, request);
+    else if (issue_waiting(ring, request) && is_one_choice && can_finish(ring, request))
+        finish_running(ring, request);
 }
 
 /* The least running request that can be finished, or NULL. */
 static struct request *first_to_finish(struct ring *ring)
 {
-    const struct requests *requests = &ring->requests;
-    if (ring->running == 0)
-        return NULL;
     if (ring->passed_at != ring->moment)
         ring->passed = 0;
     ring->passed_at = ring->moment;
-    for (; ring->passed < requests->count; ring->passed++) {
-        struct request *request = requests->rows[ring->passed];
-        if (request->state == RUNS && can_finish(ring, request))
-            return request;
-    }
+    for (; ring->passed < ring->running.count; ring->passed++)
+        if (can_finish(ring, ring->running.rows[ring->passed]))
+            return ring->running.rows[ring->passed];
     return NULL;
 }
 
@@ -189,14 +175,14 @@ bool can_go_on(struct ring *ring)
 
 void end_cancelled(struct ring *ring)
 {
-    for (size_t i = 0; i < ring->requests.count;) {
-        struct request *request = ring->requests.rows[i];
-        if (request->state == RUNS && request->is_cancelled) {
-            record_break();
-            finish_running(ring, request);
-        } else {
+    for (size_t i = 0; i < ring->running.count;) {
+        struct request *request = ring->running.rows[i];
+        if (!request->is_cancelled) {
             i++;
+            continue;
         }
+        record_break();
+        finish_running(ring, request);
     }
 }
 

@@ -10,17 +10,11 @@ enum progress {
     STUCK           /* nothing can go on without waiting */
 };
 
-enum outcome {
-    IS_REFUSED,     /* the core doesn't let it start */
-    IS_RUNNING,
-    HAS_ENDED
-};
-
 /* Whether a running request can be finished without waiting. */
 bool can_finish(struct ring *ring, struct request *request);
 
-/* Goes on with a request by one event, or by both if they are one choice. */
-enum outcome go_on_with(struct ring *ring, struct request *request);
+/* Goes on with a request that can be finished or issued, by one event, or by both if they are one choice. */
+void go_on_with(struct ring *ring, struct request *request);
 
 /* Goes on by one choice. Returning is a choice only if `may_return`. */
 enum progress go_on(struct ring *ring, bool may_return);

@@ -69,9 +69,9 @@ static int by_descriptor(const void *one, const void *other)
 static size_t list_watched(const struct ring *ring, struct watched *watched)
 {
     size_t count = 0, kept = 0;
-    for (size_t i = 0; i < ring->requests.count; i++) {
-        const struct request *request = ring->requests.rows[i];
-        if (request->state != RUNS || !request->is_stream)
+    for (size_t i = 0; i < ring->running.count; i++) {
+        const struct request *request = ring->running.rows[i];
+        if (!request->is_stream)
             continue;
         struct pollfd polled = poll_of(request);
         watched[count++] = (struct watched){.fd = polled.fd, .events = (uint16_t)polled.events, .number = request->number};
@@ -125,9 +125,9 @@ void unwatch(struct ring *ring, int fd)
 /* Puts the streams that are waited for in the place of those that were. If memory is refused, the next call tries. */
 static void watch_streams(struct ring *ring, int fd)
 {
-    if (ring->requests.count == 0 && ring->watched_count == 0)
+    if (ring->running.count == 0 && ring->watched_count == 0)
         return;
-    struct watched *watched = calloc(ring->requests.count + 1, sizeof *watched);
+    struct watched *watched = calloc(ring->running.count + 1, sizeof *watched);
     if (!watched)
         return;
     size_t count = list_watched(ring, watched);

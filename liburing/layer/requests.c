@@ -44,12 +44,9 @@ void add_request(struct requests *requests, struct request *request)
     requests->rows[requests->count++] = request;
 }
 
-/* Numbers rise: if none is missing before it, a request's place is how far its number is from the first. */
-size_t place_of(const struct requests *requests, uint64_t number)
+/* How many have a lesser number. */
+static size_t count_before(const struct requests *requests, uint64_t number)
 {
-    uint64_t distance = requests->count > 0 ? number - requests->rows[0]->number : 0;
-    if (distance < requests->count && requests->rows[distance]->number == number)
-        return (size_t)distance;
     size_t low = 0, high = requests->count;
     while (low < high) {
         size_t middle = low + (high - low) / 2;
@@ -58,8 +55,45 @@ size_t place_of(const struct requests *requests, uint64_t number)
         else
             high = middle;
     }
-    demand(low < requests->count && requests->rows[low]->number == number, "the core names a request that isn't outstanding");
     return low;
+}
+
+static bool stands_at(const struct requests *requests, uint64_t number, uint64_t place)
+{
+    return place < requests->count && requests->rows[place]->number == number;
+}
+
+/* Its place, or how many there are: it isn't there. Numbers rise: if none is missing before it, its place is how far its number is
+ * from the first. */
+static size_t find_place(const struct requests *requests, uint64_t number)
+{
+    uint64_t distance = requests->count > 0 ? number - requests->rows[0]->number : 0;
+    size_t place = stands_at(requests, number, distance) ? (size_t)distance : count_before(requests, number);
+    return stands_at(requests, number, place) ? place : requests->count;
+}
+
+struct request *request_or_none(const struct requests *requests, uint64_t number)
+{
+    size_t place = find_place(requests, number);
+    return place < requests->count ? requests->rows[place] : NULL;
+}
+
+size_t place_of(const struct requests *requests, uint64_t number)
+{
+    size_t place = find_place(requests, number);
+    demand(place < requests->count, "the core names a request that isn't outstanding");
+    return place;
+}
+
+size_t insert_request(struct requests *requests, struct request *request)
+{
+    size_t count = requests->count, place = count;
+    if (count > 0 && requests->rows[count - 1]->number > request->number)
+        place = count_before(requests, request->number);
+    memmove(requests->rows + place + 1, requests->rows + place, (count - place) * sizeof *requests->rows);
+    requests->rows[place] = request;
+    requests->count++;
+    return place;
 }
 
 struct request *request_of(const struct requests *requests, uint64_t number)
@@ -89,15 +123,22 @@ static void free_parts(const struct request *request)
     release_buffer(request->buffer);
 }
 
-void end_request(struct requests *requests, struct request *request)
+/* The rows on the side that has fewer are moved: behind a few that wait, a long chain ends from its beginning on. */
+void take_request(struct requests *requests, const struct request *request)
 {
-    size_t at = place_of(requests, request->number);
-    if (at == 0) {
+    size_t at = place_of(requests, request->number), behind = requests->count - at - 1;
+    if (at <= behind) {
+        memmove(requests->rows + 1, requests->rows, at * sizeof *requests->rows);
         drop_requests(requests, 1);
     } else {
+        memmove(requests->rows + at, requests->rows + at + 1, behind * sizeof *requests->rows);
         requests->count--;
-        memmove(requests->rows + at, requests->rows + at + 1, (requests->count - at) * sizeof *requests->rows);
     }
+}
+
+void end_request(struct requests *requests, struct request *request)
+{
+    take_request(requests, request);
     free_parts(request);
     request->next = requests->kept;
     requests->kept = request;
@@ -119,6 +160,11 @@ void free_requests(struct requests *requests)
         next = kept->next;
         free(kept);
     }
+    forget_requests(requests);
+}
+
+void forget_requests(struct requests *requests)
+{
     free(requests->at);
     *requests = (struct requests){0};
 }

@@ -19,7 +19,7 @@ struct request {
     enum state state;
     uint64_t looked_at;             /* of one that may have to wait: the moment at which its descriptor was last looked at, */
     bool is_found_ready;            /* and whether it was ready */
-    bool is_refused;                /* not ready when it was last asked for, and nothing has ended since */
+    bool has_to_wait;               /* it was carried out and would have waited, and nothing has ended since */
     int32_t fault;                  /* of a refused entry: what it ends with */
     bool is_linked;                 /* a link puts it behind the one before it */
     uint64_t chain;                 /* the number of its chain's first member: its own, if it is loose */
@@ -69,6 +69,15 @@ bool reserve_requests(struct requests *requests, size_t more);
 /* Adds a request behind all others. Room was reserved. */
 void add_request(struct requests *requests, struct request *request);
 
+/* Puts a request where its number belongs, and returns its place. Room was reserved. */
+size_t insert_request(struct requests *requests, struct request *request);
+
+/* Takes a request out. */
+void take_request(struct requests *requests, const struct request *request);
+
+/* The request of a number, or NULL: it isn't there. */
+struct request *request_or_none(const struct requests *requests, uint64_t number);
+
 /* The request of a number. There is one. */
 struct request *request_of(const struct requests *requests, uint64_t number);
 
@@ -84,5 +93,8 @@ void end_request(struct requests *requests, struct request *request);
 /* Frees a request, or nothing. */
 void free_request(struct request *request);
 void free_requests(struct requests *requests);
+
+/* Frees the rows, and no request: another table has them. */
+void forget_requests(struct requests *requests);
 
 #endif

@@ -49,12 +49,12 @@ struct ring {
     struct wulgach_core core;
     struct requests requests;           /* accepted and not ended */
     uint64_t moment;                    /* counts what can make a descriptor ready: within one, each is looked at once */
-    size_t running;                     /* how many of them were started */
+    struct requests running;            /* those of them that were started */
     size_t drains;                      /* how many are draining, */
     size_t counting;                    /* and how many are timeouts with a count that have started */
-    size_t passed;                      /* at moment `passed_at` none of so many first requests can be finished */
+    size_t passed;                      /* at moment `passed_at` none of so many first running ones can be finished */
     uint64_t passed_at;
-    bool has_refusals;                  /* one of them may be remembered as refused */
+    bool have_to_wait;                  /* one of them may be remembered as having to wait */
     struct requests staged;             /* staged and not accepted; a word that names no slot has an empty place */
     struct wulgach_entry *entries;      /* what the core is given of each of them: as many as there are slots */
     uint32_t bad_word;                  /* the word of the last of them, if that names no slot */

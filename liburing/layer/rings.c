@@ -56,6 +56,7 @@ void free_ring(struct ring *ring)
 {
     wulgach_core_free(&ring->core);
     free_requests(&ring->requests);
+    forget_requests(&ring->running);
     free_requests(&ring->staged);
     free_entries(ring);
     free_completions(&ring->completions);

@@ -118,7 +118,7 @@ static void begin_account(void)
 {
     struct account *made = account();
     if (made)
-        made->rings = made->choosers = made->choices = made->order = made->is_cut = 0;
+        made->rings = made->choosers = made->choices = made->order = 0;
 }
 
 static void tell_account(struct told_run *told)
@@ -130,7 +130,6 @@ static void tell_account(struct told_run *told)
     told->choosers = made->choosers;
     told->choices = made->choices;
     told->order = made->order;
-    told->is_cut = made->is_cut;
 }
 
 /* The folder is again as it was when runs began. */

@@ -17,7 +17,7 @@
 struct told_run {
     int32_t status;         /* as of a shell, or the negative of the signal that ended it */
     uint32_t is_late;       /* it took too long, and was ended */
-    uint64_t rings, choosers, choices, order, is_cut;   /* its account */
+    uint64_t rings, choosers, choices, order;   /* its account */
     uint64_t printed;       /* bytes that follow */
 };
 

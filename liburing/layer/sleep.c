@@ -37,10 +37,10 @@ static void add_slept(struct ring *ring, uint64_t start)
 static nfds_t list_streams(const struct ring *ring, struct pollfd *streams)
 {
     nfds_t count = 0;
-    for (size_t i = 0; i < ring->requests.count; i++) {
-        struct request *request = ring->requests.rows[i];
-        if (request->state == RUNS && request->is_stream) {
-            request->is_refused = false;
+    for (size_t i = 0; i < ring->running.count; i++) {
+        struct request *request = ring->running.rows[i];
+        if (request->is_stream) {
+            request->has_to_wait = false;
             streams[count++] = poll_of(request);
         }
     }
@@ -73,7 +73,7 @@ static int poll_unlocked(struct ring *ring, struct pollfd *polled, nfds_t count,
 
 int sleep_until(struct ring *ring, const struct wulgach_limit *until, const sigset_t *signals)
 {
-    struct pollfd *polled = calloc(ring->requests.count + 1, sizeof *polled);
+    struct pollfd *polled = calloc(ring->running.count + 1, sizeof *polled);
     if (!polled)
         return -ENOMEM;
     wake_sleepers(ring);

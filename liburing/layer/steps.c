@@ -166,8 +166,27 @@ void finish(struct ring *ring, uint64_t number, int32_t told)
     demand(answer.kind == WULGACH_ENDED && answer.res == told, "the core doesn't end a running request");
 }
 
+uint32_t count_issuable(struct ring *ring)
+{
+    uint64_t count;
+    demand(wulgach_core_issuable(&ring->core, &count) == 0, "the core doesn't say how many can be issued");
+    return (uint32_t)count;
+}
+
+uint64_t nth_issuable(struct ring *ring, uint32_t place)
+{
+    uint64_t number;
+    demand(wulgach_core_nth_issuable(&ring->core, place, &number) == 0, "the core doesn't say which can be issued");
+    return number;
+}
+
+uint64_t next_issuable(struct ring *ring, uint64_t from)
+{
+    uint64_t number;
+    return wulgach_core_next_issuable(&ring->core, from, &number) == 0 ? number : UINT64_MAX;
+}
+
 bool can_issue(struct ring *ring, uint64_t number)
 {
-    uint64_t least;
-    return wulgach_core_next_issuable(&ring->core, number, &least) == 0 && least == number;
+    return next_issuable(ring, number) == number;
 }

@@ -31,7 +31,11 @@ bool find_next(struct ring *ring, uint64_t *number);    /* false: nothing can be
 uint32_t issue(struct ring *ring, uint64_t number, int32_t *res);
 void finish(struct ring *ring, uint64_t number, int32_t told);
 
-/* A question, and no step: whether a request can be issued now. */
+/* Questions, and no steps: how many requests can be issued now, and which one is at this place among them; the least of them from a
+ * number on, or UINT64_MAX; and whether this one can. */
+uint32_t count_issuable(struct ring *ring);
+uint64_t nth_issuable(struct ring *ring, uint32_t place);
+uint64_t next_issuable(struct ring *ring, uint64_t from);
 bool can_issue(struct ring *ring, uint64_t number);
 
 #endif

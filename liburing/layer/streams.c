@@ -18,13 +18,13 @@ void look_at(const struct ring *ring, struct request *request)
 
 static bool is_to_be_looked_at(const struct ring *ring, const struct request *request)
 {
-    return request->state == RUNS && request->is_stream && request->looked_at != ring->moment;
+    return request->is_stream && request->looked_at != ring->moment;
 }
 
-/* The row of the request to look at from this one on. */
+/* The row of the running request to look at from this one on. */
 static size_t next_row(const struct ring *ring, size_t row)
 {
-    while (row < ring->requests.count && !is_to_be_looked_at(ring, ring->requests.rows[row]))
+    while (row < ring->running.count && !is_to_be_looked_at(ring, ring->running.rows[row]))
         row++;
     return row;
 }
@@ -46,9 +46,9 @@ static void look_at_all(struct ring *ring)
     struct request *requests[MOST_AT_ONCE];
     struct pollfd polled[MOST_AT_ONCE];
     nfds_t count = 0;
-    for (size_t i = next_row(ring, 0); i < ring->requests.count; i = next_row(ring, i + 1)) {
-        requests[count] = ring->requests.rows[i];
-        polled[count++] = poll_of(ring->requests.rows[i]);
+    for (size_t i = next_row(ring, 0); i < ring->running.count; i = next_row(ring, i + 1)) {
+        requests[count] = ring->running.rows[i];
+        polled[count++] = poll_of(ring->running.rows[i]);
         if (count == MOST_AT_ONCE) {
             look_at_some(ring, requests, polled, count);
             count = 0;
@@ -60,7 +60,7 @@ static void look_at_all(struct ring *ring)
 
 bool is_found_ready(struct ring *ring, struct request *request)
 {
-    if (request->looked_at != ring->moment && ring->running > 1)
+    if (request->looked_at != ring->moment && ring->running.count > 1)
         look_at_all(ring);
     if (request->looked_at != ring->moment)
         look_at(ring, request);
@@ -69,9 +69,9 @@ bool is_found_ready(struct ring *ring, struct request *request)
 
 void hold_files(struct ring *ring)
 {
-    for (size_t i = 0; ring->running > 0 && i < ring->requests.count; i++) {
-        struct request *request = ring->requests.rows[i];
-        if (request->state != RUNS || !request->is_stream || request->file || request->epoll >= 0)
+    for (size_t i = 0; i < ring->running.count; i++) {
+        struct request *request = ring->running.rows[i];
+        if (!request->is_stream || request->file || request->epoll >= 0)
             continue;
         request->file = hold_file(request->fd);
         if (request->file)

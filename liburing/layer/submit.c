@@ -150,7 +150,10 @@ static int take_staged(struct ring *ring, uint32_t given)
 
 bool reserve_all(struct ring *ring, uint32_t count)
 {
-    if (!reserve_requests(&ring->staged, count) || !reserve_requests(&ring->requests, count) || !reserve_completions(&ring->completions, ring->requests.count + count) || !reserve_timeouts(ring, ring->requests.room))
+    size_t whole = ring->requests.count + count;
+    if (!reserve_requests(&ring->staged, count) || !reserve_requests(&ring->requests, count) || !reserve_completions(&ring->completions, whole))
+        return false;
+    if (!reserve_requests(&ring->running, whole - ring->running.count) || !reserve_timeouts(ring, ring->requests.room))
         return false;
     if (ring->ways_room < ring->requests.room) {
         struct request **ways = realloc(ring->ways, ring->requests.room * sizeof *ways);

@@ -98,32 +98,26 @@ int32_t end_timeout(struct ring *ring, const struct request *timeout)
 
 bool has_counted(const struct ring *ring, const struct request *timeout)
 {
-    return ring->counting > 0 && wulgach_times_outcome(&ring->times, ring->timeouts, ring->timeouts_room, timeout->number) == 0;
+    return has_count(timeout) && wulgach_times_outcome(&ring->times, ring->timeouts, ring->timeouts_room, timeout->number) == 0;
 }
 
-/* The timeout that is linked behind a request, or NULL. */
-static struct request *timeout_behind(const struct ring *ring, const struct request *request)
+struct request *timeout_behind(const struct ring *ring, const struct request *request)
 {
-    for (size_t i = 0; i < ring->requests.count; i++) {
-        struct request *next = ring->requests.rows[i];
-        if (next->number == request->number + 1)
-            return next->is_linked && is_linked_timeout(next) ? next : NULL;
-    }
-    return NULL;
+    bool has_link = request->entry.flags & (IOSQE_IO_LINK | IOSQE_IO_HARDLINK);
+    struct request *next = has_link ? request_or_none(&ring->requests, request->number + 1) : NULL;
+    return next && next->is_linked && is_linked_timeout(next) ? next : NULL;
 }
 
 void arm_linked_timeout(struct ring *ring, struct request *request)
 {
-    bool has_link = request->entry.flags & (IOSQE_IO_LINK | IOSQE_IO_HARDLINK);
-    struct request *timeout = has_link ? timeout_behind(ring, request) : NULL;
+    struct request *timeout = timeout_behind(ring, request);
     if (timeout)
         run(ring, timeout);
 }
 
 void disarm_linked_timeout(struct ring *ring, const struct request *request)
 {
-    bool has_link = request->entry.flags & (IOSQE_IO_LINK | IOSQE_IO_HARDLINK);
-    struct request *timeout = has_link ? timeout_behind(ring, request) : NULL;
+    struct request *timeout = timeout_behind(ring, request);
     if (timeout)
         stop_timeout(ring, timeout);
 }
@@ -131,15 +125,13 @@ void disarm_linked_timeout(struct ring *ring, const struct request *request)
 void fire_linked_timeout(struct ring *ring, const struct wulgach_timeout *timeout)
 {
     struct request *linked = request_of(&ring->requests, timeout->number);
-    uint64_t limited;
+    uint64_t number;
     end_timeout(ring, linked);
-    demand(wulgach_timeout_cancels(timeout, &limited) == 0, "a timeout isn't linked");
-    for (size_t i = 0; i < ring->requests.count; i++) {
-        struct request *request = ring->requests.rows[i];
-        if (request->number == limited && request->state == RUNS && is_cancellable(request)) {
-            cancel_request(ring, request);
-            linked->has_fired = true;
-        }
+    demand(wulgach_timeout_cancels(timeout, &number) == 0, "a timeout isn't linked");
+    struct request *limited = request_or_none(&ring->running, number);
+    if (limited && is_cancellable(limited)) {
+        cancel_request(ring, limited);
+        linked->has_fired = true;
     }
 }
 

@@ -28,6 +28,9 @@ void stop_timeout(struct ring *ring, const struct request *timeout);
 /* A running timeout ends. Returns its result. */
 int32_t end_timeout(struct ring *ring, const struct request *timeout);
 
+/* The timeout that is linked behind a request, or NULL. */
+struct request *timeout_behind(const struct ring *ring, const struct request *request);
+
 /* A request has started: time runs for a timeout that is linked behind it. */
 void arm_linked_timeout(struct ring *ring, struct request *request);
 

@@ -28,8 +28,8 @@ static void fire(struct ring *ring, const struct wulgach_timeout *timeout)
 /* Whether a transfer on a stream waits. */
 static bool is_streaming(const struct ring *ring)
 {
-    for (size_t i = 0; i < ring->requests.count; i++)
-        if (ring->requests.rows[i]->state == RUNS && ring->requests.rows[i]->is_stream)
+    for (size_t i = 0; i < ring->running.count; i++)
+        if (ring->running.rows[i]->is_stream)
             return true;
     return false;
 }

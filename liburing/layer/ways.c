@@ -1,4 +1,6 @@
-/* The ways of a choice: which there are, which one the policy takes, and another one if the core refuses it. */
+/* The ways of a choice: which there are, and which one the policy takes. Only what can really go on is a way: running requests that
+ * needn't wait, and those that the core says can be issued. So a choice takes no longer for those that wait behind links and drains.
+ */
 #include "ways.h"
 #include "operations.h"
 #include "outlook.h"
@@ -9,19 +11,55 @@
 
 #include <inttypes.h>
 
-/* Lists what can be chosen: first what is first in order, then every other outstanding request, but one that waits for
- * a stream or for time. What the core has refused is listed too: so a choice has the same number, and the same way in
- * it the same place, whether or not others were tried before. */
-static uint32_t list_ways(struct ring *ring, struct request *first, struct request **ways)
+/* The running requests that can be finished, and behind them those that can be issued, both by number. Few of these are listed; of
+ * many only their number is known, and each is asked for by its place. */
+struct ways {
+    uint32_t ready;         /* how many can be finished */
+    uint32_t listed;        /* how many ways stand in ring->ways */
+    uint32_t count;         /* how many there are */
+    bool may_return;        /* one more is to return */
+};
+
+/* So many that can be issued are listed. */
+enum { FEW = 8 };
+
+static uint32_t list_ready(struct ring *ring)
 {
     uint32_t count = 0;
-    ways[count++] = first;
-    for (size_t i = 0; i < ring->requests.count; i++) {
-        struct request *request = ring->requests.rows[i];
-        if (request != first && (request->state == WAITS || can_finish(ring, request)))
-            ways[count++] = request;
-    }
+    for (size_t i = 0; i < ring->running.count; i++)
+        if (can_finish(ring, ring->running.rows[i]))
+            ring->ways[count++] = ring->running.rows[i];
     return count;
+}
+
+/* The first of them is what is first in order. */
+static struct ways ways_of(struct ring *ring, bool may_return)
+{
+    uint32_t ready = list_ready(ring), listed = ready;
+    uint64_t number = next_issuable(ring, 0);
+    for (; number != UINT64_MAX && listed < ready + FEW; number = next_issuable(ring, number + 1))
+        ring->ways[listed++] = request_of(&ring->requests, number);
+    uint32_t count = number == UINT64_MAX ? listed : ready + count_issuable(ring);
+    return (struct ways){ready, listed, count, may_return};
+}
+
+static struct request *way_at(struct ring *ring, const struct ways *ways, uint32_t place)
+{
+    return place < ways->listed ? ring->ways[place] : request_of(&ring->requests, nth_issuable(ring, place - ways->ready));
+}
+
+/* The place of a way that can be issued. */
+static uint32_t place_of_issuable(struct ring *ring, const struct ways *ways, uint64_t number)
+{
+    uint32_t low = ways->ready, high = ways->count;
+    while (low < high) {
+        uint32_t middle = low + (high - low) / 2;
+        if (way_at(ring, ways, middle)->number < number)
+            low = middle + 1;
+        else
+            high = middle;
+    }
+    return low;
 }
 
 /* Says what going on with a request means: before it is done, since it may free the request. */
@@ -30,88 +68,113 @@ static void describe(char *text, size_t size, const struct request *request)
     snprintf(text, size, "%s request %" PRIu64 " (%s)", request->state == RUNS ? "finish" : "issue", request->number, operation_name(request->entry.opcode));
 }
 
-/* Tries a way. False if the core refuses it. */
-static bool try_way(struct ring *ring, struct request *request, uint64_t at, uint32_t count, uint32_t chosen)
+static void take_way(struct ring *ring, const struct ways *ways, uint64_t at, uint32_t chosen)
 {
     char what[96];
-    if (request->is_refused)
-        return false;
-    describe(what, sizeof what, request);
+    uint32_t count = ways->count + ways->may_return;
+    struct request *way = way_at(ring, ways, chosen);
+    describe(what, sizeof what, way);
     trace_note(ring, "choice %" PRIu64 " is %" PRIu32 " of %" PRIu32 ": %s", at, chosen, count, what);
-    if (go_on_with(ring, request) == IS_REFUSED)
-        return false;
+    go_on_with(ring, way);
     record_choice(at, count, chosen, what);
-    return true;
+}
+
+static void choose_return(struct ring *ring, uint64_t at, uint32_t count)
+{
+    trace_note(ring, "choice %" PRIu64 " is %" PRIu32 " of %" PRIu32 ": return", at, count - 1, count);
+    record_choice(at, count, count - 1, "return");
 }
 
 /* An application that has returned from so many calls in a row without anything going on only looks again and again: it
  * comes last then, whatever it drew. */
 enum { MOST_RETURNS = 3 };
 
-static bool can_go(struct ring *ring, const struct request *way)
+/* The way of the highest priority that was found so far; NULL: it is to return. */
+struct highest {
+    uint64_t priority;
+    struct request *way;
+};
+
+static struct player player_of(const struct ring *ring, const struct request *way)
 {
-    return way->state == RUNS || can_issue(ring, way->number);
+    return way ? (struct player){.ring = ring->index, .chain = way->chain} : (struct player){.is_application = true};
 }
 
-/* The way of the highest priority, of those that can go on; `ways_count` is the application's. */
-static uint32_t highest_way(struct ring *ring, struct request **ways, uint32_t ways_count, bool may_return)
+/* Looks at a way, and asks whether it can go on only if it would be the highest. */
+static void look_at_way(struct highest *highest, struct ring *ring, struct request *way, bool is_known)
 {
-    bool is_idle = ring->returns >= MOST_RETURNS;
-    uint64_t highest = may_return && !is_idle ? priority_of((struct player){.is_application = true}) : 0;
-    uint32_t best = ways_count;
-    for (uint32_t i = 0; i < ways_count; i++) {
-        uint64_t priority = priority_of((struct player){.ring = ring->index, .chain = ways[i]->chain});
-        if (priority > highest && can_go(ring, ways[i])) {
-            highest = priority;
-            best = i;
-        }
-    }
-    return best;
+    uint64_t priority = priority_of(player_of(ring, way));
+    if (priority > highest->priority && (is_known || can_issue(ring, way->number)))
+        *highest = (struct highest){priority, way};
 }
 
-static uint32_t choose_by_priority(struct ring *ring, uint64_t at, struct request **ways, uint32_t ways_count, bool may_return)
+static struct request *highest_way(struct ring *ring, const struct ways *ways)
+{
+    struct highest highest = {0, NULL};
+    if (ways->may_return && ring->returns < MOST_RETURNS)
+        look_at_way(&highest, ring, NULL, true);
+    for (uint32_t place = 0; place < ways->listed; place++)
+        look_at_way(&highest, ring, ring->ways[place], true);
+    for (size_t i = 0; ways->listed < ways->count && i < ring->requests.count; i++)
+        if (ring->requests.rows[i]->state == WAITS)
+            look_at_way(&highest, ring, ring->requests.rows[i], false);
+    return highest.way;
+}
+
+/* The place of a way; that of returning is behind all others. */
+static uint32_t place_of_way(struct ring *ring, const struct ways *ways, const struct request *way)
+{
+    uint32_t place = 0;
+    if (!way)
+        return ways->count;
+    if (way->state == WAITS)
+        return place_of_issuable(ring, ways, way->number);
+    while (ring->ways[place] != way)
+        place++;
+    return place;
+}
+
+static uint32_t choose_by_priority(struct ring *ring, uint64_t at, const struct ways *ways)
 {
     lock_choices();
-    uint32_t best = highest_way(ring, ways, ways_count, may_return);
+    struct request *highest = highest_way(ring, ways);
     if (falls_at(at)) {
-        bool is_application = best == ways_count;
-        let_fall(at, (struct player){.is_application = is_application, .ring = ring->index, .chain = is_application ? 0 : ways[best]->chain});
-        best = highest_way(ring, ways, ways_count, may_return);
+        let_fall(at, player_of(ring, highest));
+        highest = highest_way(ring, ways);
     }
     unlock_choices();
-    return best;
+    return place_of_way(ring, ways, highest);
 }
 
-/* Chooses until the core allows it. */
-static enum progress choose_way(struct ring *ring, struct request **ways, uint32_t ways_count, bool may_return)
+static void record_all_ways(struct ring *ring, const uint64_t *at, const struct ways *ways)
 {
-    uint32_t count = ways_count + may_return;
-    if (count == 1) {
-        record_ways(ring, NULL, ways, 1, false);
-        go_on_with(ring, ways[0]);
-        ring->returns = 0;
-        return WENT_ON;
-    }
-    uint64_t at = count_choice();
-    record_ways(ring, &at, ways, ways_count, may_return);
-    for (;;) {
-        bool is_drawn = policy() == BY_PRIORITY;
-        uint32_t chosen = is_drawn ? choose_by_priority(ring, at, ways, ways_count, may_return) : choose(at, count);
-        if (chosen == ways_count) {
-            ring->returns++;
-            trace_note(ring, "choice %" PRIu64 " is %" PRIu32 " of %" PRIu32 ": return", at, chosen, count);
-            record_choice(at, count, chosen, "return");
-            return MAY_RETURN;
-        }
-        if (try_way(ring, ways[chosen], at, count, chosen)) {
-            ring->returns = 0;
-            return WENT_ON;
-        }
-        refuse_choice(at);
-    }
+    if (!is_recording_ways())
+        return;
+    record_ways(ring, at);
+    for (uint32_t place = 0; place < ways->count; place++)
+        record_way(ring, way_at(ring, ways, place));
+    record_return(ways->may_return);
 }
 
 enum progress go_on_by_choice(struct ring *ring, struct request *first, bool may_return)
 {
-    return choose_way(ring, ring->ways, list_ways(ring, first, ring->ways), may_return);
+    struct ways ways = ways_of(ring, may_return);
+    uint32_t count = ways.count + may_return;
+    if (count == 1) {
+        record_all_ways(ring, NULL, &ways);
+        go_on_with(ring, first);
+        ring->returns = 0;
+        return WENT_ON;
+    }
+    uint64_t at = count_choice();
+    record_all_ways(ring, &at, &ways);
+    uint32_t chosen = policy() == BY_PRIORITY ? choose_by_priority(ring, at, &ways) : choose(at, count);
+    if (chosen == ways.count) {
+        ring->returns++;
+        choose_return(ring, at, count);
+        return MAY_RETURN;
+    }
+    take_way(ring, &ways, at, chosen);
+    ring->returns = 0;
+    return WENT_ON;
 }

@@ -4,7 +4,7 @@
 
 #include "progress.h"
 
-/* Goes on by one choice between what is first in order, all else that may go on, and, if `may_return`, returning. */
+/* Goes on by one choice between all that can go on, of which this is first in order, and, if `may_return`, returning. */
 enum progress go_on_by_choice(struct ring *ring, struct request *first, bool may_return);
 
 #endif

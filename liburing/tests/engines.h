@@ -1,4 +1,4 @@
-/* What the tests of what engines use share: single requests, and completions with their flags. */
+/* What tests share beside rings: single requests, completions with their flags, and a list of tests. */
 #ifndef ENGINES_H
 #define ENGINES_H
 
@@ -25,6 +25,19 @@ static inline int32_t result_of_one(struct ring *ring, uint32_t count)
     return results[count - 1];
 }
 
+static inline void submit_nop(struct ring *ring, uint64_t user_data)
+{
+    put(ring, IORING_OP_NOP, user_data, 0);
+    check(enter(ring, 1, 0, 0) == 1);
+}
+
+/* Waits for one completion, and returns its result. */
+static inline int32_t wait_for_one(struct ring *ring)
+{
+    check(enter(ring, 0, 1, IORING_ENTER_GETEVENTS) == 0);
+    return reap(ring).res;
+}
+
 /* The next completion, with its flags. */
 struct seen {
     uint64_t user_data;
@@ -43,6 +56,9 @@ static inline struct seen next_of(struct ring *ring)
     __atomic_store_n(head, *head + 1, __ATOMIC_RELEASE);
     return found;
 }
+
+/* The seconds behind which a test that hangs is ended by an alarm, if it sets one. */
+enum { PATIENCE = 60 };
 
 struct named {
     const char *name;

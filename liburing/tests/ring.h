@@ -138,6 +138,14 @@ static inline struct io_uring_sqe *put(struct ring *ring, uint8_t code, uint64_t
     return entry;
 }
 
+/* Writes an entry to a slot, and publishes it. */
+static inline struct io_uring_sqe *put_at(struct ring *ring, unsigned slot, uint8_t code, uint64_t user_data, uint8_t flags)
+{
+    struct io_uring_sqe *entry = publish(ring, slot);
+    *entry = (struct io_uring_sqe){.opcode = code, .flags = flags, .fd = -1, .user_data = user_data};
+    return entry;
+}
+
 static inline struct io_uring_sqe *put_transfer(struct ring *ring, uint8_t code, uint64_t user_data, uint8_t flags, int fd, void *bytes, unsigned length, uint64_t offset)
 {
     struct io_uring_sqe *entry = put(ring, code, user_data, flags);
@@ -151,6 +159,25 @@ static inline struct io_uring_sqe *put_transfer(struct ring *ring, uint8_t code,
 static inline unsigned flags_of(const struct ring *ring)
 {
     return *sq_word(ring, ring->params.sq_off.flags);
+}
+
+/* Tests of the layer by direct calls of setup, enter and register: they need no sources of liburing. All hold under
+ * every policy, which the environment says. Memory is refused by the wrapped malloc, calloc and realloc of this program.
+ *
+ *   direct [injection]       with the word: only the test of faults, for which WULGACH_FAULTS is
+ *                            0=ENOSPC,2=SHORT,5=EIO,6=SHORT
+ */
+#define _GNU_SOURCE
+#include "ring.h"
+
+#include <pthread.h>
+#include <sys/uio.h>
+#include <sys/wait.h>
+
+/* Whether nothing is outstanding, and nothing has overflowed. A descriptor that polls is readable until the next call. */
+static inline bool is_at_rest(const struct ring *ring)
+{
+    return flags_of(ring) == 0 || (getenv("WULGACH_TEST_POLLED") && flags_of(ring) == IORING_SQ_TASKRUN);
 }
 
 static inline unsigned count_ready(const struct ring *ring)

@@ -150,6 +150,33 @@ static void test_polls(void)
     close_ring(&ring);
 }
 
+/* Polls that go on, and can at once, beside no-ops that run: in a turn of its own each is looked at while the ways of a choice are
+ * listed, and may want room for its next event. */
+static void test_events_in_choices(void)
+{
+    int ends[2];
+    check(pipe(ends) == 0);
+    for (int round = 0; round < 40; round++) {
+        struct ring ring;
+        make_ring(&ring, 8, 0, 0);
+        for (unsigned i = 0; i < 4; i++) {
+            if (i % 2 == 0) {
+                put(&ring, IORING_OP_NOP, i, 0);
+            } else {
+                struct io_uring_sqe *entry = put_plain(&ring, IORING_OP_POLL_ADD, i, ends[1]);
+                entry->poll32_events = POLLOUT;
+                entry->len = IORING_POLL_ADD_MULTI;
+            }
+            check(enter(&ring, 1, 0, 0) == 1);
+        }
+        for (int events = 0; events < 4; events++)
+            check(next_of(&ring).res >= 0);
+        close_ring(&ring);
+    }
+    close(ends[0]);
+    close(ends[1]);
+}
+
 /* A read of a pipe's end for writing, and the other way round, end at once, where a pipe may be a registered file too. */
 static void test_wrong_end(void)
 {
@@ -210,6 +237,7 @@ int main(int count, char **words)
         {"timeouts", test_timeouts},
         {"cancels", test_cancels},
         {"polls", test_polls},
+        {"events in choices", test_events_in_choices},
         {"wrong end", test_wrong_end},
         {"splice", test_splice},
     };

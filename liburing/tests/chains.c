@@ -1,0 +1,107 @@
+/* Tests by direct calls: a chain as long as a ring takes, and that the time of a chain grows as its length does, under whatever
+ * policy: what waits behind a link is looked at only once it can go on.
+ *
+ *   chains [NAME]        one test alone
+ */
+#define _GNU_SOURCE
+#include "engines.h"
+
+#include <time.h>
+
+enum { LONGEST = 4096 };
+
+static int64_t used_time(void)
+{
+    struct timespec used;
+    clock_gettime(CLOCK_PROCESS_CPUTIME_ID, &used);
+    return (int64_t)used.tv_sec * 1000000000 + used.tv_nsec;
+}
+
+/* What stands before a chain, and goes on only when it has ended. */
+struct beside {
+    bool is_waiting;        /* a read of an empty pipe, and an hour */
+    uint8_t link;
+};
+
+/* Nanoseconds of a processor that a call with a chain of no-ops takes, which end in order. */
+static int64_t time_of_chain(unsigned length, struct beside beside)
+{
+    static const struct __kernel_timespec hour = {3600, 0};
+    struct ring ring;
+    char byte;
+    int ends[2];
+    check(pipe(ends) == 0);
+    make_ring(&ring, LONGEST, 0, 0);
+    if (beside.is_waiting) {
+        put_transfer(&ring, IORING_OP_READ, LONGEST, 0, ends[0], &byte, 1, 0);
+        put_transfer(&ring, IORING_OP_TIMEOUT, LONGEST, 0, -1, (void *)(uintptr_t)&hour, 1, 0);
+        check(enter(&ring, 2, 0, 0) == 2);
+    }
+    for (unsigned i = 0; i < length; i++)
+        put(&ring, IORING_OP_NOP, i, i < length - 1 ? beside.link : 0);
+    int64_t start = used_time();
+    check(enter(&ring, length, length, IORING_ENTER_GETEVENTS) == (long)length);
+    int64_t used = used_time() - start;
+    for (unsigned i = 0; i < length; i++)
+        check(reap(&ring).user_data == i);
+    close_ring(&ring);
+    close(ends[0]);
+    close(ends[1]);
+    return used;
+}
+
+static void test_long_chain(void)
+{
+    time_of_chain(LONGEST, (struct beside){.link = IOSQE_IO_LINK});
+}
+
+static int64_t lesser(int64_t one, int64_t other)
+{
+    return one < other ? one : other;
+}
+
+/* A chain takes at most so many tenths of the time of one of half its length. The least of some rounds counts, since other work on
+ * the machine only adds to it; and of more, while it isn't so. */
+static void expect_growth(unsigned length, int64_t tenths, struct beside beside)
+{
+    int64_t half = INT64_MAX, whole = INT64_MAX;
+    for (int round = 0; round < 60; round++) {
+        half = lesser(half, time_of_chain(length / 2, beside));
+        whole = lesser(whole, time_of_chain(length, beside));
+        if (round >= 8 && 10 * whole <= tenths * half)
+            return;
+    }
+    printf("%s: %u members take %.2f ms, and half of them %.2f\n", test, length, (double)whole / 1e6, (double)half / 1e6);
+    exit(1);
+}
+
+/* Twice the length takes twice the time, at most 2.3 times. What the longest one needs doesn't fit beside other work into a
+ * processor's own cache: so it has 3 times, where the square would be 4. */
+static void expect_linear(struct beside beside)
+{
+    expect_growth(LONGEST / 2, 23, beside);
+    expect_growth(LONGEST, 30, beside);
+}
+
+static void test_growth(void)
+{
+    expect_linear((struct beside){.link = IOSQE_IO_LINK});
+    expect_linear((struct beside){.link = IOSQE_IO_HARDLINK});
+}
+
+/* Running requests that wait are looked at whatever the chain's length. */
+static void test_growth_beside(void)
+{
+    expect_linear((struct beside){.is_waiting = true, .link = IOSQE_IO_LINK});
+}
+
+int main(int count, char **words)
+{
+    static const struct named tests[] = {
+        {"long chain", test_long_chain},
+        {"growth", test_growth},
+        {"growth beside", test_growth_beside},
+    };
+    alarm(PATIENCE);
+    return run_tests(tests, sizeof tests / sizeof *tests, count > 1 ? words[1] : NULL);
+}

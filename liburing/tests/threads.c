@@ -1,0 +1,249 @@
+/* Tests by direct calls: threads with rings of their own and with one in common, which wait for each other, for signals and for
+ * time. All hold under every policy. A test that hangs ends by an alarm.
+ */
+#define _GNU_SOURCE
+#include "engines.h"
+
+#include <pthread.h>
+#include <signal.h>
+#include <time.h>
+
+/* A thread with a ring of its own: chains of three, one after the other. */
+static void *work_in_thread(void *none)
+{
+    struct ring ring;
+    int32_t results[3];
+    (void)none;
+    make_ring(&ring, 4, 0, 0);
+    for (int i = 0; i < 200; i++) {
+        put(&ring, IORING_OP_NOP, 0, IOSQE_IO_LINK);
+        put(&ring, IORING_OP_NOP, 1, IOSQE_IO_HARDLINK);
+        put(&ring, IORING_OP_NOP, 2, 0);
+        check(enter(&ring, 3, 3, IORING_ENTER_GETEVENTS) == 3);
+        reap_all(&ring, 3, results);
+        check(results[0] == 0 && results[1] == 0 && results[2] == 0);
+    }
+    close_ring(&ring);
+    return NULL;
+}
+
+static void test_threads(void)
+{
+    pthread_t threads[3];
+    for (int i = 0; i < 3; i++)
+        check(pthread_create(&threads[i], NULL, work_in_thread, NULL) == 0);
+    for (int i = 0; i < 3; i++)
+        check(pthread_join(threads[i], NULL) == 0);
+}
+
+/* A thread that waits on a ring for what another thread submits. */
+static void *wait_in_thread(void *ring)
+{
+    check(enter(ring, 0, 2, IORING_ENTER_GETEVENTS) == 0);
+    return NULL;
+}
+
+static void test_shared_ring(void)
+{
+    struct ring ring;
+    int32_t results[2];
+    pthread_t waiter;
+    make_ring(&ring, 4, 0, 0);
+    check(pthread_create(&waiter, NULL, wait_in_thread, &ring) == 0);
+    usleep(10000);
+    put(&ring, IORING_OP_NOP, 0, 0);
+    check(enter(&ring, 1, 0, 0) == 1);
+    /* One is there, so that only one was waited for isn't an error. */
+    check(enter_for(&ring, 2, 1000000) == 0 && count_ready(&ring) == 1);
+    put(&ring, IORING_OP_NOP, 1, 0);
+    check(enter(&ring, 1, 0, 0) == 1);
+    check(pthread_join(waiter, NULL) == 0);
+    reap_all(&ring, 2, results);
+    check(results[0] == 0 && results[1] == 0);
+    close_ring(&ring);
+}
+
+struct sleep {
+    struct ring *ring;
+    long result;
+};
+
+static void *sleep_in_call(void *sleep)
+{
+    struct sleep *own = sleep;
+    own->result = enter(own->ring, 0, 1, IORING_ENTER_GETEVENTS);
+    return NULL;
+}
+
+static pthread_t start_sleeper(struct sleep *sleep)
+{
+    pthread_t thread;
+    check(pthread_create(&thread, NULL, sleep_in_call, sleep) == 0);
+    usleep(200000);
+    return thread;
+}
+
+/* Closes a ring's descriptor while a thread sleeps in a call on it, and sets another ring up. */
+static void close_under(struct ring *ring)
+{
+    struct ring other;
+    close(ring->fd);
+    make_ring(&other, 4, 0, 0);
+    submit_nop(&other, 0);
+    check(wait_for_one(&other) == 0);
+    close_ring(&other);
+    make_ring(&other, 4, 0, 0);
+    close_ring(&other);
+}
+
+static void test_closed_while_reading(void)
+{
+    struct ring ring;
+    struct sleep sleep = {.ring = &ring};
+    char text[4];
+    int ends[2];
+    check(pipe(ends) == 0);
+    make_ring(&ring, 4, 0, 0);
+    put_transfer(&ring, IORING_OP_READ, 0, 0, ends[0], text, 4, 0);
+    check(enter(&ring, 1, 0, 0) == 1);
+    pthread_t thread = start_sleeper(&sleep);
+    close_under(&ring);
+    check(write(ends[1], "four", 4) == 4);
+    check(pthread_join(thread, NULL) == 0);
+    check(sleep.result == 0 && reap(&ring).res == 4);
+    close(ends[0]);
+    close(ends[1]);
+}
+
+static void ignore_signal(int number)
+{
+    (void)number;
+}
+
+/* A thread that waits with nothing outstanding gets signals, also if its ring's descriptor is closed. */
+static void test_closed_while_idle(void)
+{
+    struct sigaction action = {.sa_handler = ignore_signal};
+    struct ring ring;
+    struct sleep sleep = {.ring = &ring};
+    check(sigaction(SIGUSR1, &action, NULL) == 0);
+    make_ring(&ring, 4, 0, 0);
+    pthread_t thread = start_sleeper(&sleep);
+    close_under(&ring);
+    check(pthread_kill(thread, SIGUSR1) == 0);
+    check(pthread_join(thread, NULL) == 0);
+    check(sleep.result == -EINTR);
+}
+
+/* Another thread's submission wakes one that sleeps on a pipe. */
+static void test_woken(void)
+{
+    struct ring ring;
+    struct sleep sleep = {.ring = &ring};
+    char byte;
+    int ends[2];
+    check(pipe(ends) == 0);
+    make_ring(&ring, 4, 0, 0);
+    put_transfer(&ring, IORING_OP_READ, 0, 0, ends[0], &byte, 1, 0);
+    check(enter(&ring, 1, 0, 0) == 1);
+    pthread_t thread = start_sleeper(&sleep);
+    submit_nop(&ring, 1);
+    check(pthread_join(thread, NULL) == 0);
+    check(sleep.result == 0 && reap(&ring).user_data == 1);
+    close(ends[1]);
+    check(wait_for_one(&ring) == 0);
+    close(ends[0]);
+    close_ring(&ring);
+}
+
+static void *stay(void *ends)
+{
+    char byte;
+    check(read(*(int *)ends, &byte, 1) == 0);
+    return NULL;
+}
+
+static int64_t real_time(void)
+{
+    struct timespec now;
+    clock_gettime(CLOCK_MONOTONIC, &now);
+    return (int64_t)now.tv_sec * 1000000000 + now.tv_nsec;
+}
+
+/* Beside another thread, a wait with a limit past a second sleeps as long. */
+static void test_limit_beside_threads(void)
+{
+    struct ring ring;
+    pthread_t thread;
+    int ends[2];
+    check(pipe(ends) == 0 && pthread_create(&thread, NULL, stay, ends) == 0);
+    make_ring(&ring, 4, 0, 0);
+    int64_t start = real_time();
+    check(enter_for(&ring, 1, 1050000000) == -ETIME);
+    check(real_time() - start >= 1050000000);
+    close(ends[1]);
+    check(pthread_join(thread, NULL) == 0);
+    close(ends[0]);
+    close_ring(&ring);
+}
+
+/* A call that couldn't submit all doesn't wait. */
+static void test_not_all_submitted(void)
+{
+    struct ring ring;
+    char byte;
+    int ends[2];
+    check(pipe(ends) == 0);
+    make_ring(&ring, 4, 0, 0);
+    put_transfer(&ring, IORING_OP_READ, 0, 0, ends[0], &byte, 1, 0);
+    check(enter(&ring, 2, 1, IORING_ENTER_GETEVENTS) == 1);
+    close(ends[1]);
+    check(wait_for_one(&ring) == 0);
+    close(ends[0]);
+    close_ring(&ring);
+}
+
+/* A cell is written before the tail that shows it: another thread looks at the newest cell at once. */
+static void *look_at_newest(void *of)
+{
+    struct ring *ring = of;
+    const struct io_uring_cqe *cells = (const void *)(ring->cq + ring->params.cq_off.cqes);
+    const unsigned *tail = cq_word(ring, ring->params.cq_off.tail);
+    unsigned seen;
+    while ((seen = __atomic_load_n(tail, __ATOMIC_ACQUIRE)) < 30000)
+        check(seen == 0 || cells[(seen - 1) & (ring->params.cq_entries - 1)].user_data >= seen - 1);
+    return NULL;
+}
+
+static void test_cells_before_tail(void)
+{
+    struct ring ring;
+    pthread_t thread;
+    make_ring(&ring, 256, 512, 0);
+    check(pthread_create(&thread, NULL, look_at_newest, &ring) == 0);
+    for (unsigned i = 0; i < 30000; i += 250) {
+        for (unsigned j = 0; j < 250; j++)
+            put(&ring, IORING_OP_NOP, i + j, j < 249 ? IOSQE_IO_LINK : 0);
+        check(enter(&ring, 250, 250, IORING_ENTER_GETEVENTS) == 250);
+        for (unsigned j = 0; j < 250; j++)
+            check(reap(&ring).user_data == i + j);
+    }
+    check(pthread_join(thread, NULL) == 0);
+    close_ring(&ring);
+}
+
+int main(int count, char **words)
+{
+    static const struct named tests[] = {
+        {"threads", test_threads},
+        {"shared ring", test_shared_ring},
+        {"closed while reading", test_closed_while_reading},
+        {"closed while idle", test_closed_while_idle},
+        {"woken", test_woken},
+        {"limit beside threads", test_limit_beside_threads},
+        {"not all submitted", test_not_all_submitted},
+        {"cells before tail", test_cells_before_tail},
+    };
+    alarm(PATIENCE);
+    return run_tests(tests, sizeof tests / sizeof *tests, count > 1 ? words[1] : NULL);
+}
