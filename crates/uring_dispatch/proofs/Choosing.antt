@@ -1,5 +1,5 @@
 -- What cancels make of the lists: the end of a request as it is issued, with those that it dooms, and the search for all targets of a cancel.
-use Rattle.std.proofs.Common.{◌≡◌, ℕ, suc, ◌+◌, ◌<◌, ◌≤◌, pos, negsuc, List, [], ◌∷◌, ◌++◌, length, length-append, Bool, true, false, not, ◌&&◌, ◌||◌, ◌==◌, Option, Some, None, is_some, cond, refl, sym, ◌∙◌, ap, subst, arith, inl, inr}
+use Rattle.std.proofs.Common.{◌≡◌, ℕ, zero, suc, ◌+◌, ◌-◌, ◌<◌, ◌≤◌, pos, negsuc, List, [], ◌∷◌, ◌++◌, length, length-append, Bool, true, false, not, ◌&&◌, ◌||◌, ◌==◌, Option, Some, None, is_some, cond, refl, sym, ◌∙◌, ap, subst, arith, inl, inr}
 use Rattle.std.specs.Prelude.{if◌then◌else◌, int_le}
 use Rattle.std.specs.List.{list_any}
 use Rattle.std.specs.Option.{option_to_list}
@@ -24,6 +24,9 @@ use Rattle.uring_dispatch.specs.declared.outstanding.Outstanding.{Outstanding}
 use Rattle.uring_dispatch.specs.Choosing.{HasChosen}
 use Rattle.uring_dispatch.specs.declared.waiting.Waiting.{Waiting}
 use Rattle.uring_dispatch.proofs.HeldLemmas.{running-none, running-some, candidate-none}
+use Rattle.uring_dispatch.proofs.ByData.{places-same, places-both, open-held}
+use Rattle.uring_dispatch.specs.ByUserData.{KeepsPlaces, is_open}
+use Rattle.uring_dispatch.specs.declared.grouped.Grouped.{Grouped}
 
 -- What the end of a request as it is issued dooms.
 
@@ -129,13 +132,14 @@ memory-both s t u a b =
 
 pub chosen-nobody : (d : Outstanding) → HasChosen d d
 chosen-nobody d =
-    record { same = same-none d.grouped.window; groups = refl; memory = record { heads = omega arith; doomed = omega arith } }
+    record { same = same-none d.grouped.window; groups = refl; memory = record { heads = omega arith; doomed = omega arith }; places = places-same d.by_user_data }
 
-chosen-both : (a b c : Outstanding) → HasChosen a b → HasChosen b c → HasChosen a c
+pub chosen-both : (a b c : Outstanding) → HasChosen a b → HasChosen b c → HasChosen a c
 chosen-both a b c x y = record {
   same = same-both a.grouped.window b.grouped.window c.grouped.window x.same y.same;
   groups = y.groups ∙ x.groups;
   memory = memory-both a.waiting b.waiting c.waiting x.memory y.memory;
+  places = places-both a.by_user_data b.by_user_data c.by_user_data x.places y.places;
 }
 
 -- Targets.
@@ -255,3 +259,44 @@ pub chosen-all : (r : Requests) (n m : ℕ) → m ≡ length r.accepted
     → all_below (is_target r n) m ≡ targets_of r n
 unfolding targets_of
 chosen-all r n m all = ap (all_below (is_target r n)) all
+
+-- the same is held, and only what is kept by user data differs
+pub chosen-found : (d e : Outstanding) → e.grouped ≡ d.grouped → e.waiting ≡ d.waiting
+    → KeepsPlaces d.by_user_data e.by_user_data → HasChosen d e
+chosen-found d e grouped waiting places = record {
+  same = subst (λ (z : Grouped). HasSameRequests d.grouped.window z.window) (sym grouped) (same-none d.grouped.window);
+  groups = ap (λ (z : Grouped). z.groups) grouped;
+  memory = subst (λ (z : Waiting). HasMemory d.waiting z) (sym waiting) (record { heads = omega arith; doomed = omega arith });
+  places = places;
+}
+
+-- the numbers from one on and before another are none
+pub chosen-passed : (old now next : Outstanding) (n user_data from m count : ℕ)
+    → AreChosen old now n user_data from count → HasChosen now next → next.grouped ≡ now.grouped
+    → from ≤ m
+    → ((k : ℕ) → from ≤ k → k < m → is_open now.grouped.window now.grouped.groups user_data k ≡ false)
+    → AreChosen old next n user_data m count
+chosen-passed old now next n user_data from m count c chosen same le none =
+    go (m - from) m (omega arith) (λ k ge lt. lt)
+  where
+    first : AreChosen old next n user_data from count
+    first = record {
+      chosen = chosen-both old now next c.chosen chosen;
+      few = c.few;
+      count_is = c.count_is;
+      shows = λ r h named. subst (λ (z : Grouped). Shows z (with_cancelled r (all_below (is_target r n) from))) (sym same) (c.shows r h named);
+    }
+
+    not_open : (k : ℕ) → from ≤ k → k < m → (r : Requests) → Shows next.grouped r → user_data ≡ addr_of (entry_of r n)
+        → false ≡ is_target r n k
+    not_open k ge lt r h named =
+        let held : Shows now.grouped r = subst (λ (z : Grouped). Shows z r) same h in
+        sym (and_left _ _ (open-held now.grouped.window now.grouped.groups r n k user_data now.grouped.sound held named ∙ and_left _ _ (none k ge lt)))
+
+    go : (d j : ℕ) → from + d ≡ j → ((k : ℕ) → from ≤ k → k < j → k < m) → AreChosen old next n user_data j count
+    go zero j is inside = let same_from : from ≡ j = omega arith in subst (λ z. AreChosen old next n user_data z count) same_from first
+    go (suc d) j is inside =
+        let before = go d (from + d) refl (λ k ge lt. inside k ge (omega arith)) in
+        let next_is : (from + d) + 1 ≡ j = omega arith in
+        subst (λ z. AreChosen old next n user_data z count) next_is
+        (chosen-past old next n user_data (from + d) count before (not_open (from + d) (omega arith) (inside (from + d) (omega arith) (omega arith))))

@@ -21,3 +21,5 @@ pub mod AcceptsListed
 pub mod Alike
 pub mod Views
 pub mod Sizes
+pub mod Links
+pub mod ByData

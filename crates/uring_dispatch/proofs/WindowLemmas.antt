@@ -8,25 +8,25 @@ use Rattle.uring_entry.proofs.RequestLemmas.{get_or-push_other}
 use Rattle.uring_dispatch.specs.Window.{Window, key_at, found_by, at}
 use Rattle.uring_dispatch.proofs.HeldLemmas.{some_none}
 
-pub key_at-low : (first : ℕ) (keys : List (Option ℕ)) (n : ℕ) → n < first
+pub key_at-low : {X : Type 0} (first : ℕ) (keys : List (Option X)) (n : ℕ) → n < first
     → key_at first keys n ≡ None
 unfolding key_at
 key_at-low first keys n lt =
     ap (λ b. if b then None else get_or keys (n - first) None) (lt-ltb n first lt)
 
-pub key_at-high : (first : ℕ) (keys : List (Option ℕ)) (n : ℕ) → first ≤ n
+pub key_at-high : {X : Type 0} (first : ℕ) (keys : List (Option X)) (n : ℕ) → first ≤ n
     → key_at first keys n ≡ get_or keys (n - first) None
 unfolding key_at
 key_at-high first keys n le =
     ap (λ b. if b then None else get_or keys (n - first) None) (le-ltb n first le)
 
-pub key_at-past : (first : ℕ) (keys : List (Option ℕ)) (n : ℕ) → first + length keys ≤ n
+pub key_at-past : {X : Type 0} (first : ℕ) (keys : List (Option X)) (n : ℕ) → first + length keys ≤ n
     → key_at first keys n ≡ None
 key_at-past first keys n le =
     key_at-high first keys n (omega arith) ∙ get_or_past keys (n - first) None (omega arith)
 
 -- a number with a key lies in the window
-pub key_at-within : (first : ℕ) (keys : List (Option ℕ)) (n key : ℕ)
+pub key_at-within : {X : Type 0} (first : ℕ) (keys : List (Option X)) (n : ℕ) (key : X)
     → key_at first keys n ≡ Some key → (first ≤ n) × (n < first + length keys)
 key_at-within first keys n key e =
     elim (cases_lt n first) [
@@ -39,14 +39,14 @@ key_at-within first keys n key e =
     ]
 
 -- a key that is added
-pub key_at-push_here : (first : ℕ) (keys : List (Option ℕ)) (key : Option ℕ)
+pub key_at-push_here : {X : Type 0} (first : ℕ) (keys : List (Option X)) (key : Option X)
     → key_at first (keys ++ key ∷ []) (first + length keys) ≡ key
 key_at-push_here first keys key =
     let place : (first + length keys) - first ≡ length keys = omega arith in
     key_at-high first (keys ++ key ∷ []) (first + length keys) (omega arith)
     ∙ ap (λ i. get_or (keys ++ key ∷ []) i None) place ∙ get_or-append_seam keys key [] None
 
-pub key_at-push_other : (first : ℕ) (keys : List (Option ℕ)) (key : Option ℕ) (n : ℕ)
+pub key_at-push_other : {X : Type 0} (first : ℕ) (keys : List (Option X)) (key : Option X) (n : ℕ)
     → n ≢ first + length keys → key_at first (keys ++ key ∷ []) n ≡ key_at first keys n
 key_at-push_other first keys key n ne =
     elim (cases_lt n first) [
@@ -58,12 +58,12 @@ key_at-push_other first keys key n ne =
     ]
 
 -- a key that is written
-pub key_at-set_here : (first : ℕ) (keys : List (Option ℕ)) (key : Option ℕ) (n : ℕ) → first ≤ n
+pub key_at-set_here : {X : Type 0} (first : ℕ) (keys : List (Option X)) (key : Option X) (n : ℕ) → first ≤ n
     → n < first + length keys → key_at first (set keys (n - first) key) n ≡ key
 key_at-set_here first keys key n le lt =
     key_at-high first _ n le ∙ get_or-set_same keys (n - first) key None (omega arith)
 
-pub key_at-set_other : (first : ℕ) (keys : List (Option ℕ)) (key : Option ℕ) (n k : ℕ) → first ≤ n
+pub key_at-set_other : {X : Type 0} (first : ℕ) (keys : List (Option X)) (key : Option X) (n k : ℕ) → first ≤ n
     → k ≢ n → key_at first (set keys (n - first) key) k ≡ key_at first keys k
 key_at-set_other first keys key n k le ne =
     elim (cases_lt k first) [
@@ -75,7 +75,7 @@ key_at-set_other first keys key n k le ne =
     ]
 
 -- a number that has ended leaves the front
-pub key_at-pop : (first : ℕ) (keys : List (Option ℕ)) (n : ℕ)
+pub key_at-pop : {X : Type 0} (first : ℕ) (keys : List (Option X)) (n : ℕ)
     → key_at (first + 1) keys n ≡ key_at first (None ∷ keys) n
 key_at-pop first keys n =
     elim (cases_lt n first) [

@@ -12,8 +12,8 @@ pub record Window : Type 0 where
   pub running : ℕ
   pub room : ℕ
 
--- the key of the request n, if it is outstanding
-unfoldable pub key_at : ℕ → List (Option ℕ) → ℕ → Option ℕ
+-- the key of the request n, if it is outstanding, or what else is kept of it
+unfoldable pub key_at : {X : Type 0} → ℕ → List (Option X) → ℕ → Option X
 key_at first keys n = if nat_lt n first then None else slice_index_or keys (n - first) None
 
 -- what is found by a key, if there is one

@@ -1,11 +1,13 @@
 //! What a cancel makes of the outstanding requests. io_uring_enter(2), IORING_OP_ASYNC_CANCEL, and io_uring_prep_cancel(3), IORING_ASYNC_CANCEL_ALL.
 
-ghost use Rattle.std.specs.Prelude.{◌≡◌, [], ◌∷◌, length, true, false, None, is_some};
+ghost use Rattle.std.specs.Prelude.{◌≡◌, [], ◌∷◌, length, true, false, None, is_some, IfSome};
 ghost use Rattle.uring_entry.specs.Requests.{Requests, entry_of, with_cancelled, with_issued_end, chosen_by, target_of, targets_of, result_for};
 ghost use Rattle.uring_entry.specs.Requests as spec;
 ghost use Rattle.uring_entry.specs.Preparation.{is_cancel, is_cancel_all};
 ghost use Rattle.uring_entry.specs.Layout.{addr_of};
-ghost use Rattle.uring_dispatch.specs.Window.{at, runs};
+ghost use Rattle.uring_dispatch.specs.Links.{FindsLeast};
+ghost use Rattle.uring_dispatch.specs.ByUserData.{behind, stop_of, IsPlace, is_open};
+ghost use Rattle.uring_dispatch.specs.Window.{at, end_of, runs};
 ghost use Rattle.uring_dispatch.specs.Held.{HasLost};
 ghost use Rattle.uring_dispatch.specs.Grouped.{Shows};
 ghost use Rattle.uring_dispatch.specs.Outstanding.{Stays};
@@ -58,7 +60,7 @@ impl Outstanding {
             → is_cancel (entry_of r n) ≡ true → is_cancel_all (entry_of r n) ≡ false
             → Shows self.new.grouped (with_cancelled r (chosen_by r n result)) }
     {
-        let Some(m) = self.grouped.target(n, user_data) else {
+        let Some(m) = self.target(n, user_data) else {
             return -errno::ENOENT;
         };
         if self.grouped.window.is_running(m) {
@@ -76,20 +78,56 @@ impl Outstanding {
         ensures shows { (r : Requests) → Shows self.old.grouped r → user_data ≡ addr_of (entry_of r n)
             → Shows self.new.grouped (with_cancelled r (targets_of r n)) }
     {
+        self.by_user_data.fill(&self.grouped);
         let mut count = 0;
-        for m in self.grouped.window.first()..self.grouped.window.end() {
+        let mut before = None;
+        while let Some(m) = self.least_open(before, user_data) {
             if self.grouped.is_target(n, m, user_data) {
                 self.choose(m);
                 count += 1;
             }
+            before = Some(m);
         }
         count
+    }
+
+    /// The request that the cancel `n` of these user data chooses: the least that is outstanding, another one, has the user data, and isn't doomed. Our own rule.
+    fn target(&mut self, n: u64, user_data: u64) -> Option<u64>
+        ensures chosen { HasChosen self.old self.new }
+        ensures grouped { self.new.grouped ≡ self.old.grouped }
+        ensures target { (r : Requests) → Shows self.old.grouped r → user_data ≡ addr_of (entry_of r n)
+            → result ≡ spec.target_of r n }
+        ensures there { IfSome result (λ m. is_some (at self.old.grouped.window m) ≡ true) }
+    {
+        self.by_user_data.fill(&self.grouped);
+        let Some(least) = self.least_open(None, user_data) else {
+            return None;
+        };
+        if least != n {
+            return Some(least);
+        }
+        self.least_open(Some(n), user_data)
+    }
+
+    /// The least request from a place on, behind one with these user data, that is outstanding, has them and isn't doomed.
+    fn least_open(&mut self, before: Option<u64>, user_data: u64) -> Option<u64>
+        requires full { stop_of self.old.by_user_data ≡ end_of self.old.grouped.window }
+        requires place { IsPlace self.old.by_user_data user_data before }
+        ensures chosen { HasChosen self.old self.new }
+        ensures grouped { self.new.grouped ≡ self.old.grouped }
+        ensures full { stop_of self.new.by_user_data ≡ end_of self.new.grouped.window }
+        ensures finds { FindsLeast (is_open self.old.grouped.window self.old.grouped.groups user_data) (behind before) result }
+        ensures place { IsPlace self.new.by_user_data user_data result }
+    {
+        self.by_user_data
+            .least_open(&self.grouped, before, user_data)
     }
 
     /// Notes that a cancel chose request `m`, and tells anew how it stands.
     fn choose(&mut self, m: u64)
         requires { is_some (at self.old.grouped.window m) ≡ true }
         ensures chosen { HasChosen self.old self.new }
+        ensures found { self.new.by_user_data ≡ self.old.by_user_data }
         ensures shows { (r : Requests) → Shows self.old.grouped r
             → Shows self.new.grouped (with_cancelled r (m ∷ [])) }
     {

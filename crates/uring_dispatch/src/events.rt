@@ -12,6 +12,7 @@ ghost use Rattle.uring_dispatch.specs.Held.{IsNext, HasLost};
 ghost use Rattle.uring_dispatch.specs.Grouped.{Shows, IsGroupOf};
 ghost use Rattle.uring_dispatch.specs.Outstanding.{Stays};
 ghost use Rattle.uring_dispatch.specs.Waiting.{HaveLetGo, StandsAsBefore};
+ghost use Rattle.uring_dispatch.specs.ByUserData.{GoesOn};
 
 use crate::answers::{Issued, Posts};
 use crate::group::{Group, earlier_of};
@@ -142,7 +143,9 @@ impl Outstanding {
         self.waiting.relist_other(&self.grouped, others.head, n);
         self.waiting
             .relist_range(&self.grouped, n, others.doomed_end);
-        self.waiting.drop_before(self.grouped.window.first());
+        let first = self.grouped.window.first();
+        self.waiting.drop_before(first);
+        self.by_user_data.drop_before(first);
     }
 }
 
@@ -170,6 +173,7 @@ impl Grouped {
         ensures counts { HasLost self.old.window self.new.window
             (one_if (runs (at self.old.window n))) }
         ensures gone { Changes self.old.window self.new.window n None }
+        ensures goes_on { GoesOn self.old.window self.new.window self.old.groups self.new.groups }
         ensures head { is_some (at self.old.window result.head) ≡ true }
         ensures doomed { result.doomed_end ≤ end_of self.old.window }
         ensures others { (k : ℕ) → k ≢ n → k ≢ result.head → (k < n) ⊎ (result.doomed_end ≤ k)

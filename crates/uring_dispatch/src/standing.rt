@@ -7,10 +7,12 @@ ghost use Rattle.uring_entry.specs.Requests as spec;
 ghost use Rattle.uring_dispatch.specs.Window.{at};
 ghost use Rattle.uring_dispatch.specs.Groups.{group_at};
 ghost use Rattle.uring_dispatch.specs.Grouped.{Shows, IsGroupOf};
+ghost use Rattle.uring_dispatch.specs.ByUserData.{is_gone};
 
 use crate::group::{Group, is_before};
 use crate::grouped::Grouped;
 use crate::request::Request;
+use crate::waiting::dooms;
 
 impl Grouped {
     /// The group of request `n`.
@@ -49,6 +51,19 @@ impl Grouped {
         is_before(group.broken, n)
     }
 
+    /// Whether request `n` has ended or is doomed, so that no cancel may choose it any more.
+    pub(crate) fn is_gone(&self, n: u64) -> bool
+        ensures { result ≡ is_gone self.now.window self.now.groups n }
+    {
+        let Some(request) = self.window.get(n) else {
+            return true;
+        };
+        let Some(group) = self.groups.get(request.group) else {
+            return request.is_cancelled;
+        };
+        dooms(group, n) || request.is_cancelled
+    }
+
     /// Whether request `n` of this group may start: every earlier member of its group has ended, so has every earlier group that drains, and, if its own group drains, every earlier request.
     pub(crate) fn is_ready(&self, n: u64, group: &Group) -> bool
         requires there { is_some (at self.now.window n) ≡ true }
@@ -67,7 +82,7 @@ impl Grouped {
         !self.window.has_before(group.from)
     }
 
-    /// The request that the cancel `n` of these user data chooses: the least that is outstanding, another one, has the user data, and isn't doomed. Our own rule.
+    /// The request that the cancel `n` of these user data would choose: the least that is outstanding, another one, has the user data, and isn't doomed. Our own rule. It looks at each outstanding request, for a question that changes nothing.
     pub(crate) fn target(&self, n: u64, user_data: u64) -> Option<u64>
         ensures target { (r : Requests) → Shows self.now r → user_data ≡ addr_of (entry_of r n)
             → result ≡ spec.target_of r n }

@@ -176,7 +176,7 @@ fn standing_of(grouped: &Grouped, n: u64) -> Standing
 }
 
 /// Whether a group dooms its member `n`.
-fn dooms(group: &Group, n: u64) -> bool
+pub(crate) fn dooms(group: &Group, n: u64) -> bool
     ensures { result ≡ dooms (Some group.now) n }
 {
     group.fault.is_some() || is_before(group.broken, n)

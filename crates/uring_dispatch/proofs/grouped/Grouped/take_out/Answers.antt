@@ -8,6 +8,11 @@ use Rattle.uring_dispatch.specs.Held.{HasLost}
 use Rattle.uring_dispatch.proofs.WaitingLemmas.{within-end, stands-ended_last, stands-ended_more}
 use Rattle.uring_dispatch.proofs.EndLemmas.{Ends, in-group, least-before, end-sound_last, end-sound_more}
 use Rattle.uring_dispatch.proofs.EndsHeld.{end-held, shows-none, shows-more}
+use Rattle.std.proofs.Common.{false}
+use Rattle.std.proofs.lemmas.Option.{same_Some}
+use Rattle.uring_dispatch.specs.declared.group.Group.{Group}
+use Rattle.uring_dispatch.proofs.HeldLemmas.{some_none}
+use Rattle.uring_dispatch.proofs.ByData.{goes-ended}
 use Rattle.uring_dispatch.proofs.grouped.Grouped.take_out.Goals as goal
 
 pub least_left-least-requires-clause-from : goal.least_left-least-requires-clause-from
@@ -93,3 +98,23 @@ returns-clause-others c = λ k ne head beside.
     in
     stands-ended_more _ _ _ _ c.args.n _ c.args.group.now _ c.least_left-least.result k c.breaks-is_break.result c.args.self.now.sound ends c.least_left-least.ensures refl refl c.earlier_of-broken.ensures
     (λ breaks lt. elim beside [ inl low ↦ inl low | inr past ↦ inr (c.behind_failure-doomed_end.ensures.doomed breaks k past lt) ]) ne head
+
+pub returns-then-least-group-clause-goes_on : goal.returns-then-least-group-clause-goes_on
+returns-then-least-group-clause-goes_on c =
+    let ends : Ends c.args.self.now.window c.end_one-request.new.self c.args.self.now.groups c.remove.new.self c.args.n c.end_one-request.result c.args.group.now None =
+    record { there = c.end_one-request.ensures.request; changes = c.end_one-request.ensures.changes; end = c.end_one-request.ensures.end; group = (c.requires.group _ c.end_one-request.ensures.request); exchange = c.remove.ensures.changes }
+    in
+    let sound = end-sound_last _ _ _ _ c.args.n _ _ c.least_left-least.result c.args.self.now.sound ends c.least_left-least.ensures (omega arith) (c.remove.ensures.beyond _ c.args.self.now.sound.beyond) c.remove.ensures.last in
+    goes-ended _ _ _ _ c.args.n _ c.args.group.now false None sound ends.changes ends.end ends.group ends.exchange (λ p e. some_none p None refl e)
+
+pub returns-clause-goes_on : goal.returns-clause-goes_on
+returns-clause-goes_on c =
+    let ends : Ends c.args.self.now.window c.end_one-request.new.self c.args.self.now.groups c.update.new.self c.args.n c.end_one-request.result c.args.group.now (Some _) =
+    record { there = c.end_one-request.ensures.request; changes = c.end_one-request.ensures.changes; end = c.end_one-request.ensures.end; group = (c.requires.group _ c.end_one-request.ensures.request); exchange = c.update.ensures.changes }
+    in
+    let P : Groups → Type 0 = λ g. IsBeyond g.barriers (end_of c.args.self.now.window) in
+    let sound = end-sound_more _ _ _ _ c.args.n _ _ _ c.least_left-least.result c.args.self.now.sound ends c.least_left-least.ensures (λ e. absurd (omega (arith, e))) refl refl refl
+    (subst P (sym c.update.ensures.same) c.args.self.now.sound.beyond) (ap (λ (g : Groups). g.last) c.update.ensures.same ∙ c.requires.last)
+    in
+    goes-ended _ _ _ _ c.args.n _ c.args.group.now c.breaks-is_break.result (Some _) sound ends.changes ends.end ends.group ends.exchange
+    (λ p e. subst (λ (z : Group). (z.fault ≡ c.args.group.now.fault) × (z.broken ≡ earlier_of c.args.group.now.broken c.breaks-is_break.result c.args.n)) (same_Some _ p e) (refl, c.earlier_of-broken.ensures))

@@ -7,6 +7,7 @@ use Rattle.uring_entry.specs.Success.{is_success}
 use Rattle.uring_dispatch.specs.Window.{at, runs, one_if}
 use Rattle.uring_dispatch.specs.Groups.{Groups}
 use Rattle.uring_dispatch.proofs.Choosing.{cancel_succeeds}
+use Rattle.uring_dispatch.proofs.ByData.{places-both}
 use Rattle.uring_dispatch.proofs.outstanding.Outstanding.cancel.Goals as goal
 
 pub returns-clause-shows : goal.returns-clause-shows
@@ -35,6 +36,7 @@ returns-clause-stays c =
       window = stays.window ∙ chosen.same.as_before.room;
       groups = stays.groups ∙ ap (λ (g : Groups). g.room) chosen.groups;
       memory = record { heads = omega (arith, chosen.memory.heads, stays.memory.heads); doomed = omega (arith, chosen.memory.doomed, stays.memory.doomed) };
+      places = places-both _ _ _ chosen.places stays.places;
     }
 
 pub returns-clause-counts : goal.returns-clause-counts

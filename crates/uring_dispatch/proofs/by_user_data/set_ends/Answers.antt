@@ -1,0 +1,12 @@
+use Rattle.std.proofs.Common.{rules, sym, arith}
+use Rattle.std.proofs.lemmas.Bool.{ne_eqb, false≢true}
+use Rattle.uring_dispatch.proofs.by_user_data.set_ends.Goals as goal
+
+pub returns-in-Some : goal.returns-in-Some
+returns-in-Some c =
+    let h = c.get_mut.follows.holds c.args.value in
+    let updates = h.3 (search rules) in
+    record {
+      puts = record { here = updates.1; others = λ k ne. updates.2 k (ne_eqb c.args.user_data k (λ e. ne (sym e))) };
+      spare = h.6;
+    }
