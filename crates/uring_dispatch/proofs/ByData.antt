@@ -1,8 +1,8 @@
 -- Which requests can be found by their user data: what each event keeps of it, and what a search makes of it.
-use Rattle.std.proofs.Common.{◌≡◌, ◌≢◌, ◌⊎◌, ℕ, ◌+◌, ◌<◌, ◌≤◌, length, Bool, true, false, not, ◌&&◌, ◌||◌, ◌==◌, Option, Some, None, is_some, refl, sym, ◌∙◌, ap, subst, arith, inl, inr}
+use Rattle.std.proofs.Common.{◌≡◌, ◌≢◌, ◌⊎◌, ℕ, ◌+◌, ◌<◌, ◌≤◌, length, Bool, true, false, not, ◌&&◌, ◌||◌, ◌==◌, Option, Some, None, is_some, Result, Ok, Err, refl, sym, ◌∙◌, ap, subst, arith, inl, inr}
 use Rattle.std.proofs.lemmas.Bool.{cases_lt, cases_eq, cases_Bool, and_from, and_left, and_right, or_left, or_right, or_cases, both_ways, false≢true, lt-ltb, le-ltb, ltb-true, eq-eqb, ne_eqb, eqb-true}
 use Rattle.std.proofs.Math.Bool.{and-true}
-use Rattle.std.specs.Prelude.{if◌then◌else◌, IfSome}
+use Rattle.std.specs.Prelude.{if◌then◌else◌, IfSome, OnOk}
 use Rattle.std.proofs.lemmas.Option.{same_Some}
 use Rattle.uring_entry.specs.Layout.{Sqe, user_data_of, addr_of}
 use Rattle.uring_entry.specs.Preparation.{is_faulty}
@@ -61,10 +61,10 @@ found-on w v g h x f on places =
     let end = on.end in
     record {
       stop = omega arith;
-      own = λ n data p e kept.
-          let within = (keeps-within x.first x.links.items data n kept).1 in
+      own = λ n named_data p e kept.
+          let within = (keeps-within x.first x.links.items named_data n kept).1 in
           let was = on.kept n p (omega (arith, within)) e in
-          ap user_data_of was.2.entry ∙ f.own n data was.0 was.1 kept;
+          ap user_data_of was.2.entry ∙ f.own n named_data was.0 was.1 kept;
       gone = λ n p e lt none.
           let was = on.kept n p (omega arith) e in
           was.2.doomed (f.gone n was.0 was.1 lt (ap (λ (s : Sqe). keeps x (user_data_of s) n) (sym was.2.entry) ∙ none));
@@ -136,8 +136,7 @@ pub goes-accepted : (w v : Window) (g h : Groups) (entry : Sqe) (request : Reque
 goes-accepted w v g h entry request a = record {
   end = let end = a.end in omega arith;
   kept = λ n p lt e.
-      let was = sym (a.changes.others n (λ same. omega (arith, same))) ∙ e in
-      (
+      let was = sym (a.changes.others n (λ same. omega (arith, same))) ∙ e in (
         p,
         was,
         record {
@@ -190,15 +189,14 @@ goes-ended w v g h n key q b left s c end group exchange stays = record {
   kept = λ k p lt e.
       elim (cases_eq k n) [
         | inl same ↦ some_none p _ (ap (at v) same ∙ c.here) e
-        | inr other ↦
-            (
-              p,
-              sym (c.others k other) ∙ e,
-              record {
-                entry = refl;
-                doomed = doomed-more (dooms (group_at g p.group) k) (dooms (group_at h p.group) k) p.is_cancelled (dooms_on k p e);
-              },
-            )
+        | inr other ↦ (
+          p,
+          sym (c.others k other) ∙ e,
+          record {
+            entry = refl;
+            doomed = doomed-more (dooms (group_at g p.group) k) (dooms (group_at h p.group) k) p.is_cancelled (dooms_on k p e);
+          },
+        )
       ];
 }
   where
@@ -224,16 +222,16 @@ found-same w g x y f same =
     let was = f.stop in
     record {
       stop = omega arith;
-      own = λ n data q e kept. f.own n data q e (sym (same.same data n) ∙ kept);
+      own = λ n named_data q e kept. f.own n named_data q e (sym (same.same named_data n) ∙ kept);
       gone = λ n q e lt none. f.gone n q e (omega arith) (sym (same.same (user_data_of q.entry) n) ∙ none);
       places = places-kept x y (end_of w) f.places same.span.places;
     }
 
 pub found-none : (w : Window) (g : Groups) (x : ByUserData) → end_of w ≡ 0 → stop_of x ≡ 0
-    → ((data n : ℕ) → keeps x data n ≡ false) → AreFound w g x
+    → ((named_data n : ℕ) → keeps x named_data n ≡ false) → AreFound w g x
 found-none w g x end stop none = record {
   stop = omega arith;
-  own = λ n data q e kept. absurd (both_ways _ (none data n) kept);
+  own = λ n named_data q e kept. absurd (both_ways _ (none named_data n) kept);
   gone = λ n q e lt kept. absurd (omega (arith, lt));
   places = record { links = omega arith; ends = omega arith };
 }
@@ -241,17 +239,17 @@ found-none w g x end stop none = record {
 -- the number n was looked at
 pub found-pushed : (w : Window) (g : Groups) (x y : ByUserData) (n : ℕ) → AreFound w g x
     → stop_of x ≡ n → n < end_of w
-    → ((data : ℕ) → keeps y data n ≡ is_data (user_data_at w n) data)
-    → ((data k : ℕ) → k ≢ n → keeps y data k ≡ keeps x data k) → stop_of y ≡ n + 1
+    → ((named_data : ℕ) → keeps y named_data n ≡ is_data (user_data_at w n) named_data)
+    → ((named_data k : ℕ) → k ≢ n → keeps y named_data k ≡ keeps x named_data k) → stop_of y ≡ n + 1
     → KeepsPlaces x y → AreFound w g y
 found-pushed w g x y n f is lt here others stop places = record {
   stop = omega arith;
-  own = λ k data q e kept.
+  own = λ k named_data q e kept.
       elim (cases_eq k n) [
         | inl same ↦
-            eqb-true (user_data_of q.entry) data
-            (ap (λ o. is_data (data_of o) data) (sym (ap (at w) (sym same) ∙ e)) ∙ sym (here data) ∙ ap (keeps y data) (sym same) ∙ kept)
-        | inr other ↦ f.own k data q e (sym (others data k other) ∙ kept)
+            eqb-true (user_data_of q.entry) named_data
+            (ap (λ o. is_data (data_of o) named_data) (sym (ap (at w) (sym same) ∙ e)) ∙ sym (here named_data) ∙ ap (keeps y named_data) (sym same) ∙ kept)
+        | inr other ↦ f.own k named_data q e (sym (others named_data k other) ∙ kept)
       ];
   gone = λ k q e below none.
       elim (cases_eq k n) [
@@ -273,7 +271,7 @@ found-left w g x y n f out span gone =
     let was = f.stop in
     record {
       stop = omega arith;
-      own = λ k data q e kept. f.own k data q e (and_left-true _ _ (sym (out data k) ∙ kept));
+      own = λ k named_data q e kept. f.own k named_data q e (and_left-true _ _ (sym (out named_data k) ∙ kept));
       gone = λ k q e lt none.
           elim (cases_eq k n) [
             | inl same ↦ ap (is_gone_as g k) (sym e) ∙ ap (λ j. is_gone_as g j (at w j)) same ∙ gone
@@ -295,14 +293,14 @@ found-left w g x y n f out span gone =
 -- the numbers before the first outstanding one were let go
 pub found-dropped : (w : Window) (g : Groups) (x y : ByUserData) (n : ℕ) → AreFound w g x
     → n ≤ end_of w → ((k : ℕ) → k < n → at w k ≡ None)
-    → ((data k : ℕ) → n ≤ k → keeps y data k ≡ keeps x data k)
+    → ((named_data k : ℕ) → n ≤ k → keeps y named_data k ≡ keeps x named_data k)
     → ((k : ℕ) → stop_of x ≤ k → n ≤ k → stop_of y ≤ k) → KeepsPlaces x y → AreFound w g y
 found-dropped w g x y n f within before kept no_more places = record {
   stop = no_more (end_of w) f.stop within;
-  own = λ k data q e is.
+  own = λ k named_data q e is.
       elim (cases_lt k n) [
         | inl low ↦ some_none q _ (before k low) e
-        | inr high ↦ f.own k data q e (sym (kept data k high) ∙ is)
+        | inr high ↦ f.own k named_data q e (sym (kept named_data k high) ∙ is)
       ];
   gone = λ k q e lt none.
       elim (cases_lt k n) [
@@ -318,15 +316,15 @@ found-dropped w g x y n f within before kept no_more places = record {
 
 -- What a search finds.
 
-pub open-none : (w : Window) (g : Groups) (x : ByUserData) (data n : ℕ) → AreFound w g x
-    → stop_of x ≡ end_of w → keeps x data n ≡ false → is_open w g data n ≡ false
-open-none w g x data n f full none = go (at w n) refl
+pub open-none : (w : Window) (g : Groups) (x : ByUserData) (named_data n : ℕ) → AreFound w g x
+    → stop_of x ≡ end_of w → keeps x named_data n ≡ false → is_open w g named_data n ≡ false
+open-none w g x named_data n f full none = go (at w n) refl
   where
-    go : (o : Option Request) → at w n ≡ o → is_open_as g data n o ≡ false
+    go : (o : Option Request) → at w n ≡ o → is_open_as g named_data n o ≡ false
     go None e = refl
     go (Some q) e =
-        elim (cases_eq (user_data_of q.entry) data) [
-          | inr other ↦ and_left _ _ (ne_eqb (user_data_of q.entry) data other)
+        elim (cases_eq (user_data_of q.entry) named_data) [
+          | inr other ↦ and_left _ _ (ne_eqb (user_data_of q.entry) named_data other)
           | inl same ↦
               elim (cases_lt n (end_of w)) [
                 | inr past ↦ some_none q _ (at-past w n past) e
@@ -334,110 +332,110 @@ open-none w g x data n f full none = go (at w n) refl
               ]
         ]
 
-pub open-some : (w : Window) (g : Groups) (x : ByUserData) (data n : ℕ) → AreFound w g x
-    → keeps x data n ≡ true → is_gone w g n ≡ false → is_open w g data n ≡ true
-open-some w g x data n f kept still = go (at w n) refl still
+pub open-some : (w : Window) (g : Groups) (x : ByUserData) (named_data n : ℕ) → AreFound w g x
+    → keeps x named_data n ≡ true → is_gone w g n ≡ false → is_open w g named_data n ≡ true
+open-some w g x named_data n f kept still = go (at w n) refl still
   where
-    go : (o : Option Request) → at w n ≡ o → is_gone_as g n o ≡ false → is_open_as g data n o ≡ true
+    go : (o : Option Request) → at w n ≡ o → is_gone_as g n o ≡ false → is_open_as g named_data n o ≡ true
     go None e s = absurd (both_ways _ s refl)
-    go (Some q) e s = and_from _ _ (eq-eqb (user_data_of q.entry) data (f.own n data q e kept)) (ap not s)
+    go (Some q) e s = and_from _ _ (eq-eqb (user_data_of q.entry) named_data (f.own n named_data q e kept)) (ap not s)
 
-pub open-least : (w : Window) (g : Groups) (x : ByUserData) (data from n : ℕ) → AreFound w g x
-    → stop_of x ≡ end_of w → IsFirstFrom (keeps x data) from n → is_gone w g n ≡ false
-    → IsFirstFrom (is_open w g data) from n
-open-least w g x data from n f full first still = record {
+pub open-least : (w : Window) (g : Groups) (x : ByUserData) (named_data from n : ℕ) → AreFound w g x
+    → stop_of x ≡ end_of w → IsFirstFrom (keeps x named_data) from n → is_gone w g n ≡ false
+    → IsFirstFrom (is_open w g named_data) from n
+open-least w g x named_data from n f full first still = record {
   from_on = first.from_on;
-  here = open-some w g x data n f first.here still;
-  before = λ k le lt. open-none w g x data k f full (first.before k le lt);
+  here = open-some w g x named_data n f first.here still;
+  before = λ k le lt. open-none w g x named_data k f full (first.before k le lt);
 }
 
 -- what a cancel may choose is open, and no cancel chooses itself
-pub open-held : (w : Window) (g : Groups) (r : Requests) (n m data : ℕ) → IsSound w g
-    → AreHeld w g r → data ≡ addr_of (entry_of r n)
-    → is_candidate r n m ≡ (is_open w g data m && not (m == n))
-open-held w g r n m data s h named = go (at w m) refl
+pub open-held : (w : Window) (g : Groups) (r : Requests) (n m named_data : ℕ) → IsSound w g
+    → AreHeld w g r → named_data ≡ addr_of (entry_of r n)
+    → is_candidate r n m ≡ (is_open w g named_data m && not (m == n))
+open-held w g r n m named_data s h named = go (at w m) refl
   where
-    go : (o : Option Request) → at w m ≡ o → is_candidate r n m ≡ (is_open_as g data m o && not (m == n))
+    go : (o : Option Request) → at w m ≡ o → is_candidate r n m ≡ (is_open_as g named_data m o && not (m == n))
     go None e = candidate-none w g r n m h e
     go (Some q) e =
         elim (cases_eq m n) [
           | inl same ↦ candidate-self r n m same ∙ sym (and_right _ _ (ap not (eq-eqb m n same)))
           | inr other ↦
-              elim (cases_eq (user_data_of q.entry) data) [
+              elim (cases_eq (user_data_of q.entry) named_data) [
                 | inr ne ↦
-                    candidate-other_data w g r n m q data h e named ne
-                    ∙ sym (and_left _ _ (and_left _ _ (ne_eqb (user_data_of q.entry) data ne)))
+                    candidate-other_data w g r n m q named_data h e named ne
+                    ∙ sym (and_left _ _ (and_left _ _ (ne_eqb (user_data_of q.entry) named_data ne)))
                 | inl same ↦
                     let link = linked w g m q s e in
-                    candidate-else w g r n m q data s h e named other same
+                    candidate-else w g r n m q named_data s h e named other same
                     ∙ ap not (doomed-held w g r m q link.group s h e link.found)
                     ∙ ap (λ o. not (dooms o m || q.is_cancelled)) (sym link.found)
-                    ∙ ap (λ b. b && not (is_doomed_in g m q)) (sym (eq-eqb (user_data_of q.entry) data same))
-                    ∙ sym (ap (λ b. is_open_as g data m (Some q) && not b) (ne_eqb m n other) ∙ and-true _)
+                    ∙ ap (λ b. b && not (is_doomed_in g m q)) (sym (eq-eqb (user_data_of q.entry) named_data same))
+                    ∙ sym (ap (λ b. is_open_as g named_data m (Some q) && not b) (ne_eqb m n other) ∙ and-true _)
               ]
         ]
 
-pub open-there : (w : Window) (g : Groups) (data n : ℕ) → is_open w g data n ≡ true
+pub open-there : (w : Window) (g : Groups) (named_data n : ℕ) → is_open w g named_data n ≡ true
     → (q : Request) × (at w n ≡ Some q)
-open-there w g data n e = go (at w n) refl e
+open-there w g named_data n e = go (at w n) refl e
   where
-    go : (o : Option Request) → at w n ≡ o → is_open_as g data n o ≡ true → (q : Request) × (at w n ≡ Some q)
+    go : (o : Option Request) → at w n ≡ o → is_open_as g named_data n o ≡ true → (q : Request) × (at w n ≡ Some q)
     go None is e = absurd (both_ways false refl e)
     go (Some q) is e = (q, is)
 
-in-range : (w : Window) (g : Groups) (r : Requests) (data m : ℕ) → IsSound w g → AreHeld w g r
-    → is_open w g data m ≡ true → m < length r.accepted
-in-range w g r data m s h e =
-    let found = open-there w g data m e in shown-within w g r m found.0 s h found.1
+in-range : (w : Window) (g : Groups) (r : Requests) (named_data m : ℕ) → IsSound w g → AreHeld w g r
+    → is_open w g named_data m ≡ true → m < length r.accepted
+in-range w g r named_data m s h e =
+    let found = open-there w g named_data m e in shown-within w g r m found.0 s h found.1
 
 -- the first that is open is the target, unless it is the cancel itself
-pub target-first : (w : Window) (g : Groups) (r : Requests) (n data m : ℕ) → IsSound w g
-    → AreHeld w g r → data ≡ addr_of (entry_of r n) → IsFirstFrom (is_open w g data) 0 m → m ≢ n
+pub target-first : (w : Window) (g : Groups) (r : Requests) (n named_data m : ℕ) → IsSound w g
+    → AreHeld w g r → named_data ≡ addr_of (entry_of r n) → IsFirstFrom (is_open w g named_data) 0 m → m ≢ n
     → Some m ≡ target_of r n
-target-first w g r n data m s h named first other =
+target-first w g r n named_data m s h named first other =
     sym
-    (target_of-some r n m (in-range w g r data m s h first.here)
-    (open-held w g r n m data s h named ∙ and_from _ _ first.here (ap not (ne_eqb m n other)))
-    (λ k lt. open-held w g r n k data s h named ∙ and_left _ _ (first.before k (omega arith) lt)))
+    (target_of-some r n m (in-range w g r named_data m s h first.here)
+    (open-held w g r n m named_data s h named ∙ and_from _ _ first.here (ap not (ne_eqb m n other)))
+    (λ k lt. open-held w g r n k named_data s h named ∙ and_left _ _ (first.before k (omega arith) lt)))
 
 -- else the next is, if there is one
-pub target-second : (w : Window) (g : Groups) (r : Requests) (n data : ℕ) (o : Option ℕ) → IsSound w g
-    → AreHeld w g r → data ≡ addr_of (entry_of r n) → IsFirstFrom (is_open w g data) 0 n
-    → FindsLeast (is_open w g data) (n + 1) o → o ≡ target_of r n
-target-second w g r n data o s h named first rest = go o rest
+pub target-second : (w : Window) (g : Groups) (r : Requests) (n named_data : ℕ) (o : Option ℕ) → IsSound w g
+    → AreHeld w g r → named_data ≡ addr_of (entry_of r n) → IsFirstFrom (is_open w g named_data) 0 n
+    → FindsLeast (is_open w g named_data) (n + 1) o → o ≡ target_of r n
+target-second w g r n named_data o s h named first rest = go o rest
   where
     low : (k : ℕ) → k < n + 1 → is_candidate r n k ≡ false
     low k lt =
         elim (cases_eq k n) [
           | inl same ↦ candidate-self r n k same
-          | inr other ↦ open-held w g r n k data s h named ∙ and_left _ _ (first.before k (omega arith) (omega (arith, other)))
+          | inr other ↦ open-held w g r n k named_data s h named ∙ and_left _ _ (first.before k (omega arith) (omega (arith, other)))
         ]
 
-    go : (o : Option ℕ) → FindsLeast (is_open w g data) (n + 1) o → o ≡ target_of r n
+    go : (o : Option ℕ) → FindsLeast (is_open w g named_data) (n + 1) o → o ≡ target_of r n
     go None f =
         sym
         (target_of-none r n
         (λ k lt.
         elim (cases_lt k (n + 1)) [
           | inl under ↦ low k under
-          | inr over ↦ open-held w g r n k data s h named ∙ and_left _ _ (f k over)
+          | inr over ↦ open-held w g r n k named_data s h named ∙ and_left _ _ (f k over)
         ]))
     go (Some m) f =
         sym
-        (target_of-some r n m (in-range w g r data m s h f.here)
-        (open-held w g r n m data s h named ∙ and_from _ _ f.here (ap not (ne_eqb m n (λ e. absurd (let on = f.from_on in omega (arith, e))))))
+        (target_of-some r n m (in-range w g r named_data m s h f.here)
+        (open-held w g r n m named_data s h named ∙ and_from _ _ f.here (ap not (ne_eqb m n (λ e. absurd (let on = f.from_on in omega (arith, e))))))
         (λ k lt.
         elim (cases_lt k (n + 1)) [
           | inl under ↦ low k under
-          | inr over ↦ open-held w g r n k data s h named ∙ and_left _ _ (f.before k over lt)
+          | inr over ↦ open-held w g r n k named_data s h named ∙ and_left _ _ (f.before k over lt)
         ]))
 
 -- and if none is open there is no target
-pub target-nobody : (w : Window) (g : Groups) (r : Requests) (n data : ℕ) → IsSound w g
-    → AreHeld w g r → data ≡ addr_of (entry_of r n) → ((k : ℕ) → 0 ≤ k → is_open w g data k ≡ false)
+pub target-nobody : (w : Window) (g : Groups) (r : Requests) (n named_data : ℕ) → IsSound w g
+    → AreHeld w g r → named_data ≡ addr_of (entry_of r n) → ((k : ℕ) → 0 ≤ k → is_open w g named_data k ≡ false)
     → None ≡ target_of r n
-target-nobody w g r n data s h named none =
-    sym (target_of-none r n (λ k lt. open-held w g r n k data s h named ∙ and_left _ _ (none k (omega arith))))
+target-nobody w g r n named_data s h named none =
+    sym (target_of-none r n (λ k lt. open-held w g r n k named_data s h named ∙ and_left _ _ (none k (omega arith))))
 
 -- a request was started, or chosen, in the same groups
 pub found-started : (w v : Window) (g h : Groups) (x : ByUserData) (n : ℕ) (q : Request)
@@ -454,15 +452,19 @@ found-chosen w v g h x n q f there c end same =
     subst (λ z. AreFound v z x) (sym same)
     (found-on w v g g x f (goes-chosen w v g n q there c end) (places-fewer x (end_of w) (end_of v) (omega arith) f.places))
 
-pub finds-there : (w : Window) (g : Groups) (data from : ℕ) (o : Option ℕ)
-    → FindsLeast (is_open w g data) from o → IfSome o (λ m. is_some (at w m) ≡ true)
-finds-there w g data from None f = tt
-finds-there w g data from (Some m) f = ap is_some (open-there w g data m f.here).1
+pub finds-there : (w : Window) (g : Groups) (named_data from : ℕ) (o : Option ℕ)
+    → FindsLeast (is_open w g named_data) from o → IfSome o (λ m. is_some (at w m) ≡ true)
+finds-there w g named_data from None f = tt
+finds-there w g named_data from (Some m) f = ap is_some (open-there w g named_data m f.here).1
 
-pub open-within : (w : Window) (g : Groups) (data n : ℕ) → is_open w g data n ≡ true → n < end_of w
-open-within w g data n e =
-    let found = open-there w g data n e in
+pub open-within : (w : Window) (g : Groups) (named_data n : ℕ) → is_open w g named_data n ≡ true → n < end_of w
+open-within w g named_data n e =
+    let found = open-there w g named_data n e in
     elim (cases_lt n (end_of w)) [
       | inl lt ↦ lt
       | inr past ↦ some_none found.0 _ (at-past w n past) found.1
     ]
+
+pub ok-then : {E P Q : Type 0} (x : Result (Unit {0}) E) → (P → Q) → OnOk x P → OnOk x Q
+ok-then (Ok u) f p = f p
+ok-then (Err e) f p = p

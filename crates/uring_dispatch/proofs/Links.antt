@@ -92,44 +92,44 @@ finds-below a b from m n same lt f = record {
 
 -- What is kept.
 
-pub keeps-key : (first : ℕ) (links : List (Option Link)) (data n : ℕ)
-    → keeps_in first links data n ≡ true
-    → (l : Link) × (key_at first links n ≡ Some l) × (l.user_data ≡ data)
-keeps-key first links data n e = go (key_at first links n) refl e
+pub keeps-key : (first : ℕ) (links : List (Option Link)) (named_data n : ℕ)
+    → keeps_in first links named_data n ≡ true
+    → (l : Link) × (key_at first links n ≡ Some l) × (l.user_data ≡ named_data)
+keeps-key first links named_data n e = go (key_at first links n) refl e
   where
-    go : (o : Option Link) → key_at first links n ≡ o → names data o ≡ true
-        → (l : Link) × (key_at first links n ≡ Some l) × (l.user_data ≡ data)
+    go : (o : Option Link) → key_at first links n ≡ o → names named_data o ≡ true
+        → (l : Link) × (key_at first links n ≡ Some l) × (l.user_data ≡ named_data)
     go None is e = absurd (both_ways false refl e)
-    go (Some l) is e = (l, is, eqb-true l.user_data data e)
+    go (Some l) is e = (l, is, eqb-true l.user_data named_data e)
 
-pub keeps-within : (first : ℕ) (links : List (Option Link)) (data n : ℕ)
-    → keeps_in first links data n ≡ true → (first ≤ n) × (n < first + length links)
-keeps-within first links data n e =
-    let found = keeps-key first links data n e in key_at-within first links n found.0 found.1
+pub keeps-within : (first : ℕ) (links : List (Option Link)) (named_data n : ℕ)
+    → keeps_in first links named_data n ≡ true → (first ≤ n) × (n < first + length links)
+keeps-within first links named_data n e =
+    let found = keeps-key first links named_data n e in key_at-within first links n found.0 found.1
 
 pub keeps-at : (first : ℕ) (links : List (Option Link)) (n : ℕ) (l : Link)
     → key_at first links n ≡ Some l → keeps_in first links l.user_data n ≡ true
 keeps-at first links n l e = ap (names l.user_data) e ∙ eq-eqb l.user_data l.user_data refl
 
-pub keeps-one : (first : ℕ) (links : List (Option Link)) (data other n : ℕ)
-    → keeps_in first links data n ≡ true → keeps_in first links other n ≡ true → data ≡ other
-keeps-one first links data other n a b =
-    let x = keeps-key first links data n a in
+pub keeps-one : (first : ℕ) (links : List (Option Link)) (named_data other n : ℕ)
+    → keeps_in first links named_data n ≡ true → keeps_in first links other n ≡ true → named_data ≡ other
+keeps-one first links named_data other n a b =
+    let x = keeps-key first links named_data n a in
     let y = keeps-key first links other n b in
     sym x.2 ∙ ap (λ (l : Link). l.user_data) (same_Some _ _ (sym x.1 ∙ y.1)) ∙ y.2
 
-pub keeps-past : (first : ℕ) (links : List (Option Link)) (data n : ℕ)
-    → first + length links ≤ n → keeps_in first links data n ≡ false
-keeps-past first links data n le = ap (names data) (key_at-past first links n le)
+pub keeps-past : (first : ℕ) (links : List (Option Link)) (named_data n : ℕ)
+    → first + length links ≤ n → keeps_in first links named_data n ≡ false
+keeps-past first links named_data n le = ap (names named_data) (key_at-past first links n le)
 
 -- who is kept has ends
-pub ends-there : (first : ℕ) (links : List (Option Link)) (ends : ℕ → Option Ends) (data n : ℕ)
-    → AreLinked first links ends → keeps_in first links data n ≡ true
-    → (e : Ends) × (ends data ≡ Some e)
-ends-there first links ends data n l k = go (ends data) refl (l.least data)
+pub ends-there : (first : ℕ) (links : List (Option Link)) (ends : ℕ → Option Ends) (named_data n : ℕ)
+    → AreLinked first links ends → keeps_in first links named_data n ≡ true
+    → (e : Ends) × (ends named_data ≡ Some e)
+ends-there first links ends named_data n l k = go (ends named_data) refl (l.least named_data)
   where
-    go : (o : Option Ends) → ends data ≡ o → FindsLeast (keeps_in first links data) 0 (first_in o)
-        → (e : Ends) × (ends data ≡ Some e)
+    go : (o : Option Ends) → ends named_data ≡ o → FindsLeast (keeps_in first links named_data) 0 (first_in o)
+        → (e : Ends) × (ends named_data ≡ Some e)
     go None is f = absurd (both_ways _ (f n (omega arith)) k)
     go (Some e) is f = (e, is)
 
@@ -138,15 +138,15 @@ pub linked-same : (first later : ℕ) (links now : List (Option Link)) (ends : �
     → AreLinked first links ends → ((k : ℕ) → key_at later now k ≡ key_at first links k)
     → later + length now < 2 ^ 64 → AreLinked later now ends
 linked-same first later links now ends l same fits =
-    let kept : (data k : ℕ) → keeps_in later now data k ≡ keeps_in first links data k =
-    λ data k. ap (names data) (same k)
+    let kept : (named_data k : ℕ) → keeps_in later now named_data k ≡ keeps_in first links named_data k =
+    λ named_data k. ap (names named_data) (same k)
     in
     record {
       next = λ n link e. finds-same _ _ _ _ (kept link.user_data) (l.next n link (sym (same n) ∙ e));
-      least = λ data. finds-same _ _ _ _ (kept data) (l.least data);
-      last = λ data e is.
-          let last = l.last data e is in
-          record { here = kept data e.last ∙ last.here; after = λ k lt. kept data k ∙ last.after k lt };
+      least = λ named_data. finds-same _ _ _ _ (kept named_data) (l.least named_data);
+      last = λ named_data e is.
+          let last = l.last named_data e is in
+          record { here = kept named_data e.last ∙ last.here; after = λ k lt. kept named_data k ∙ last.after k lt };
       fits = fits;
     }
 
@@ -155,31 +155,31 @@ pub linked-ends : (first : ℕ) (links : List (Option Link)) (ends now : ℕ →
     → AreLinked first links ends → ((k : ℕ) → now k ≡ ends k) → AreLinked first links now
 linked-ends first links ends now l same = record {
   next = l.next;
-  least = λ data. rw (same data) (l.least data);
-  last = λ data e is. l.last data e (sym (same data) ∙ is);
+  least = λ named_data. rw (same named_data) (l.least named_data);
+  last = λ named_data e is. l.last named_data e (sym (same named_data) ∙ is);
   fits = l.fits;
 }
 
 pub nothing-linked : (ends : ℕ → Option Ends) → ((k : ℕ) → ends k ≡ None) → AreLinked 0 [] ends
 nothing-linked ends none = record {
   next = λ n l e. some_none l _ (key_at-past 0 [] n (omega arith)) e;
-  least = λ data. rw (none data) (λ k le. keeps-past 0 [] data k (omega arith));
-  last = λ data e is. some_none e _ (none data) is;
+  least = λ named_data. rw (none named_data) (λ k le. keeps-past 0 [] named_data k (omega arith));
+  last = λ named_data e is. some_none e _ (none named_data) is;
   fits = omega arith;
 }
 
 -- A number leaves.
 
 -- the links without the number m, which was the next behind this place
-pub record Leaves (first : ℕ) (links now : List (Option Link)) (before : Option ℕ) (data m : ℕ) (next : Option ℕ) : Type 0 where
+pub record Leaves (first : ℕ) (links now : List (Option Link)) (before : Option ℕ) (named_data m : ℕ) (next : Option ℕ) : Type 0 where
   pub gone : key_at first now m ≡ None
-  pub named : (p : ℕ) → before ≡ Some p → key_at first now p ≡ Some (record { user_data = data; next = next })
+  pub named : (p : ℕ) → before ≡ Some p → key_at first now p ≡ Some (record { user_data = named_data; next = next })
   pub others : (k : ℕ) → k ≢ m → (before ≡ Some k → ⊥) → key_at first now k ≡ key_at first links k
 
-place-kept : (first : ℕ) (links : List (Option Link)) (before : Option ℕ) (data k : ℕ)
-    → ((p : ℕ) → before ≡ Some p → keeps_in first links data p ≡ true) → before ≡ Some k
-    → keeps_in first links data k ≡ true
-place-kept first links before data k place e = place k e
+place-kept : (first : ℕ) (links : List (Option Link)) (before : Option ℕ) (named_data k : ℕ)
+    → ((p : ℕ) → before ≡ Some p → keeps_in first links named_data p ≡ true) → before ≡ Some k
+    → keeps_in first links named_data k ≡ true
+place-kept first links before named_data k place e = place k e
 
 is-place : (before : Option ℕ) (k : ℕ) → (before ≡ Some k) ⊎ (before ≡ Some k → ⊥)
 is-place None k = inr (λ e. some_none k None refl e)
@@ -189,12 +189,12 @@ is-place (Some p) k =
       | inr other ↦ inr (λ e. other (same_Some _ _ e))
     ]
 
-pub left-keeps : (first : ℕ) (links now : List (Option Link)) (before : Option ℕ) (data m : ℕ) (next : Option ℕ)
-    → Leaves first links now before data m next
-    → ((p : ℕ) → before ≡ Some p → keeps_in first links data p ≡ true)
+pub left-keeps : (first : ℕ) (links now : List (Option Link)) (before : Option ℕ) (named_data m : ℕ) (next : Option ℕ)
+    → Leaves first links now before named_data m next
+    → ((p : ℕ) → before ≡ Some p → keeps_in first links named_data p ≡ true)
     → ((p : ℕ) → before ≡ Some p → p ≢ m) → (other k : ℕ)
     → keeps_in first now other k ≡ (keeps_in first links other k && not (k == m))
-left-keeps first links now before data m next l place apart other k =
+left-keeps first links now before named_data m next l place apart other k =
     elim (cases_eq k m) [
       | inl same ↦
           ap (λ j. names other (key_at first now j)) same ∙ ap (names other) l.gone
@@ -202,7 +202,7 @@ left-keeps first links now before data m next l place apart other k =
       | inr ne ↦
           elim (is-place before k) [
             | inl here ↦
-                let was = keeps-key first links data k (place k here) in
+                let was = keeps-key first links named_data k (place k here) in
                 ap (names other) (l.named k here)
                 ∙ ap (λ d. d == other) (sym was.2)
                 ∙ sym (ap (names other) was.1)
@@ -221,19 +221,19 @@ behind-place (Some q) p m e le = let same : q ≡ p = same_Some _ _ e in omega a
 pub place-apart : (before : Option ℕ) (m : ℕ) → behind before ≤ m → (p : ℕ) → before ≡ Some p → p ≢ m
 place-apart before m le p e same = let lt = behind-place before p m e le in omega (arith, same)
 
-pub linked-left : (first : ℕ) (links now : List (Option Link)) (ends later : ℕ → Option Ends) (before : Option ℕ) (data m : ℕ) (next : Option ℕ)
-    → AreLinked first links ends → Leaves first links now before data m next
-    → ((p : ℕ) → before ≡ Some p → keeps_in first links data p ≡ true)
-    → IsFirstFrom (keeps_in first links data) (behind before) m
-    → FindsLeast (keeps_in first links data) (m + 1) next
-    → PutsAt ends later data (ends_left (ends data) before next) → length now ≡ length links
+pub linked-left : (first : ℕ) (links now : List (Option Link)) (ends later : ℕ → Option Ends) (before : Option ℕ) (named_data m : ℕ) (next : Option ℕ)
+    → AreLinked first links ends → Leaves first links now before named_data m next
+    → ((p : ℕ) → before ≡ Some p → keeps_in first links named_data p ≡ true)
+    → IsFirstFrom (keeps_in first links named_data) (behind before) m
+    → FindsLeast (keeps_in first links named_data) (m + 1) next
+    → PutsAt ends later named_data (ends_left (ends named_data) before next) → length now ≡ length links
     → AreLinked first now later
-linked-left first links now ends later before data m next l leaves place at_m behind_m puts long =
+linked-left first links now ends later before named_data m next l leaves place at_m behind_m puts long =
     record { next = next_is; least = least_is; last = last_is; fits = let fits = l.fits in omega arith }
   where
     kept : (other k : ℕ) → keeps_in first now other k ≡ (keeps_in first links other k && not (k == m))
-    kept = left-keeps first links now before data m next leaves place
-    (λ p is e. let lt = behind-place before p m is at_m.from_on in omega (arith, e))
+    kept = left-keeps first links now before named_data m next leaves place
+        (λ p is e. let lt = behind-place before p m is at_m.from_on in omega (arith, e))
 
     -- no other number has m as its next
     only : (k : ℕ) → (before ≡ Some k → ⊥) → (other : ℕ) → (o : Option ℕ) → keeps_in first links other k ≡ true
@@ -242,15 +242,15 @@ linked-left first links now ends later before data m next l leaves place at_m be
     only k no_place other (Some j) here f e =
         let same : j ≡ m = same_Some _ _ e in
         let kept_m : keeps_in first links other m ≡ true = ap (keeps_in first links other) (sym same) ∙ f.here in
-        let one : other ≡ data = keeps-one first links other data m kept_m at_m.here in
-        let mine : keeps_in first links data k ≡ true = ap (λ d. keeps_in first links d k) (sym one) ∙ here in
+        let one : other ≡ named_data = keeps-one first links other named_data m kept_m at_m.here in
+        let mine : keeps_in first links named_data k ≡ true = ap (λ d. keeps_in first links d k) (sym one) ∙ here in
         let lt = f.from_on in
         elim (cases_lt k (behind before)) [
           | inr high ↦ both_ways _ (at_m.before k high (omega arith)) mine
           | inl low ↦ below before refl low same one f
         ]
       where
-        below : (b : Option ℕ) → before ≡ b → k < behind b → j ≡ m → other ≡ data
+        below : (b : Option ℕ) → before ≡ b → k < behind b → j ≡ m → other ≡ named_data
             → IsFirstFrom (keeps_in first links other) (k + 1) j → ⊥
         below None is low same one f = omega (arith, low)
         below (Some p) is low same one f =
@@ -277,56 +277,56 @@ linked-left first links now ends later before data m next l leaves place at_m be
               ]
         ]
       where
-        named : (n : ℕ) → before ≡ Some n → record { user_data = data; next = next } ≡ link
+        named : (n : ℕ) → before ≡ Some n → record { user_data = named_data; next = next } ≡ link
             → FindsLeast (keeps_in first now link.user_data) (n + 1) link.next
         named n here same =
             let P : Link → Type 0 = λ x. FindsLeast (keeps_in first now x.user_data) (n + 1) x.next in
             subst P same
-            (finds-without (keeps_in first links data) _ (n + 1) m next (kept data)
+            (finds-without (keeps_in first links named_data) _ (n + 1) m next (kept named_data)
             (from_place n here) behind_m)
 
-        from_place : (n : ℕ) → before ≡ Some n → IsFirstFrom (keeps_in first links data) (n + 1) m
-        from_place n here = subst (λ b. IsFirstFrom (keeps_in first links data) (behind b) m) here at_m
+        from_place : (n : ℕ) → before ≡ Some n → IsFirstFrom (keeps_in first links named_data) (n + 1) m
+        from_place n here = subst (λ b. IsFirstFrom (keeps_in first links named_data) (behind b) m) here at_m
 
     least_is : (other : ℕ) → FindsLeast (keeps_in first now other) 0 (first_in (later other))
     least_is other =
-        elim (cases_eq other data) [
+        elim (cases_eq other named_data) [
           | inr ne ↦
               rw (puts.others other ne)
               (finds-stays (keeps_in first links other) _ 0 m _ (kept other) (apart (first_in (ends other)) ne (l.least other)) (l.least other))
           | inl same ↦ rw same (own before refl)
         ]
       where
-        apart : (o : Option ℕ) → other ≢ data → FindsLeast (keeps_in first links other) 0 o → o ≡ Some m → ⊥
+        apart : (o : Option ℕ) → other ≢ named_data → FindsLeast (keeps_in first links other) 0 o → o ≡ Some m → ⊥
         apart None ne f e = some_none m None refl e
         apart (Some j) ne f e =
             let same : j ≡ m = same_Some _ _ e in
-            ne (keeps-one first links other data m (ap (keeps_in first links other) (sym same) ∙ f.here) at_m.here)
+            ne (keeps-one first links other named_data m (ap (keeps_in first links other) (sym same) ∙ f.here) at_m.here)
 
-        own : (b : Option ℕ) → before ≡ b → FindsLeast (keeps_in first now data) 0 (first_in (later data))
+        own : (b : Option ℕ) → before ≡ b → FindsLeast (keeps_in first now named_data) 0 (first_in (later named_data))
         own None is =
-            let e = ends-there first links ends data m l at_m.here in
+            let e = ends-there first links ends named_data m l at_m.here in
             rw (puts.here, is, e.1)
-            (from_first e.0 next (finds-without (keeps_in first links data) _ 0 m next (kept data) (subst (λ b. IsFirstFrom (keeps_in first links data) (behind b) m) is at_m) behind_m))
+            (from_first e.0 next (finds-without (keeps_in first links named_data) _ 0 m next (kept named_data) (subst (λ b. IsFirstFrom (keeps_in first links named_data) (behind b) m) is at_m) behind_m))
         own (Some p) is =
             let lt = behind-place before p m is at_m.from_on in
             rw (puts.here, is)
-            (from_last (ends data) p next
-            (finds-stays (keeps_in first links data) _ 0 m _ (kept data) (not_m (first_in (ends data)) p lt (place p is) (l.least data)) (l.least data)))
+            (from_last (ends named_data) p next
+            (finds-stays (keeps_in first links named_data) _ 0 m _ (kept named_data) (not_m (first_in (ends named_data)) p lt (place p is) (l.least named_data)) (l.least named_data)))
 
-        from_first : (e : Ends) (o : Option ℕ) → FindsLeast (keeps_in first now data) 0 o
-            → FindsLeast (keeps_in first now data) 0 (first_in (with_first (Some e) o))
+        from_first : (e : Ends) (o : Option ℕ) → FindsLeast (keeps_in first now named_data) 0 o
+            → FindsLeast (keeps_in first now named_data) 0 (first_in (with_first (Some e) o))
         from_first e None f = f
         from_first e (Some n) f = f
 
-        from_last : (e : Option Ends) (p : ℕ) (o : Option ℕ) → FindsLeast (keeps_in first now data) 0 (first_in e)
-            → FindsLeast (keeps_in first now data) 0 (first_in (with_last e p o))
+        from_last : (e : Option Ends) (p : ℕ) (o : Option ℕ) → FindsLeast (keeps_in first now named_data) 0 (first_in e)
+            → FindsLeast (keeps_in first now named_data) 0 (first_in (with_last e p o))
         from_last e p (Some n) f = f
         from_last None p None f = f
         from_last (Some e) p None f = f
 
-        not_m : (o : Option ℕ) (p : ℕ) → p < m → keeps_in first links data p ≡ true
-            → FindsLeast (keeps_in first links data) 0 o → o ≡ Some m → ⊥
+        not_m : (o : Option ℕ) (p : ℕ) → p < m → keeps_in first links named_data p ≡ true
+            → FindsLeast (keeps_in first links named_data) 0 o → o ≡ Some m → ⊥
         not_m None p lt here f e = some_none m None refl e
         not_m (Some j) p lt here f e =
             let same : j ≡ m = same_Some _ _ e in both_ways _ (f.before p (omega arith) (omega arith)) here
@@ -340,58 +340,58 @@ linked-left first links now ends later before data m next l leaves place at_m be
 
     last_is : (other : ℕ) (e : Ends) → later other ≡ Some e → IsLast (keeps_in first now other) e.last
     last_is other e is =
-        elim (cases_eq other data) [
+        elim (cases_eq other named_data) [
           | inr ne ↦
               let was = l.last other e (sym (puts.others other ne) ∙ is) in
               last_stays other e was
-              (λ same. ne (keeps-one first links other data m (ap (keeps_in first links other) (sym same) ∙ was.here) at_m.here))
+              (λ same. ne (keeps-one first links other named_data m (ap (keeps_in first links other) (sym same) ∙ was.here) at_m.here))
           | inl same ↦
-              let found = ends-there first links ends data m l at_m.here in
+              let found = ends-there first links ends named_data m l at_m.here in
               let now_is : ends_left (Some found.0) before next ≡ Some e =
               ap (λ o. ends_left o before next) (sym found.1) ∙ sym puts.here ∙ ap later (sym same) ∙ is
               in
-              rw same (own found.0 (l.last data found.0 found.1) before refl next refl now_is)
+              rw same (own found.0 (l.last named_data found.0 found.1) before refl next refl now_is)
         ]
       where
         -- a number behind m is kept, so that m isn't the last
-        more : (x : Ends) → IsLast (keeps_in first links data) x.last → (n : ℕ) → next ≡ Some n → x.last ≡ m → ⊥
+        more : (x : Ends) → IsLast (keeps_in first links named_data) x.last → (n : ℕ) → next ≡ Some n → x.last ≡ m → ⊥
         more x last n is same = both_ways _ (last.after n (go next is behind_m)) (here next is behind_m)
           where
-            go : (o : Option ℕ) → o ≡ Some n → FindsLeast (keeps_in first links data) (m + 1) o → x.last < n
+            go : (o : Option ℕ) → o ≡ Some n → FindsLeast (keeps_in first links named_data) (m + 1) o → x.last < n
             go None e f = some_none n None refl e
             go (Some j) e f = let one : j ≡ n = same_Some _ _ e in let lt = f.from_on in omega (arith, same)
 
-            here : (o : Option ℕ) → o ≡ Some n → FindsLeast (keeps_in first links data) (m + 1) o → keeps_in first links data n ≡ true
+            here : (o : Option ℕ) → o ≡ Some n → FindsLeast (keeps_in first links named_data) (m + 1) o → keeps_in first links named_data n ≡ true
             here None e f = some_none n None refl e
-            here (Some j) e f = let one : j ≡ n = same_Some _ _ e in ap (keeps_in first links data) (sym one) ∙ f.here
+            here (Some j) e f = let one : j ≡ n = same_Some _ _ e in ap (keeps_in first links named_data) (sym one) ∙ f.here
 
-        own : (x : Ends) → IsLast (keeps_in first links data) x.last → (b : Option ℕ) → before ≡ b → (o : Option ℕ) → next ≡ o
-            → ends_left (Some x) b o ≡ Some e → IsLast (keeps_in first now data) e.last
+        own : (x : Ends) → IsLast (keeps_in first links named_data) x.last → (b : Option ℕ) → before ≡ b → (o : Option ℕ) → next ≡ o
+            → ends_left (Some x) b o ≡ Some e → IsLast (keeps_in first now named_data) e.last
         own x last None is None none now_is = some_none e None refl now_is
         own x last None is (Some n) some now_is =
             let one : record x { first = n } ≡ e = same_Some _ _ now_is in
-            let P : Ends → Type 0 = λ z. IsLast (keeps_in first now data) z.last in
-            subst P one (last_stays data (record x { first = n }) last (more x last n some))
+            let P : Ends → Type 0 = λ z. IsLast (keeps_in first now named_data) z.last in
+            subst P one (last_stays named_data (record x { first = n }) last (more x last n some))
         own x last (Some p) is (Some n) some now_is =
             let one : x ≡ e = same_Some _ _ now_is in
-            let P : Ends → Type 0 = λ z. IsLast (keeps_in first now data) z.last in
-            subst P one (last_stays data x last (more x last n some))
+            let P : Ends → Type 0 = λ z. IsLast (keeps_in first now named_data) z.last in
+            subst P one (last_stays named_data x last (more x last n some))
         own x last (Some p) is None none now_is =
             let one : record x { last = p } ≡ e = same_Some _ _ now_is in
-            let P : Ends → Type 0 = λ z. IsLast (keeps_in first now data) z.last in
+            let P : Ends → Type 0 = λ z. IsLast (keeps_in first now named_data) z.last in
             let lt = behind-place before p m is at_m.from_on in
-            let from : IsFirstFrom (keeps_in first links data) (p + 1) m = subst (λ c. IsFirstFrom (keeps_in first links data) (behind c) m) is at_m in
-            let rest : FindsLeast (keeps_in first links data) (m + 1) None = subst (λ o. FindsLeast (keeps_in first links data) (m + 1) o) none behind_m in
+            let from : IsFirstFrom (keeps_in first links named_data) (p + 1) m = subst (λ c. IsFirstFrom (keeps_in first links named_data) (behind c) m) is at_m in
+            let rest : FindsLeast (keeps_in first links named_data) (m + 1) None = subst (λ o. FindsLeast (keeps_in first links named_data) (m + 1) o) none behind_m in
             subst P one
             (record {
-              here = kept data p ∙ and_from _ _ (place p is) (ap not (ne_eqb p m (λ e. absurd (omega (arith, e)))));
+              here = kept named_data p ∙ and_from _ _ (place p is) (ap not (ne_eqb p m (λ e. absurd (omega (arith, e)))));
               after = λ k low.
                   elim (cases_eq k m) [
-                    | inl same ↦ kept data k ∙ and_right _ _ (ap not (eq-eqb k m same))
+                    | inl same ↦ kept named_data k ∙ and_right _ _ (ap not (eq-eqb k m same))
                     | inr ne ↦
                         elim (cases_lt k m) [
-                          | inl under ↦ kept data k ∙ and_left _ _ (from.before k (omega arith) under)
-                          | inr over ↦ kept data k ∙ and_left _ _ (rest k (omega (arith, ne)))
+                          | inl under ↦ kept named_data k ∙ and_left _ _ (from.before k (omega arith) under)
+                          | inr over ↦ kept named_data k ∙ and_left _ _ (rest k (omega (arith, ne)))
                         ]
                   ];
             })
@@ -399,9 +399,9 @@ linked-left first links now ends later before data m next l leaves place at_m be
 -- A number comes.
 
 -- the links with the number n behind them, with these user data, which had these ends
-pub record Joins (first : ℕ) (links now : List (Option Link)) (was : Option Ends) (data n : ℕ) : Type 0 where
-  pub here : key_at first now n ≡ Some (record { user_data = data; next = None })
-  pub named : (e : Ends) → was ≡ Some e → key_at first now e.last ≡ Some (record { user_data = data; next = Some n })
+pub record Joins (first : ℕ) (links now : List (Option Link)) (was : Option Ends) (named_data n : ℕ) : Type 0 where
+  pub here : key_at first now n ≡ Some (record { user_data = named_data; next = None })
+  pub named : (e : Ends) → was ≡ Some e → key_at first now e.last ≡ Some (record { user_data = named_data; next = Some n })
   pub others : (k : ℕ) → k ≢ n → ((e : Ends) → was ≡ Some e → k ≢ e.last) → key_at first now k ≡ key_at first links k
 
 is-last : (was : Option Ends) (k : ℕ) → ((e : Ends) × (was ≡ Some e) × (k ≡ e.last)) ⊎ ((e : Ends) → was ≡ Some e → k ≢ e.last)
@@ -412,14 +412,14 @@ is-last (Some x) k =
       | inr other ↦ inr (λ e is same. let one : x ≡ e = same_Some _ _ is in other (same ∙ ap (λ (z : Ends). z.last) (sym one)))
     ]
 
-pub joined-keeps : (first : ℕ) (links now : List (Option Link)) (ends : ℕ → Option Ends) (data n : ℕ)
-    → AreLinked first links ends → Joins first links now (ends data) data n → (other k : ℕ) → k ≢ n
+pub joined-keeps : (first : ℕ) (links now : List (Option Link)) (ends : ℕ → Option Ends) (named_data n : ℕ)
+    → AreLinked first links ends → Joins first links now (ends named_data) named_data n → (other k : ℕ) → k ≢ n
     → keeps_in first now other k ≡ keeps_in first links other k
-joined-keeps first links now ends data n l joins other k ne =
-    elim (is-last (ends data) k) [
+joined-keeps first links now ends named_data n l joins other k ne =
+    elim (is-last (ends named_data) k) [
       | inl found ↦
-          let last = l.last data found.0 found.1 in
-          let was = keeps-key first links data k (ap (keeps_in first links data) found.2 ∙ last.here) in
+          let last = l.last named_data found.0 found.1 in
+          let was = keeps-key first links named_data k (ap (keeps_in first links named_data) found.2 ∙ last.here) in
           ap (λ j. names other (key_at first now j)) found.2
           ∙ ap (names other) (joins.named found.0 found.1)
           ∙ ap (λ d. d == other) (sym was.2)
@@ -427,26 +427,26 @@ joined-keeps first links now ends data n l joins other k ne =
       | inr none ↦ ap (names other) (joins.others k ne none)
     ]
 
-pub linked-joined : (first : ℕ) (links now : List (Option Link)) (ends later : ℕ → Option Ends) (data n : ℕ)
-    → AreLinked first links ends → Joins first links now (ends data) data n → n ≡ first + length links
-    → PutsAt ends later data (Some (with_greatest (ends data) n)) → first + length now < 2 ^ 64
+pub linked-joined : (first : ℕ) (links now : List (Option Link)) (ends later : ℕ → Option Ends) (named_data n : ℕ)
+    → AreLinked first links ends → Joins first links now (ends named_data) named_data n → n ≡ first + length links
+    → PutsAt ends later named_data (Some (with_greatest (ends named_data) n)) → first + length now < 2 ^ 64
     → length now ≡ length links + 1 → AreLinked first now later
-linked-joined first links now ends later data n l joins is puts fits long =
+linked-joined first links now ends later named_data n l joins is puts fits long =
     record { next = next_is; least = least_is; last = last_is; fits = fits }
   where
     kept : (other k : ℕ) → k ≢ n → keeps_in first now other k ≡ keeps_in first links other k
-    kept = joined-keeps first links now ends data n l joins
+    kept = joined-keeps first links now ends named_data n l joins
 
-    here : keeps_in first now data n ≡ true
-    here = ap (names data) joins.here ∙ eq-eqb data data refl
+    here : keeps_in first now named_data n ≡ true
+    here = ap (names named_data) joins.here ∙ eq-eqb named_data named_data refl
 
     -- with other user data it isn't kept
-    apart : (other k : ℕ) → other ≢ data → keeps_in first now other k ≡ keeps_in first links other k
+    apart : (other k : ℕ) → other ≢ named_data → keeps_in first now other k ≡ keeps_in first links other k
     apart other k ne =
         elim (cases_eq k n) [
           | inl same ↦
               ap (λ j. names other (key_at first now j)) same
-              ∙ ap (names other) joins.here ∙ ne_eqb data other (λ e. ne (sym e))
+              ∙ ap (names other) joins.here ∙ ne_eqb named_data other (λ e. ne (sym e))
               ∙ sym (keeps-past first links other k (omega (arith, same, is)))
           | inr before ↦ kept other k before
         ]
@@ -459,35 +459,35 @@ linked-joined first links now ends later data n l joins is puts fits long =
     next_is k link e =
         elim (cases_eq k n) [
           | inl same ↦
-              let one : record { user_data = data; next = None } ≡ link = same_Some _ _ (sym joins.here ∙ ap (key_at first now) (sym same) ∙ e) in
-              subst (λ (x : Link). FindsLeast (keeps_in first now x.user_data) (k + 1) x.next) one (λ j le. past data j (omega (arith, same)))
+              let one : record { user_data = named_data; next = None } ≡ link = same_Some _ _ (sym joins.here ∙ ap (key_at first now) (sym same) ∙ e) in
+              subst (λ (x : Link). FindsLeast (keeps_in first now x.user_data) (k + 1) x.next) one (λ j le. past named_data j (omega (arith, same)))
           | inr ne ↦
-              elim (is-last (ends data) k) [
+              elim (is-last (ends named_data) k) [
                 | inl found ↦
-                    let last = l.last data found.0 found.1 in
-                    let within = keeps-within first links data found.0.last last.here in
+                    let last = l.last named_data found.0 found.1 in
+                    let within = keeps-within first links named_data found.0.last last.here in
                     let to = within.1 in
                     let at_k = found.2 in
-                    let one : record { user_data = data; next = Some n } ≡ link = same_Some _ _ (sym (joins.named found.0 found.1) ∙ ap (key_at first now) (sym at_k) ∙ e) in
+                    let one : record { user_data = named_data; next = Some n } ≡ link = same_Some _ _ (sym (joins.named found.0 found.1) ∙ ap (key_at first now) (sym at_k) ∙ e) in
                     subst (λ (x : Link). FindsLeast (keeps_in first now x.user_data) (k + 1) x.next) one
                     (record {
                       from_on = omega (arith, is, at_k);
                       here = here;
-                      before = λ j le lt. kept data j (λ same. omega (arith, same)) ∙ last.after j (omega (arith, at_k));
+                      before = λ j le lt. kept named_data j (λ same. omega (arith, same)) ∙ last.after j (omega (arith, at_k));
                     })
                 | inr none ↦ older k link ne none (sym (joins.others k ne none) ∙ e)
               ]
         ]
       where
-        older : (k : ℕ) (link : Link) → k ≢ n → ((e : Ends) → ends data ≡ Some e → k ≢ e.last) → key_at first links k ≡ Some link
+        older : (k : ℕ) (link : Link) → k ≢ n → ((e : Ends) → ends named_data ≡ Some e → k ≢ e.last) → key_at first links k ≡ Some link
             → FindsLeast (keeps_in first now link.user_data) (k + 1) link.next
         older k link ne none was =
-            elim (cases_eq link.user_data data) [
+            elim (cases_eq link.user_data named_data) [
               | inr other ↦ finds-same _ _ _ _ (λ j. apart link.user_data j other) (l.next k link was)
               | inl same ↦ mine same link.next (l.next k link was)
             ]
           where
-            mine : link.user_data ≡ data → (o : Option ℕ) → FindsLeast (keeps_in first links link.user_data) (k + 1) o
+            mine : link.user_data ≡ named_data → (o : Option ℕ) → FindsLeast (keeps_in first links link.user_data) (k + 1) o
                 → FindsLeast (keeps_in first now link.user_data) (k + 1) o
             mine same (Some j) f =
                 let to = (keeps-within first links link.user_data j f.here).1 in
@@ -507,32 +507,32 @@ linked-joined first links now ends later data n l joins is puts fits long =
 
     least_is : (other : ℕ) → FindsLeast (keeps_in first now other) 0 (first_in (later other))
     least_is other =
-        elim (cases_eq other data) [
+        elim (cases_eq other named_data) [
           | inr ne ↦ rw (puts.others other ne) (finds-same _ _ _ _ (λ k. apart other k ne) (l.least other))
-          | inl same ↦ rw (same, puts.here) (own (ends data) refl (l.least data))
+          | inl same ↦ rw (same, puts.here) (own (ends named_data) refl (l.least named_data))
         ]
       where
-        own : (o : Option Ends) → ends data ≡ o → FindsLeast (keeps_in first links data) 0 (first_in o)
-            → FindsLeast (keeps_in first now data) 0 (Some (with_greatest o n).first)
+        own : (o : Option Ends) → ends named_data ≡ o → FindsLeast (keeps_in first links named_data) 0 (first_in o)
+            → FindsLeast (keeps_in first now named_data) 0 (Some (with_greatest o n).first)
         own None e f = record {
           from_on = omega arith;
           here = here;
-          before = λ k le lt. kept data k (λ same. omega (arith, same)) ∙ f k le;
+          before = λ k le lt. kept named_data k (λ same. omega (arith, same)) ∙ f k le;
         }
         own (Some x) e f =
-            let to = (keeps-within first links data x.first f.here).1 in
-            finds-below (keeps_in first links data) _ 0 x.first n (λ i apart. kept data i apart) (omega (arith, is)) f
+            let to = (keeps-within first links named_data x.first f.here).1 in
+            finds-below (keeps_in first links named_data) _ 0 x.first n (λ i apart. kept named_data i apart) (omega (arith, is)) f
 
     last_is : (other : ℕ) (e : Ends) → later other ≡ Some e → IsLast (keeps_in first now other) e.last
     last_is other e found =
-        elim (cases_eq other data) [
+        elim (cases_eq other named_data) [
           | inr ne ↦
               let last = l.last other e (sym (puts.others other ne) ∙ found) in
               record { here = apart other e.last ne ∙ last.here; after = λ k lt. apart other k ne ∙ last.after k lt }
           | inl same ↦
-              let one : with_greatest (ends data) n ≡ e = same_Some _ _ (sym puts.here ∙ ap later (sym same) ∙ found) in
-              let at_n : n ≡ e.last = greatest (ends data) ∙ ap (λ (z : Ends). z.last) one in
-              rw same (record { here = ap (keeps_in first now data) (sym at_n) ∙ here; after = λ k lt. past data k (omega (arith, at_n)) })
+              let one : with_greatest (ends named_data) n ≡ e = same_Some _ _ (sym puts.here ∙ ap later (sym same) ∙ found) in
+              let at_n : n ≡ e.last = greatest (ends named_data) ∙ ap (λ (z : Ends). z.last) one in
+              rw same (record { here = ap (keeps_in first now named_data) (sym at_n) ∙ here; after = λ k lt. past named_data k (omega (arith, at_n)) })
         ]
       where
         greatest : (o : Option Ends) → n ≡ (with_greatest o n).last
@@ -575,18 +575,18 @@ ends-few first links m l unique =
 
 -- What the calls ask for.
 
-pub place-is : (x : ByUserData) (data : ℕ) (before : Option ℕ)
-    → IsPlace x data before → (p : ℕ) → before ≡ Some p → keeps x data p ≡ true
-place-is x data None place p e = some_none p None refl e
-place-is x data (Some q) place p e = ap (keeps x data) (sym (same_Some q p e)) ∙ place
+pub place-is : (x : ByUserData) (named_data : ℕ) (before : Option ℕ)
+    → IsPlace x named_data before → (p : ℕ) → before ≡ Some p → keeps x named_data p ≡ true
+place-is x named_data None place p e = some_none p None refl e
+place-is x named_data (Some q) place p e = ap (keeps x named_data) (sym (same_Some q p e)) ∙ place
 
 -- what is kept of a number names the next
-pub next-of : (first : ℕ) (links : List (Option Link)) (ends : ℕ → Option Ends) (data n : ℕ) (o : Option ℕ)
-    → AreLinked first links ends → keeps_in first links data n ≡ true
+pub next-of : (first : ℕ) (links : List (Option Link)) (ends : ℕ → Option Ends) (named_data n : ℕ) (o : Option ℕ)
+    → AreLinked first links ends → keeps_in first links named_data n ≡ true
     → ((l : Link) → key_at first links n ≡ Some l → o ≡ l.next)
-    → FindsLeast (keeps_in first links data) (n + 1) o
-next-of first links ends data n o l kept named =
-    let found = keeps-key first links data n kept in
+    → FindsLeast (keeps_in first links named_data) (n + 1) o
+next-of first links ends named_data n o l kept named =
+    let found = keeps-key first links named_data n kept in
     let P : ℕ → Type 0 = λ d. FindsLeast (keeps_in first links d) (n + 1) o in
     let Q : Option ℕ → Type 0 = λ x. FindsLeast (keeps_in first links found.0.user_data) (n + 1) x in
     subst P found.2 (subst Q (sym (named found.0 found.1)) (l.next n found.0 found.1))
@@ -599,13 +599,13 @@ next-left a b m o is f = finds-stays a b (m + 1) m o is (not_m o f) f
     not_m None f e = some_none m None refl e
     not_m (Some j) f e = let same : j ≡ m = same_Some _ _ e in let on = f.from_on in omega arith
 
-pub taken-leaves : (first : ℕ) (links one now : List (Option Link)) (before : Option ℕ) (data n : ℕ) (next : Option ℕ)
+pub taken-leaves : (first : ℕ) (links one now : List (Option Link)) (before : Option ℕ) (named_data n : ℕ) (next : Option ℕ)
     → first ≤ n → n < first + length links → one ≡ set links (n - first) None
     → ((p : ℕ) → before ≡ Some p → p ≢ n)
-    → IfSome before (λ p. key_at first now p ≡ Some (record { user_data = data; next = next }))
+    → IfSome before (λ p. key_at first now p ≡ Some (record { user_data = named_data; next = next }))
     → ((k : ℕ) → ((p : ℕ) → before ≡ Some p → k ≢ p) → key_at first now k ≡ key_at first one k)
-    → Leaves first links now before data n next
-taken-leaves first links one now before data n next from to is apart here others = record {
+    → Leaves first links now before named_data n next
+taken-leaves first links one now before named_data n next from to is apart here others = record {
   gone = others n (λ p e same. apart p e (sym same)) ∙ ap (λ ls. key_at first ls n) is ∙ key_at-set_here first links None n from to;
   named = λ p e. named before here p e;
   others = λ k ne there.
@@ -613,36 +613,36 @@ taken-leaves first links one now before data n next from to is apart here others
       ∙ key_at-set_other first links None n k from ne;
 }
   where
-    named : (b : Option ℕ) → IfSome b (λ p. key_at first now p ≡ Some (record { user_data = data; next = next }))
-        → (p : ℕ) → b ≡ Some p → key_at first now p ≡ Some (record { user_data = data; next = next })
+    named : (b : Option ℕ) → IfSome b (λ p. key_at first now p ≡ Some (record { user_data = named_data; next = next }))
+        → (p : ℕ) → b ≡ Some p → key_at first now p ≡ Some (record { user_data = named_data; next = next })
     named None h p e = some_none p None refl e
     named (Some q) h p e = ap (key_at first now) (sym (same_Some q p e)) ∙ h
 
-pub place-within : (x : ByUserData) (data : ℕ) (before : Option ℕ) → IsPlace x data before
+pub place-within : (x : ByUserData) (named_data : ℕ) (before : Option ℕ) → IsPlace x named_data before
     → IfSome before (λ n. (x.first ≤ n) × (n < x.first + length x.links.items))
-place-within x data None place = tt
-place-within x data (Some n) place = keeps-within x.first x.links.items data n place
+place-within x named_data None place = tt
+place-within x named_data (Some n) place = keeps-within x.first x.links.items named_data n place
 
-pub last-within : (first : ℕ) (links : List (Option Link)) (ends : ℕ → Option Ends) (data : ℕ) (was : Option Ends)
-    → AreLinked first links ends → was ≡ ends data
+pub last-within : (first : ℕ) (links : List (Option Link)) (ends : ℕ → Option Ends) (named_data : ℕ) (was : Option Ends)
+    → AreLinked first links ends → was ≡ ends named_data
     → IfSome was (λ e. (first ≤ e.last) × (e.last < first + length links))
-last-within first links ends data None l e = tt
-last-within first links ends data (Some x) l e =
-    keeps-within first links data x.last (l.last data x (sym e)).here
+last-within first links ends named_data None l e = tt
+last-within first links ends named_data (Some x) l e =
+    keeps-within first links named_data x.last (l.last named_data x (sym e)).here
 
-pub pushed-joins : (first : ℕ) (links one : List (Option Link)) (ends : ℕ → Option Ends) (was : Option Ends) (data n : ℕ)
-    → AreLinked first links ends → was ≡ ends data → n ≡ first + length links → length one ≡ length links
-    → IfSome was (λ e. key_at first one e.last ≡ Some (record { user_data = data; next = Some n }))
+pub pushed-joins : (first : ℕ) (links one : List (Option Link)) (ends : ℕ → Option Ends) (was : Option Ends) (named_data n : ℕ)
+    → AreLinked first links ends → was ≡ ends named_data → n ≡ first + length links → length one ≡ length links
+    → IfSome was (λ e. key_at first one e.last ≡ Some (record { user_data = named_data; next = Some n }))
     → ((k : ℕ) → ((e : Ends) → was ≡ Some e → k ≢ e.last) → key_at first one k ≡ key_at first links k)
-    → Joins first links (one ++ Some (record { user_data = data; next = None }) ∷ []) (ends data) data n
-pushed-joins first links one ends was data n l told is long named others =
-    let link : Option Link = Some (record { user_data = data; next = None }) in
+    → Joins first links (one ++ Some (record { user_data = named_data; next = None }) ∷ []) (ends named_data) named_data n
+pushed-joins first links one ends was named_data n l told is long named others =
+    let link : Option Link = Some (record { user_data = named_data; next = None }) in
     record {
       here =
           let at_end : n ≡ first + length one = omega arith in
           ap (key_at first (one ++ link ∷ [])) at_end ∙ key_at-push_here first one link;
       named = λ e found.
-          let to = (keeps-within first links data e.last (l.last data e found).here).1 in
+          let to = (keeps-within first links named_data e.last (l.last named_data e found).here).1 in
           key_at-push_other first one link e.last (λ same. omega (arith, same, is, long))
           ∙ at_last was named e (told ∙ found);
       others = λ k ne none.
@@ -650,8 +650,8 @@ pushed-joins first links one ends was data n l told is long named others =
           ∙ others k (λ e w. none e (sym told ∙ w));
     }
   where
-    at_last : (o : Option Ends) → IfSome o (λ e. key_at first one e.last ≡ Some (record { user_data = data; next = Some n }))
-        → (e : Ends) → o ≡ Some e → key_at first one e.last ≡ Some (record { user_data = data; next = Some n })
+    at_last : (o : Option Ends) → IfSome o (λ e. key_at first one e.last ≡ Some (record { user_data = named_data; next = Some n }))
+        → (e : Ends) → o ≡ Some e → key_at first one e.last ≡ Some (record { user_data = named_data; next = Some n })
     at_last None h e f = some_none e None refl f
     at_last (Some x) h e f = ap (λ (z : Ends). key_at first one z.last) (sym (same_Some x e f)) ∙ h
 
@@ -675,7 +675,7 @@ first-first first links l e = record {
 }
 
 pub never-kept : (first : ℕ) (links : List (Option Link)) (n : ℕ)
-    → ((data : ℕ) → keeps_in first links data n ≡ false) → key_at first links n ≡ None
+    → ((named_data : ℕ) → keeps_in first links named_data n ≡ false) → key_at first links n ≡ None
 never-kept first links n none = go (key_at first links n) refl
   where
     go : (o : Option Link) → key_at first links n ≡ o → key_at first links n ≡ None
@@ -686,14 +686,14 @@ pub itself-out : (b : Bool) (n : ℕ) → (b && not (n == n)) ≡ false
 itself-out b n = and_right _ _ (ap not (eq-eqb n n refl))
 
 -- what isn't kept can be taken out
-pub absent-out : (first : ℕ) (links : List (Option Link)) (n data k : ℕ) → key_at first links n ≡ None
-    → keeps_in first links data k ≡ (keeps_in first links data k && not (k == n))
-absent-out first links n data k e =
+pub absent-out : (first : ℕ) (links : List (Option Link)) (n named_data k : ℕ) → key_at first links n ≡ None
+    → keeps_in first links named_data k ≡ (keeps_in first links named_data k && not (k == n))
+absent-out first links n named_data k e =
     elim (cases_eq k n) [
       | inl same ↦
-          ap (λ j. names data (key_at first links j)) same ∙ ap (names data) e
+          ap (λ j. names named_data (key_at first links j)) same ∙ ap (names named_data) e
           ∙ sym (and_right _ _ (ap not (eq-eqb k n same)))
-      | inr other ↦ sym (ap (λ b. keeps_in first links data k && not b) (ne_eqb k n other) ∙ and-true (keeps_in first links data k))
+      | inr other ↦ sym (ap (λ b. keeps_in first links named_data k && not b) (ne_eqb k n other) ∙ and-true (keeps_in first links named_data k))
     ]
 
 pub other-stays : (b : Bool) (k n : ℕ) → k ≢ n → (b && not (k == n)) ≡ b
@@ -752,17 +752,17 @@ found-next a b from n o is first f = go o f
         }
 
 -- a place before a number that left is still kept
-pub place-left : (x y : ByUserData) (data n : ℕ) (before : Option ℕ) → IsPlace x data before
-    → behind before ≤ n → TakesOut x y n → IsPlace y data before
-place-left x y data n None place le out = tt
-place-left x y data n (Some p) place le out =
-    out data p ∙ and_from _ _ place (ap not (ne_eqb p n (λ e. absurd (omega (arith, e)))))
+pub place-left : (x y : ByUserData) (named_data n : ℕ) (before : Option ℕ) → IsPlace x named_data before
+    → behind before ≤ n → TakesOut x y n → IsPlace y named_data before
+place-left x y named_data n None place le out = tt
+place-left x y named_data n (Some p) place le out =
+    out named_data p ∙ and_from _ _ place (ap not (ne_eqb p n (λ e. absurd (omega (arith, e)))))
 
-pub place-end : (x : ByUserData) (data : ℕ) (before : Option ℕ) → IsPlace x data before
+pub place-end : (x : ByUserData) (named_data : ℕ) (before : Option ℕ) → IsPlace x named_data before
     → behind before ≤ stop_of x
-place-end x data None place = omega arith
-place-end x data (Some p) place =
-    let to = (keeps-within x.first x.links.items data p place).1 in omega arith
+place-end x named_data None place = omega arith
+place-end x named_data (Some p) place =
+    let to = (keeps-within x.first x.links.items named_data p place).1 in omega arith
 
 pub none-first : (first : ℕ) (links : List (Option Link)) → key_at first links first ≡ None
     → None ≡ get_or links 0 None

@@ -1,6 +1,6 @@
 -- Glue. The outstanding requests by their user data.
-use Rattle.std.specs.Prelude.{◌≡◌, ℕ, ◌+◌, ◌<◌, ◌≤◌, Bool, true, false, not, ◌&&◌, ◌||◌, ◌==◌, Option, Some, None}
-use Rattle.std.specs.VecDeque.{deque_len, deque_capacity}
+use Rattle.std.specs.Prelude.{◌≡◌, ℕ, ◌+◌, ◌<◌, ◌≤◌, Bool, true, false, not, ◌&&◌, ◌||◌, ◌==◌, length, Option, Some, None}
+use Rattle.std.specs.VecDeque.{deque_capacity}
 use Rattle.std.specs.HashMap.{spare}
 use Rattle.uring_entry.specs.Layout.{user_data_of}
 use Rattle.uring_dispatch.specs.declared.request.Request.{Request}
@@ -12,11 +12,11 @@ use Rattle.uring_dispatch.specs.Links.{keeps_in}
 
 -- whether n is kept with these user data
 abbrev pub keeps : ByUserData → ℕ → ℕ → Bool
-keeps x data n = keeps_in x.first x.links.items data n
+keeps x named_data n = keeps_in x.first x.links.items named_data n
 
 -- the number behind the last that was looked at
 abbrev pub stop_of : ByUserData → ℕ
-stop_of x = x.first + deque_len x.links
+stop_of x = x.first + length x.links.items
 
 -- the number behind this one, or the first
 abbrev pub behind : Option ℕ → ℕ
@@ -25,12 +25,12 @@ behind (Some n) = n + 1
 
 -- this number, if there is one, is kept
 abbrev pub IsPlace : ByUserData → ℕ → Option ℕ → Type 0
-IsPlace x data None = Unit {0}
-IsPlace x data (Some n) = keeps x data n ≡ true
+IsPlace x named_data None = Unit {0}
+IsPlace x named_data (Some n) = keeps x named_data n ≡ true
 
 -- n has left, and nothing else
 abbrev pub TakesOut : ByUserData → ByUserData → ℕ → Type 0
-TakesOut old new n = (data k : ℕ) → keeps new data k ≡ (keeps old data k && not (k == n))
+TakesOut old new n = (named_data k : ℕ) → keeps new named_data k ≡ (keeps old named_data k && not (k == n))
 
 -- below which number each can be kept without more memory
 abbrev pub links_limit : ByUserData → ℕ
@@ -58,7 +58,7 @@ pub record IsSameSpan (old new : ByUserData) : Type 0 where
 -- the same numbers are kept
 pub record KeepsSame (old new : ByUserData) : Type 0 where
   pub span : IsSameSpan old new
-  pub same : (data k : ℕ) → keeps new data k ≡ keeps old data k
+  pub same : (named_data k : ℕ) → keeps new named_data k ≡ keeps old named_data k
 
 -- Which requests can be found.
 
@@ -77,18 +77,18 @@ is_gone w g n = is_gone_as g n (at w n)
 
 -- whether this request, of number n, has these user data and isn't doomed
 abbrev pub is_open_as : Groups → ℕ → ℕ → Option Request → Bool
-is_open_as g data n None = false
-is_open_as g data n (Some q) = (user_data_of q.entry == data) && not (is_doomed_in g n q)
+is_open_as g named_data n None = false
+is_open_as g named_data n (Some q) = (user_data_of q.entry == named_data) && not (is_doomed_in g n q)
 
 -- whether n is outstanding, has these user data and isn't doomed
 abbrev pub is_open : Window → Groups → ℕ → ℕ → Bool
-is_open w g data n = is_open_as g data n (at w n)
+is_open w g named_data n = is_open_as g named_data n (at w n)
 
 -- Of the numbers looked at each is kept with its user data that is outstanding and not doomed; and there is memory for those that weren't looked at.
 pub record AreFound (w : Window) (g : Groups) (x : ByUserData) : Type 0 where
   pub stop : stop_of x ≤ end_of w
-  pub own : (n data : ℕ) (q : Request) → at w n ≡ Some q → keeps x data n ≡ true
-      → user_data_of q.entry ≡ data
+  pub own : (n named_data : ℕ) (q : Request) → at w n ≡ Some q → keeps x named_data n ≡ true
+      → user_data_of q.entry ≡ named_data
   pub gone : (n : ℕ) (q : Request) → at w n ≡ Some q → n < stop_of x
       → keeps x (user_data_of q.entry) n ≡ false → is_doomed_in g n q ≡ true
   pub places : HasPlaces x (end_of w)

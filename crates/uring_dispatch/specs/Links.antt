@@ -8,12 +8,12 @@ use Rattle.uring_dispatch.specs.Window.{Window, key_at, at}
 
 -- whether what is kept of a number has these user data
 abbrev pub names : ℕ → Option Link → Bool
-names data None = false
-names data (Some l) = l.user_data == data
+names named_data None = false
+names named_data (Some l) = l.user_data == named_data
 
 -- whether n is kept with these user data, in links from this number on
 abbrev pub keeps_in : ℕ → List (Option Link) → ℕ → ℕ → Bool
-keeps_in first links data n = names data (key_at first links n)
+keeps_in first links named_data n = names named_data (key_at first links n)
 
 -- n is the least number from this one on that has the property
 pub record IsFirstFrom (has : ℕ → Bool) (from n : ℕ) : Type 0 where
@@ -39,8 +39,8 @@ first_in (Some e) = Some e.first
 pub record AreLinked (first : ℕ) (links : List (Option Link)) (ends : ℕ → Option Ends) : Type 0 where
   pub next : (n : ℕ) (l : Link) → key_at first links n ≡ Some l
       → FindsLeast (keeps_in first links l.user_data) (n + 1) l.next
-  pub least : (data : ℕ) → FindsLeast (keeps_in first links data) 0 (first_in (ends data))
-  pub last : (data : ℕ) (e : Ends) → ends data ≡ Some e → IsLast (keeps_in first links data) e.last
+  pub least : (named_data : ℕ) → FindsLeast (keeps_in first links named_data) 0 (first_in (ends named_data))
+  pub last : (named_data : ℕ) (e : Ends) → ends named_data ≡ Some e → IsLast (keeps_in first links named_data) e.last
   pub fits : first + length links < 2 ^ 64
 
 -- How the parts change.
@@ -74,8 +74,8 @@ with_greatest (Some e) n = record e { last = n }
 
 -- whether these are the user data
 abbrev pub is_data : Option ℕ → ℕ → Bool
-is_data None data = false
-is_data (Some d) data = d == data
+is_data None named_data = false
+is_data (Some d) named_data = d == named_data
 
 -- What is to be kept.
 

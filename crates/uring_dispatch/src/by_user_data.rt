@@ -45,7 +45,7 @@ impl ByUserData {
     /// Nothing yet. It takes no memory.
     pub(crate) fn new(alloc: Global) -> ByUserData
         ensures stop { stop_of result ≡ 0 }
-        ensures none { (data n : ℕ) → keeps result data n ≡ false }
+        ensures none { (named_data n : ℕ) → keeps result named_data n ≡ false }
     {
         ByUserData {
             first: 0,
@@ -108,9 +108,9 @@ impl ByUserData {
         requires links { stop_of self.old < links_limit self.old }
         requires ends { stop_of self.old < ends_limit self.old }
         requires fits { stop_of self.old + 1 < 2 ^ 64 }
-        ensures here { (data : ℕ) → keeps self.new data (stop_of self.old) ≡ is_data user_data data }
-        ensures others { (data k : ℕ) → k ≢ stop_of self.old
-            → keeps self.new data k ≡ keeps self.old data k }
+        ensures here { (named_data : ℕ) → keeps self.new named_data (stop_of self.old) ≡ is_data user_data named_data }
+        ensures others { (named_data k : ℕ) → k ≢ stop_of self.old
+            → keeps self.new named_data k ≡ keeps self.old named_data k }
         ensures stop { stop_of self.new ≡ stop_of self.old + 1 }
         ensures places { KeepsPlaces self.old self.new }
     {
@@ -125,9 +125,9 @@ impl ByUserData {
         requires links { stop_of self.old < links_limit self.old }
         requires ends { stop_of self.old < ends_limit self.old }
         requires fits { stop_of self.old + 1 < 2 ^ 64 }
-        ensures here { (data : ℕ) → keeps self.new data (stop_of self.old) ≡ (user_data == data) }
-        ensures others { (data k : ℕ) → k ≢ stop_of self.old
-            → keeps self.new data k ≡ keeps self.old data k }
+        ensures here { (named_data : ℕ) → keeps self.new named_data (stop_of self.old) ≡ (user_data == named_data) }
+        ensures others { (named_data k : ℕ) → k ≢ stop_of self.old
+            → keeps self.new named_data k ≡ keeps self.old named_data k }
         ensures stop { stop_of self.new ≡ stop_of self.old + 1 }
         ensures places { KeepsPlaces self.old self.new }
     {
@@ -186,7 +186,7 @@ impl ByUserData {
     pub(crate) fn drop_before(&mut self, n: u64)
         ensures stop { stop_of self.old ≤ stop_of self.new }
         ensures no_more { (k : ℕ) → stop_of self.old ≤ k → n ≤ k → stop_of self.new ≤ k }
-        ensures kept { (data k : ℕ) → n ≤ k → keeps self.new data k ≡ keeps self.old data k }
+        ensures kept { (named_data k : ℕ) → n ≤ k → keeps self.new named_data k ≡ keeps self.old named_data k }
         ensures places { KeepsPlaces self.old self.new }
     {
         while self.first < n {
@@ -383,12 +383,7 @@ fn note_greatest(ends: &mut HashMap<u64, Ends>, user_data: u64, was: Option<Ends
 }
 
 /// Notes that the number behind a place left, and what is the next there now.
-fn note_left(
-    ends: &mut HashMap<u64, Ends>,
-    user_data: u64,
-    before: Option<u64>,
-    next: Option<u64>,
-)
+fn note_left(ends: &mut HashMap<u64, Ends>, user_data: u64, before: Option<u64>, next: Option<u64>)
     ensures puts { PutsAt (get nat_eq ends.old) (get nat_eq ends.new) user_data (ends_left (get nat_eq ends.old user_data) before next) }
     ensures spare { spare ends.old ≤ spare ends.new }
 {

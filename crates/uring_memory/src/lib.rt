@@ -67,7 +67,11 @@ pub trait Memory {
             → IsOk result };
 
     /// Makes room in a map for `more` keys more.
-    fn reserve_map<K: Eq + Hash, V>(&self, map: &mut HashMap<K, V>, more: usize) -> Result<(), AllocError>
+    fn reserve_map<K: Eq + Hash, V>(
+        &self,
+        map: &mut HashMap<K, V>,
+        more: usize,
+    ) -> Result<(), AllocError>
         ensures entries { IsReordered K.eq map.old map.new }
         ensures unique { IsUnique K.eq map.new }
         ensures ok { OnOk result (more ≤ spare map.new) }

@@ -9,4 +9,4 @@ take_out-requires-clause-next c = first-first _ _ c.in-Some.link (sym c.in-Some.
 pub returns-in-Some-clause-gone : goal.returns-in-Some-clause-gone
 returns-in-Some-clause-gone c =
     rw c.take_out.ensures.span.first
-    (never-kept _ _ _ (λ data. rw c.take_out.ensures.span.first at c.take_out.ensures.taken data c.args.self.now.first ∙ itself-out _ _))
+    (never-kept _ _ _ (λ named_data. rw c.take_out.ensures.span.first at c.take_out.ensures.taken named_data c.args.self.now.first ∙ itself-out _ _))

@@ -5,14 +5,14 @@ use Rattle.uring_dispatch.proofs.ByData.{places-same, places-both}
 use Rattle.uring_dispatch.proofs.by_user_data.ByUserData.drop_before.Goals as goal
 
 pub loop-self-init : goal.loop-self-init
-loop-self-init c = record { stop = refl; kept = λ data k le. refl; places = places-same _ }
+loop-self-init c = record { stop = refl; kept = λ named_data k le. refl; places = places-same _ }
 
 pub loop-self-preserved : goal.loop-self-preserved
 loop-self-preserved c =
     let d = c.drop_first.ensures in
     record {
       stop = d.stop ∙ c.loop-self.invariant.stop;
-      kept = λ data k le. d.taken data k ∙ other-stays _ k _ (λ e. omega (arith, e)) ∙ c.loop-self.invariant.kept data k le;
+      kept = λ named_data k le. d.taken named_data k ∙ other-stays _ k _ (λ e. omega (arith, e)) ∙ c.loop-self.invariant.kept named_data k le;
       places = places-both _ _ _ c.loop-self.invariant.places d.places;
     }
 
@@ -22,5 +22,5 @@ invariant_of-self c = record {
 }
 
 pub returns-then-is_empty-clause-kept : goal.returns-then-is_empty-clause-kept
-returns-then-is_empty-clause-kept c = λ data k le.
-    ap (names data) (nothing-key _ _ k (omega arith)) ∙ sym (ap (names data) (nothing-key _ _ k (omega arith))) ∙ c.loop-self.invariant.kept data k le
+returns-then-is_empty-clause-kept c = λ named_data k le.
+    ap (names named_data) (nothing-key _ _ k (omega arith)) ∙ sym (ap (names named_data) (nothing-key _ _ k (omega arith))) ∙ c.loop-self.invariant.kept named_data k le

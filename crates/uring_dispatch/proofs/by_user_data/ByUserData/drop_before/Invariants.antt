@@ -6,7 +6,7 @@ abbrev pub invariant-loop-self : goal.invariant-loop-self
 invariant-loop-self l =
     record {
       stop : stop_of l.self ≡ stop_of l.initial.self;
-      kept : (data k : ℕ) → l.n ≤ k → keeps l.self data k ≡ keeps l.initial.self data k;
+      kept : (named_data k : ℕ) → l.n ≤ k → keeps l.self named_data k ≡ keeps l.initial.self named_data k;
       places : KeepsPlaces l.initial.self l.self;
     }
 

@@ -18,9 +18,9 @@ invariant_of-self c =
     }
 
 pub returns-clause-taken : goal.returns-clause-taken
-returns-clause-taken c = λ data k.
+returns-clause-taken c = λ named_data k.
     let one = c.clear_first.new.self in
     let span = c.clear_first.ensures.span in
     let some : 0 < deque_len one.links = omega (arith, span.first, span.stop, c.requires) in
     let is = popped _ _ _ None None c.pop_front.ensures.items (λ d. c.pop_front.ensures.value d some) (none-first _ _ c.clear_first.ensures.gone) refl in
-    ap (names data) (key_at-pop one.first _ k ∙ ap (λ ls. key_at one.first ls k) (sym is)) ∙ c.clear_first.ensures.taken data k
+    ap (names named_data) (key_at-pop one.first _ k ∙ ap (λ ls. key_at one.first ls k) (sym is)) ∙ c.clear_first.ensures.taken named_data k

@@ -20,8 +20,8 @@ loop-n-preserved c =
     record {
       found =
           found-pushed _ _ _ _ c.loop-n.n c.loop-n.invariant.found stop (omega arith)
-          (λ data. ap _ (sym stop) ∙ c.push.ensures.here data ∙ ap _ c.user_data_of.ensures)
-          (λ data k ne. c.push.ensures.others data k (λ e. ne (e ∙ stop))) (c.push.ensures.stop ∙ ap (λ k. k + 1) stop)
+          (λ named_data. ap _ (sym stop) ∙ c.push.ensures.here named_data ∙ ap _ c.user_data_of.ensures)
+          (λ named_data k ne. c.push.ensures.others named_data k (λ e. ne (e ∙ stop))) (c.push.ensures.stop ∙ ap (λ k. k + 1) stop)
           c.push.ensures.places;
       stop = c.push.ensures.stop ∙ ap (λ k. k + 1) stop;
       places = places-both _ _ _ c.loop-n.invariant.places c.push.ensures.places;

@@ -11,4 +11,4 @@ invariant_of-result c = record {
 }
 
 pub returns-clause-none : goal.returns-clause-none
-returns-clause-none c = λ data n. ap (names data) (nothing-key 0 _ n c.new.ensures.len)
+returns-clause-none c = λ named_data n. ap (names named_data) (nothing-key 0 _ n c.new.ensures.len)

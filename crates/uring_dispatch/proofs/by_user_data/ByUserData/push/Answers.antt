@@ -11,9 +11,9 @@ invariant_of-self c = record {
 }
 
 pub returns-in-None-clause-here : goal.returns-in-None-clause-here
-returns-in-None-clause-here c = λ data.
-    rw c.push_back_reserved.ensures.items (ap (names data) (key_at-push_here _ _ _))
+returns-in-None-clause-here c = λ named_data.
+    rw c.push_back_reserved.ensures.items (ap (names named_data) (key_at-push_here _ _ _))
 
 pub returns-in-None-clause-others : goal.returns-in-None-clause-others
-returns-in-None-clause-others c = λ data k ne.
-    rw c.push_back_reserved.ensures.items (ap (names data) (key_at-push_other _ _ _ k ne))
+returns-in-None-clause-others c = λ named_data k ne.
+    rw c.push_back_reserved.ensures.items (ap (names named_data) (key_at-push_other _ _ _ k ne))

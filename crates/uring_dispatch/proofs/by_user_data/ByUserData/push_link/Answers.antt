@@ -16,12 +16,12 @@ invariant_of-self c =
     }
 
 pub returns-clause-here : goal.returns-clause-here
-returns-clause-here c = λ data.
+returns-clause-here c = λ named_data.
     let joins = pushed-joins _ _ _ _ _ c.args.user_data c.stop-n.result c.args.self.now.linked c.ends_of-was.ensures c.stop-n.ensures c.name_next.ensures.len c.name_next.ensures.here c.name_next.ensures.others in
-    rw c.push_back_reserved.ensures.items (ap (λ j. names data (key_at _ _ j)) (sym c.stop-n.ensures) ∙ ap (names data) joins.here)
+    rw c.push_back_reserved.ensures.items (ap (λ j. names named_data (key_at _ _ j)) (sym c.stop-n.ensures) ∙ ap (names named_data) joins.here)
 
 pub returns-clause-others : goal.returns-clause-others
-returns-clause-others c = λ data k ne.
+returns-clause-others c = λ named_data k ne.
     let joins = pushed-joins _ _ _ _ _ c.args.user_data c.stop-n.result c.args.self.now.linked c.ends_of-was.ensures c.stop-n.ensures c.name_next.ensures.len c.name_next.ensures.here c.name_next.ensures.others in
     rw c.push_back_reserved.ensures.items
-    (joined-keeps _ _ _ _ c.args.user_data c.stop-n.result c.args.self.now.linked joins data k (λ e. ne (e ∙ c.stop-n.ensures)))
+    (joined-keeps _ _ _ _ c.args.user_data c.stop-n.result c.args.self.now.linked joins named_data k (λ e. ne (e ∙ c.stop-n.ensures)))

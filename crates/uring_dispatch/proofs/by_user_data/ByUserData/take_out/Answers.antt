@@ -27,7 +27,7 @@ pub returns-clause-taken : goal.returns-clause-taken
 returns-clause-taken c =
     let within = keeps-within _ _ c.args.user_data c.args.n c.requires.next.here in
     let leaves = taken-leaves _ _ _ _ c.args.before c.args.user_data c.args.n c.next_of-next.result within.0 within.1 c.write.ensures.items (place-apart c.args.before c.args.n c.requires.next.from_on) c.name_behind.ensures.here c.name_behind.ensures.others in
-    λ data k. left-keeps _ _ _ c.args.before c.args.user_data c.args.n c.next_of-next.result leaves (place-is _ c.args.user_data c.args.before c.requires.place) (place-apart c.args.before c.args.n c.requires.next.from_on) data k
+    λ named_data k. left-keeps _ _ _ c.args.before c.args.user_data c.args.n c.next_of-next.result leaves (place-is _ c.args.user_data c.args.before c.requires.place) (place-apart c.args.before c.args.n c.requires.next.from_on) named_data k
 
 pub returns-clause-next : goal.returns-clause-next
 returns-clause-next c =
