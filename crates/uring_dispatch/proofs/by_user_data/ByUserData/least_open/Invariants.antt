@@ -5,8 +5,8 @@ use Rattle.uring_dispatch.specs.ByUserData.{AreFound, KeepsPlaces, IsPlace, keep
 use Rattle.uring_dispatch.proofs.Links.{left}
 use Rattle.uring_dispatch.proofs.by_user_data.ByUserData.least_open.Given as goal
 
-abbrev pub invariant-loop-n : goal.invariant-loop-n
-invariant-loop-n l =
+abbrev pub invariant-loop-next : goal.invariant-loop-next
+invariant-loop-next l =
     record {
       found : AreFound l.grouped.window l.grouped.groups l.self;
       full : stop_of l.self ≡ end_of l.grouped.window;
@@ -15,5 +15,5 @@ invariant-loop-n l =
       finds : FindsLeast (keeps l.self l.user_data) (behind l.before) l.next;
     }
 
-abbrev pub decreases-loop-n : goal.decreases-loop-n
-decreases-loop-n l = left (end_of l.grouped.window) l.next
+abbrev pub decreases-loop-next : goal.decreases-loop-next
+decreases-loop-next l = left (end_of l.grouped.window) l.next

@@ -28,7 +28,7 @@ loop-m-preserved c =
             chosen =
                 chosen-more _ _ _ c.args.n c.args.user_data c.in-Some.m c.loop-m.count passed (λ r h named. sym w.if-is_target.true ∙ c.is_target.ensures.target r h named)
                 w.choose.ensures.chosen w.choose.ensures.shows;
-            full = ap stop_of w.choose.ensures.found ∙ c.least_open.ensures.full ∙ sym w.choose.ensures.chosen.same.as_before.end;
+            full = ap (λ (x : ByUserData). stop_of x) w.choose.ensures.found ∙ c.least_open.ensures.full ∙ sym w.choose.ensures.chosen.same.as_before.end;
             place = subst (λ (x : ByUserData). IsPlace x c.args.user_data (Some c.in-Some.m)) (sym w.choose.ensures.found) c.in-Some.ensures.place;
           })
       | else-is_target w ↦
