@@ -20,6 +20,8 @@ use Rattle.uring_dispatch.specs.Accepts.{Accepts}
 use Rattle.uring_dispatch.specs.Waiting.{dooms}
 use Rattle.uring_dispatch.specs.Links.{IsFirstFrom, FindsLeast, keeps_in, is_data, data_of, user_data_at}
 use Rattle.uring_dispatch.specs.ByUserData.{keeps, stop_of, behind, IsPlace, TakesOut, HasPlaces, KeepsPlaces, IsSameSpan, KeepsSame, is_doomed_in, is_gone_as, is_gone, is_open_as, is_open, AreFound, Follows, GoesOn}
+use Rattle.std.specs.VecDeque.{deque_len, deque_capacity}
+use Rattle.std.specs.HashMap.{spare}
 use Rattle.uring_dispatch.proofs.WindowFront.{at-past}
 use Rattle.uring_dispatch.proofs.HeldLemmas.{some_none, linked, shown-within, doomed-held, candidate-none, candidate-self, candidate-other_data, candidate-else}
 use Rattle.uring_dispatch.proofs.Alike.{IsAlike}
@@ -465,6 +467,8 @@ open-within w g named_data n e =
       | inr past ↦ some_none found.0 _ (at-past w n past) found.1
     ]
 
-pub ok-then : {E P Q : Type 0} (x : Result (Unit {0}) E) → (P → Q) → OnOk x P → OnOk x Q
-ok-then (Ok u) f p = f p
-ok-then (Err e) f p = p
+pub places-ok : {E : Type 0} (x : Result (Unit {0}) E) (y : ByUserData) (end more : ℕ)
+    → end ≤ stop_of y + more → length y.links.items ≡ deque_len y.links → more ≤ spare y.ends
+    → OnOk x (deque_len y.links + more ≤ deque_capacity y.links) → OnOk x (HasPlaces y end)
+places-ok (Ok u) y end more few long ends links = record { links = omega arith; ends = omega arith }
+places-ok (Err e) y end more few long ends links = links

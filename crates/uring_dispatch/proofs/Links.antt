@@ -17,12 +17,23 @@ use Rattle.uring_dispatch.specs.declared.by_user_data.Link.{Link}
 use Rattle.uring_dispatch.specs.declared.by_user_data.Ends.{Ends}
 use Rattle.uring_dispatch.specs.declared.by_user_data.ByUserData.{ByUserData}
 use Rattle.uring_dispatch.specs.Window.{key_at}
-use Rattle.uring_dispatch.specs.Links.{names, keeps_in, IsFirstFrom, FindsLeast, IsLast, first_in, AreLinked, PutsAt, with_first, with_last, ends_left, with_greatest}
+use Rattle.uring_dispatch.specs.Links.{names, keeps_in, IsFirstFrom, FindsLeast, IsNext, IsLast, first_in, AreLinked, PutsAt, with_first, with_last, ends_left, with_greatest}
 use Rattle.uring_dispatch.specs.ByUserData.{keeps, stop_of, IsPlace, TakesOut, behind}
 use Rattle.uring_dispatch.proofs.WindowLemmas.{key_at-low, key_at-within, key_at-past, key_at-high, key_at-set_here, key_at-set_other, key_at-push_here, key_at-push_other}
 use Rattle.uring_dispatch.proofs.HeldLemmas.{some_none}
 
 -- What is found.
+
+pub found-of : (has : ℕ → Bool) (from : ℕ) (o : Option ℕ) → IsNext has from o → FindsLeast has from o
+found-of has from None i = i.none refl
+found-of has from (Some n) i = i.some n refl
+
+pub is-next : (has : ℕ → Bool) (from : ℕ) (o : Option ℕ) → FindsLeast has from o → IsNext has from o
+is-next has from None f = record { some = λ n e. some_none n None refl e; none = λ e. f }
+is-next has from (Some m) f = record {
+  some = λ n e. let P : ℕ → Type 0 = λ j. IsFirstFrom has from j in subst P (same_Some m n e) f;
+  none = λ e. some_none m (Some m) e refl;
+}
 
 pub finds-same : (a b : ℕ → Bool) (from : ℕ) (o : Option ℕ) → ((k : ℕ) → b k ≡ a k)
     → FindsLeast a from o → FindsLeast b from o
@@ -126,7 +137,7 @@ keeps-past first links named_data n le = ap (names named_data) (key_at-past firs
 pub ends-there : (first : ℕ) (links : List (Option Link)) (ends : ℕ → Option Ends) (named_data n : ℕ)
     → AreLinked first links ends → keeps_in first links named_data n ≡ true
     → (e : Ends) × (ends named_data ≡ Some e)
-ends-there first links ends named_data n l k = go (ends named_data) refl (l.least named_data)
+ends-there first links ends named_data n l k = go (ends named_data) refl (found-of _ _ _ (l.least named_data))
   where
     go : (o : Option Ends) → ends named_data ≡ o → FindsLeast (keeps_in first links named_data) 0 (first_in o)
         → (e : Ends) × (ends named_data ≡ Some e)
@@ -142,8 +153,8 @@ linked-same first later links now ends l same fits =
     λ named_data k. ap (names named_data) (same k)
     in
     record {
-      next = λ n link e. finds-same _ _ _ _ (kept link.user_data) (l.next n link (sym (same n) ∙ e));
-      least = λ named_data. finds-same _ _ _ _ (kept named_data) (l.least named_data);
+      next = λ n link e. is-next _ _ _ (finds-same _ _ _ _ (kept link.user_data) (found-of _ _ _ (l.next n link (sym (same n) ∙ e))));
+      least = λ named_data. is-next _ _ _ (finds-same _ _ _ _ (kept named_data) (found-of _ _ _ (l.least named_data)));
       last = λ named_data e is.
           let last = l.last named_data e is in
           record { here = kept named_data e.last ∙ last.here; after = λ k lt. kept named_data k ∙ last.after k lt };
@@ -163,7 +174,7 @@ linked-ends first links ends now l same = record {
 pub nothing-linked : (ends : ℕ → Option Ends) → ((k : ℕ) → ends k ≡ None) → AreLinked 0 [] ends
 nothing-linked ends none = record {
   next = λ n l e. some_none l _ (key_at-past 0 [] n (omega arith)) e;
-  least = λ named_data. rw (none named_data) (λ k le. keeps-past 0 [] named_data k (omega arith));
+  least = λ named_data. is-next _ _ _ (rw (none named_data) (λ k le. keeps-past 0 [] named_data k (omega arith)));
   last = λ named_data e is. some_none e _ (none named_data) is;
   fits = omega arith;
 }
@@ -229,7 +240,7 @@ pub linked-left : (first : ℕ) (links now : List (Option Link)) (ends later : �
     → PutsAt ends later named_data (ends_left (ends named_data) before next) → length now ≡ length links
     → AreLinked first now later
 linked-left first links now ends later before named_data m next l leaves place at_m behind_m puts long =
-    record { next = next_is; least = least_is; last = last_is; fits = let fits = l.fits in omega arith }
+    record { next = λ n link e. is-next _ _ _ (next_is n link e); least = λ other. is-next _ _ _ (least_is other); last = last_is; fits = let fits = l.fits in omega arith }
   where
     kept : (other k : ℕ) → keeps_in first now other k ≡ (keeps_in first links other k && not (k == m))
     kept = left-keeps first links now before named_data m next leaves place
@@ -273,10 +284,13 @@ linked-left first links now ends later before named_data m next l leaves place a
                 | inr there ↦
                     let was : key_at first links n ≡ Some link = sym (leaves.others n ne there) ∙ e in
                     finds-stays (keeps_in first links link.user_data) _ (n + 1) m link.next (kept link.user_data)
-                    (only n there link.user_data link.next (keeps-at first links n link was) (l.next n link was)) (l.next n link was)
+                    (only n there link.user_data link.next (keeps-at first links n link was) (found-of _ _ _ (l.next n link was))) (found-of _ _ _ (l.next n link was))
               ]
         ]
       where
+        from_place : (n : ℕ) → before ≡ Some n → IsFirstFrom (keeps_in first links named_data) (n + 1) m
+        from_place n here = subst (λ b. IsFirstFrom (keeps_in first links named_data) (behind b) m) here at_m
+
         named : (n : ℕ) → before ≡ Some n → record { user_data = named_data; next = next } ≡ link
             → FindsLeast (keeps_in first now link.user_data) (n + 1) link.next
         named n here same =
@@ -285,15 +299,12 @@ linked-left first links now ends later before named_data m next l leaves place a
             (finds-without (keeps_in first links named_data) _ (n + 1) m next (kept named_data)
             (from_place n here) behind_m)
 
-        from_place : (n : ℕ) → before ≡ Some n → IsFirstFrom (keeps_in first links named_data) (n + 1) m
-        from_place n here = subst (λ b. IsFirstFrom (keeps_in first links named_data) (behind b) m) here at_m
-
     least_is : (other : ℕ) → FindsLeast (keeps_in first now other) 0 (first_in (later other))
     least_is other =
         elim (cases_eq other named_data) [
           | inr ne ↦
               rw (puts.others other ne)
-              (finds-stays (keeps_in first links other) _ 0 m _ (kept other) (apart (first_in (ends other)) ne (l.least other)) (l.least other))
+              (finds-stays (keeps_in first links other) _ 0 m _ (kept other) (apart (first_in (ends other)) ne (found-of _ _ _ (l.least other))) (found-of _ _ _ (l.least other)))
           | inl same ↦ rw same (own before refl)
         ]
       where
@@ -312,7 +323,7 @@ linked-left first links now ends later before named_data m next l leaves place a
             let lt = behind-place before p m is at_m.from_on in
             rw (puts.here, is)
             (from_last (ends named_data) p next
-            (finds-stays (keeps_in first links named_data) _ 0 m _ (kept named_data) (not_m (first_in (ends named_data)) p lt (place p is) (l.least named_data)) (l.least named_data)))
+            (finds-stays (keeps_in first links named_data) _ 0 m _ (kept named_data) (not_m (first_in (ends named_data)) p lt (place p is) (found-of _ _ _ (l.least named_data))) (found-of _ _ _ (l.least named_data))))
 
         from_first : (e : Ends) (o : Option ℕ) → FindsLeast (keeps_in first now named_data) 0 o
             → FindsLeast (keeps_in first now named_data) 0 (first_in (with_first (Some e) o))
@@ -432,7 +443,7 @@ pub linked-joined : (first : ℕ) (links now : List (Option Link)) (ends later :
     → PutsAt ends later named_data (Some (with_greatest (ends named_data) n)) → first + length now < 2 ^ 64
     → length now ≡ length links + 1 → AreLinked first now later
 linked-joined first links now ends later named_data n l joins is puts fits long =
-    record { next = next_is; least = least_is; last = last_is; fits = fits }
+    record { next = λ n link e. is-next _ _ _ (next_is n link e); least = λ other. is-next _ _ _ (least_is other); last = last_is; fits = fits }
   where
     kept : (other k : ℕ) → k ≢ n → keeps_in first now other k ≡ keeps_in first links other k
     kept = joined-keeps first links now ends named_data n l joins
@@ -483,8 +494,8 @@ linked-joined first links now ends later named_data n l joins is puts fits long 
             → FindsLeast (keeps_in first now link.user_data) (k + 1) link.next
         older k link ne none was =
             elim (cases_eq link.user_data named_data) [
-              | inr other ↦ finds-same _ _ _ _ (λ j. apart link.user_data j other) (l.next k link was)
-              | inl same ↦ mine same link.next (l.next k link was)
+              | inr other ↦ finds-same _ _ _ _ (λ j. apart link.user_data j other) (found-of _ _ _ (l.next k link was))
+              | inl same ↦ mine same link.next (found-of _ _ _ (l.next k link was))
             ]
           where
             mine : link.user_data ≡ named_data → (o : Option ℕ) → FindsLeast (keeps_in first links link.user_data) (k + 1) o
@@ -508,8 +519,8 @@ linked-joined first links now ends later named_data n l joins is puts fits long 
     least_is : (other : ℕ) → FindsLeast (keeps_in first now other) 0 (first_in (later other))
     least_is other =
         elim (cases_eq other named_data) [
-          | inr ne ↦ rw (puts.others other ne) (finds-same _ _ _ _ (λ k. apart other k ne) (l.least other))
-          | inl same ↦ rw (same, puts.here) (own (ends named_data) refl (l.least named_data))
+          | inr ne ↦ rw (puts.others other ne) (finds-same _ _ _ _ (λ k. apart other k ne) (found-of _ _ _ (l.least other)))
+          | inl same ↦ rw (same, puts.here) (own (ends named_data) refl (found-of _ _ _ (l.least named_data)))
         ]
       where
         own : (o : Option Ends) → ends named_data ≡ o → FindsLeast (keeps_in first links named_data) 0 (first_in o)
@@ -541,7 +552,7 @@ linked-joined first links now ends later named_data n l joins is puts fits long 
 
 -- How many user data there are.
 
-data_in : Option Link → ℕ
+abbrev data_in : Option Link → ℕ
 data_in None = 0
 data_in (Some l) = l.user_data
 
@@ -556,7 +567,7 @@ ends-few first links m l unique =
   where
     found : (q : ℕ) (e : Ends) → get nat_eq m q ≡ Some e → list_any (nat_eq q) (map data_in links) ≡ true
     found q e is =
-        let least : IsFirstFrom (keeps_in first links q) 0 e.first = subst (λ o. FindsLeast (keeps_in first links q) 0 (first_in o)) is (l.least q) in
+        let least : IsFirstFrom (keeps_in first links q) 0 e.first = subst (λ o. FindsLeast (keeps_in first links q) 0 (first_in o)) is (found-of _ _ _ (l.least q)) in
         let link = keeps-key first links q e.first least.here in
         let within = key_at-within first links e.first link.0 link.1 in
         let from = within.0 in
@@ -589,7 +600,7 @@ next-of first links ends named_data n o l kept named =
     let found = keeps-key first links named_data n kept in
     let P : ℕ → Type 0 = λ d. FindsLeast (keeps_in first links d) (n + 1) o in
     let Q : Option ℕ → Type 0 = λ x. FindsLeast (keeps_in first links found.0.user_data) (n + 1) x in
-    subst P found.2 (subst Q (sym (named found.0 found.1)) (l.next n found.0 found.1))
+    subst P found.2 (subst Q (sym (named found.0 found.1)) (found-of _ _ _ (l.next n found.0 found.1)))
 
 pub next-left : (a b : ℕ → Bool) (m : ℕ) (o : Option ℕ) → ((k : ℕ) → b k ≡ (a k && not (k == m)))
     → FindsLeast a (m + 1) o → FindsLeast b (m + 1) o
@@ -618,17 +629,23 @@ taken-leaves first links one now before named_data n next from to is apart here 
     named None h p e = some_none p None refl e
     named (Some q) h p e = ap (key_at first now) (sym (same_Some q p e)) ∙ h
 
-pub place-within : (x : ByUserData) (named_data : ℕ) (before : Option ℕ) → IsPlace x named_data before
-    → IfSome before (λ n. (x.first ≤ n) × (n < x.first + length x.links.items))
-place-within x named_data None place = tt
-place-within x named_data (Some n) place = keeps-within x.first x.links.items named_data n place
+pub place-within : (x : ByUserData) (named_data len : ℕ) (before : Option ℕ)
+    → len ≡ length x.links.items → IsPlace x named_data before
+    → IfSome before (λ n. (x.first ≤ n) × (n < x.first + len))
+place-within x named_data len None is place = tt
+place-within x named_data len (Some n) is place =
+    let within = keeps-within x.first x.links.items named_data n place in
+    let to = within.1 in
+    (within.0, omega arith)
 
-pub last-within : (first : ℕ) (links : List (Option Link)) (ends : ℕ → Option Ends) (named_data : ℕ) (was : Option Ends)
-    → AreLinked first links ends → was ≡ ends named_data
-    → IfSome was (λ e. (first ≤ e.last) × (e.last < first + length links))
-last-within first links ends named_data None l e = tt
-last-within first links ends named_data (Some x) l e =
-    keeps-within first links named_data x.last (l.last named_data x (sym e)).here
+pub last-within : (first : ℕ) (links : List (Option Link)) (ends : ℕ → Option Ends) (named_data len : ℕ) (was : Option Ends)
+    → len ≡ length links → AreLinked first links ends → was ≡ ends named_data
+    → IfSome was (λ e. (first ≤ e.last) × (e.last < first + len))
+last-within first links ends named_data len None is l e = tt
+last-within first links ends named_data len (Some x) is l e =
+    let within = keeps-within first links named_data x.last (l.last named_data x (sym e)).here in
+    let to = within.1 in
+    (within.0, omega arith)
 
 pub pushed-joins : (first : ℕ) (links one : List (Option Link)) (ends : ℕ → Option Ends) (was : Option Ends) (named_data n : ℕ)
     → AreLinked first links ends → was ≡ ends named_data → n ≡ first + length links → length one ≡ length links
@@ -710,7 +727,7 @@ nothing-key first links n e =
 -- How far a search is.
 
 -- how many numbers are left from this one on
-pub left : ℕ → Option ℕ → ℕ
+abbrev pub left : ℕ → Option ℕ → ℕ
 left end None = 0
 left end (Some n) = end - n
 

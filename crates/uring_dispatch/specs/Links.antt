@@ -26,6 +26,11 @@ abbrev pub FindsLeast : (ℕ → Bool) → ℕ → Option ℕ → Type 0
 FindsLeast has from None = (k : ℕ) → from ≤ k → has k ≡ false
 FindsLeast has from (Some n) = IsFirstFrom has from n
 
+-- the same, told by what was found
+pub record IsNext (has : ℕ → Bool) (from : ℕ) (found : Option ℕ) : Type 0 where
+  pub some : (n : ℕ) → found ≡ Some n → IsFirstFrom has from n
+  pub none : found ≡ None → (k : ℕ) → from ≤ k → has k ≡ false
+
 -- n is the greatest number that has the property
 pub record IsLast (has : ℕ → Bool) (n : ℕ) : Type 0 where
   pub here : has n ≡ true
@@ -38,8 +43,9 @@ first_in (Some e) = Some e.first
 -- What is so whatever happened: each number that is kept names the next with its user data, and the least and the greatest of each user data are told.
 pub record AreLinked (first : ℕ) (links : List (Option Link)) (ends : ℕ → Option Ends) : Type 0 where
   pub next : (n : ℕ) (l : Link) → key_at first links n ≡ Some l
-      → FindsLeast (keeps_in first links l.user_data) (n + 1) l.next
-  pub least : (named_data : ℕ) → FindsLeast (keeps_in first links named_data) 0 (first_in (ends named_data))
+      → IsNext (keeps_in first links l.user_data) (n + 1) l.next
+  pub least : (named_data : ℕ)
+      → IsNext (keeps_in first links named_data) 0 (first_in (ends named_data))
   pub last : (named_data : ℕ) (e : Ends) → ends named_data ≡ Some e → IsLast (keeps_in first links named_data) e.last
   pub fits : first + length links < 2 ^ 64
 

@@ -1,9 +1,9 @@
 use Rattle.std.proofs.Common.{rules, sym, arith}
-use Rattle.std.proofs.lemmas.Bool.{ne_eqb, false≢true}
+use Rattle.std.proofs.lemmas.Bool.{ne_eqb}
 use Rattle.uring_dispatch.proofs.by_user_data.set_ends.Goals as goal
 
-pub returns-in-Some : goal.returns-in-Some
-returns-in-Some c =
+pub returns : goal.returns
+returns c =
     let h = c.get_mut.follows.holds c.args.value in
     let updates = h.3 (search rules) in
     record {

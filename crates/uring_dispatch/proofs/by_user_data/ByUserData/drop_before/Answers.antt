@@ -1,4 +1,4 @@
-use Rattle.std.proofs.Common.{ap, ◌∙◌, arith, sym, refl}
+use Rattle.std.proofs.Common.{ap, ◌∙◌, ◌≡◌, arith, sym, refl, length}
 use Rattle.uring_dispatch.specs.Links.{names}
 use Rattle.uring_dispatch.proofs.Links.{linked-same, nothing-key, other-stays}
 use Rattle.uring_dispatch.proofs.ByData.{places-same, places-both}
@@ -17,10 +17,15 @@ loop-self-preserved c =
     }
 
 pub invariant_of-self : goal.invariant_of-self
-invariant_of-self c = record {
-  linked = linked-same _ _ _ _ _ c.loop-self.self.linked (λ k. nothing-key _ _ k (omega arith) ∙ sym (nothing-key _ _ k (omega arith))) (omega arith);
-}
+invariant_of-self c =
+    let none = c.is_empty.ensures.0 c.if-is_empty.true in
+    let empty : length c.loop-self.self.links.items ≡ 0 = omega (arith, none, c.loop-self.self.links.ok.0) in
+    record {
+      linked = linked-same _ _ _ _ _ c.loop-self.self.linked (λ k. nothing-key _ _ k empty ∙ sym (nothing-key _ _ k empty)) (omega (arith, empty));
+    }
 
 pub returns-then-is_empty-clause-kept : goal.returns-then-is_empty-clause-kept
 returns-then-is_empty-clause-kept c = λ named_data k le.
-    ap (names named_data) (nothing-key _ _ k (omega arith)) ∙ sym (ap (names named_data) (nothing-key _ _ k (omega arith))) ∙ c.loop-self.invariant.kept named_data k le
+    let none = c.is_empty.ensures.0 c.if-is_empty.true in
+    let empty : length c.loop-self.self.links.items ≡ 0 = omega (arith, none, c.loop-self.self.links.ok.0) in
+    ap (names named_data) (nothing-key _ _ k empty) ∙ sym (ap (names named_data) (nothing-key _ _ k empty)) ∙ c.loop-self.invariant.kept named_data k le

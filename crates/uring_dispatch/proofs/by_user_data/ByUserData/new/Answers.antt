@@ -1,4 +1,4 @@
-use Rattle.std.proofs.Common.{ap, nat_eq, ◌≡◌, ◌∙◌, arith}
+use Rattle.std.proofs.Common.{ap, refl, [], nat_eq, ◌≡◌, ◌∙◌, arith}
 use Rattle.std.specs.Map.{lookup}
 use Rattle.uring_dispatch.specs.Window.{key_at}
 use Rattle.uring_dispatch.specs.Links.{names}
@@ -11,4 +11,5 @@ invariant_of-result c = record {
 }
 
 pub returns-clause-none : goal.returns-clause-none
-returns-clause-none c = λ named_data n. ap (names named_data) (nothing-key 0 _ n c.new.ensures.len)
+returns-clause-none c = λ named_data n.
+    ap (λ ls. names named_data (key_at 0 ls n)) c.new.ensures.items ∙ ap (names named_data) (nothing-key 0 [] n refl)
