@@ -1,0 +1,5 @@
+pub mod Recorded
+pub mod Submitted
+pub mod Arrived
+pub mod Files
+pub mod SameSteps
