@@ -3,3 +3,4 @@ pub mod Submitted
 pub mod Arrived
 pub mod Files
 pub mod SameSteps
+pub mod Accepted

@@ -10,6 +10,8 @@ use Rattle.uring_ports.specs.declared.item.Item.{Item}
 use Rattle.uring_ports.specs.Items.{all_published_as}
 use Rattle.uring_text.specs.Lines.{joined}
 use Rattle.uring_trace.specs.Exchanges.{Exchange, IsReadAs, answers_of, events_of}
+use Rattle.uring_check.specs.Checks.{IsVerdict}
+use Rattle.uring_check.specs.declared.verdict.Verdict.TheVariants as verdict
 use Rattle.uring_moves.specs.Outcomes.{CallsOutcome, ComesTo}
 use Rattle.uring_outcomes.specs.Outcomes.{Ending}
 use Rattle.uring_play_text.specs.Inputs.{IsTold}
@@ -39,7 +41,12 @@ remark_text line = codes "# outcome " ++ line ++ codes "\n"
 abbrev pub whole : Form
 whole = record { is_sorted = false; has_files = true }
 
--- What was written: the set-up, a remark on this outcome, and a history of the calls that these bytes tell which comes to it.
+-- a check of these bytes, as a recorded trace of this set-up, finds them lawful
+abbrev pub IsAccepted : Setup → List ℕ → Type 0
+IsAccepted g bytes = (report : List ℕ)
+    × IsVerdict (record { setup = g; is_apart = false }) false bytes report verdict.Lawful
+
+-- What was written: the set-up, a remark on this outcome, and a history of the calls that these bytes tell which comes to it. A check accepts it.
 pub record WritesHistory (g : Setup) (bytes : List ℕ) (e : Ending) (held_before held_after : Option (List ℕ)) : Type 0 where
   pub calls : List (List Item)
   pub told : IsTold g.sq bytes (Ok calls)
@@ -47,4 +54,5 @@ pub record WritesHistory (g : Setup) (bytes : List ℕ) (e : Ending) (held_befor
   pub shown : IsLineOf whole e line
   pub text : List ℕ
   pub history : IsHistoryOf g (map all_published_as calls) e text
+  pub accepted : IsAccepted g (setup_text g ++ (remark_text line ++ text))
   pub written : Appends held_before held_after (setup_text g ++ (remark_text line ++ text))

@@ -30,11 +30,11 @@ pub(crate) fn submit(
         → OnOk result (HasMade g recording.new h (call_steps (all_published_as items.now))) }
 {
     put_items(recording, alloc, items, texts)?;
-    recording.make(alloc, "tail", Step::StoreTail)?;
-    recording.make_numbered(alloc, "begin ", u64::from(count), Step::Begin { count })?;
+    recording.make(alloc, "tail", &Step::StoreTail)?;
+    recording.make_numbered(alloc, "begin ", u64::from(count), &Step::Begin { count })?;
     take_all(recording, alloc, count)?;
-    recording.make(alloc, "end", Step::End)?;
-    recording.make(alloc, "head", Step::LoadHead)
+    recording.make(alloc, "end", &Step::End)?;
+    recording.make(alloc, "head", &Step::LoadHead)
 }
 
 /// Stages these items, each for its own slot from 0 on.
@@ -72,7 +72,7 @@ fn put_item(
         Item::Entry(entry) => put_entry(recording, alloc, slot, *entry, text),
         Item::Bad(word) => {
             let word = *word;
-            recording.make_numbered(alloc, "index ", u64::from(word), Step::Index { word })
+            recording.make_numbered(alloc, "index ", u64::from(word), &Step::Index { word })
         }
     }
 }
@@ -89,7 +89,7 @@ fn put_entry(
         → OnOk result (HasMade g recording.new h (step.Fill slot entry ∷ step.Index slot ∷ [])) }
 {
     fill(recording, alloc, slot, entry, text)?;
-    recording.make_numbered(alloc, "index ", u64::from(slot), Step::Index { word: slot })
+    recording.make_numbered(alloc, "index ", u64::from(slot), &Step::Index { word: slot })
 }
 
 /// Fills this slot with an entry.
@@ -108,7 +108,7 @@ fn fill(
     push_number(&alloc, &mut line, u64::from(slot))?;
     push_text(&alloc, &mut line, " ")?;
     push_text(&alloc, &mut line, text)?;
-    let made = recording.make(alloc, line.as_str(), Step::Fill { slot, entry });
+    let made = recording.make(alloc, line.as_str(), &Step::Fill { slot, entry });
     drop(line);
     made
 }
@@ -119,7 +119,7 @@ fn take_all(recording: &mut Recording, alloc: Global, count: u32) -> Result<(), 
         → OnOk result (HasMade g recording.new h (take_steps count)) }
 {
     for _taken in 0..count {
-        recording.make(alloc, "take", Step::Take)?;
+        recording.make(alloc, "take", &Step::Take)?;
     }
     Ok(())
 }

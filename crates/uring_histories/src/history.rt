@@ -7,8 +7,9 @@ ghost use Rattle.uring_ports.specs.Items.{all_published_as};
 ghost use Rattle.uring_play_text.specs.Inputs.{IsTold};
 ghost use Rattle.uring_litmus.specs.Lines.{IsLineOf};
 ghost use Rattle.uring_histories.specs.Recordings.{published_in};
-ghost use Rattle.uring_histories.specs.Shown.{IsHistoryOf, WritesHistory, setup_text, remark_text, whole};
+ghost use Rattle.uring_histories.specs.Shown.{IsAccepted, IsHistoryOf, WritesHistory, setup_text, remark_text, whole};
 
+use crate::accepted::is_accepted;
 use crate::replay::replayed;
 use crate::search::moves_to;
 use crate::steps::steps_of;
@@ -29,7 +30,7 @@ const WHOLE: Form = Form {
     has_files: true,
 };
 
-/// Writes a history of these calls that comes to this outcome, as `uring check` reads it: the set-up, the outcome, and each step with its answer. `input` has the calls, in the language of plays. Returns whether it was written: not, if the search finds no moves that come to the outcome, and then nothing is.
+/// Writes a history of these calls that comes to this outcome, as `uring check` reads it: the set-up, the outcome, and each step with its answer. `input` has the calls, in the language of plays. Returns whether it was written: not, if the search finds no moves that come to the outcome, or a line of them is longer than a check reads, and then nothing is.
 ///
 /// - `Line`, `Long`: as of `read_calls`. Nothing is written.
 /// - `Write`: a write failed or took no byte, or 2^64 - 1 writes were made. What is written is cut short.
@@ -52,7 +53,26 @@ pub fn write_history<W: Write>(
     let whole = with_head(alloc, setup, ending, text.as_str());
     drop(text);
     let whole = whole?;
-    write_text(writer, whole.as_str())?;
+    write_accepted(alloc, writer, setup, whole.as_str())
+}
+
+/// Writes a text, if it is a recorded trace that a check finds lawful.
+fn write_accepted<W: Write>(
+    alloc: Global,
+    writer: &mut W,
+    setup: &Setup,
+    text: &str,
+) -> Result<bool, PlayFault>
+    ensures written { IfOk result (λ is_written. is_written ≡ true
+        → IsAccepted setup.now text.now × Appends (W.contents writer.old) (W.contents writer.new) text.now) }
+    ensures kept { IfOk result (λ is_written. is_written ≡ false
+        → W.contents writer.new ≡ W.contents writer.old) }
+{
+    let is_accepted = is_accepted(alloc, setup, text.as_bytes())?;
+    if !is_accepted {
+        return Ok(false);
+    }
+    write_text(writer, text)?;
     Ok(true)
 }
 

@@ -1,6 +1,7 @@
 //! The history of an outcome of calls, as a recorded trace: moves that come to it are searched for, and made.
 #![tactic(auto)]
 
+mod accepted;
 mod arrival;
 mod attempt;
 mod calls;

@@ -41,15 +41,15 @@ impl Recording {
     }
 
     /// Makes a step, which this line is to be, and records it with its answer.
-    pub(crate) fn make(&mut self, alloc: Global, line: &str, step: Step) -> Result<(), Stop>
+    pub(crate) fn make(&mut self, alloc: Global, line: &str, step: &Step) -> Result<(), Stop>
         ensures { (g : Setup) (h : History) → IsRecorded g self.old h
-            → OnOk result (HasMade g self.new h (step ∷ [])) }
+            → OnOk result (HasMade g self.new h (step.now ∷ [])) }
     {
         let is_spelt = spells(alloc, line, step)?;
         if !is_spelt {
             return Err(Stop::Astray);
         }
-        let answer = self.machine.step(step);
+        let answer = self.machine.step(*step);
         if refuses(&answer) {
             return Err(Stop::Memory);
         }
@@ -63,10 +63,10 @@ impl Recording {
         alloc: Global,
         name: &str,
         number: u64,
-        step: Step,
+        step: &Step,
     ) -> Result<(), Stop>
         ensures { (g : Setup) (h : History) → IsRecorded g self.old h
-            → OnOk result (HasMade g self.new h (step ∷ [])) }
+            → OnOk result (HasMade g self.new h (step.now ∷ [])) }
     {
         let mut line = String::new(alloc);
         push_text(&alloc, &mut line, name)?;
@@ -78,15 +78,15 @@ impl Recording {
 }
 
 /// Whether a line is this step.
-fn spells(alloc: Global, line: &str, step: Step) -> Result<bool, AllocError>
-    ensures { IfOk result (λ is. is ≡ true → IsStep line.now step) }
+fn spells(alloc: Global, line: &str, step: &Step) -> Result<bool, AllocError>
+    ensures { IfOk result (λ is. is ≡ true → IsStep line.now step.now) }
 {
     if line.len() > LONGEST {
         return Ok(false);
     }
     let found = read_step(alloc, line.as_bytes())?;
     match found {
-        Some(read) => Ok(same_step(&read, &step)),
+        Some(read) => Ok(same_step(&read, step)),
         None => Ok(false),
     }
 }

@@ -150,7 +150,7 @@ fn issue(recording: &mut Recording, alloc: Global, number: u64) -> Result<(), St
     ensures { (g : Setup) (calls : List (List Published)) → IsAmid g recording.old calls
         → OnOk result (IsAmid g recording.new calls) }
 {
-    recording.make_numbered(alloc, "issue ", number, Step::Issue { number })
+    recording.make_numbered(alloc, "issue ", number, &Step::Issue { number })
 }
 
 /// Finishes a request.
@@ -158,7 +158,7 @@ fn finish(recording: &mut Recording, alloc: Global, number: u64) -> Result<(), S
     ensures { (g : Setup) (calls : List (List Published)) → IsAmid g recording.old calls
         → OnOk result (IsAmid g recording.new calls) }
 {
-    recording.make_numbered(alloc, "finish ", number, Step::Finish { number })
+    recording.make_numbered(alloc, "finish ", number, &Step::Finish { number })
 }
 
 /// Accepts the call behind those that were accepted.
@@ -238,10 +238,10 @@ fn reap_some(recording: &mut Recording, alloc: Global, count: u64) -> Result<(),
     ensures { (g : Setup) (calls : List (List Published)) (posted : List Cqe)
         → IsEnded g recording.old calls posted → OnOk result (IsEnded g recording.new calls posted) }
 {
-    show(recording, alloc, "flush", Step::Flush)?;
-    show(recording, alloc, "cqtail", Step::LoadCqTail)?;
+    show(recording, alloc, "flush", &Step::Flush)?;
+    show(recording, alloc, "cqtail", &Step::LoadCqTail)?;
     reap_each(recording, alloc, count)?;
-    show(recording, alloc, "cqhead", Step::StoreCqHead)
+    show(recording, alloc, "cqhead", &Step::StoreCqHead)
 }
 
 /// Reaps so many completions.
@@ -250,14 +250,14 @@ fn reap_each(recording: &mut Recording, alloc: Global, count: u64) -> Result<(),
         → IsEnded g recording.old calls posted → OnOk result (IsEnded g recording.new calls posted) }
 {
     for _reaped in 0..count {
-        show(recording, alloc, "reap", Step::Reap)?;
+        show(recording, alloc, "reap", &Step::Reap)?;
     }
     Ok(())
 }
 
 /// Makes a step that only shows completions.
-fn show(recording: &mut Recording, alloc: Global, line: &str, step: Step) -> Result<(), Stop>
-    requires { ShowsOnly step }
+fn show(recording: &mut Recording, alloc: Global, line: &str, step: &Step) -> Result<(), Stop>
+    requires { ShowsOnly step.now }
     ensures { (g : Setup) (calls : List (List Published)) (posted : List Cqe)
         → IsEnded g recording.old calls posted → OnOk result (IsEnded g recording.new calls posted) }
 {

@@ -4,5 +4,5 @@ use Rattle.uring_histories.proofs.replay.show.Goals as goal
 
 pub returns : goal.returns
 returns c = λ g calls posted done. on_ok_weaker c.make.result
-    (λ m. ended_still g c.args.recording.now c.make.new.self c.args.step calls posted c.requires done m)
+    (λ m. ended_still g c.args.recording.now c.make.new.self c.args.step.now calls posted c.requires done m)
     (c.make.ensures g done.history done.recorded)
