@@ -4,3 +4,4 @@ pub mod Arrived
 pub mod Files
 pub mod SameSteps
 pub mod Accepted
+pub mod Told
