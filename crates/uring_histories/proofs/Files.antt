@@ -1,6 +1,8 @@
 -- The files of a history, and that they are some others by what is told of each.
-use Rattle.std.proofs.Common.{◌≡◌, ℕ, ◌<◌, ◌≤◌, ℤ, pos, negsuc, Bool, true, false, List, [], ◌∷◌, length, if◌then◌else◌, refl, sym, ap, ◌∙◌, arith}
-use Rattle.std.specs.Prelude.{take}
+use Rattle.std.proofs.Common.{◌≡◌, ℕ, ◌<◌, ◌≤◌, ℤ, pos, negsuc, Bool, true, false, List, [], ◌∷◌, length, Option, Some, None, inl, inr, if◌then◌else◌, refl, sym, ap, ◌∙◌, arith}
+use Rattle.std.specs.Prelude.{take, slice_get}
+use Rattle.std.specs.Option.{option_map}
+use Rattle.std.proofs.lemmas.Option.{slice_get_cases}
 use Rattle.std.specs.Ordering.{int_eq}
 use Rattle.std.proofs.lemmas.List.{length-set, length-replicate}
 use Rattle.uring_entry.specs.Setup.{Setup}
@@ -9,7 +11,7 @@ use Rattle.uring_entry.specs.Requests.{Requests, Ending, entry_of}
 use Rattle.uring_entry.specs.declared.operation.Op.{Op}
 use Rattle.uring_entry.specs.declared.operation.Op.TheVariants as op
 use Rattle.uring_files.specs.Contents.{FileContents, empty_file, empty_files, written, with_writes_synced}
-use Rattle.uring_files.specs.Operations.{after, with_changed, file_of}
+use Rattle.uring_files.specs.Operations.{after, with_changed, file_of, state_of}
 use Rattle.uring_core.specs.World.{World}
 use Rattle.uring_core.specs.CalledFor.{files_after, files_of}
 use Rattle.uring_outcomes.proofs.SameEndings.{same_by_descriptors}
@@ -50,3 +52,16 @@ pub same_files : (g : Setup) (w : World) (files : List FileContents) (i : ℕ) �
 same_files g w files i few few' all at =
     let count : length (files_of g w) ≡ g.files = files_count g w in
     same_by_descriptors (files_of g w) files (omega arith) few' (λ k low. at k (omega arith))
+
+none_there : {X Y : Type 0} (f : X → Y) (o : Option X) → option_map f o ≡ None → o ≡ None
+none_there f None none = refl
+none_there f (Some x) none = absurd cc
+
+-- there are at most 64, if there is no file of descriptor 64
+pub few_by : (files : List FileContents) → state_of files (pos 64) ≡ None → length files ≤ 64
+few_by files none =
+    let gone : slice_get files 64 ≡ None = none_there _ (slice_get files 64) none in
+    elim (slice_get_cases files 64).1 [
+      | inl at ↦ absurd (let is : slice_get files 64 ≡ Some at.0 = at.2 in cc)
+      | inr past ↦ past.0
+    ]

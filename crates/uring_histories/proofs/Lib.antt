@@ -3,5 +3,5 @@ pub mod Submitted
 pub mod Arrived
 pub mod Files
 pub mod SameSteps
-pub mod Accepted
+pub mod Lawful
 pub mod Told

@@ -1,8 +1,9 @@
 -- Steps that are made and recorded, one after the other.
-use Rattle.std.proofs.Common.{◌≡◌, ◌⊎◌, ◌+◌, ◌<◌, ◌≤◌, ℕ, zero, suc, ℤ, Bool, true, false, List, [], ◌∷◌, ◌++◌, length, map, take, get_or, Option, Some, if◌then◌else◌, refl, sym, subst, ap, ◌∙◌, arith, append-nil, append_assoc, add-one}
+use Rattle.std.proofs.Common.{◌≡◌, ◌⊎◌, ◌+◌, ◌<◌, ◌≤◌, ℕ, zero, suc, ℤ, Bool, true, false, List, [], ◌∷◌, ◌++◌, length, map, take, get_or, Option, Some, if◌then◌else◌, refl, sym, subst, ap, ◌∙◌, arith, append-nil, append_assoc, add-one, inl, inr}
 use Rattle.std.specs.Prelude.{neg_ℤ, string_bytes}
 use Rattle.std.proofs.lemmas.List.{map-append, take_more, length-map, length-take-le}
 use Rattle.uring_entry.specs.Setup.{Setup}
+use Rattle.uring_entry.specs.declared.errno.TheConstants.{ENOMEM}
 use Rattle.uring_entry.specs.Submission.{Published, with_entry, bad_word}
 use Rattle.uring_entry.specs.Preparation.{operation_of}
 use Rattle.uring_entry.specs.Requests.{Requests, entry_of, is_running}
@@ -31,7 +32,7 @@ use Rattle.uring_histories.specs.Recordings.{IsRecorded, IsPlain, MadeAfter, Has
 -- A step that was answered as it is called for, and refused nothing for want of memory.
 
 finish_of : (files : List FileContents) (r : Requests) (n : ℕ) (running : Bool) (a : Answer)
-    → EndsOn files r n running a → ((bytes : List ℕ) → a ≡ answer.Ended (neg_ℤ 12) bytes → ⊥)
+    → EndsOn files r n running a → ((bytes : List ℕ) → a ≡ answer.Ended (neg_ℤ ENOMEM) bytes → ⊥)
     → a ≡ (if running then answer.Ended (result_of files (operation_of (entry_of r n))).res (result_of files (operation_of (entry_of r n))).bytes else answer.NotRunning)
 finish_of files r n true (answer.Ended res bytes) ends some =
     elim ends [
@@ -42,14 +43,14 @@ finish_of files r n true _ ends some = absurd ends
 finish_of files r n false a ends some = ends
 
 pub unrefused_of : (g : Setup) (w : World) (s : Step) (a : Answer) → CalledFor g w s a → IsPlain a
-    → ((bytes : List ℕ) → a ≡ answer.Ended (neg_ℤ 12) bytes → ⊥) → IsUnrefused g w s a
+    → ((bytes : List ℕ) → a ≡ answer.Ended (neg_ℤ ENOMEM) bytes → ⊥) → IsUnrefused g w s a
 unrefused_of g w (step.Finish n) a called plain some =
     finish_of (files_of g w) w.requests n (is_running w.requests n) a called some
 unrefused_of g w _ a called plain some = plain.0
 
 pub made_one : (g : Setup) (old new : Recording) (h : History) (s : Step) (a : Answer) (line : List ℕ)
     → IsRecorded g old h → IsStep line s → IsPlain a
-    → ((bytes : List ℕ) → a ≡ answer.Ended (neg_ℤ 12) bytes → ⊥)
+    → ((bytes : List ℕ) → a ≡ answer.Ended (neg_ℤ ENOMEM) bytes → ⊥)
     → new.machine.core.setup ≡ old.machine.core.setup
     → ((k : History) → Fits old.machine k → Fits new.machine ((s, a) ∷ k))
     → ((k : History) → Fits old.machine k → CalledFor old.machine.core.setup (world old.machine.core.setup k) s a)

@@ -31,4 +31,4 @@ one step.Next step.Next e = refl
 one _ _ e = absurd (both_ways false refl e)
 
 pub told_same : (a b : Step) (r : Bool) → r ≡ ghosts.eq a b → r ≡ true → a ≡ b
-told_same a b r is yes = one a b (sym is ∙ yes)
+told_same a b r is so = one a b (sym is ∙ so)

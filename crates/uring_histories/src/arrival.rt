@@ -21,7 +21,13 @@ pub(crate) fn has_come(machine: &Machine, posted: &[Cqe]) -> bool
         × ((world machine.now.core.setup h).completions.posted ≡ posted.now) }
 {
     let counts = machine.counts();
-    counts.outstanding == 0 && counts.posted == posted.len() as u64 && has_posted(machine, posted)
+    if counts.outstanding > 0 {
+        return false;
+    }
+    if counts.posted != posted.len() as u64 {
+        return false;
+    }
+    has_posted(machine, posted)
 }
 
 /// Whether these were posted first, if nothing was reaped.
@@ -57,6 +63,25 @@ fn same_completion(one: Cqe, other: Cqe) -> bool
 
 /// Whether a machine has these files.
 pub(crate) fn has_files(machine: &Machine, files: &Files) -> bool
+    ensures { (h : History) → Fits machine.now h → machine.now.core.setup.files ≤ 64
+        → result ≡ true
+        → files_of machine.now.core.setup (world machine.now.core.setup h) ≡ files.now }
+{
+    are_few(files) && has_each(machine, files)
+}
+
+/// Whether there are no more files than a set-up may have.
+fn are_few(files: &Files) -> bool
+    ensures { result ≡ true → length files.now ≤ 64 }
+{
+    match files.state(Setup::MAX_FILES as i32) {
+        Some(_) => false,
+        None => true,
+    }
+}
+
+/// Whether a machine has these files, of which there are few.
+fn has_each(machine: &Machine, files: &Files) -> bool
     ensures { (h : History) → Fits machine.now h → machine.now.core.setup.files ≤ 64
         → length files.now ≤ 64 → result ≡ true
         → files_of machine.now.core.setup (world machine.now.core.setup h) ≡ files.now }

@@ -2,6 +2,7 @@
 
 ghost use Rattle.std.specs.Prelude.{◌≡◌, ◌++◌, ◌∷◌, [], ◌≤◌, ℕ, List, Some, true, false, neg_ℤ, IfOk, OnOk, length, string_bytes};
 ghost use Rattle.uring_entry.specs.Setup.{Setup};
+ghost use Rattle.uring_entry.specs.declared.errno.TheConstants.{ENOMEM};
 ghost use Rattle.uring_core.specs.Histories.{History};
 ghost use Rattle.uring_core.specs.declared.answer.Answer.TheVariants as answer;
 ghost use Rattle.uring_text.specs.Lines.{ended};
@@ -12,7 +13,7 @@ ghost use Rattle.uring_histories.specs.Recordings.{IsRecorded, HasMade};
 use crate::stop::Stop;
 use std::alloc::{AllocError, Global};
 use uring_core::{Answer, Step, same_answer};
-use uring_entry::Setup;
+use uring_entry::{Setup, errno};
 use uring_machine::Machine;
 use uring_text::{push_number, push_text};
 use uring_trace::{push_answer, read_step};
@@ -99,22 +100,22 @@ fn same_step(a: &Step, b: &Step) -> bool
 }
 
 /// Whether an answer says that memory was refused, or that the numbers are spent.
-fn refuses(answer: &Answer) -> bool
-    ensures again { result ≡ false → answer.now ≡ answer.Again → ⊥ }
-    ensures spent { result ≡ false → answer.now ≡ answer.Spent → ⊥ }
-    ensures ended { (bytes : List ℕ) → result ≡ false → answer.now ≡ answer.Ended (neg_ℤ 12) bytes → ⊥ }
+fn refuses(given: &Answer) -> bool
+    ensures again { result ≡ false → given.now ≡ answer.Again → ⊥ }
+    ensures spent { result ≡ false → given.now ≡ answer.Spent → ⊥ }
+    ensures ended { (bytes : List ℕ) → result ≡ false → given.now ≡ answer.Ended (neg_ℤ ENOMEM) bytes → ⊥ }
 {
-    same_answer(answer, &Answer::Again)
-        || same_answer(answer, &Answer::Spent)
-        || is_out_of_memory(answer)
+    same_answer(given, &Answer::Again)
+        || same_answer(given, &Answer::Spent)
+        || is_out_of_memory(given)
 }
 
 /// Whether an answer is the end of a write that was refused memory: -12 (ENOMEM).
-fn is_out_of_memory(answer: &Answer) -> bool
-    ensures { (bytes : List ℕ) → result ≡ false → answer.now ≡ answer.Ended (neg_ℤ 12) bytes → ⊥ }
+fn is_out_of_memory(given: &Answer) -> bool
+    ensures { (bytes : List ℕ) → result ≡ false → given.now ≡ answer.Ended (neg_ℤ ENOMEM) bytes → ⊥ }
 {
-    match answer {
-        Answer::Ended { res, .. } => *res == -12,
+    match given {
+        Answer::Ended { res, .. } => *res == -errno::ENOMEM,
         _ => false,
     }
 }

@@ -1,4 +1,4 @@
-use Rattle.uring_histories.proofs.Accepted.{accepted_by}
+use Rattle.uring_histories.proofs.Lawful.{accepted_by}
 use Rattle.uring_histories.proofs.accepted.is_accepted.Goals as goal
 
 pub returns-in-Ok : goal.returns-in-Ok

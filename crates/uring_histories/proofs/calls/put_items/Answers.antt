@@ -1,4 +1,5 @@
-use Rattle.std.proofs.Common.{take, rules, arith}
+use Rattle.std.proofs.Common.{take, ap, rules, arith}
+use Rattle.std.proofs.lemmas.List.{take_all}
 use Rattle.uring_laws.specs.Standing.{item_steps}
 use Rattle.uring_ports.specs.Items.{published_as, all_published_as}
 use Rattle.uring_histories.specs.Recordings.{steps_of_item}
@@ -16,3 +17,9 @@ loop-slot-preserved c = λ g h r.
     let now = c.in_ok-put_item.ensures g before.after before.recorded in
     same_made g _ h _ _ (items_more items i c.index-items-slot.result (search rules) c.index-items-slot.is)
     (made_behind g _ _ h (item_steps 0 (all_published_as (take i items))) (steps_of_item i (published_as c.index-items-slot.result)) before now)
+
+pub returns : goal.returns
+returns c = λ g h r.
+    same_made g c.loop-slot.recording h _ _
+    (ap (λ l. item_steps 0 (all_published_as l)) (take_all c.loop-slot.slot c.args.items.now (omega arith)))
+    (c.loop-slot.invariant g h r)

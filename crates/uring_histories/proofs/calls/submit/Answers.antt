@@ -16,12 +16,12 @@ returns c = λ g h r.
     let begun = c.in_ok-make_numbered.ensures g tail.after tail.recorded in
     let taken = c.in_ok-take_all.ensures g begun.after begun.recorded in
     let ended = c.in_ok-make-2.ensures g taken.after taken.recorded in
-    on_ok_weaker c.make.result
+    on_ok_weaker c.make-3.result
     (λ head.
-    same_made g c.make.new.self h (steps_for items n) (call_steps items) (whole_call c.args.items.now n c.requires)
+    same_made g c.make-3.new.self h (steps_for items n) (call_steps items) (whole_call c.args.items.now n c.requires)
     (made_behind g _ _ h (item_steps 0 items) _ put
     (made_behind g _ _ put.after (step.StoreTail ∷ []) _ tail
     (made_behind g _ _ tail.after (step.Begin n ∷ []) _ begun
     (made_behind g _ _ begun.after (take_steps n) _ taken
     (made_behind g _ _ taken.after (step.End ∷ []) (step.LoadHead ∷ []) ended head))))))
-    (c.make.ensures g ended.after ended.recorded)
+    (c.make-3.ensures g ended.after ended.recorded)

@@ -5,6 +5,6 @@ use Rattle.uring_entry.specs.Submission.{Published}
 use Rattle.uring_histories.specs.Recordings.{IsEnded}
 use Rattle.uring_histories.proofs.replay.reap_all.Given as goal
 
-abbrev pub invariant-loop-_turn : goal.invariant-loop-_turn
-invariant-loop-_turn l = (g : Setup) (calls : List (List Published)) (posted : List Cqe)
+abbrev pub invariant-loop-turn : goal.invariant-loop-turn
+invariant-loop-turn l = (g : Setup) (calls : List (List Published)) (posted : List Cqe)
     → IsEnded g l.fn.recording calls posted → IsEnded g l.recording calls posted

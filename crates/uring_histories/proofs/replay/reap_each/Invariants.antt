@@ -5,6 +5,6 @@ use Rattle.uring_entry.specs.Submission.{Published}
 use Rattle.uring_histories.specs.Recordings.{IsEnded}
 use Rattle.uring_histories.proofs.replay.reap_each.Given as goal
 
-abbrev pub invariant-loop-_reaped : goal.invariant-loop-_reaped
-invariant-loop-_reaped l = (g : Setup) (calls : List (List Published)) (posted : List Cqe)
+abbrev pub invariant-loop-reaped : goal.invariant-loop-reaped
+invariant-loop-reaped l = (g : Setup) (calls : List (List Published)) (posted : List Cqe)
     → IsEnded g l.fn.recording calls posted → IsEnded g l.recording calls posted
