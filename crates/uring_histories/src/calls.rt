@@ -89,7 +89,12 @@ fn put_entry(
         → OnOk result (HasMade g recording.new h (step.Fill slot entry ∷ step.Index slot ∷ [])) }
 {
     fill(recording, alloc, slot, entry, text)?;
-    recording.make_numbered(alloc, "index ", u64::from(slot), &Step::Index { word: slot })
+    recording.make_numbered(
+        alloc,
+        "index ",
+        u64::from(slot),
+        &Step::Index { word: slot },
+    )
 }
 
 /// Fills this slot with an entry.
