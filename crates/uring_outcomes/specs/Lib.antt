@@ -3,3 +3,4 @@ pub mod Laws
 pub mod Runs
 pub mod Index
 pub mod Walks
+pub mod Seeking

@@ -74,7 +74,7 @@ pub(crate) fn is_same(one: &Ending, other: &Ending) -> bool
 }
 
 /// Whether files are the same as others.
-fn same_files(one: &Files, other: &Files) -> bool
+pub(crate) fn same_files(one: &Files, other: &Files) -> bool
     requires few { length one.now ≤ 64 }
     requires few_others { length other.now ≤ 64 }
     ensures { IsTrue result ↔ (one.now ≡ other.now) }

@@ -53,6 +53,14 @@ impl Endings {
         self.push(alloc, mark, ending)
     }
 
+    /// Whether an ending is there.
+    pub(crate) fn has(&self, ending: &Ending) -> bool
+        requires { IsIndexed self.now }
+        ensures { IsTrue result ↔ Contains self.now.list.items ending.now }
+    {
+        self.contains(mark(ending.posted()), ending)
+    }
+
     /// Whether an ending of this mark is there.
     fn contains(&self, mark: u64, ending: &Ending) -> bool
         requires indexed { IsIndexed self.now }

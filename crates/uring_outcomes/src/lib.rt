@@ -7,10 +7,12 @@ mod fault;
 pub mod laws;
 mod next;
 mod run;
+mod seek;
 mod walk;
 
 pub use ending::Ending;
 pub use fault::WalkFault;
 pub use uring_entry::{Cqe, Setup, Sqe};
+pub use seek::{Sought, moves_to};
 pub use uring_files::Files;
 pub use walk::{Found, outcomes, outcomes_within};

@@ -91,7 +91,7 @@ impl Walk {
     ghost use Rattle.uring_outcomes.specs.Walks.{Goes, IsOff, IsAmid, IsBefore, waiting};
 
     /// At the beginning: on the path of no move, with nothing found.
-    fn new(alloc: Global, files: u32) -> Result<Walk, WalkFault>
+    pub(crate) fn new(alloc: Global, files: u32) -> Result<Walk, WalkFault>
         ensures { IfOk result
             (λ walk. (g : Setup) (calls : List (List Sqe)) (names : List ℕ) → g.files ≡ files → files ≤ 64 → Goes g calls names walk) }
     {
@@ -122,7 +122,7 @@ impl Walk {
     }
 
     /// Takes a path: the one that it is on, or one of those that are still to be taken. Tells whether there was one.
-    fn turn(
+    pub(crate) fn turn(
         &mut self,
         alloc: Global,
         setup: &Setup,
@@ -289,7 +289,7 @@ fn take_turns(
 }
 
 /// Whether each call was accepted and no request is outstanding.
-fn is_over(run: &Run, calls: &[Vec<Sqe>]) -> bool
+pub(crate) fn is_over(run: &Run, calls: &[Vec<Sqe>]) -> bool
     requires { Stands (entries_of calls.now) run.now }
     ensures { (m : Moment) → StandsAt (entries_of calls.now) run.now m → IsTrue result ↔ IsOver m }
 {
@@ -356,7 +356,7 @@ fn push_one(
 }
 
 /// Adds the user data that the cancels of these calls name.
-fn add_names(calls: &[Vec<Sqe>], names: &mut Vec<u64>) -> Result<(), WalkFault>
+pub(crate) fn add_names(calls: &[Vec<Sqe>], names: &mut Vec<u64>) -> Result<(), WalkFault>
     ensures { OnOk result (AreNamed (among names.new.items) (entries_of calls.now)) }
 {
     for call in calls {
