@@ -197,6 +197,11 @@ static void seeds(void)
         zeros += one[i] == 0;
     }
     check(zeros > 0 && zeros < 64, "parts of a choice");
+    /* The first numbers of splitmix64 from 0 on, as its authors give them: each up to last, and one that 4 divides is a 0. */
+    wulgach_volume_choose(0, UINT64_MAX / 4, one, 5);
+    check(one[0] == 1 + UINT64_C(0xe220a8397b1dcdaf) / 4 && one[1] == 0 && one[2] == 1 + UINT64_C(0x06c45d188009454f) / 4 && one[3] == 0 && one[4] == 1 + UINT64_C(0x1b39896a51a8749b) / 4, "which numbers a seed gives");
+    wulgach_volume_choose(0, 3, one, 5);
+    check(one[0] == 2 && one[1] == 0 && one[2] == 2 && one[3] == 0 && one[4] == 2, "numbers up to the last");
 }
 
 static void empty_places(void)
