@@ -1,5 +1,5 @@
 -- Which bytes each image of a file has, and how that is decided. Our own rule.
-use Rattle.std.specs.Prelude.{◌≡◌, ℕ, ◌+◌, ◌-◌, ◌<◌, Bool, not, ◌&&◌, ◌||◌, ◌==◌, nat_le, List, length, slice_index}
+use Rattle.std.specs.Prelude.{◌≡◌, ℕ, ◌+◌, ◌-◌, ◌<◌, Bool, true, not, ◌&&◌, ◌||◌, ◌==◌, nat_le, List, length, slice_index}
 use Rattle.std.specs.List.{list_any}
 use Rattle.uring_volume.specs.Writes.{Write}
 use Rattle.uring_volume.specs.Events.{History, is_before, is_safe}
@@ -32,3 +32,8 @@ is_safe_up_to h end m = not (length m.bytes == 0) && (nat_le end (m.off + length
 abbrev pub keeps_byte : History → ℕ → ℕ → Bool
 keeps_byte h k byte = not (list_any (may_show_other h k byte) (issued h))
     && (byte == 0 || list_any (is_safe_over h k) (issued h))
+
+-- It is plain that each image has these bytes at an offset: a safe write reaches behind them, and each of them is kept.
+pub record IsPlain (h : History) (off : ℕ) (bytes : List ℕ) : Type 0 where
+  pub reaches : list_any (is_safe_up_to h (off + length bytes)) (issued h) ≡ true
+  pub kept : (j : ℕ) → j < length bytes → keeps_byte h (off + j) (slice_index bytes j) ≡ true

@@ -1,5 +1,5 @@
 -- What is answered to a question of all images that a crash behind some line of a trace may leave. Our own rule.
-use Rattle.std.specs.Prelude.{◌≡◌, ◌==◌, ℕ, ◌-◌, ◌^◌, ◌≤◌, min, true, false, List, [], ◌∷◌, ◌++◌, length, Option, codes, if◌then◌else◌}
+use Rattle.std.specs.Prelude.{◌≡◌, ◌==◌, ℕ, ◌+◌, ◌-◌, ◌^◌, ◌<◌, ◌≤◌, min, true, false, List, [], ◌∷◌, ◌++◌, length, Option, codes, if◌then◌else◌}
 use Rattle.std.specs.Fmt.{decimal}
 use Rattle.std.specs.List.{AllByRecursion, list_any}
 use Rattle.std.specs.Io.KnownBytes.{Consumes, Appends, IsAtEnd}
@@ -15,7 +15,7 @@ use Rattle.uring_trace.specs.Exchanges.{Exchange, IsReadAs, lines_of, events_of}
 use Rattle.uring_epochs.specs.Logs.{log_of}
 use Rattle.uring_crash.specs.FirstLines.{AreFirstLines}
 use Rattle.uring_crash.specs.Crashes.{is_bad, image_text}
-use Rattle.uring_crash.specs.Keeping.{Holds}
+use Rattle.uring_crash.specs.Keeping.{Holds, IsPlain}
 use Rattle.uring_crash.specs.Searching.{IsWithout, AreMore}
 use Rattle.uring_crash.specs.declared.crash_run.Asked.{Asked}
 use Rattle.uring_crash.specs.declared.questions.Question.{Question}
@@ -48,12 +48,13 @@ pub record TellsWithout (off : ℕ) (bytes : List ℕ) (u : ℕ) (h : volume.His
   pub without : IsWithout off bytes u h image
   pub written : text ≡ codes "not " ++ kept_text off bytes ++ image_text image ++ words
 
--- the reply to whether each image has some bytes at an offset, with its text
+-- the reply to whether each image has some bytes at an offset, with its text. Where it is plain, there are never too many
 abbrev pub AreKept : (off : ℕ) (bytes : List ℕ) (most u : ℕ) → volume.History → Reply → List ℕ → Type 0
 AreKept off bytes most u h Answered text =
     ((now : List ℕ) → IsImage u [] h now → Holds off bytes now) × (text ≡ kept_text off bytes)
 AreKept off bytes most u h NotKept text = TellsWithout off bytes u h text
 AreKept off bytes most u h TooMany text = AreMore most u h × (text ≡ [])
+    × (off + length bytes < 2 ^ 64 → IsPlain h off bytes → ⊥)
 AreKept off bytes most u h BadLine text = ⊥
 
 -- the reply to which images there are

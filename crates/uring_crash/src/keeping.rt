@@ -1,12 +1,12 @@
 //! Whether each image of a file that began empty has some bytes at an offset, by what happened to it.
 
-ghost use Rattle.std.specs.Prelude.{◌≡◌, ◌+◌, ◌<◌, ◌^◌, true, ℕ, List, [], length, reverse, slice_index};
+ghost use Rattle.std.specs.Prelude.{◌≡◌, ◌+◌, ◌<◌, ◌^◌, true, false, ℕ, List, [], length, reverse, slice_index};
 ghost use Rattle.std.specs.List.{list_any};
 ghost use Rattle.uring_volume.specs.Images as images_spec;
 ghost use Rattle.uring_volume.specs.Images.{IsImage};
 ghost use Rattle.uring_volume.specs.Choices.{issued};
 ghost use Rattle.uring_crash.specs.Keeping as spec;
-ghost use Rattle.uring_crash.specs.Keeping.{Holds};
+ghost use Rattle.uring_crash.specs.Keeping.{Holds, IsPlain};
 
 use uring_volume::{Event, Piece, is_before, is_safe};
 
@@ -114,8 +114,10 @@ fn keeps_byte(events: &[Event], k: u64, byte: u8) -> bool
 /// Whether each image that has bytes at these offsets has these there.
 fn keeps_bytes(events: &[Event], off: u64, bytes: &[u8]) -> bool
     requires { off + length bytes.now < 2 ^ 64 }
-    ensures { result ≡ true → (j : ℕ) → j < length bytes.now
+    ensures yes { result ≡ true → (j : ℕ) → j < length bytes.now
         → spec.keeps_byte (reverse events.now) (off + j) (slice_index bytes.now j) ≡ true }
+    ensures no { result ≡ false → ((j : ℕ) → j < length bytes.now
+        → spec.keeps_byte (reverse events.now) (off + j) (slice_index bytes.now j) ≡ true) → ⊥ }
 {
     for j in 0..bytes.len() {
         if !keeps_byte(events, off + j as u64, bytes[j]) {
@@ -127,8 +129,10 @@ fn keeps_bytes(events: &[Event], off: u64, bytes: &[u8]) -> bool
 
 /// Whether it is plain that each image has these bytes at an offset: a safe write reaches behind them, and of each of them no write shows another one but under a safe one.
 pub(crate) fn keeps(events: &[Event], off: u64, bytes: &[u8]) -> bool
-    ensures { result ≡ true → (unit : ℕ) (now : List ℕ) → 0 < unit
+    ensures yes { result ≡ true → (unit : ℕ) (now : List ℕ) → 0 < unit
         → IsImage unit [] (reverse events.now) now → Holds off bytes.now now }
+    ensures no { result ≡ false → off + length bytes.now < 2 ^ 64
+        → IsPlain (reverse events.now) off bytes.now → ⊥ }
 {
     if bytes.is_empty() {
         return true;

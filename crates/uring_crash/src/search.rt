@@ -1,13 +1,13 @@
 //! The search for an image that hasn't some bytes at an offset.
 
-ghost use Rattle.std.specs.Prelude.{◌≡◌, ◌+◌, ◌<◌, [], ℕ, ℤ, true, false, length, slice_index, map, IfOk, IfSome};
+ghost use Rattle.std.specs.Prelude.{◌≡◌, ◌+◌, ◌<◌, ◌^◌, [], ℕ, ℤ, true, false, length, slice_index, map, IfOk, IfSome};
 ghost use Rattle.uring_entry.specs.Setup.{Setup};
 ghost use Rattle.uring_volume.specs.Events as volume;
 ghost use Rattle.uring_volume.specs.Listing.{AreTheImages};
 ghost use Rattle.uring_core.specs.Histories.{History};
 ghost use Rattle.uring_epochs.specs.Logs.{log_of};
 ghost use Rattle.uring_crash.specs.Watches.{Watches};
-ghost use Rattle.uring_crash.specs.Keeping.{Holds};
+ghost use Rattle.uring_crash.specs.Keeping.{Holds, IsPlain};
 ghost use Rattle.uring_crash.specs.Searching.{IsFound, IsWithout};
 
 use crate::choice::{least_choice, showing_choice};
@@ -64,9 +64,12 @@ pub(crate) fn find(
     bytes: &[u8],
     most: u32,
 ) -> Result<Found, AllocError>
-    ensures { IfOk result (λ found. (unit : ℕ) (setup : Setup) (fd : ℤ) (h : History)
+    ensures found { IfOk result (λ found. (unit : ℕ) (setup : Setup) (fd : ℤ) (h : History)
         → Watches unit setup fd watch.now h
         → IsFound off bytes.now most unit (log_of unit setup fd h).volume.history found) }
+    ensures not_plain { IfOk result (λ found. found ≡ Found.TooMany → off + length bytes.now < 2 ^ 64
+        → (unit : ℕ) (setup : Setup) (fd : ℤ) (h : History) → Watches unit setup fd watch.now h
+        → IsPlain (log_of unit setup fd h).volume.history off bytes.now → ⊥) }
 {
     if is_plain(watch, off, bytes)? {
         return Ok(Found::Nowhere);
@@ -79,9 +82,12 @@ pub(crate) fn find(
 
 /// Whether it is plain that each image has these bytes.
 fn is_plain(watch: &Watch, off: u64, bytes: &[u8]) -> Result<bool, AllocError>
-    ensures { IfOk result (λ plain. plain ≡ true → (unit : ℕ) (setup : Setup) (fd : ℤ) (h : History)
+    ensures yes { IfOk result (λ plain. plain ≡ true → (unit : ℕ) (setup : Setup) (fd : ℤ) (h : History)
         → Watches unit setup fd watch.now h
         → IsFound off bytes.now 0 unit (log_of unit setup fd h).volume.history Found.Nowhere) }
+    ensures no { IfOk result (λ plain. plain ≡ false → off + length bytes.now < 2 ^ 64
+        → (unit : ℕ) (setup : Setup) (fd : ℤ) (h : History) → Watches unit setup fd watch.now h
+        → IsPlain (log_of unit setup fd h).volume.history off bytes.now → ⊥) }
 {
     let log = watch.log();
     log.volume().is_sound();
