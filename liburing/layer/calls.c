@@ -1,6 +1,7 @@
 /* What a program calls in the place of the C library's syscall(), mmap() and close(): the layer answers the three calls of
  * io_uring, and hands on all others. liburing's sources call wulgach_polled_syscall, wulgach_mmap and wulgach_close. A program
- * that maps its rings by mmap itself calls wulgach_syscall: its descriptors are memory, and don't poll.
+ * that maps its rings by mmap itself calls wulgach_syscall: its descriptors are memory, and don't poll. Whoever has all signals
+ * blocked already says so by wulgach_tell_mask.
  */
 #define _GNU_SOURCE
 #include "callers.h"
@@ -8,6 +9,7 @@
 #include "enter.h"
 
 #include <errno.h>
+#include <signal.h>
 #include <stdarg.h>
 #include <sys/syscall.h>
 #include <unistd.h>
@@ -17,6 +19,7 @@ SEEN long wulgach_syscall(long call, ...);
 SEEN long wulgach_polled_syscall(long call, ...);
 SEEN void *wulgach_mmap(void *at, size_t size, int protection, int flags, int fd, off_t offset);
 SEEN int wulgach_close(int fd);
+SEEN void wulgach_tell_mask(const sigset_t *mask);
 
 /* The way in which syscall() returns. */
 static long returned(long result)
@@ -96,6 +99,11 @@ long wulgach_polled_syscall(long call, ...)
 void *wulgach_mmap(void *at, size_t size, int protection, int flags, int fd, off_t offset)
 {
     return map_file(at, size, protection, flags, fd, offset);
+}
+
+void wulgach_tell_mask(const sigset_t *mask)
+{
+    tell_mask(mask);
 }
 
 int wulgach_close(int fd)

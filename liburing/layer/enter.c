@@ -224,8 +224,31 @@ static int enter_ring(struct ring *ring, uint32_t flags, struct waiting *waiting
 
 enum { SERVED_FLAGS = IORING_ENTER_GETEVENTS | IORING_ENTER_SQ_WAKEUP | IORING_ENTER_SQ_WAIT | IORING_ENTER_EXT_ARG | IORING_ENTER_REGISTERED_RING };
 
+static __thread const sigset_t *told_mask;
+
+void tell_mask(const sigset_t *mask)
+{
+    told_mask = mask;
+}
+
+/* Operations are carried out in the call, where the kernel's would be out of a signal's reach. Returns whether signals were blocked
+ * before; the mask that the thread has otherwise goes to `own`. */
+static bool block_signals(const sigset_t *told, sigset_t *own)
+{
+    sigset_t all;
+    if (told) {
+        *own = *told;
+        return true;
+    }
+    sigfillset(&all);
+    pthread_sigmask(SIG_BLOCK, &all, own);
+    return false;
+}
+
 int enter(int fd, uint32_t to_submit, uint32_t min_complete, uint32_t flags, const void *argument, size_t size)
 {
+    const sigset_t *told = told_mask;
+    told_mask = NULL;
     if (flags & ~(uint32_t)SERVED_FLAGS)
         return -EINVAL;
     if (flags & IORING_ENTER_REGISTERED_RING && (fd = enrolled_fd((uint32_t)fd)) < 0)
@@ -235,15 +258,13 @@ int enter(int fd, uint32_t to_submit, uint32_t min_complete, uint32_t flags, con
         return fcntl(fd, F_GETFD) < 0 ? -EBADF : -EOPNOTSUPP;
     ring->called_fd = fd;
     struct waiting waiting = {.to_submit = to_submit, .min_complete = min_complete, .is_looking = flags & IORING_ENTER_GETEVENTS && min_complete == 0};
-    sigset_t all;
-    sigfillset(&all);
-    /* Operations are carried out here, where the kernel's would be out of a signal's reach. */
-    pthread_sigmask(SIG_BLOCK, &all, &waiting.signals);
+    bool was_blocked = block_signals(told, &waiting.signals);
     sigset_t own = waiting.signals;
     int result = read_waiting(&waiting, flags, argument, size);
     if (result == 0)
         result = enter_ring(ring, flags, &waiting);
     unlock_ring(ring);
-    pthread_sigmask(SIG_SETMASK, &own, NULL);
+    if (!was_blocked)
+        pthread_sigmask(SIG_SETMASK, &own, NULL);
     return result;
 }

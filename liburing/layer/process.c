@@ -1,4 +1,6 @@
-/* The kernel empties a page of the layer's in each child, however that was forked: so a number that stands in it is still
+/* Which process and thread this is.
+ *
+ * The kernel empties a page of the layer's in each child, however that was forked: so a number that stands in it is still
  * this process's, and needn't be asked for at each call.
  */
 #define _GNU_SOURCE
@@ -23,6 +25,19 @@ __attribute__((constructor)) static void make_page(void)
         kept = page;
     else
         munmap(page, size);
+}
+
+/* A forked child has the memory of the thread that forked it, and another number. */
+pid_t this_thread(void)
+{
+    static __thread struct {
+        pid_t process, thread;
+    } own;
+    if (own.process != this_process()) {
+        own.process = this_process();
+        own.thread = gettid();
+    }
+    return own.thread;
 }
 
 pid_t this_process(void)

@@ -1,6 +1,7 @@
 /* Restrictions are taken once, while the ring is disabled, and hold from when it is enabled. */
 #define _GNU_SOURCE
 #include "restrictions.h"
+#include "process.h"
 #include "copying.h"
 #include "ring.h"
 #include "strict.h"
@@ -59,12 +60,12 @@ void note_issuer(struct ring *ring)
 {
     bool is_one = ring->flags & IORING_SETUP_DEFER_TASKRUN || (is_strict() && ring->flags & IORING_SETUP_SINGLE_ISSUER);
     if (is_one && !ring->is_disabled)
-        ring->issuer = gettid();
+        ring->issuer = this_thread();
 }
 
 bool is_of_another(const struct ring *ring)
 {
-    return ring->issuer && ring->issuer != gettid();
+    return ring->issuer && ring->issuer != this_thread();
 }
 
 bool is_submission_of_another(const struct ring *ring, uint32_t to_submit)

@@ -32,6 +32,7 @@
 #include <unistd.h>
 
 long wulgach_polled_syscall(long call, ...);
+void wulgach_tell_mask(const sigset_t *mask);
 void *wulgach_mmap(void *at, size_t size, int protection, int flags, int fd, off_t offset);
 
 /* The code of a SIGSYS that a filter raised: the kernel's header has it as SYS_SECCOMP, and can't stand beside the C
@@ -110,11 +111,26 @@ struct trapped {
     long call;
 };
 
-/* The result is put where the call would have left it. */
+/* The mask that the thread had when it was trapped: the kernel's set is 64 bits. */
+static sigset_t mask_of(const ucontext_t *at)
+{
+    sigset_t mask;
+    sigemptyset(&mask);
+    memcpy(&mask, &at->uc_sigmask, sizeof(uint64_t));
+    return mask;
+}
+
+/* The result is put where the call would have left it. A call of enter is served with all signals blocked, as the layer wants it,
+ * which the return from the handler takes back; all others with the mask that the thread had. */
 static void serve_trapped(void *argument)
 {
     const struct trapped *trapped = argument;
     greg_t *registers = trapped->at->uc_mcontext.gregs;
+    sigset_t mask = mask_of(trapped->at);
+    if (trapped->call == SYS_io_uring_enter)
+        wulgach_tell_mask(&mask);
+    else
+        real_sigmask(SIG_SETMASK, &mask, NULL);
     registers[REG_RAX] = serve(trapped->call, registers);
 }
 
