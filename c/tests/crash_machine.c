@@ -1,41 +1,13 @@
 /* A machine whose power may fail: which writes are safe, what a crash leaves of its files by hand from the rules, the epoch that goes on
  * from there, and what is refused: empty places, bad numbers, and memory, which the linker lets this test refuse. */
+#define TEST "crash_machine"
+
+#include "refusing.h"
 #include "wulgach.h"
 
 #include <stdio.h>
 #include <stdlib.h>
 #include <string.h>
-
-void *__real_malloc(size_t size);
-void *__real_realloc(void *at, size_t size);
-
-/* How many calls are served before one is refused; none is below 0. */
-static long served = -1;
-
-static bool is_refused(void)
-{
-    if (served < 0)
-        return false;
-    return served-- == 0;
-}
-
-void *__wrap_malloc(size_t size)
-{
-    return is_refused() ? NULL : __real_malloc(size);
-}
-
-void *__wrap_realloc(void *at, size_t size)
-{
-    return is_refused() ? NULL : __real_realloc(at, size);
-}
-
-static void check(bool is_right, const char *what)
-{
-    if (!is_right) {
-        fprintf(stderr, "crash_machine: %s\n", what);
-        exit(1);
-    }
-}
 
 static const struct wulgach_setup two_files = {.sq = 4, .files = 2};
 

@@ -1,41 +1,11 @@
-/* What is refused: empty places, words that give no step, set-ups, and memory. The linker hands malloc and realloc to the
- * functions below, which refuse the calls that a test asks them to. */
+/* What is refused: empty places, words that give no step, set-ups, and memory. Memory is refused as refusing.h says. */
+#define TEST "refusals"
+
+#include "refusing.h"
 #include "wulgach.h"
 
 #include <stdio.h>
 #include <stdlib.h>
-#include <string.h>
-
-void *__real_malloc(size_t size);
-void *__real_realloc(void *at, size_t size);
-
-/* How many calls are served before one is refused; none is below 0. */
-static long served = -1;
-
-static bool is_refused(void)
-{
-    if (served < 0)
-        return false;
-    return served-- == 0;
-}
-
-void *__wrap_malloc(size_t size)
-{
-    return is_refused() ? NULL : __real_malloc(size);
-}
-
-void *__wrap_realloc(void *at, size_t size)
-{
-    return is_refused() ? NULL : __real_realloc(at, size);
-}
-
-static void check(bool is_right, const char *what)
-{
-    if (!is_right) {
-        fprintf(stderr, "refusals: %s\n", what);
-        exit(1);
-    }
-}
 
 static const struct wulgach_setup small = {.sq = 4, .files = 2};
 

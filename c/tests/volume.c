@@ -1,41 +1,13 @@
 /* A volume: what reads show, which writes are safe, and what crashes leave, beside what the rule says of small histories. And what is
  * refused: empty places, bad numbers, and memory, which the linker lets this test refuse. */
+#define TEST "volume"
+
+#include "refusing.h"
 #include "wulgach.h"
 
 #include <stdio.h>
 #include <stdlib.h>
 #include <string.h>
-
-void *__real_malloc(size_t size);
-void *__real_realloc(void *at, size_t size);
-
-/* How many calls are served before one is refused; none is below 0. */
-static long served = -1;
-
-static bool is_refused(void)
-{
-    if (served < 0)
-        return false;
-    return served-- == 0;
-}
-
-void *__wrap_malloc(size_t size)
-{
-    return is_refused() ? NULL : __real_malloc(size);
-}
-
-void *__wrap_realloc(void *at, size_t size)
-{
-    return is_refused() ? NULL : __real_realloc(at, size);
-}
-
-static void check(bool is_right, const char *what)
-{
-    if (!is_right) {
-        fprintf(stderr, "volume: %s\n", what);
-        exit(1);
-    }
-}
 
 static struct wulgach_volume made(uint64_t unit, const char *first)
 {

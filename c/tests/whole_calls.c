@@ -1,42 +1,13 @@
 /* Whole calls beside the rows of steps that they are: two cores are given the same entries, one of them by
  * wulgach_core_submit and wulgach_core_reap_all, the other one step by step, and both tell the same. And each refusal, with what
- * it leaves. The linker hands malloc and realloc to the functions below, which refuse the calls that a test asks them to. */
+ * it leaves. Memory is refused as refusing.h says. */
+#define TEST "whole_calls"
+
+#include "refusing.h"
 #include "wulgach.h"
 
-#include <stdio.h>
 #include <stdlib.h>
 #include <string.h>
-
-void *__real_malloc(size_t size);
-void *__real_realloc(void *at, size_t size);
-
-/* How many calls are served before one is refused; none is below 0. */
-static long served = -1;
-
-static bool is_refused(void)
-{
-    if (served < 0)
-        return false;
-    return served-- == 0;
-}
-
-void *__wrap_malloc(size_t size)
-{
-    return is_refused() ? NULL : __real_malloc(size);
-}
-
-void *__wrap_realloc(void *at, size_t size)
-{
-    return is_refused() ? NULL : __real_realloc(at, size);
-}
-
-static void check(bool is_right, const char *what)
-{
-    if (!is_right) {
-        fprintf(stderr, "whole_calls: %s\n", what);
-        exit(1);
-    }
-}
 
 enum { SIZE = 8 };
 

@@ -69,7 +69,7 @@ def quick(setup, events, is_linux):
 def filled(uring, setup, events):
     """The verdict of the proved search."""
     ran = subprocess.run([*uring, "fill", "--most", str(MOST_HISTORIES)], input=gaps.text_of(setup, events), capture_output=True, text=True)
-    if ran.returncode not in KINDS:
+    if ran.returncode not in KINDS or ran.stderr:
         raise NoTrace(ran.stderr.strip() or f"uring fill ended with status {ran.returncode}")
     kind = KINDS[ran.returncode]
     return Verdict(kind, ran.stdout, "" if kind == "lawful" else ran.stdout.splitlines()[-1].removeprefix("# "))

@@ -3,7 +3,7 @@
 use crate::fault::Fault;
 use crate::outlet::Outlet;
 use crate::paged::read_trace;
-use crate::unless_closed;
+use crate::{BAD_LINE, unless_closed};
 use std::io::Write;
 use uring_options::Setup;
 use uring_seen::{Told, Verdict, fill_text};
@@ -14,9 +14,6 @@ const FOUND: u8 = 0;
 
 /// The exit status if there is none.
 const NOTHING: u8 = 1;
-
-/// The exit status if a line was bad.
-const BAD: u8 = 2;
 
 /// The exit status if the search gave up.
 const GAVE_UP: u8 = 3;
@@ -67,5 +64,5 @@ fn tell_bad(rt: &HostRuntime, text: &[u8]) -> Result<u8, Fault> {
             return Err(Fault::Trace(TraceFault::Write));
         }
     }
-    Ok(BAD)
+    Ok(BAD_LINE)
 }

@@ -40,8 +40,8 @@ const DONE: u8 = 0;
 /// The exit status if an answer of a recorded trace isn't called for.
 const WRONG: u8 = 3;
 
-/// The exit status if a line of `explain`, `check`, `crash` or a strict trace was bad.
-const BAD_LINE: u8 = 4;
+/// The exit status if a line of `explain`, `check`, `crash`, `fill` or a strict trace was bad.
+pub(crate) const BAD_LINE: u8 = 4;
 
 fn main(rt: HostRuntime) -> ExitCode {
     match run(&rt, rt) {

@@ -9,8 +9,8 @@ use Rattle.uring_enter.specs.declared.reply.Reply.TheVariants.{Woken}
 use Rattle.uring_enter.specs.Replies.{waits, looks, is_enough}
 use Rattle.uring_enter.specs.declared.asked.Policy.{Policy}
 use Rattle.uring_enter.specs.declared.asked.Policy.TheVariants.{InOrder, Lazy, ByChoice}
-use Rattle.uring_enter.specs.Due.{is_lazy, go_by, ended, waiting, looking, leaving, going, stuck, hearing}
-use Rattle.std.proofs.Common.{pos, ◌&&◌, ◌||◌, not, nat_lt}
+use Rattle.uring_enter.specs.Due.{go_by, ended, waiting, looking, leaving, going, stuck, hearing}
+use Rattle.std.proofs.Common.{pos, ◌&&◌, not, nat_lt}
 
 pub true_is_not_false : true ≡ false → ⊥
 true_is_not_false h = cc

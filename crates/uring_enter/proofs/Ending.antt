@@ -1,5 +1,5 @@
 -- Why a call that waits ends.
-use Rattle.std.proofs.Common.{◌≡◌, ℕ, ℤ, Bool, true, false, ◌&&◌, not, nat_lt, List, [], ◌∷◌, if◌then◌else◌, refl, sym, ap, ◌∙◌}
+use Rattle.std.proofs.Common.{◌≡◌, ℕ, ℤ, Bool, true, false, List, [], ◌∷◌, if◌then◌else◌, refl, sym, ap, ◌∙◌}
 use Rattle.uring_enter.specs.declared.asked.Asked.{Asked}
 use Rattle.uring_enter.specs.declared.asked.Policy.{Policy}
 use Rattle.uring_enter.specs.declared.asked.Policy.TheVariants.{InOrder, Lazy, ByChoice}
@@ -9,8 +9,8 @@ use Rattle.uring_enter.specs.declared.reply.Sight.{Sight}
 use Rattle.uring_enter.specs.declared.reply.Reply.{Reply}
 use Rattle.uring_enter.specs.declared.reply.Reply.TheVariants.{Heard, WrongHead, Taken, NotTaken, WentOn, Chosen, Stuck, Woken, TimedOut, Interrupted, Endless, Failed, Passed}
 use Rattle.uring_enter.specs.Replies.{waits, is_enough}
-use Rattle.uring_enter.specs.Due.{due, is_reply_to, go_by, ended, waiting, going, stuck, hearing}
-use Rattle.uring_enter.specs.Laws.{is_run, saw_enough, MayEnd, EndsForAReason}
+use Rattle.uring_enter.specs.Due.{due, is_reply_to, go_by, ended, going, stuck}
+use Rattle.uring_enter.specs.Laws.{saw_enough, EndsForAReason}
 use Rattle.uring_enter.proofs.Commands.{if_false, going_else, stuck_else, hearing_else, going_waiting, stuck_waiting}
 use Rattle.uring_enter.proofs.Running.{both_left, both_right, against, passing_is_else}
 

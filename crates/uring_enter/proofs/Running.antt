@@ -1,15 +1,15 @@
 -- The laws of a run.
-use Rattle.std.proofs.Common.{◌≡◌, ℤ, pos, Bool, true, false, ◌&&◌, not, List, [], ◌∷◌, if◌then◌else◌, refl, sym, ap, ◌∙◌}
+use Rattle.std.proofs.Common.{◌≡◌, ℤ, pos, Bool, true, false, ◌&&◌, List, [], ◌∷◌, if◌then◌else◌, refl, sym, ap, ◌∙◌}
 use Rattle.uring_enter.specs.declared.asked.Asked.{Asked}
 use Rattle.uring_enter.specs.declared.command.Command.{Command}
 use Rattle.uring_enter.specs.declared.command.Command.TheVariants as command
 use Rattle.uring_enter.specs.declared.reply.Sight.{Sight}
 use Rattle.uring_enter.specs.declared.reply.Reply.{Reply}
 use Rattle.uring_enter.specs.declared.reply.Reply.TheVariants.{Heard, WrongHead, Taken, NotTaken, WentOn, Chosen, Stuck, Woken, TimedOut, Interrupted, Endless, Failed, Passed}
-use Rattle.uring_enter.specs.Replies.{waits, looks, is_enough}
-use Rattle.uring_enter.specs.Due.{due, is_reply_to, is_lazy, ended, waiting, going, stuck, hearing}
-use Rattle.uring_enter.specs.Laws.{is_run, IsInVain, SleepsInVain, GivesUpInVain, saw_enough, MayEnd, EndsForAReason, SubmitsOnce}
-use Rattle.uring_enter.proofs.Commands.{true_is_not_false, if_false, if_true, IsElse, going_else, stuck_else, stuck_unless_waiting, hearing_else, going_waiting, stuck_waiting}
+use Rattle.uring_enter.specs.Replies.{is_enough}
+use Rattle.uring_enter.specs.Due.{due, is_reply_to, ended}
+use Rattle.uring_enter.specs.Laws.{IsInVain, SleepsInVain, GivesUpInVain, SubmitsOnce}
+use Rattle.uring_enter.proofs.Commands.{true_is_not_false, if_false, IsElse, going_else, stuck_else, stuck_unless_waiting, hearing_else}
 
 pub both_left : (x y : Bool) → x && y ≡ true → x ≡ true
 both_left true y h = refl

@@ -1,5 +1,5 @@
 -- The laws of timeouts.
-use Rattle.std.proofs.Common.{◌≡◌, ℕ, ◌≤◌, ◌<◌, ◌+◌, ◌-◌, ◌^◌, max, ℤ, pos, Bool, true, false, not, ◌&&◌, eqb, ltb, cond, length, get_or, List, [], ◌∷◌, ◌++◌, ◌⊎◌, inl, inr, Some, None, map, filter, refl, sym, ap, subst, arith, ◌∙◌, if◌then◌else◌}
+use Rattle.std.proofs.Common.{◌≡◌, ℕ, ◌≤◌, ◌<◌, ◌-◌, ◌^◌, max, ℤ, pos, Bool, true, false, ◌&&◌, eqb, ltb, cond, length, get_or, List, [], ◌∷◌, ◌++◌, ◌⊎◌, inl, inr, Some, None, map, filter, refl, sym, ap, subst, arith, ◌∙◌, if◌then◌else◌}
 use Rattle.std.specs.Prelude.{Contains, All, IsSome}
 use Rattle.std.proofs.lemmas.Bool.{eqb-true, eqb-false, ltb-false, leb-true, or_parts, not-true, not_from_false, ne_eqb, false≢true}
 use Rattle.std.proofs.lemmas.List.{length-map, get_or-map}

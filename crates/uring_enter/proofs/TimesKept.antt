@@ -1,5 +1,5 @@
 -- What is kept of the timeouts of a ring, and what is told of it.
-use Rattle.std.proofs.Common.{◌≡◌, ℕ, ◌≤◌, ◌<◌, ◌+◌, ◌-◌, min, ℤ, Bool, true, false, ◌&&◌, eqb, ltb, leb, length, take, set, zero, suc, List, [], ◌∷◌, ◌++◌, inl, inr, Option, Some, None, map, filter, refl, sym, ap, subst, arith, ◌∙◌, if◌then◌else◌}
+use Rattle.std.proofs.Common.{◌≡◌, ℕ, ◌≤◌, ◌<◌, ◌+◌, min, ℤ, Bool, true, false, ◌&&◌, eqb, ltb, leb, length, take, set, zero, suc, List, [], ◌∷◌, ◌++◌, inl, inr, Option, Some, None, map, filter, refl, sym, ap, subst, arith, ◌∙◌, if◌then◌else◌}
 use Rattle.std.specs.Prelude.{Contains, MatchOption, is_some}
 use Rattle.std.proofs.lemmas.Bool.{ltb-false, leb-true, leb-false, lt-ltb, or_parts, false≢true, cases_order}
 use Rattle.std.proofs.lemmas.List.{take_more_set}

@@ -4,7 +4,7 @@ use Rattle.uring_enter.specs.declared.asked.Asked.{Asked}
 use Rattle.uring_enter.specs.declared.command.Command.TheVariants as command
 use Rattle.uring_enter.specs.declared.reply.Sight.{Sight}
 use Rattle.uring_enter.specs.declared.reply.Reply.{Reply}
-use Rattle.uring_enter.specs.declared.reply.Reply.TheVariants.{Heard, WrongHead, Taken, NotTaken, WentOn, Chosen, Stuck, TimedOut, Interrupted, Endless, Failed}
+use Rattle.uring_enter.specs.declared.reply.Reply.TheVariants.{Heard, WrongHead, Taken, WentOn, Chosen, Stuck, TimedOut, Interrupted, Endless, Failed}
 use Rattle.uring_enter.specs.Replies.{waits, is_enough}
 use Rattle.uring_enter.specs.Due.{due, is_reply_to}
 

@@ -1,9 +1,9 @@
 -- What was replied in a call so far, the newest first, and what it tells.
-use Rattle.std.specs.Prelude.{ℕ, ℤ, pos, negsuc, ◌-ℤ◌, Bool, true, false, not, ◌&&◌, ◌||◌, ◌==◌, nat_le, nat_lt, min, List, [], ◌∷◌}
+use Rattle.std.specs.Prelude.{ℕ, ℤ, pos, negsuc, ◌-ℤ◌, Bool, false, not, ◌&&◌, ◌||◌, ◌==◌, nat_le, nat_lt, min, List, [], ◌∷◌}
 use Rattle.uring_enter.specs.declared.asked.Asked.{Asked}
 use Rattle.uring_enter.specs.declared.reply.Sight.{Sight}
 use Rattle.uring_enter.specs.declared.reply.Reply.{Reply}
-use Rattle.uring_enter.specs.declared.reply.Reply.TheVariants.{Heard, WrongHead, Taken, NotTaken, WentOn, Chosen, Stuck, Woken, TimedOut, Interrupted, Endless, Passed}
+use Rattle.uring_enter.specs.declared.reply.Reply.TheVariants.{Taken, NotTaken}
 
 -- the negative of an error number
 abbrev pub error : ℕ → ℤ

@@ -208,4 +208,4 @@ written, with # gave up before: STEP = ANSWER, and the status is 3.
 A line that is empty or begins with # is passed over, but the first one may say
 the set-up, as for check. A line that is no step with an answer, or one that
 can't be seen, is told on standard error with its number, and nothing is
-written; the status is then 2.";
+written; the status is then 4.";

@@ -1,4 +1,4 @@
-use Rattle.std.proofs.Common.{sym, ◌∙◌}
+use Rattle.std.proofs.Common.{◌∙◌}
 use Rattle.uring_enter.proofs.enter.Enter.next.Goals as goal
 
 pub returns-clause-due : goal.returns-clause-due
