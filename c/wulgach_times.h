@@ -47,8 +47,8 @@ struct wulgach_limit {
     bool is_set;
 };
 
-/* What a ring waits for, beside time. */
-struct wulgach_around {
+/* By what a call that waits may be woken. */
+struct wulgach_wake_sources {
     bool has_streams;   /* a request waits for a descriptor */
     bool has_threads;   /* another thread may make a call */
     bool is_real;       /* time passes by itself */
@@ -125,14 +125,17 @@ void wulgach_times_pass(struct wulgach_times *times, const struct wulgach_timeou
  * next that is over first, and of equal ones the one that was submitted first. */
 int32_t wulgach_times_due(const struct wulgach_times *times, const struct wulgach_timeout *rows, size_t room, struct wulgach_timeout *timeout);
 
+/* The same of one whose count is reached. */
+int32_t wulgach_times_reached(const struct wulgach_times *times, const struct wulgach_timeout *rows, size_t room, struct wulgach_timeout *timeout);
+
 /* The same of the one that is to end where nothing else can go on and nobody waits: where time passes by itself one that is over,
  * else the one that ends next, unless a descriptor is waited for. */
-int32_t wulgach_times_passing(const struct wulgach_times *times, const struct wulgach_timeout *rows, size_t room, const struct wulgach_around *around, struct wulgach_timeout *timeout);
+int32_t wulgach_times_passing(const struct wulgach_times *times, const struct wulgach_timeout *rows, size_t room, const struct wulgach_wake_sources *sources, struct wulgach_timeout *timeout);
 
 /* Writes how a call waits that has this limit, where nothing can go on. It sleeps while a descriptor is waited for; while another
  * thread may call, if no timeout runs; and where time passes by itself, if there is anything that it brings. Else time moves on at
  * once. Neither goes past the limit or the time of a timeout. */
-void wulgach_times_wait(const struct wulgach_times *times, const struct wulgach_timeout *rows, size_t room, const struct wulgach_around *around, const struct wulgach_limit *limit, struct wulgach_wait *wait);
+void wulgach_times_wait(const struct wulgach_times *times, const struct wulgach_timeout *rows, size_t room, const struct wulgach_wake_sources *sources, const struct wulgach_limit *limit, struct wulgach_wait *wait);
 
 /* Writes what has come when it has waited. */
 void wulgach_times_woken(const struct wulgach_times *times, const struct wulgach_timeout *rows, size_t room, const struct wulgach_limit *limit, struct wulgach_woken *woken);

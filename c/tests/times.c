@@ -36,17 +36,17 @@ static void check_sums(void)
 static void check_order(void)
 {
     struct wulgach_timeout next;
-    struct wulgach_around around = {false, false, false};
+    struct wulgach_wake_sources sources = {false, false, false};
     int32_t res = 1;
     wulgach_times_begin(&times);
-    demand(wulgach_times_passing(&times, rows, ROOM, &around, &next) == -2, "no timeout runs");
+    demand(wulgach_times_passing(&times, rows, ROOM, &sources, &next) == -2, "no timeout runs");
     demand(start(7, 20, 0, false) == 0 && start(4, 20, 0, false) == 0 && start(9, 10, 0, false) == 0, "three start");
     demand(start(11, 1, 0, false) == -12, "there is no room for a fourth");
     demand(wulgach_times_runs(&times, rows, ROOM, 9) && !wulgach_times_runs(&times, rows, ROOM, 11), "they run");
     demand(wulgach_times_due(&times, rows, ROOM, &next) == -2 && wulgach_times_end(&times, rows, ROOM, 9, &res) == -2 && res == 1, "none is over");
     for (uint64_t i = 0; i < ROOM; i++) {
         static const uint64_t order[ROOM] = {9, 4, 7};
-        demand(wulgach_times_passing(&times, rows, ROOM, &around, &next) == 0 && next.number == order[i], "who ends next");
+        demand(wulgach_times_passing(&times, rows, ROOM, &sources, &next) == 0 && next.number == order[i], "who ends next");
         wulgach_times_pass(&times, &next);
         demand(times.time == (i == 0 ? 10 : 20), "time has passed");
         demand(wulgach_times_end(&times, rows, ROOM, next.number, &res) == 0 && res == -62 && times.expired == i + 1, "it ends");
@@ -56,13 +56,16 @@ static void check_order(void)
 
 static void check_counts_and_changes(void)
 {
+    struct wulgach_timeout reached = {.number = 7};
     int32_t res;
     wulgach_times_begin(&times);
     demand(start(1, 100, 2, false) == 0 && start(2, 100, 0, false) == 0, "two start");
     wulgach_times_post(&times, 1);
     demand(wulgach_times_outcome(&times, rows, ROOM, 1) == -2, "one completion isn't two");
+    demand(wulgach_times_reached(&times, rows, ROOM, &reached) == -2 && reached.number == 7, "no count is reached");
     wulgach_times_post(&times, 1);
     demand(wulgach_times_outcome(&times, rows, ROOM, 1) == 0 && wulgach_times_outcome(&times, rows, ROOM, 2) == -2, "two are");
+    demand(wulgach_times_reached(&times, rows, ROOM, &reached) == 0 && reached.number == 1, "the first one's count is reached");
     demand(wulgach_times_end(&times, rows, ROOM, 1, &res) == 0 && res == 0, "it ends by its count");
     wulgach_times_move_to(&times, 50);
     wulgach_times_change(&times, rows, ROOM, 2, 7);
@@ -78,7 +81,7 @@ static void check_counts_and_changes(void)
 
 static void check_waits(void)
 {
-    struct wulgach_around none = {false, false, false}, stream = {true, false, false}, thread = {false, true, false};
+    struct wulgach_wake_sources none = {false, false, false}, stream = {true, false, false}, thread = {false, true, false};
     struct wulgach_limit never = {0, false}, soon = {5, true};
     struct wulgach_wait wait;
     struct wulgach_woken woken;

@@ -34,7 +34,7 @@ void look_again(struct ring *ring, size_t place)
 /* Where an end can change which other requests can be finished, all are looked at again. */
 static void look_again_behind(struct ring *ring)
 {
-    if (ring->counting > 0 || ring->drains > 0 || ring->have_to_wait)
+    if (any_has_counted(ring) || ring->drains > 0 || ring->have_to_wait)
         look_again(ring, 0);
 }
 

@@ -101,6 +101,12 @@ bool has_counted(const struct ring *ring, const struct request *timeout)
     return has_count(timeout) && wulgach_times_outcome(&ring->times, ring->timeouts, ring->timeouts_room, timeout->number) == 0;
 }
 
+bool any_has_counted(const struct ring *ring)
+{
+    struct wulgach_timeout timeout;
+    return ring->counting > 0 && wulgach_times_reached(&ring->times, ring->timeouts, ring->timeouts_room, &timeout) == 0;
+}
+
 struct request *timeout_behind(const struct ring *ring, const struct request *request)
 {
     bool has_link = request->entry.flags & (IOSQE_IO_LINK | IOSQE_IO_HARDLINK);

@@ -34,11 +34,11 @@ static bool is_streaming(const struct ring *ring)
     return false;
 }
 
-/* What a ring waits for beside time. Of other threads it is only asked where no timeout runs, since it doesn't matter else. */
-static struct wulgach_around look_around(const struct ring *ring)
+/* By what a call of this ring may be woken. Of other threads it is only asked where no timeout runs, since it doesn't matter else. */
+static struct wulgach_wake_sources wake_sources(const struct ring *ring)
 {
     bool has_streams = is_streaming(ring);
-    return (struct wulgach_around){
+    return (struct wulgach_wake_sources){
         .has_streams = has_streams,
         .has_threads = !has_streams && ring->times.count == 0 && has_threads(),
         .is_real = is_time_real(),
@@ -62,9 +62,9 @@ static int wait_as(struct ring *ring, const struct wulgach_wait *wait, const sig
 
 int wait_for_any(struct ring *ring, const struct wulgach_limit *deadline, const sigset_t *signals)
 {
-    struct wulgach_around around = look_around(ring);
+    struct wulgach_wake_sources sources = wake_sources(ring);
     struct wulgach_wait wait;
-    wulgach_times_wait(&ring->times, ring->timeouts, ring->timeouts_room, &around, deadline, &wait);
+    wulgach_times_wait(&ring->times, ring->timeouts, ring->timeouts_room, &sources, deadline, &wait);
     int result = wait_as(ring, &wait, signals);
     if (result < 0 || wait.kind == WULGACH_WAIT_NEVER)
         return result;
@@ -78,8 +78,8 @@ int wait_for_any(struct ring *ring, const struct wulgach_limit *deadline, const 
 /* The timeout that ends if time passes at once. */
 static bool find_passing(const struct ring *ring, struct wulgach_timeout *timeout)
 {
-    struct wulgach_around around = look_around(ring);
-    return wulgach_times_passing(&ring->times, ring->timeouts, ring->timeouts_room, &around, timeout) == 0;
+    struct wulgach_wake_sources sources = wake_sources(ring);
+    return wulgach_times_passing(&ring->times, ring->timeouts, ring->timeouts_room, &sources, timeout) == 0;
 }
 
 bool can_pass_time(const struct ring *ring)

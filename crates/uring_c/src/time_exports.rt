@@ -4,14 +4,14 @@ ghost use Rattle.uring_enter.specs.declared.wait.Wait.{Wait};
 ghost use Rattle.uring_enter.specs.declared.wait.Woken.{Woken};
 ghost use Rattle.uring_enter.specs.Timeouts.{Event, Started, Posted, Changed, Stopped, Clock, Slept, Passed, Ended};
 ghost use Rattle.uring_enter.specs.Timeouts.{later, nanoseconds_of, running, outcome, is_over, cancelled_by, linked_outcome};
-ghost use Rattle.uring_enter.specs.Timeouts.{NoneIsOver, IsNext, AreApart, HasNone, IsRow, EndsNone, EndsWith};
+ghost use Rattle.uring_enter.specs.Timeouts.{posted, NoneIsOver, IsNext, IsReachedOf, AreApart, HasNone, IsRow, EndsNone, EndsWith};
 ghost use Rattle.uring_enter.specs.Kept.{KeepsTime};
 ghost use Rattle.uring_enter.specs.Waits.{IsWait, IsWoken, IsPassing};
 ghost use Rattle.uring_c.specs.TimeForm.{limit_of, words_of_wait, words_of_woken};
 
 use crate::time_words::{LimitWords, WaitWords, WokenWords, wait_words, woken_words};
 use uring_enter::{
-    Around, Start, Timeout, Times, later, left_until, linked_outcome, nanoseconds_of,
+    WakeSources, Start, Timeout, Times, later, left_until, linked_outcome, nanoseconds_of,
 };
 
 /// The nanoseconds of a time in seconds and nanoseconds.
@@ -176,20 +176,35 @@ pub extern "C" fn wulgach_times_due(times: &Times, rows: &[Timeout], timeout: &m
     write_found(times.due(rows), timeout)
 }
 
+/// Writes one that runs whose count is reached, and returns 0, if any's is. Else returns -2, and writes nothing.
+#[unsafe(no_mangle)]
+pub extern "C" fn wulgach_times_reached(
+    times: &Times,
+    rows: &[Timeout],
+    timeout: &mut Timeout,
+) -> i32
+    ensures reached { (log : List Event) → KeepsTime log times.now rows.now → result ≡ pos 0
+        → IsReachedOf (running log) (posted log) (Some timeout.new) }
+    ensures none { (log : List Event) → KeepsTime log times.now rows.now → (result ≡ pos 0 → ⊥)
+        → (result ≡ negsuc 1) × IsReachedOf (running log) (posted log) None × (timeout.new ≡ timeout.old) }
+{
+    write_found(times.reached(rows), timeout)
+}
+
 /// Writes the timeout that is to end where nothing else can go on and nobody waits, and returns 0. If there is none, it returns -2, and writes nothing.
 #[unsafe(no_mangle)]
 pub extern "C" fn wulgach_times_passing(
     times: &Times,
     rows: &[Timeout],
-    around: &Around,
+    sources: &WakeSources,
     timeout: &mut Timeout,
 ) -> i32
     ensures passing { (log : List Event) → KeepsTime log times.now rows.now → result ≡ pos 0
-        → IsPassing log around.now (Some timeout.new) }
+        → IsPassing log sources.now (Some timeout.new) }
     ensures none { (log : List Event) → KeepsTime log times.now rows.now → (result ≡ pos 0 → ⊥)
-        → (result ≡ negsuc 1) × IsPassing log around.now None × (timeout.new ≡ timeout.old) }
+        → (result ≡ negsuc 1) × IsPassing log sources.now None × (timeout.new ≡ timeout.old) }
 {
-    write_found(times.passing(rows, *around), timeout)
+    write_found(times.passing(rows, *sources), timeout)
 }
 
 /// Writes what was found, if anything was.
@@ -209,14 +224,14 @@ fn write_found(found: Option<Timeout>, timeout: &mut Timeout) -> i32
 pub extern "C" fn wulgach_times_wait(
     times: &Times,
     rows: &[Timeout],
-    around: &Around,
+    sources: &WakeSources,
     limit: &LimitWords,
     wait: &mut WaitWords,
 )
     ensures { (log : List Event) → KeepsTime log times.now rows.now
-        → (w : Wait) × IsWait log around.now (limit_of limit.now) w × (wait.new ≡ words_of_wait w) }
+        → (w : Wait) × IsWait log sources.now (limit_of limit.now) w × (wait.new ≡ words_of_wait w) }
 {
-    *wait = wait_words(times.wait(rows, *around, limit.limit()));
+    *wait = wait_words(times.wait(rows, *sources, limit.limit()));
 }
 
 /// Writes what has come for a call that has this limit, and has waited.

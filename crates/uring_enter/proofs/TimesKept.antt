@@ -4,7 +4,7 @@ use Rattle.std.specs.Prelude.{Contains, MatchOption, is_some}
 use Rattle.std.proofs.lemmas.Bool.{ltb-false, leb-true, leb-false, lt-ltb, or_parts, false≢true, cases_order}
 use Rattle.std.proofs.lemmas.List.{take_more_set}
 use Rattle.uring_enter.specs.declared.timeout.Timeout.{Timeout}
-use Rattle.uring_enter.specs.declared.wait.Around.{Around}
+use Rattle.uring_enter.specs.declared.wait.WakeSources.{WakeSources}
 use Rattle.uring_enter.specs.declared.wait.Woken.{Woken}
 use Rattle.uring_enter.specs.declared.wait.Woken.TheVariants.{TimedOut, Other}
 use Rattle.uring_enter.specs.Timeouts.{Event, Changed, later, time, posted, running, is_other, with_expiry, ends_before, IsNext, IsNextOf, is_over, outcome, NoneIsOver, IsDueOf, IsEarliest, HasNone, IsRow, EndsNone, EndsWith, AreApart}
@@ -198,8 +198,8 @@ passing_by log next true streams is = due_at log next is
 passing_by log next false true is = refl
 passing_by log next false false is = is
 
-pub passing_is : (log : List Event) (around : Around) (next : Option Timeout) (now : ℕ) (result : Option Timeout)
-    → IsNextOf (running log) next → now ≡ time log → result ≡ passing_of around now next → IsPassing log around result
-passing_is log around next now result is same made =
-    subst (IsPassing log around) (sym (made ∙ ap (λ n. passing_of around n next) same))
-    (passing_by log next around.is_real around.has_streams is)
+pub passing_is : (log : List Event) (sources : WakeSources) (next : Option Timeout) (now : ℕ) (result : Option Timeout)
+    → IsNextOf (running log) next → now ≡ time log → result ≡ passing_of sources now next → IsPassing log sources result
+passing_is log sources next now result is same made =
+    subst (IsPassing log sources) (sym (made ∙ ap (λ n. passing_of sources n next) same))
+    (passing_by log next sources.is_real sources.has_streams is)

@@ -1,9 +1,9 @@
 -- Glue: the time of a ring, and rows of timeouts, that have come so far.
-use Rattle.std.specs.Prelude.{◌≡◌, ℕ, ◌≤◌, length, take, ℤ, pos, ◌&&◌, nat_lt, nat_le, min, List, Option, Some, None, if◌then◌else◌}
+use Rattle.std.specs.Prelude.{◌≡◌, ℕ, ◌≤◌, length, take, ℤ, pos, nat_le, min, List, Option, Some, None, if◌then◌else◌}
 use Rattle.uring_enter.specs.Replies.{error}
 use Rattle.uring_enter.specs.declared.timeout.Timeout.{Timeout}
 use Rattle.uring_enter.specs.declared.times.Times.{Times}
-use Rattle.uring_enter.specs.Timeouts.{Event, time, slept_until, posted, expired, running, ends_before}
+use Rattle.uring_enter.specs.Timeouts.{Event, time, slept_until, posted, expired, running, ends_before, is_reached_by}
 
 -- the value and the first rows are those of a ring to which this has happened
 pub record KeepsTime (log : List Event) (times : Times) (rows : List Timeout) : Type 0 where
@@ -33,7 +33,7 @@ earliest_of (Some next) (Some limit) = Some (min limit next.expiry)
 -- how a timeout ends then
 abbrev pub outcome_at : ℕ → ℕ → Timeout → Option ℤ
 outcome_at posted now t =
-    if nat_lt 0 t.enough && nat_le t.enough posted then Some (pos 0) else
+    if is_reached_by posted t then Some (pos 0) else
     if nat_le t.expiry now then Some (error 62) else None
 
 abbrev pub outcome_found : ℕ → ℕ → Option Timeout → Option ℤ

@@ -66,7 +66,7 @@ expired [] = 0
 expired (Ended t ∷ earlier) = expired_with (expired earlier) t.is_linked
 expired (_ ∷ earlier) = expired earlier
 
--- once how many completions were posted a count is reached that starts now; 0: there is no count
+-- how many completions will have been posted in all when a count that starts now is reached; 0: there is no count
 abbrev pub enough_after : ℕ → ℕ → ℕ
 enough_after now count = if count == 0 then 0 else counted now count
 
@@ -107,9 +107,19 @@ IsNext rows t = Contains rows t × ((u : Timeout) → Contains rows u → ends_b
 abbrev pub IsNextOf : List Timeout → Option Timeout → Type 0
 IsNextOf rows next = MatchOption next (rows ≡ []) (IsNext rows)
 
+-- it has a count, which is reached by so many completions
+abbrev pub is_reached_by : ℕ → Timeout → Bool
+is_reached_by count t = nat_lt 0 t.enough && nat_le t.enough count
+
 -- as many completions were posted as it counts
 abbrev pub has_counted : List Event → Timeout → Bool
-has_counted log t = nat_lt 0 t.enough && nat_le t.enough (posted log)
+has_counted log t = is_reached_by (posted log) t
+
+-- one of these has a count that is reached by so many completions, or none has
+abbrev pub IsReachedOf : List Timeout → ℕ → Option Timeout → Type 0
+IsReachedOf rows count found = MatchOption found
+    ((t : Timeout) → Contains rows t → is_reached_by count t ≡ false)
+    (λ t. Contains rows t × (is_reached_by count t ≡ true))
 
 -- its time is over
 abbrev pub is_over : List Event → Timeout → Bool

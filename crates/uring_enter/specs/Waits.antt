@@ -1,7 +1,7 @@
 -- How a call waits where nothing can go on. Our own rules: where a kernel's call would sleep until a timeout is over, virtual time passes at once; but it is real while a descriptor or another thread is waited for.
 use Rattle.std.specs.Prelude.{◌≡◌, ℕ, Bool, true, false, not, ◌&&◌, ◌||◌, nat_le, ◌≤◌, Option, Some, None, List, [], ◌∷◌, if◌then◌else◌}
 use Rattle.uring_enter.specs.declared.timeout.Timeout.{Timeout}
-use Rattle.uring_enter.specs.declared.wait.Around.{Around}
+use Rattle.uring_enter.specs.declared.wait.WakeSources.{WakeSources}
 use Rattle.uring_enter.specs.declared.wait.Wait.{Wait}
 use Rattle.uring_enter.specs.declared.wait.Wait.TheVariants.{Sleep, MoveTo, Never}
 use Rattle.uring_enter.specs.declared.wait.Woken.{Woken}
@@ -10,11 +10,11 @@ use Rattle.uring_enter.specs.Timeouts.{Event, time, running, is_over, NoneIsOver
 use Rattle.uring_enter.specs.Kept.{due_of}
 
 -- a call sleeps while a descriptor is waited for; while another thread may call, if no timeout runs; and where time passes by itself, if there is anything that it brings. Else time moves on at once to what comes first, or there is nothing to wait for
-abbrev pub wait_of : Around → Bool → Option ℕ → Wait
-wait_of around has_timeouts None =
-    if around.has_streams || around.has_threads && not has_timeouts then Sleep None else Never
-wait_of around has_timeouts (Some until) =
-    if around.has_streams || around.has_threads && not has_timeouts || around.is_real then Sleep (Some until)
+abbrev pub wait_of : WakeSources → Bool → Option ℕ → Wait
+wait_of sources has_timeouts None =
+    if sources.has_streams || sources.has_threads && not has_timeouts then Sleep None else Never
+wait_of sources has_timeouts (Some until) =
+    if sources.has_streams || sources.has_threads && not has_timeouts || sources.is_real then Sleep (Some until)
     else MoveTo until
 
 abbrev pub has_any : List Timeout → Bool
@@ -22,9 +22,9 @@ has_any [] = false
 has_any (t ∷ rows) = true
 
 -- how a call waits: no longer than to the earliest of its limit and of the times at which timeouts are over
-abbrev pub IsWait : List Event → Around → Option ℕ → Wait → Type 0
-IsWait log around limit wait =
-    (until : Option ℕ) × IsEarliest (running log) limit until × (wait ≡ wait_of around (has_any (running log)) until)
+abbrev pub IsWait : List Event → WakeSources → Option ℕ → Wait → Type 0
+IsWait log sources limit wait =
+    (until : Option ℕ) × IsEarliest (running log) limit until × (wait ≡ wait_of sources (has_any (running log)) until)
 
 -- a limit is over, or isn't
 abbrev pub IsReached : Option ℕ → ℕ → Type 0
@@ -43,8 +43,8 @@ IsPassingBy false true log result = result ≡ None
 IsPassingBy false false log result = IsNextOf (running log) result
 
 -- who is to end where nothing else can go on and nobody waits: where time passes by itself one that is over, else the next, unless a descriptor is waited for
-abbrev pub IsPassing : List Event → Around → Option Timeout → Type 0
-IsPassing log around result = IsPassingBy around.is_real around.has_streams log result
+abbrev pub IsPassing : List Event → WakeSources → Option Timeout → Type 0
+IsPassing log sources result = IsPassingBy sources.is_real sources.has_streams log result
 
 -- the same as functions of who ends next; glue
 abbrev pub woken_of : Option Timeout → Option ℕ → ℕ → Woken
@@ -52,7 +52,7 @@ woken_of (Some t) limit now = Over t
 woken_of None None now = Other
 woken_of None (Some limit) now = if nat_le limit now then TimedOut else Other
 
-abbrev pub passing_of : Around → ℕ → Option Timeout → Option Timeout
-passing_of around now next =
-    if around.is_real then due_of now next else
-    if around.has_streams then None else next
+abbrev pub passing_of : WakeSources → ℕ → Option Timeout → Option Timeout
+passing_of sources now next =
+    if sources.is_real then due_of now next else
+    if sources.has_streams then None else next

@@ -32,4 +32,4 @@ pub use time_laws::{
 };
 pub use timeout::{Start, Timeout, later, left_until, linked_outcome, nanoseconds_of};
 pub use times::{NoRoom, Times};
-pub use wait::{Around, Wait, Woken};
+pub use wait::{Wait, WakeSources, Woken};

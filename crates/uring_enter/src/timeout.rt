@@ -1,7 +1,7 @@
 //! A timeout, and the times that it is given.
 
 ghost use Rattle.std.specs.Prelude.{◌≡◌, ◌-◌};
-ghost use Rattle.uring_enter.specs.Timeouts.{later, nanoseconds_of, ends_before, with_expiry, cancelled_by, linked_outcome};
+ghost use Rattle.uring_enter.specs.Timeouts.{later, nanoseconds_of, ends_before, is_reached_by, with_expiry, cancelled_by, linked_outcome};
 
 /// A timeout that starts. io_uring_enter(2), IORING_OP_TIMEOUT and IORING_OP_LINK_TIMEOUT.
 #[repr(C)]
@@ -84,6 +84,13 @@ pub fn nanoseconds_of(seconds: i64, nanoseconds: i64) -> u64
     } else {
         later(whole, nanoseconds.unsigned_abs())
     }
+}
+
+/// Whether a timeout has a count, which is reached by so many completions.
+pub(crate) fn is_reached_by(row: Timeout, count: u64) -> bool
+    ensures { result ≡ is_reached_by count row }
+{
+    0 < row.enough && row.enough <= count
 }
 
 /// Whether one ends before another: the one that is over first, and of equal ones the one that was submitted first.

@@ -1,10 +1,10 @@
 //! Timeouts that run, as rows in memory that the caller has.
 
 ghost use Rattle.std.specs.Prelude.{◌≡◌, ◌<◌, ◌≤◌, length, take, map, filter, slice_index_or, MatchOption, [], true};
-ghost use Rattle.uring_enter.specs.Timeouts.{is_other, with_expiry, IsNextOf, HasNone, IsRow};
+ghost use Rattle.uring_enter.specs.Timeouts.{is_other, with_expiry, IsNextOf, IsReachedOf, HasNone, IsRow};
 ghost use Rattle.uring_enter.specs.Kept.{nearer};
 
-use crate::timeout::{Timeout, ends_before, with_expiry};
+use crate::timeout::{Timeout, ends_before, is_reached_by, with_expiry};
 
 /// The row at a place.
 fn row_at(rows: &[Timeout], place: usize) -> Timeout
@@ -45,6 +45,20 @@ pub(crate) fn row_of(rows: &[Timeout], count: usize, number: u64) -> Option<Time
     for i in 0..count {
         let row = rows[i];
         if row.number == number {
+            return Some(row);
+        }
+    }
+    None
+}
+
+/// The first one among the first so many rows whose count is reached by so many completions.
+pub(crate) fn reached_of(rows: &[Timeout], count: usize, posted: u64) -> Option<Timeout>
+    requires { count ≤ length rows.now }
+    ensures { IsReachedOf (take count rows.now) posted result }
+{
+    for i in 0..count {
+        let row = row_at(rows, i);
+        if is_reached_by(row, posted) {
             return Some(row);
         }
     }

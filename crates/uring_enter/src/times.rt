@@ -2,12 +2,12 @@
 
 ghost use Rattle.std.specs.Prelude.{◌≡◌, ◌≤◌, ◌↔◌, length, List, [], ◌∷◌, MatchOption, true, false, IsErr, OnOk, OnErr, IfSome, None, Some};
 ghost use Rattle.uring_enter.specs.Timeouts.{Event, Started, Posted, Changed, Stopped, Clock, Slept, Passed, Ended};
-ghost use Rattle.uring_enter.specs.Timeouts.{running, started, enough_after, expired_with, IsNextOf, IsDueOf, IsEarliest};
+ghost use Rattle.uring_enter.specs.Timeouts.{running, posted, started, enough_after, expired_with, IsNextOf, IsReachedOf, IsDueOf, IsEarliest};
 ghost use Rattle.uring_enter.specs.Timeouts.{outcome, AreApart, HasNone, IsRow, EndsNone, EndsWith};
 ghost use Rattle.uring_enter.specs.Kept.{KeepsTime, due_of, earliest_of, outcome_at, outcome_found};
 
-use crate::timeout::{Start, Timeout, later};
-use crate::timeout_rows::{next_of, row_of, set_expiry, take_out};
+use crate::timeout::{Start, Timeout, is_reached_by, later};
+use crate::timeout_rows::{next_of, reached_of, row_of, set_expiry, take_out};
 
 /// There is no room for another timeout. Nothing changes.
 #[derive(Clone, Copy, Debug, PartialEq, Eq, Drop)]
@@ -75,7 +75,7 @@ impl Times {
         }
     }
 
-    /// Once how many completions were posted a count is reached that starts now, or 0.
+    /// How many completions will have been posted in all when a count that starts now is reached, or 0.
     fn enough_after(&self, count: u64) -> u64
         ensures { result ≡ enough_after self.now.posted count }
     {
@@ -161,6 +161,14 @@ impl Times {
         due_of(self.time, self.next(rows))
     }
 
+    /// One that runs whose count is reached, if any's is.
+    pub fn reached(&self, rows: &[Timeout]) -> Option<Timeout>
+        ensures { (log : List Event) → KeepsTime log self.now rows.now
+            → IsReachedOf (running log) (posted log) result }
+    {
+        reached_of(rows, self.count_in(rows), self.posted)
+    }
+
     /// Until when a call may sleep that has this limit: the earliest of it and of the times at which timeouts are over.
     pub fn sleeps_until(&self, rows: &[Timeout], limit: Option<u64>) -> Option<u64>
         ensures { (log : List Event) → KeepsTime log self.now rows.now
@@ -209,7 +217,7 @@ impl Times {
     fn outcome_of(&self, row: Timeout) -> Option<i32>
         ensures { result ≡ outcome_at self.now.posted self.now.time row }
     {
-        if 0 < row.enough && row.enough <= self.posted {
+        if is_reached_by(row, self.posted) {
             Some(0)
         } else if row.expiry <= self.time {
             Some(-62)

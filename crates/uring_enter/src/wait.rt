@@ -8,10 +8,10 @@ ghost use Rattle.uring_enter.specs.Waits.{wait_of, woken_of, passing_of, IsWait,
 use crate::timeout::Timeout;
 use crate::times::{Times, due_of};
 
-/// What a ring waits for, beside time.
+/// By what a call that waits may be woken.
 #[repr(C)]
 #[derive(Clone, Copy, Debug, PartialEq, Eq, Drop)]
-pub struct Around {
+pub struct WakeSources {
     /// A request waits for a descriptor.
     pub has_streams: bool,
 
@@ -50,12 +50,12 @@ pub enum Woken {
 
 impl Times {
     /// How a call waits that has this limit.
-    pub fn wait(&self, rows: &[Timeout], around: Around, limit: Option<u64>) -> Wait
+    pub fn wait(&self, rows: &[Timeout], sources: WakeSources, limit: Option<u64>) -> Wait
         ensures { (log : List Event) → KeepsTime log self.now rows.now
-            → IsWait log around limit result }
+            → IsWait log sources limit result }
     {
         let until = self.sleeps_until(rows, limit);
-        wait_of(around, 0 < self.count, until)
+        wait_of(sources, 0 < self.count, until)
     }
 
     /// What has come for a call that has this limit, and has waited.
@@ -67,11 +67,11 @@ impl Times {
     }
 
     /// The timeout that is to end where nothing else can go on and nobody waits: where time passes by itself one that is over, else the next, unless a descriptor is waited for.
-    pub fn passing(&self, rows: &[Timeout], around: Around) -> Option<Timeout>
+    pub fn passing(&self, rows: &[Timeout], sources: WakeSources) -> Option<Timeout>
         ensures { (log : List Event) → KeepsTime log self.now rows.now
-            → IsPassing log around result }
+            → IsPassing log sources result }
     {
-        passing_of(around, self.time, self.next(rows))
+        passing_of(sources, self.time, self.next(rows))
     }
 }
 
@@ -93,12 +93,12 @@ fn woken_of(due: Option<Timeout>, limit: Option<u64>, now: u64) -> Woken
 }
 
 /// Who is to end, if this one ends next.
-fn passing_of(around: Around, now: u64, next: Option<Timeout>) -> Option<Timeout>
-    ensures { result ≡ passing_of around now next }
+fn passing_of(sources: WakeSources, now: u64, next: Option<Timeout>) -> Option<Timeout>
+    ensures { result ≡ passing_of sources now next }
 {
-    if around.is_real {
+    if sources.is_real {
         due_of(now, next)
-    } else if around.has_streams {
+    } else if sources.has_streams {
         None
     } else {
         next
@@ -106,10 +106,10 @@ fn passing_of(around: Around, now: u64, next: Option<Timeout>) -> Option<Timeout
 }
 
 /// How a call waits until then at most.
-fn wait_of(around: Around, has_timeouts: bool, until: Option<u64>) -> Wait
-    ensures { result ≡ wait_of around has_timeouts until }
+fn wait_of(sources: WakeSources, has_timeouts: bool, until: Option<u64>) -> Wait
+    ensures { result ≡ wait_of sources has_timeouts until }
 {
-    let is_waiting = around.has_streams || (around.has_threads && !has_timeouts);
+    let is_waiting = sources.has_streams || (sources.has_threads && !has_timeouts);
     match until {
         None => {
             if is_waiting {
@@ -119,7 +119,7 @@ fn wait_of(around: Around, has_timeouts: bool, until: Option<u64>) -> Wait
             }
         }
         Some(until) => {
-            if is_waiting || around.is_real {
+            if is_waiting || sources.is_real {
                 Wait::Sleep(Some(until))
             } else {
                 Wait::MoveTo(until)

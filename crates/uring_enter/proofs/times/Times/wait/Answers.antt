@@ -7,5 +7,5 @@ pub returns : goal.returns
 returns c log keeps = (
   c.sleeps_until-until.result,
   c.sleeps_until-until.ensures log keeps,
-  c.wait_of.ensures ∙ ap (λ b. wait_of c.args.around b c.sleeps_until-until.result) (any_is log c.args.self.now.count c.args.rows.now keeps.within keeps.running),
+  c.wait_of.ensures ∙ ap (λ b. wait_of c.args.sources b c.sleeps_until-until.result) (any_is log c.args.self.now.count c.args.rows.now keeps.within keeps.running),
 )
