@@ -2,7 +2,7 @@ use crate::answer::{Answer, Completion};
 use crate::entry::Entry;
 use crate::error::{made, Error};
 use crate::ffi::{self, Place};
-use crate::reading::{self, Counts, Operation};
+use crate::reading::{self, found, Counts, Operation};
 use crate::setup::Setup;
 use crate::step::Step;
 use crate::why::{self, Why};
@@ -146,36 +146,36 @@ impl Core {
 
     /// The completion at this index among those posted and not reaped, the oldest first.
     pub fn rest(&self, index: u64) -> Option<Completion> {
-        let mut completion = reading::NO_COMPLETION;
         // SAFETY: as in `counts`.
-        let result = unsafe { ffi::wulgach_core_rest(self.place.get(), index, &mut completion) };
-        (result == 0).then(|| reading::completion(&completion))
+        found(reading::NO_COMPLETION, |completion| unsafe {
+            ffi::wulgach_core_rest(self.place.get(), index, completion)
+        })
+        .map(|completion| reading::completion(&completion))
     }
 
     /// The least outstanding request, which is the next to go on if nothing else can.
     pub fn least(&self) -> Option<u64> {
-        let mut number = 0;
         // SAFETY: as in `counts`.
-        let result = unsafe { ffi::wulgach_core_least(self.place.get(), &mut number) };
-        (result == 0).then_some(number)
+        found(0, |number| unsafe {
+            ffi::wulgach_core_least(self.place.get(), number)
+        })
     }
 
     /// What the request of this number asks for, if it is running.
     pub fn running_op(&self, number: u64) -> Option<Operation> {
-        let mut operation = reading::NO_OPERATION;
         // SAFETY: as in `counts`.
-        let result =
-            unsafe { ffi::wulgach_core_running_op(self.place.get(), number, &mut operation) };
-        (result == 0).then(|| reading::operation(&operation))
+        found(reading::NO_OPERATION, |operation| unsafe {
+            ffi::wulgach_core_running_op(self.place.get(), number, operation)
+        })
+        .map(|operation| reading::operation(&operation))
     }
 
     /// The least request from this number on, any number, that can be issued: that `Step::Issue` starts or ends. `None` exactly if there is none. It looks once at each 4,096 numbers that it passes.
     pub fn next_issuable(&self, from: u64) -> Option<u64> {
-        let mut number = 0;
         // SAFETY: as in `counts`.
-        let result =
-            unsafe { ffi::wulgach_core_next_issuable(self.place.get(), from, &mut number) };
-        (result == 0).then_some(number)
+        found(0, |number| unsafe {
+            ffi::wulgach_core_next_issuable(self.place.get(), from, number)
+        })
     }
 
     /// The requests that can be issued, in the order of their numbers. Each is found when it is asked for.
@@ -220,11 +220,10 @@ impl Core {
 
     /// The request at this index, from 0, of those that can be issued, in the order of their numbers: `None` exactly past the last. So a random index below `issuable_count` chooses one that isn't refused. It looks once at each 64 numbers from the least outstanding one on, up to the one it finds.
     pub fn nth_issuable(&self, index: u64) -> Option<u64> {
-        let mut number = 0;
         // SAFETY: as in `counts`.
-        let result =
-            unsafe { ffi::wulgach_core_nth_issuable(self.place.get(), index, &mut number) };
-        (result == 0).then_some(number)
+        found(0, |number| unsafe {
+            ffi::wulgach_core_nth_issuable(self.place.get(), index, number)
+        })
     }
 
     /// Why the request of this number, any number, stands as it does.

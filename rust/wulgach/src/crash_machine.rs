@@ -1,7 +1,7 @@
 use crate::answer::{Answer, Completion};
 use crate::error::Error;
 use crate::ffi::{self, Place};
-use crate::reading::{self, Counts, FileState, Operation};
+use crate::reading::{self, found, Counts, FileState, Operation};
 use crate::setup::Setup;
 use crate::step::Step;
 use crate::volume::{read, read_all, Volume};
@@ -150,21 +150,20 @@ impl CrashMachine {
 
     /// The completion at this index among those posted and not reaped, the oldest first.
     pub fn rest(&self, index: u64) -> Option<Completion> {
-        let mut completion = reading::NO_COMPLETION;
         // SAFETY: as in `is_lost`.
-        let result =
-            unsafe { ffi::wulgach_crash_machine_rest(self.place.get(), index, &mut completion) };
-        (result == 0).then(|| reading::completion(&completion))
+        found(reading::NO_COMPLETION, |completion| unsafe {
+            ffi::wulgach_crash_machine_rest(self.place.get(), index, completion)
+        })
+        .map(|completion| reading::completion(&completion))
     }
 
     /// What the request of this number asks for, if it is running.
     pub fn running_op(&self, number: u64) -> Option<Operation> {
-        let mut operation = reading::NO_OPERATION;
         // SAFETY: as in `is_lost`.
-        let result = unsafe {
-            ffi::wulgach_crash_machine_running_op(self.place.get(), number, &mut operation)
-        };
-        (result == 0).then(|| reading::operation(&operation))
+        found(reading::NO_OPERATION, |operation| unsafe {
+            ffi::wulgach_crash_machine_running_op(self.place.get(), number, operation)
+        })
+        .map(|operation| reading::operation(&operation))
     }
 
     /// How many requests can be issued.
@@ -177,29 +176,27 @@ impl CrashMachine {
 
     /// The request at this index, from 0, of those that can be issued, in the order of their numbers: `None` exactly past the last.
     pub fn nth_issuable(&self, index: u64) -> Option<u64> {
-        let mut number = 0;
         // SAFETY: as in `is_lost`.
-        let result = unsafe {
-            ffi::wulgach_crash_machine_nth_issuable(self.place.get(), index, &mut number)
-        };
-        (result == 0).then_some(number)
+        found(0, |number| unsafe {
+            ffi::wulgach_crash_machine_nth_issuable(self.place.get(), index, number)
+        })
     }
 
     /// How the file of a descriptor stands. Writes and syncs are counted from the start of the epoch on.
     pub fn state(&self, fd: i32) -> Option<FileState> {
-        let mut file = reading::NO_FILE;
         // SAFETY: as in `is_lost`.
-        let result = unsafe { ffi::wulgach_crash_machine_state(self.place.get(), fd, &mut file) };
-        (result == 0).then(|| reading::file(&file))
+        found(reading::NO_FILE, |file| unsafe {
+            ffi::wulgach_crash_machine_state(self.place.get(), fd, file)
+        })
+        .map(|file| reading::file(&file))
     }
 
     /// The byte at an offset of the file of a descriptor.
     pub fn byte(&self, fd: i32, at: u64) -> Option<u8> {
-        let mut byte = 0;
         // SAFETY: as in `is_lost`.
-        let result =
-            unsafe { ffi::wulgach_crash_machine_byte(self.place.get(), fd, at, &mut byte) };
-        (result == 0).then_some(byte)
+        found(0, |byte| unsafe {
+            ffi::wulgach_crash_machine_byte(self.place.get(), fd, at, byte)
+        })
     }
 
     /// The bytes of the file of a descriptor, as a read shows them.

@@ -1,7 +1,7 @@
 use crate::answer::{Answer, Completion};
 use crate::error::{made, Error};
 use crate::ffi::{self, Place};
-use crate::reading::{self, Counts, FileState, Operation};
+use crate::reading::{self, found, Counts, FileState, Operation};
 use crate::setup::Setup;
 use crate::step::Step;
 use crate::why::{self, Why};
@@ -71,36 +71,36 @@ impl Machine {
 
     /// The completion at this index among those posted and not reaped, the oldest first.
     pub fn rest(&self, index: u64) -> Option<Completion> {
-        let mut completion = reading::NO_COMPLETION;
         // SAFETY: as in `counts`.
-        let result = unsafe { ffi::wulgach_machine_rest(self.place.get(), index, &mut completion) };
-        (result == 0).then(|| reading::completion(&completion))
+        found(reading::NO_COMPLETION, |completion| unsafe {
+            ffi::wulgach_machine_rest(self.place.get(), index, completion)
+        })
+        .map(|completion| reading::completion(&completion))
     }
 
     /// The least outstanding request, which is the next to go on if nothing else can.
     pub fn least(&self) -> Option<u64> {
-        let mut number = 0;
         // SAFETY: as in `counts`.
-        let result = unsafe { ffi::wulgach_machine_least(self.place.get(), &mut number) };
-        (result == 0).then_some(number)
+        found(0, |number| unsafe {
+            ffi::wulgach_machine_least(self.place.get(), number)
+        })
     }
 
     /// What the request of this number asks for, if it is running.
     pub fn running_op(&self, number: u64) -> Option<Operation> {
-        let mut operation = reading::NO_OPERATION;
         // SAFETY: as in `counts`.
-        let result =
-            unsafe { ffi::wulgach_machine_running_op(self.place.get(), number, &mut operation) };
-        (result == 0).then(|| reading::operation(&operation))
+        found(reading::NO_OPERATION, |operation| unsafe {
+            ffi::wulgach_machine_running_op(self.place.get(), number, operation)
+        })
+        .map(|operation| reading::operation(&operation))
     }
 
     /// The least request from this number on, any number, that can be issued: that `Step::Issue` starts or ends. `None` exactly if there is none. It looks once at each 4,096 numbers that it passes.
     pub fn next_issuable(&self, from: u64) -> Option<u64> {
-        let mut number = 0;
         // SAFETY: as in `counts`.
-        let result =
-            unsafe { ffi::wulgach_machine_next_issuable(self.place.get(), from, &mut number) };
-        (result == 0).then_some(number)
+        found(0, |number| unsafe {
+            ffi::wulgach_machine_next_issuable(self.place.get(), from, number)
+        })
     }
 
     /// The requests that can be issued, in the order of their numbers. Each is found when it is asked for.
@@ -145,11 +145,10 @@ impl Machine {
 
     /// The request at this index, from 0, of those that can be issued, in the order of their numbers: `None` exactly past the last. So a random index below `issuable_count` chooses one that isn't refused. It looks once at each 64 numbers from the least outstanding one on, up to the one it finds.
     pub fn nth_issuable(&self, index: u64) -> Option<u64> {
-        let mut number = 0;
         // SAFETY: as in `counts`.
-        let result =
-            unsafe { ffi::wulgach_machine_nth_issuable(self.place.get(), index, &mut number) };
-        (result == 0).then_some(number)
+        found(0, |number| unsafe {
+            ffi::wulgach_machine_nth_issuable(self.place.get(), index, number)
+        })
     }
 
     /// Why the request of this number, any number, stands as it does.
@@ -170,18 +169,19 @@ impl Machine {
 
     /// How the file of a descriptor stands.
     pub fn state(&self, fd: i32) -> Option<FileState> {
-        let mut file = reading::NO_FILE;
         // SAFETY: as in `counts`.
-        let result = unsafe { ffi::wulgach_machine_state(self.place.get(), fd, &mut file) };
-        (result == 0).then(|| reading::file(&file))
+        found(reading::NO_FILE, |file| unsafe {
+            ffi::wulgach_machine_state(self.place.get(), fd, file)
+        })
+        .map(|file| reading::file(&file))
     }
 
     /// The byte at an offset of the file of a descriptor.
     pub fn byte(&self, fd: i32, at: u64) -> Option<u8> {
-        let mut byte = 0;
         // SAFETY: as in `counts`.
-        let result = unsafe { ffi::wulgach_machine_byte(self.place.get(), fd, at, &mut byte) };
-        (result == 0).then_some(byte)
+        found(0, |byte| unsafe {
+            ffi::wulgach_machine_byte(self.place.get(), fd, at, byte)
+        })
     }
 }
 

@@ -77,6 +77,11 @@ pub(crate) const NO_FILE: ffi::File = ffi::File {
     len: 0,
 };
 
+/// What a call writes that returns 0 if it found something.
+pub(crate) fn found<W>(mut words: W, call: impl FnOnce(&mut W) -> i32) -> Option<W> {
+    (call(&mut words) == 0).then_some(words)
+}
+
 pub(crate) fn file(words: &ffi::File) -> FileState {
     FileState {
         len: words.len,
