@@ -1,6 +1,7 @@
 //! The history of an outcome, as a recorded trace.
 
 ghost use Rattle.std.specs.Prelude.{◌≡◌, ◌++◌, ℕ, List, Ok, true, false, IfOk, IfSome, OnOk, map, string_bytes};
+ghost use Rattle.std.specs.Fmt.{decimal};
 ghost use Rattle.std.specs.Io.KnownBytes.{Appends};
 ghost use Rattle.uring_ports.specs.declared.item.Item.{Item};
 ghost use Rattle.uring_ports.specs.Items.{all_published_as};
@@ -107,15 +108,20 @@ fn with_head(
 fn push_setup(alloc: Global, text: &mut String, setup: &Setup) -> Result<(), AllocError>
     ensures { OnOk result (string_bytes text.new ≡ string_bytes text.old ++ setup_text setup.now) }
 {
-    push_text(&alloc, text, "# setup --sq ")?;
-    push_number(&alloc, text, u64::from(setup.sq()))?;
-    push_text(&alloc, text, " --cq ")?;
-    push_number(&alloc, text, u64::from(setup.cq()))?;
-    push_text(&alloc, text, " --files ")?;
-    push_number(&alloc, text, u64::from(setup.files()))?;
-    push_text(&alloc, text, " --start ")?;
-    push_number(&alloc, text, u64::from(setup.start()))?;
+    push_named(alloc, text, "# setup --sq ", setup.sq())?;
+    push_named(alloc, text, " --cq ", setup.cq())?;
+    push_named(alloc, text, " --files ", setup.files())?;
+    push_named(alloc, text, " --start ", setup.start())?;
     push_text(&alloc, text, "\n")
+}
+
+/// Appends a number behind its name.
+fn push_named(alloc: Global, text: &mut String, name: &str, number: u32) -> Result<(), AllocError>
+    ensures { OnOk result
+        (string_bytes text.new ≡ string_bytes text.old ++ name.now ++ decimal number) }
+{
+    push_text(&alloc, text, name)?;
+    push_number(&alloc, text, u64::from(number))
 }
 
 /// Appends a remark with the outcome.

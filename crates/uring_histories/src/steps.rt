@@ -16,8 +16,7 @@ pub(crate) fn steps_of(alloc: Global, calls: &[Vec<Item>]) -> Result<Vec<Vec<Ste
 /// Adds the steps of a call.
 fn push_call(alloc: Global, all: &mut Vec<Vec<Step>>, items: &[Item]) -> Result<(), AllocError> {
     let mut steps = Vec::new(alloc);
-    let count = items.len() as u32;
-    push_items(&mut steps, items)?;
+    let count = push_items(&mut steps, items)?;
     steps.push(Step::StoreTail)?;
     steps.push(Step::Begin { count })?;
     push_takes(&mut steps, count)?;
@@ -27,12 +26,14 @@ fn push_call(alloc: Global, all: &mut Vec<Vec<Step>>, items: &[Item]) -> Result<
     Ok(())
 }
 
-/// Adds the steps that stage these items, each for its own slot from 0 on.
-fn push_items(steps: &mut Vec<Step>, items: &[Item]) -> Result<(), AllocError> {
-    for (slot, item) in items.iter().enumerate() {
-        push_item(steps, slot as u32, item)?;
+/// Adds the steps that stage these items, each for its own slot from 0 on, and returns how many they are.
+fn push_items(steps: &mut Vec<Step>, items: &[Item]) -> Result<u32, AllocError> {
+    let mut slot = 0_u32;
+    for item in items {
+        push_item(steps, slot, item)?;
+        slot = slot.saturating_add(1);
     }
-    Ok(())
+    Ok(slot)
 }
 
 /// Adds the steps that stage an item for this slot.
