@@ -1,5 +1,5 @@
 -- What a check of all bytes says.
-use Rattle.std.proofs.Common.{◌≡◌, ℕ, false, List, [], ◌++◌, Option, Some, None, Ok, sym, subst, ap, ◌∙◌, append-nil}
+use Rattle.std.proofs.Common.{◌≡◌, ℕ, false, List, ◌++◌, Option, Some, None, Ok, sym, subst, ap, ◌∙◌, append-nil}
 use Rattle.uring_entry.specs.Setup.{Setup}
 use Rattle.uring_check.specs.Checks.{IsChecked, IsVerdict}
 use Rattle.uring_check.specs.declared.verdict.Verdict.{Verdict}

@@ -1,5 +1,5 @@
 -- Steps that are made and recorded, one after the other.
-use Rattle.std.proofs.Common.{◌≡◌, ◌⊎◌, ◌+◌, ◌<◌, ◌≤◌, ℕ, zero, suc, ℤ, Bool, true, false, List, [], ◌∷◌, ◌++◌, length, map, take, get_or, Option, Some, if◌then◌else◌, refl, sym, subst, ap, ◌∙◌, arith, append-nil, append_assoc, add-one, inl, inr}
+use Rattle.std.proofs.Common.{◌≡◌, ◌+◌, ◌<◌, ℕ, zero, suc, Bool, true, false, List, [], ◌∷◌, ◌++◌, length, take, get_or, Some, if◌then◌else◌, refl, sym, subst, ap, ◌∙◌, arith, add-one, inl, inr}
 use Rattle.std.specs.Prelude.{neg_ℤ, string_bytes}
 use Rattle.std.proofs.lemmas.List.{map-append, take_more, length-map, length-take-le}
 use Rattle.uring_entry.specs.Setup.{Setup}
@@ -12,7 +12,7 @@ use Rattle.uring_files.specs.Contents.{FileContents}
 use Rattle.uring_files.specs.Operations.{result_of}
 use Rattle.uring_core.specs.World.{World}
 use Rattle.uring_core.specs.CalledFor.{CalledFor, EndsOn, IsLawful, files_of}
-use Rattle.uring_core.specs.Histories.{History, world, history_of}
+use Rattle.uring_core.specs.Histories.{History, world}
 use Rattle.uring_core.specs.declared.step.Step.{Step}
 use Rattle.uring_core.specs.declared.step.Step.TheVariants as step
 use Rattle.uring_core.specs.declared.answer.Answer.{Answer}
@@ -24,7 +24,7 @@ use Rattle.uring_machine.specs.Machine.{Fits, IsUnrefused}
 use Rattle.uring_ports.specs.declared.item.Item.{Item}
 use Rattle.uring_ports.specs.Items.{published_as, all_published_as}
 use Rattle.uring_text.specs.Lines.{ended}
-use Rattle.uring_trace.specs.Exchanges.{Exchange, answer_text, events_of}
+use Rattle.uring_trace.specs.Exchanges.{answer_text, events_of}
 use Rattle.uring_trace.specs.Spelling.{IsStep}
 use Rattle.uring_histories.specs.declared.recording.Recording.{Recording}
 use Rattle.uring_histories.specs.Recordings.{IsRecorded, IsPlain, MadeAfter, HasMade, steps_of_item, take_steps, call_steps}

@@ -1,14 +1,14 @@
 -- What the steps of calls, and the moves between them, make of a world.
 -- By the laws of single steps, with the answers that are called for, as in the proofs of `uring_moves`.
-use Rattle.std.proofs.Common.{◌≡◌, ◌⊎◌, ◌+◌, ◌<◌, ◌≤◌, ℕ, zero, suc, ℤ, Bool, true, false, List, [], ◌∷◌, ◌++◌, length, map, Option, Some, if◌then◌else◌, refl, sym, subst, ap, ◌∙◌, arith, inl, inr}
-use Rattle.std.proofs.lemmas.List.{length_push, length-append, length-map, map-append}
+use Rattle.std.proofs.Common.{◌≡◌, ◌⊎◌, ◌+◌, ◌≤◌, ℕ, zero, suc, ℤ, Bool, true, false, List, [], ◌∷◌, ◌++◌, length, if◌then◌else◌, refl, sym, subst, ap, ◌∙◌, arith, inl, inr}
+use Rattle.std.proofs.lemmas.List.{length_push, map-append}
 use Rattle.uring_entry.specs.Setup.{Setup}
 use Rattle.uring_entry.specs.Layout.{Sqe, Cqe}
 use Rattle.uring_entry.specs.Success.{posts_completion}
-use Rattle.uring_entry.specs.Submission.{Submission, taken, with_staged, with_filled, with_published, Published, with_entry, bad_word, published_items}
+use Rattle.uring_entry.specs.Submission.{Submission, with_staged, with_filled, with_published, Published, with_entry, bad_word, published_items}
 use Rattle.uring_entry.specs.Requests.{entry_of, no_bytes}
 use Rattle.uring_entry.specs.Completions.{Completions, with_end, with_posted, completion_for}
-use Rattle.uring_core.specs.World.{World, happens, filling, staging, beginning, taking, issuing, finishing}
+use Rattle.uring_core.specs.World.{World, happens, filling, staging, beginning, taking}
 use Rattle.uring_core.specs.StepAnswers.{CalledForApart, OrAgain}
 use Rattle.uring_core.specs.Histories.{History, world}
 use Rattle.uring_core.specs.declared.step.Step.{Step}

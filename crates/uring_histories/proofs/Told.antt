@@ -1,5 +1,5 @@
 -- What all bytes of an input tell, and the history of the calls that they tell.
-use Rattle.std.proofs.Common.{◌≡◌, ℕ, List, [], ◌++◌, map, Option, Some, None, Ok, sym, subst, ap, ◌∙◌, append-nil}
+use Rattle.std.proofs.Common.{◌≡◌, ℕ, List, ◌++◌, map, Option, Some, None, Ok, sym, subst, ap, ◌∙◌, append-nil}
 use Rattle.std.specs.Prelude.{IfSome, string_bytes}
 use Rattle.std.specs.Io.KnownBytes.{Appends}
 use Rattle.std.specs.declared.vec.Vec.{Vec}

@@ -1,4 +1,4 @@
-use Rattle.std.proofs.Common.{[], ◌∷◌, ◌++◌}
+use Rattle.std.proofs.Common.{[], ◌∷◌}
 use Rattle.std.proofs.lemmas.Result.{on_ok_weaker}
 use Rattle.uring_core.specs.declared.step.Step.TheVariants as step
 use Rattle.uring_laws.specs.Standing.{item_steps}

@@ -1,5 +1,4 @@
-use Rattle.std.proofs.Common.{◌≤◌, length, ap, ◌∙◌, rules, arith}
-use Rattle.uring_core.specs.Histories.{world}
+use Rattle.std.proofs.Common.{rules}
 use Rattle.uring_histories.proofs.Arrived.{ended_now, history_shown}
 use Rattle.uring_histories.proofs.replay.end_with.Goals as goal
 

@@ -1,4 +1,4 @@
-use Rattle.std.proofs.Common.{◌≡◌, take, length, subst, ap, arith}
+use Rattle.std.proofs.Common.{subst, arith}
 use Rattle.std.proofs.lemmas.List.{take_all}
 use Rattle.uring_histories.specs.Recordings.{IsAmid, published_in}
 use Rattle.uring_histories.proofs.replay.make_moves.Goals as goal
