@@ -28,6 +28,9 @@ pub enum Fault {
     /// There is no outcome of this number among so many that were found before the walk stopped.
     NotFound(u32, u64),
 
+    /// No history was found that comes to the outcome.
+    NoHistory,
+
     /// The words behind `--` are no offset and bytes.
     NoBytes,
 

@@ -140,7 +140,11 @@ fn write_shown(rt: &HostRuntime, input: &[u8], setup: &Setup, ending: Ending) ->
     let mut output = Outlet::new(rt.stdout());
     let written = write_history(rt.alloc(), &mut output, setup, input, &ending);
     drop(ending);
-    unless_closed(&output, written)
+    if unless_closed(&output, written)? {
+        Ok(())
+    } else {
+        Err(Fault::NoHistory)
+    }
 }
 
 /// The parts of each of these lines.

@@ -62,6 +62,7 @@ fn text_of(alloc: Global, fault: &Fault) -> Result<String, AllocError> {
         Fault::NoOutcome(number, count) => {
             format!(in alloc; "uring: no outcome {number}: there are {count}, from 1 on\n")
         }
+        Fault::NoHistory => String::from_str(alloc, "uring: no history was found\n"),
         Fault::NoBytes => format!(in alloc;
             "uring: wanted behind --: OFFSET HEX, a number up to 4294967295, and two lower case digits for each byte\n"
         ),

@@ -1,16 +1,29 @@
 //! The history of an outcome, as a recorded trace.
 
-use crate::scripts::{push_times, scripts_of, steps_of};
+ghost use Rattle.std.specs.Prelude.{◌≡◌, ◌++◌, ℕ, List, Ok, true, false, IfOk, IfSome, OnOk, map, string_bytes};
+ghost use Rattle.std.specs.Fmt.{decimal};
+ghost use Rattle.std.specs.Io.KnownBytes.{Appends};
+ghost use Rattle.uring_ports.specs.declared.item.Item.{Item};
+ghost use Rattle.uring_ports.specs.Items.{all_published_as};
+ghost use Rattle.uring_play_text.specs.Inputs.{IsTold};
+ghost use Rattle.uring_litmus.specs.Lines.{IsLineOf};
+ghost use Rattle.uring_histories.specs.Recordings.{published_in};
+ghost use Rattle.uring_histories.specs.Shown.{IsAccepted, IsHistoryOf, WritesHistory, setup_text, remark_text, whole};
+
+use crate::accepted::is_accepted;
+use crate::replay::replayed;
 use crate::search::moves_to;
+use crate::steps::steps_of;
+use crate::stop::Stop;
+use crate::texts::texts_of;
 use std::alloc::{AllocError, Global};
-use std::cmp::min;
 use std::io::Write;
 use uring_entry::Setup;
 use uring_litmus::{Form, PlayFault, line_of};
 use uring_moves::Move;
 use uring_outcomes::Ending;
-use uring_text::{Calls, TraceFault, push_number, push_text, write_all};
-use uring_trace::trace;
+use uring_play_text::{Item, read_calls};
+use uring_text::{Calls, push_number, push_text, write_all};
 
 /// What the remark on an outcome shows: its completions in their order, and its files.
 const WHOLE: Form = Form {
@@ -18,120 +31,181 @@ const WHOLE: Form = Form {
     has_files: true,
 };
 
-/// Writes a history of these calls that comes to this outcome, as `uring check` reads it: the set-up, the outcome, and each step with its answer. `input` has the calls, in the language of plays. If the search finds no moves that come to the outcome, no step of a call is written.
+/// Writes a history of these calls that comes to this outcome, as `uring check` reads it: the set-up, the outcome, and each step with its answer. `input` has the calls, in the language of plays. Returns whether it was written: not, if the search finds no moves that come to the outcome, or a line of them is longer than a check reads, and then nothing is.
 ///
+/// - `Line`, `Long`: as of `read_calls`. Nothing is written.
 /// - `Write`: a write failed or took no byte, or 2^64 - 1 writes were made. What is written is cut short.
-/// - `Memory`: memory was refused.
+/// - `Memory`: memory was refused. Nothing is written.
 pub fn write_history<W: Write>(
     alloc: Global,
     writer: &mut W,
     setup: &Setup,
     input: &[u8],
     ending: &Ending,
-) -> Result<(), PlayFault> {
-    let steps = history_of(alloc, setup, input, ending)?;
-    let mut head = String::new(alloc);
-    push_head(alloc, &mut head, setup, ending)?;
-    match write_all(writer, head.as_bytes(), &mut Calls::new()) {
-        Ok(()) => {}
-        Err(_) => return Err(PlayFault::Write),
+) -> Result<bool, PlayFault>
+    ensures written { IfOk result (λ is_written. is_written ≡ true
+        → WritesHistory setup.now input.now ending.now (W.contents writer.old) (W.contents writer.new)) }
+    ensures kept { IfOk result (λ is_written. is_written ≡ false
+        → W.contents writer.new ≡ W.contents writer.old) }
+{
+    let Some(text) = history_of(alloc, setup, input, ending)? else {
+        return Ok(false);
+    };
+    let whole = with_head(alloc, setup, ending, text.as_str());
+    drop(text);
+    let whole = whole?;
+    write_accepted(alloc, writer, setup, whole.as_str())
+}
+
+/// Writes a text, if it is a recorded trace that a check finds lawful.
+fn write_accepted<W: Write>(
+    alloc: Global,
+    writer: &mut W,
+    setup: &Setup,
+    text: &str,
+) -> Result<bool, PlayFault>
+    ensures written { IfOk result (λ is_written. is_written ≡ true
+        → IsAccepted setup.now text.now × Appends (W.contents writer.old) (W.contents writer.new) text.now) }
+    ensures kept { IfOk result (λ is_written. is_written ≡ false
+        → W.contents writer.new ≡ W.contents writer.old) }
+{
+    let is_accepted = is_accepted(alloc, setup, text.as_bytes())?;
+    if !is_accepted {
+        return Ok(false);
     }
-    match trace(alloc, &mut steps.as_bytes(), writer, setup, true) {
+    write_text(writer, text)?;
+    Ok(true)
+}
+
+/// Writes a text.
+fn write_text<W: Write>(writer: &mut W, text: &str) -> Result<(), PlayFault>
+    ensures { OnOk result (Appends (W.contents writer.old) (W.contents writer.new) text.now) }
+{
+    match write_all(writer, text.as_bytes(), &mut Calls::new()) {
         Ok(()) => Ok(()),
-        Err(TraceFault::Memory) => Err(PlayFault::Memory),
-        Err(TraceFault::Read | TraceFault::Write) => Err(PlayFault::Write),
+        Err(_) => Err(PlayFault::Write),
     }
 }
 
-/// Appends the line of the set-up, and a remark with the outcome.
-fn push_head(
+/// This text behind the line of the set-up, and a remark with the outcome.
+fn with_head(
     alloc: Global,
-    text: &mut String,
     setup: &Setup,
     ending: &Ending,
-) -> Result<(), AllocError> {
-    push_text(&alloc, text, "# setup --sq ")?;
-    push_number(&alloc, text, u64::from(setup.sq()))?;
-    push_text(&alloc, text, " --cq ")?;
-    push_number(&alloc, text, u64::from(setup.cq()))?;
-    push_text(&alloc, text, " --files ")?;
-    push_number(&alloc, text, u64::from(setup.files()))?;
-    push_text(&alloc, text, " --start ")?;
-    push_number(&alloc, text, u64::from(setup.start()))?;
-    push_text(&alloc, text, "\n# outcome ")?;
+    text: &str,
+) -> Result<String, AllocError>
+    ensures { IfOk result (λ all. (line : List ℕ) × IsLineOf whole ending.now line
+        × (string_bytes all ≡ setup_text setup.now ++ (remark_text line ++ text.now))) }
+{
+    let mut all = String::new(alloc);
+    push_setup(alloc, &mut all, setup)?;
+    push_remark(alloc, &mut all, ending)?;
+    push_text(&alloc, &mut all, text)?;
+    Ok(all)
+}
+
+/// Appends the line of the set-up.
+fn push_setup(alloc: Global, text: &mut String, setup: &Setup) -> Result<(), AllocError>
+    ensures { OnOk result (string_bytes text.new ≡ string_bytes text.old ++ setup_text setup.now) }
+{
+    push_named(alloc, text, "# setup --sq ", setup.sq())?;
+    push_named(alloc, text, " --cq ", setup.cq())?;
+    push_named(alloc, text, " --files ", setup.files())?;
+    push_named(alloc, text, " --start ", setup.start())?;
+    push_text(&alloc, text, "\n")
+}
+
+/// Appends a number behind its name.
+fn push_named(alloc: Global, text: &mut String, name: &str, number: u32) -> Result<(), AllocError>
+    ensures { OnOk result
+        (string_bytes text.new ≡ string_bytes text.old ++ name.now ++ decimal number) }
+{
+    push_text(&alloc, text, name)?;
+    push_number(&alloc, text, u64::from(number))
+}
+
+/// Appends a remark with the outcome.
+fn push_remark(alloc: Global, text: &mut String, ending: &Ending) -> Result<(), AllocError>
+    ensures { OnOk result ((line : List ℕ) × IsLineOf whole ending.now line
+        × (string_bytes text.new ≡ string_bytes text.old ++ remark_text line)) }
+{
     let line = line_of(alloc, ending, WHOLE)?;
+    push_text(&alloc, text, "# outcome ")?;
     push_text(&alloc, text, line.as_str())?;
     push_text(&alloc, text, "\n")
 }
 
-/// The steps of a history of these calls that comes to this outcome, a line each.
+/// The history of the calls that the input has, if it is found.
 fn history_of(
     alloc: Global,
     setup: &Setup,
     input: &[u8],
     ending: &Ending,
-) -> Result<String, AllocError> {
-    let scripts = scripts_of(alloc, input)?;
-    let steps = steps_of(alloc, scripts.as_slice())?;
+) -> Result<Option<String>, PlayFault>
+    ensures { IfOk result (λ found. IfSome found (λ text. (calls : List (List Item))
+        × IsTold setup.now.sq input.now (Ok calls)
+        × IsHistoryOf setup.now (map all_published_as calls) ending.now (string_bytes text))) }
+{
+    let mut reader = input;
+    let calls = read_calls(alloc, &mut reader, setup)?;
+    let text = history_of_calls(alloc, setup, input, calls.as_slice(), ending);
+    drop(calls);
+    text
+}
+
+/// The history of these calls, of which the input has the texts, if it is found.
+fn history_of_calls(
+    alloc: Global,
+    setup: &Setup,
+    input: &[u8],
+    calls: &[Vec<Item>],
+    ending: &Ending,
+) -> Result<Option<String>, PlayFault>
+    ensures { IfOk result (λ found. IfSome found
+        (λ text. IsHistoryOf setup.now (published_in calls.now) ending.now (string_bytes text))) }
+{
+    let Some(moves) = moves_of(alloc, setup, calls, ending)? else {
+        return Ok(None);
+    };
+    let texts = texts_of(alloc, input);
+    let shown = match texts {
+        Ok(texts) => history_by(alloc, setup, calls, texts, moves.as_slice(), ending),
+        Err(error) => Err(PlayFault::from(error)),
+    };
+    drop(moves);
+    shown
+}
+
+/// The history that these moves make, if they come to the outcome.
+fn history_by(
+    alloc: Global,
+    setup: &Setup,
+    calls: &[Vec<Item>],
+    texts: Vec<Vec<String>>,
+    moves: &[Move],
+    ending: &Ending,
+) -> Result<Option<String>, PlayFault>
+    ensures { IfOk result (λ found. IfSome found
+        (λ text. IsHistoryOf setup.now (published_in calls.now) ending.now (string_bytes text))) }
+{
+    let shown = replayed(alloc, setup, calls, texts.as_slice(), moves, ending);
+    drop(texts);
+    match shown {
+        Ok(text) => Ok(Some(text)),
+        Err(Stop::Memory) => Err(PlayFault::Memory),
+        Err(Stop::Astray) => Ok(None),
+    }
+}
+
+/// Moves by which these calls come to this outcome, if they are found.
+fn moves_of(
+    alloc: Global,
+    setup: &Setup,
+    calls: &[Vec<Item>],
+    ending: &Ending,
+) -> Result<Option<Vec<Move>>, AllocError> {
+    let steps = steps_of(alloc, calls)?;
     let moves = moves_to(alloc, setup, steps.as_slice(), ending);
     drop(steps);
-    let mut text = String::new(alloc);
-    if let Some(moves) = moves? {
-        push_moves(alloc, &mut text, scripts.as_slice(), moves.as_slice())?;
-        drop(moves);
-    }
-    drop(scripts);
-    push_reaps(
-        alloc,
-        &mut text,
-        ending.posted().len() as u64,
-        u64::from(setup.cq()),
-    )?;
-    Ok(text)
-}
-
-/// Appends the steps of these moves.
-fn push_moves(
-    alloc: Global,
-    text: &mut String,
-    scripts: &[String],
-    moves: &[Move],
-) -> Result<(), AllocError> {
-    let mut scripts = scripts;
-    for next in moves {
-        match next {
-            Move::Accept => {
-                if let [first, rest @ ..] = scripts {
-                    push_text(&alloc, text, first.as_str())?;
-                    scripts = rest;
-                }
-            }
-            Move::Issue { number } => push_step(alloc, text, "issue ", *number)?,
-            Move::Finish { number } => push_step(alloc, text, "finish ", *number)?,
-        }
-    }
-    Ok(())
-}
-
-/// Appends a step of a request.
-fn push_step(alloc: Global, text: &mut String, name: &str, number: u64) -> Result<(), AllocError> {
-    push_text(&alloc, text, name)?;
-    push_number(&alloc, text, number)?;
-    push_text(&alloc, text, "\n")
-}
-
-/// Appends the steps that reap so many completions, at most as many at a time as the ring has entries.
-fn push_reaps(alloc: Global, text: &mut String, count: u64, size: u64) -> Result<(), AllocError> {
-    let mut left = count;
-    for _ in 0..count {
-        let now = min(left, size);
-        if now == 0 {
-            return Ok(());
-        }
-        push_text(&alloc, text, "flush\ncqtail\n")?;
-        push_times(alloc, text, "reap\n", now)?;
-        push_text(&alloc, text, "cqhead\n")?;
-        left -= now;
-    }
-    Ok(())
+    moves
 }

@@ -1,9 +1,16 @@
 //! The history of an outcome of calls, as a recorded trace: moves that come to it are searched for, and made.
 #![tactic(auto)]
 
+mod accepted;
+mod arrival;
 mod attempt;
+mod calls;
 mod history;
-mod scripts;
+mod recording;
+mod replay;
 mod search;
+mod steps;
+mod stop;
+mod texts;
 
 pub use history::write_history;

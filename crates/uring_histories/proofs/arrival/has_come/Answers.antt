@@ -1,0 +1,13 @@
+use Rattle.std.proofs.Common.{◌≡◌, length, arith}
+use Rattle.uring_entry.specs.Requests.{outstanding_in}
+use Rattle.uring_core.specs.Histories.{world}
+use Rattle.uring_outcomes.proofs.SameEndings.{same_by_places}
+use Rattle.uring_histories.proofs.arrival.has_come.Goals as goal
+
+pub returns : goal.returns
+returns c = λ h fits none so.
+    let w = world c.args.machine.now.core.setup h in
+    let counts = c.counts-counts.ensures h fits in
+    let all : length w.completions.posted ≡ length c.args.posted.now = omega (arith, counts.posted) in
+    let over : outstanding_in w.requests ≡ 0 = omega (arith, counts.outstanding) in
+    (over, same_by_places w.completions.posted c.args.posted.now (length c.args.posted.now) (omega arith) (omega arith) (c.has_posted.ensures h fits none so))

@@ -1,0 +1,10 @@
+use Rattle.std.proofs.Common.{◌≡◌, ◌<◌, ℕ, pos}
+use Rattle.uring_files.specs.Operations.{file_of}
+use Rattle.uring_core.specs.CalledFor.{files_of}
+use Rattle.uring_core.specs.Histories.{History, world}
+use Rattle.uring_machine.specs.Machine.{Fits}
+use Rattle.uring_histories.proofs.arrival.has_each.Given as goal
+
+abbrev pub invariant-loop-fd : goal.invariant-loop-fd
+invariant-loop-fd l = (h : History) → Fits l.machine h → (k : ℕ) → k < l.fd
+    → file_of (files_of l.machine.core.setup (world l.machine.core.setup h)) (pos k) ≡ file_of l.files (pos k)

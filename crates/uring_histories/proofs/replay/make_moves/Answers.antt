@@ -1,0 +1,9 @@
+use Rattle.std.proofs.Common.{subst, arith}
+use Rattle.std.proofs.lemmas.List.{take_all}
+use Rattle.uring_histories.specs.Recordings.{IsAmid, published_in}
+use Rattle.uring_histories.proofs.replay.make_moves.Goals as goal
+
+pub returns : goal.returns
+returns c =
+    subst (λ l. IsAmid c.args.setup.now c.loop-next.recording (published_in l))
+    (take_all c.loop-next.done c.args.calls.now (omega arith)) c.loop-next.invariant

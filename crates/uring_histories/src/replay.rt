@@ -1,0 +1,265 @@
+//! Moves that are made on a machine and recorded, if they come to an outcome.
+
+ghost use Rattle.std.specs.Prelude.{◌≡◌, ◌++◌, ◌∷◌, [], List, false, IfOk, OnOk, take, string_bytes};
+ghost use Rattle.uring_entry.specs.Setup.{Setup};
+ghost use Rattle.uring_entry.specs.Layout.{Cqe};
+ghost use Rattle.uring_entry.specs.Submission.{Published};
+ghost use Rattle.uring_ports.specs.Items.{all_published_as};
+ghost use Rattle.uring_histories.specs.Recordings.{published_in, IsAmid, IsEnded, ShowsOnly};
+ghost use Rattle.uring_histories.specs.Shown.{IsHistoryOf};
+
+use crate::arrival::{has_come, has_files};
+use crate::calls::{are_items, submit};
+use crate::recording::Recording;
+use crate::stop::Stop;
+use std::alloc::Global;
+use std::cmp::min;
+use uring_core::Step;
+use uring_entry::Setup;
+use uring_moves::Move;
+use uring_outcomes::Ending;
+use uring_play_text::Item;
+
+/// The text of the history that these moves make of these calls, each step with its answer: `Astray` if they don't come to this outcome. Each item is spelt by its text.
+pub(crate) fn replayed(
+    alloc: Global,
+    setup: &Setup,
+    calls: &[Vec<Item>],
+    texts: &[Vec<String>],
+    moves: &[Move],
+    ending: &Ending,
+) -> Result<String, Stop>
+    ensures { IfOk result
+        (λ text. IsHistoryOf setup.now (published_in calls.now) ending.now (string_bytes text)) }
+{
+    if setup.stops() {
+        return Err(Stop::Astray);
+    }
+    let mut recording = Recording::new(alloc, setup)?;
+    match play(&mut recording, alloc, setup, calls, texts, moves, ending) {
+        Ok(()) => Ok(text_of(recording)),
+        Err(stop) => {
+            drop(recording);
+            Err(stop)
+        }
+    }
+}
+
+/// What was written of a recording.
+fn text_of(recording: Recording) -> String
+    ensures { string_bytes result ≡ string_bytes recording.text }
+{
+    let Recording { machine, text } = recording;
+    drop(machine);
+    text
+}
+
+/// Makes these moves, reaps what they posted, and sees whether they came to this outcome.
+fn play(
+    recording: &mut Recording,
+    alloc: Global,
+    setup: &Setup,
+    calls: &[Vec<Item>],
+    texts: &[Vec<String>],
+    moves: &[Move],
+    ending: &Ending,
+) -> Result<(), Stop>
+    requires goes_on { setup.now.stops ≡ false }
+    requires begun { IsAmid setup.now recording.old [] }
+    ensures { OnOk result
+        (IsHistoryOf setup.now (published_in calls.now) ending.now (string_bytes recording.new.text)) }
+{
+    make_moves(recording, alloc, setup, calls, texts, moves)?;
+    end_with(recording, alloc, setup, ending)
+}
+
+/// Reaps what was posted, and sees whether it came to this outcome.
+fn end_with(
+    recording: &mut Recording,
+    alloc: Global,
+    setup: &Setup,
+    ending: &Ending,
+) -> Result<(), Stop>
+    ensures { (calls : List (List Published)) → IsAmid setup.now recording.old calls
+        → OnOk result (IsHistoryOf setup.now calls ending.now (string_bytes recording.new.text)) }
+{
+    let has_come = has_come(&recording.machine, ending.posted());
+    if !has_come {
+        return Err(Stop::Astray);
+    }
+    reap_all(
+        recording,
+        alloc,
+        ending.posted().len() as u64,
+        u64::from(setup.cq()),
+    )?;
+    if has_files(&recording.machine, ending.files()) {
+        Ok(())
+    } else {
+        Err(Stop::Astray)
+    }
+}
+
+/// Makes these moves. `Astray` if one can't be made, or a call is left.
+fn make_moves(
+    recording: &mut Recording,
+    alloc: Global,
+    setup: &Setup,
+    calls: &[Vec<Item>],
+    texts: &[Vec<String>],
+    moves: &[Move],
+) -> Result<(), Stop>
+    requires goes_on { setup.now.stops ≡ false }
+    requires begun { IsAmid setup.now recording.old [] }
+    ensures { OnOk result (IsAmid setup.now recording.new (published_in calls.now)) }
+{
+    let mut done = 0_usize;
+    for next in moves {
+        make_move(recording, alloc, setup, calls, texts, &mut done, *next)?;
+    }
+    if done < calls.len() {
+        return Err(Stop::Astray);
+    }
+    Ok(())
+}
+
+/// Makes a move. So many calls were accepted.
+fn make_move(
+    recording: &mut Recording,
+    alloc: Global,
+    setup: &Setup,
+    calls: &[Vec<Item>],
+    texts: &[Vec<String>],
+    done: &mut usize,
+    next: Move,
+) -> Result<(), Stop>
+    requires goes_on { setup.now.stops ≡ false }
+    requires amid { IsAmid setup.now recording.old (published_in (take done.old calls.now)) }
+    ensures { OnOk result
+        (IsAmid setup.now recording.new (published_in (take done.new calls.now))) }
+{
+    match next {
+        Move::Accept => accept_next(recording, alloc, setup, calls, texts, done),
+        Move::Issue { number } => issue(recording, alloc, number),
+        Move::Finish { number } => finish(recording, alloc, number),
+    }
+}
+
+/// Issues a request.
+fn issue(recording: &mut Recording, alloc: Global, number: u64) -> Result<(), Stop>
+    ensures { (g : Setup) (calls : List (List Published)) → IsAmid g recording.old calls
+        → OnOk result (IsAmid g recording.new calls) }
+{
+    recording.make_numbered(alloc, "issue ", number, &Step::Issue { number })
+}
+
+/// Finishes a request.
+fn finish(recording: &mut Recording, alloc: Global, number: u64) -> Result<(), Stop>
+    ensures { (g : Setup) (calls : List (List Published)) → IsAmid g recording.old calls
+        → OnOk result (IsAmid g recording.new calls) }
+{
+    recording.make_numbered(alloc, "finish ", number, &Step::Finish { number })
+}
+
+/// Accepts the call behind those that were accepted.
+fn accept_next(
+    recording: &mut Recording,
+    alloc: Global,
+    setup: &Setup,
+    calls: &[Vec<Item>],
+    texts: &[Vec<String>],
+    done: &mut usize,
+) -> Result<(), Stop>
+    requires goes_on { setup.now.stops ≡ false }
+    requires amid { IsAmid setup.now recording.old (published_in (take done.old calls.now)) }
+    ensures { OnOk result
+        (IsAmid setup.now recording.new (published_in (take done.new calls.now))) }
+{
+    if *done >= calls.len() {
+        return Err(Stop::Astray);
+    }
+    let Some(lines) = texts.get(*done) else {
+        return Err(Stop::Astray);
+    };
+    accept(
+        recording,
+        alloc,
+        setup,
+        calls[*done].as_slice(),
+        lines.as_slice(),
+    )?;
+    *done += 1;
+    Ok(())
+}
+
+/// Accepts a call of these items.
+fn accept(
+    recording: &mut Recording,
+    alloc: Global,
+    setup: &Setup,
+    items: &[Item],
+    texts: &[String],
+) -> Result<(), Stop>
+    requires goes_on { setup.now.stops ≡ false }
+    ensures { (calls : List (List Published)) → IsAmid setup.now recording.old calls
+        → OnOk result (IsAmid setup.now recording.new (calls ++ all_published_as items.now ∷ [])) }
+{
+    let size = setup.sq();
+    let count = items.len();
+    if count > size as usize {
+        return Err(Stop::Astray);
+    }
+    let are_fit = are_items(items, size);
+    if !are_fit {
+        return Err(Stop::Astray);
+    }
+    submit(recording, alloc, items, texts, count as u32)
+}
+
+/// Reaps so many completions, at most as many at a time as the ring has entries.
+fn reap_all(recording: &mut Recording, alloc: Global, count: u64, size: u64) -> Result<(), Stop>
+    ensures { (g : Setup) (calls : List (List Published)) (posted : List Cqe)
+        → IsEnded g recording.old calls posted → OnOk result (IsEnded g recording.new calls posted) }
+{
+    let mut left = count;
+    for _turn in 0..count {
+        if left == 0 {
+            return Ok(());
+        }
+        let now = min(left, size);
+        reap_some(recording, alloc, now)?;
+        left -= now;
+    }
+    Ok(())
+}
+
+/// Reaps so many completions that the ring holds.
+fn reap_some(recording: &mut Recording, alloc: Global, count: u64) -> Result<(), Stop>
+    ensures { (g : Setup) (calls : List (List Published)) (posted : List Cqe)
+        → IsEnded g recording.old calls posted → OnOk result (IsEnded g recording.new calls posted) }
+{
+    show(recording, alloc, "flush", &Step::Flush)?;
+    show(recording, alloc, "cqtail", &Step::LoadCqTail)?;
+    reap_each(recording, alloc, count)?;
+    show(recording, alloc, "cqhead", &Step::StoreCqHead)
+}
+
+/// Reaps so many completions.
+fn reap_each(recording: &mut Recording, alloc: Global, count: u64) -> Result<(), Stop>
+    ensures { (g : Setup) (calls : List (List Published)) (posted : List Cqe)
+        → IsEnded g recording.old calls posted → OnOk result (IsEnded g recording.new calls posted) }
+{
+    for _reaped in 0..count {
+        show(recording, alloc, "reap", &Step::Reap)?;
+    }
+    Ok(())
+}
+
+/// Makes a step that only shows completions.
+fn show(recording: &mut Recording, alloc: Global, line: &str, step: &Step) -> Result<(), Stop>
+    requires { ShowsOnly step.now }
+    ensures { (g : Setup) (calls : List (List Published)) (posted : List Cqe)
+        → IsEnded g recording.old calls posted → OnOk result (IsEnded g recording.new calls posted) }
+{
+    recording.make(alloc, line, step)
+}

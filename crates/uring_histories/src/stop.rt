@@ -1,0 +1,25 @@
+//! Why a history isn't recorded.
+
+use std::alloc::{AllocError, AllocFailed};
+
+/// Why a history isn't recorded.
+#[derive(Clone, Copy, Debug, Drop, PartialEq, Eq)]
+pub(crate) enum Stop {
+    /// Memory was refused, or the numbers of requests are spent.
+    Memory,
+
+    /// A move can't be made, a line isn't its step, or all of them come to something else.
+    Astray,
+}
+
+impl From<AllocError> for Stop {
+    fn from(_error: AllocError) -> Stop {
+        Stop::Memory
+    }
+}
+
+impl<T: Drop> From<AllocFailed<T>> for Stop {
+    fn from(_error: AllocFailed<T>) -> Stop {
+        Stop::Memory
+    }
+}
