@@ -1,5 +1,6 @@
 -- The set-up that the first line of a recorded trace says, behind `#`. The form is our own rule.
-use Rattle.std.specs.Prelude.{◌≡◌, ℕ, ◌^◌, Bool, true, false, ◌&&◌, nat_le, List, [], ◌∷◌, length, codes, Option, Some, None, if◌then◌else◌}
+use Rattle.std.specs.Prelude.{◌≡◌, ℕ, ◌^◌, Bool, true, false, ◌&&◌, nat_le, List, [], ◌∷◌, ◌++◌, length, codes, Option, Some, None, if◌then◌else◌}
+use Rattle.std.specs.Fmt.{decimal}
 use Rattle.std.specs.Str.{bytes_eq}
 use Rattle.uring_entry.specs.Setup.{Setup, IsSetupFor}
 use Rattle.uring_text.specs.Reading.{number_of}
@@ -77,3 +78,9 @@ IsSaidIf false line said = said ≡ Nothing
 -- What the line says of a set-up: one of more than 300 bytes says nothing.
 abbrev pub IsSaid : List ℕ → Said → Type 0
 IsSaid line said = IsSaidIf (nat_le (length line) 300) line said
+
+-- the line of a set-up, as it is written
+abbrev pub setup_text : Setup → List ℕ
+setup_text g =
+    codes "# setup --sq " ++ decimal g.sq ++ codes " --cq " ++ decimal g.cq ++ codes " --files " ++ decimal g.files ++ codes " --start " ++ decimal g.start
+    ++ (if g.stops then codes " --stop\n" else codes "\n")

@@ -12,7 +12,8 @@ use Rattle.uring_ports.specs.Items.{all_published_as}
 use Rattle.uring_play_text.specs.Inputs.{ReadsCalls, IsTold, lists_of}
 use Rattle.uring_histories.specs.Recordings.{published_in}
 use Rattle.uring_litmus.specs.Lines.{IsLineOf}
-use Rattle.uring_histories.specs.Shown.{IsAccepted, IsHistoryOf, WritesHistory, setup_text, remark_text, whole}
+use Rattle.uring_check.specs.SetupLines.{setup_text}
+use Rattle.uring_histories.specs.Shown.{IsAccepted, IsHistoryOf, WritesHistory, remark_text, whole}
 use Rattle.uring_histories.proofs.Arrived.{same_calls}
 
 -- an input that was read to its end tells the calls that were returned

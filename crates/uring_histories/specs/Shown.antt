@@ -11,6 +11,7 @@ use Rattle.uring_ports.specs.Items.{all_published_as}
 use Rattle.uring_text.specs.Lines.{joined}
 use Rattle.uring_trace.specs.Exchanges.{Exchange, IsReadAs, answers_of, events_of}
 use Rattle.uring_check.specs.Checks.{IsVerdict}
+use Rattle.uring_check.specs.SetupLines.{setup_text}
 use Rattle.uring_check.specs.declared.verdict.Verdict.TheVariants as verdict
 use Rattle.uring_moves.specs.Outcomes.{CallsOutcome, ComesTo}
 use Rattle.uring_outcomes.specs.Outcomes.{Ending}
@@ -27,11 +28,6 @@ pub record IsHistoryOf (g : Setup) (calls : List (List Published)) (e : Ending) 
   pub comes : ComesTo g calls (history_of (events_of exchanges)) outcome
   pub posted : outcome.posted ≡ e.posted
   pub files : outcome.files ≡ e.files
-
--- the line of a set-up, as a recorded trace begins
-abbrev pub setup_text : Setup → List ℕ
-setup_text g =
-    codes "# setup --sq " ++ decimal g.sq ++ codes " --cq " ++ decimal g.cq ++ codes " --files " ++ decimal g.files ++ codes " --start " ++ decimal g.start ++ codes "\n"
 
 -- a remark on an outcome: its line
 abbrev pub remark_text : List ℕ → List ℕ

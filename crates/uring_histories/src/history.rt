@@ -1,14 +1,14 @@
 //! The history of an outcome, as a recorded trace.
 
 ghost use Rattle.std.specs.Prelude.{◌≡◌, ◌++◌, ℕ, List, Ok, true, false, IfOk, IfSome, OnOk, map, string_bytes};
-ghost use Rattle.std.specs.Fmt.{decimal};
 ghost use Rattle.std.specs.Io.KnownBytes.{Appends};
 ghost use Rattle.uring_ports.specs.declared.item.Item.{Item};
 ghost use Rattle.uring_ports.specs.Items.{all_published_as};
 ghost use Rattle.uring_play_text.specs.Inputs.{IsTold};
 ghost use Rattle.uring_litmus.specs.Lines.{IsLineOf};
+ghost use Rattle.uring_check.specs.SetupLines.{setup_text};
 ghost use Rattle.uring_histories.specs.Recordings.{published_in};
-ghost use Rattle.uring_histories.specs.Shown.{IsAccepted, IsHistoryOf, WritesHistory, setup_text, remark_text, whole};
+ghost use Rattle.uring_histories.specs.Shown.{IsAccepted, IsHistoryOf, WritesHistory, remark_text, whole};
 
 use crate::accepted::is_accepted;
 use crate::replay::replayed;
@@ -18,12 +18,13 @@ use crate::stop::Stop;
 use crate::texts::texts_of;
 use std::alloc::{AllocError, Global};
 use std::io::Write;
+use uring_check::push_setup;
 use uring_entry::Setup;
 use uring_litmus::{Form, PlayFault, line_of};
 use uring_moves::Move;
 use uring_outcomes::Ending;
 use uring_play_text::{Item, read_calls};
-use uring_text::{Calls, push_number, push_text, write_all};
+use uring_text::{Calls, push_text, write_all};
 
 /// What the remark on an outcome shows: its completions in their order, and its files.
 const WHOLE: Form = Form {
@@ -102,26 +103,6 @@ fn with_head(
     push_remark(alloc, &mut all, ending)?;
     push_text(&alloc, &mut all, text)?;
     Ok(all)
-}
-
-/// Appends the line of the set-up.
-fn push_setup(alloc: Global, text: &mut String, setup: &Setup) -> Result<(), AllocError>
-    ensures { OnOk result (string_bytes text.new ≡ string_bytes text.old ++ setup_text setup.now) }
-{
-    push_named(alloc, text, "# setup --sq ", setup.sq())?;
-    push_named(alloc, text, " --cq ", setup.cq())?;
-    push_named(alloc, text, " --files ", setup.files())?;
-    push_named(alloc, text, " --start ", setup.start())?;
-    push_text(&alloc, text, "\n")
-}
-
-/// Appends a number behind its name.
-fn push_named(alloc: Global, text: &mut String, name: &str, number: u32) -> Result<(), AllocError>
-    ensures { OnOk result
-        (string_bytes text.new ≡ string_bytes text.old ++ name.now ++ decimal number) }
-{
-    push_text(&alloc, text, name)?;
-    push_number(&alloc, text, u64::from(number))
 }
 
 /// Appends a remark with the outcome.

@@ -15,7 +15,8 @@ use Rattle.uring_fill.specs.declared.search.Filled.{Filled}
 use Rattle.uring_fill.proofs.Begun.{begins_all}
 use Rattle.uring_seen.specs.Seen.{visible, AreShown, Fills}
 use Rattle.uring_seen.specs.Sights.{Reads, ShowsNever, IsBadLine, IsHiddenLine}
-use Rattle.uring_seen.specs.Told.{setup_text, IsFar, Tells, TellsFar, HasNoFilling, Names, IsToldOf, IsToldBy, SaysFirst, IsAnswered, AreAnswered, lines_in}
+use Rattle.uring_check.specs.SetupLines.{setup_text}
+use Rattle.uring_seen.specs.Told.{IsFar, Tells, TellsFar, HasNoFilling, Names, IsToldOf, IsToldBy, SaysFirst, IsAnswered, AreAnswered, lines_in}
 use Rattle.uring_seen.specs.declared.filling.Told.{Told}
 use Rattle.uring_seen.specs.declared.filling.Verdict.{Verdict}
 use Rattle.uring_seen.specs.declared.filling.Verdict.TheVariants as verdict

@@ -13,7 +13,8 @@ use Rattle.uring_fill.proofs.Seeing.{taken_next}
 use Rattle.uring_fill.proofs.Begun.{begins_itself, begins_more, begins_on}
 use Rattle.uring_seen.specs.Seen.{Shows}
 use Rattle.uring_seen.specs.Sights.{ArePaired}
-use Rattle.uring_seen.specs.Told.{AreLinesOf, IsLineIf, IsLineOf, Tells, hidden_text, setup_text}
+use Rattle.uring_check.specs.SetupLines.{setup_text}
+use Rattle.uring_seen.specs.Told.{AreLinesOf, IsLineIf, IsLineOf, Tells, hidden_text}
 
 -- ---- pairs
 
@@ -139,32 +140,6 @@ one_at_most true n e = omega arith
 one_at_most false n e = omega arith
 
 -- ---- the line of a set-up
-
-abbrev sizes_text : ℕ → ℕ → ℕ → ℕ → List ℕ → List ℕ
-sizes_text sq cq files start stop =
-    codes "# setup --sq " ++ decimal sq ++ codes " --cq " ++ decimal cq ++ codes " --files " ++ decimal files ++ codes " --start " ++ decimal start ++ stop
-
-pub setup_written : (g : Setup) (old new z a b c d e bytes stop : List ℕ) (sq cq files start : ℕ)
-    → sq ≡ g.sq → cq ≡ g.cq → files ≡ g.files → start ≡ g.start
-    → stop ≡ (if g.stops then codes " --stop\n" else codes "\n") → z ≡ []
-    → a ≡ z ++ codes "# setup --sq " ++ decimal sq → b ≡ a ++ codes " --cq " ++ decimal cq
-    → c ≡ b ++ codes " --files " ++ decimal files → d ≡ c ++ codes " --start " ++ decimal start → e ≡ d ++ stop
-    → bytes ≡ e → new ≡ old ++ bytes → new ≡ old ++ setup_text g
-setup_written g old new z a b c d e bytes stop sq cq files start sq_is cq_is files_is start_is stop_is z_is a_is b_is c_is d_is e_is is more =
-    let whole : bytes ≡ sizes_text sq cq files start stop =
-    is ∙ e_is
-    ∙ ap (λ (l : List ℕ). l ++ stop)
-    (d_is ∙ ap (λ (l : List ℕ). l ++ codes " --start " ++ decimal start)
-    (c_is ∙ ap (λ (l : List ℕ). l ++ codes " --files " ++ decimal files)
-    (b_is ∙ ap (λ (l : List ℕ). l ++ codes " --cq " ++ decimal cq)
-    (a_is ∙ ap (λ (l : List ℕ). l ++ codes "# setup --sq " ++ decimal sq) z_is)))) in
-    more ∙ ap (λ (l : List ℕ). old ++ l)
-    (whole
-    ∙ ap (λ (n : ℕ). sizes_text n cq files start stop) sq_is
-    ∙ ap (λ (n : ℕ). sizes_text g.sq n files start stop) cq_is
-    ∙ ap (λ (n : ℕ). sizes_text g.sq g.cq n start stop) files_is
-    ∙ ap (λ (n : ℕ). sizes_text g.sq g.cq g.files n stop) start_is
-    ∙ ap (λ (l : List ℕ). sizes_text g.sq g.cq g.files g.start l) stop_is)
 
 -- ---- all of it
 

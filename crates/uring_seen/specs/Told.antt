@@ -7,7 +7,7 @@ use Rattle.uring_core.specs.declared.step.Step.{Step}
 use Rattle.uring_core.specs.declared.step.Step.TheVariants as step
 use Rattle.uring_text.specs.Lines.{ended, joined}
 use Rattle.uring_trace.specs.Text.{text_of}
-use Rattle.uring_check.specs.SetupLines.{IsSaid}
+use Rattle.uring_check.specs.SetupLines.{IsSaid, setup_text}
 use Rattle.uring_check.specs.declared.setup_line.Said.{Said}
 use Rattle.uring_check.specs.declared.setup_line.Said.TheVariants.{Nothing, Says, Misses}
 use Rattle.uring_fill.specs.Filling.{Begins, is_hidden, seen_in}
@@ -16,12 +16,6 @@ use Rattle.uring_seen.specs.Sights.{IsBadLine, IsHiddenLine}
 use Rattle.uring_seen.specs.declared.filling.Told.{Told}
 use Rattle.uring_seen.specs.declared.filling.Verdict.{Verdict}
 use Rattle.uring_seen.specs.declared.filling.Verdict.TheVariants as verdict
-
--- the line of a set-up
-abbrev pub setup_text : Setup → List ℕ
-setup_text g =
-    codes "# setup --sq " ++ decimal g.sq ++ codes " --cq " ++ decimal g.cq ++ codes " --files " ++ decimal g.files ++ codes " --start " ++ decimal g.start
-    ++ (if g.stops then codes " --stop\n" else codes "\n")
 
 -- a step that can't be seen from outside, as a trace has it
 abbrev pub hidden_text : Step → List ℕ

@@ -11,7 +11,7 @@ ghost use Rattle.uring_seen.specs.Told.{AreAnswered, IsAnswered, IsFar, IsToldOf
 
 use crate::lines::lines_of;
 use crate::reading::{Done, read};
-use crate::writing::{push_events, push_setup};
+use crate::writing::{push_events, push_setup_line};
 use std::alloc::{AllocError, Global};
 use uring_check::{Said, said_by};
 use uring_core::{Answer, Core, Setup, Step};
@@ -327,7 +327,7 @@ fn text_of(
     ensures { IfOk result (λ text. Tells setup.now (history_of events.now) text.items []) }
 {
     let mut text = Vec::new(alloc);
-    push_setup(alloc, &mut text, setup)?;
+    push_setup_line(alloc, &mut text, setup)?;
     push_events(alloc, &mut text, events, seen.shown.as_slice())?;
     Ok(text)
 }

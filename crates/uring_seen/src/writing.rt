@@ -1,47 +1,33 @@
 //! The text of a history.
 
-ghost use Rattle.std.specs.Prelude.{◌≡◌, ◌++◌, ℕ, List, false, IfOk, OnOk, Some, codes, decimal, length, map, slice_get, string_bytes, if◌then◌else◌};
+ghost use Rattle.std.specs.Prelude.{◌≡◌, ◌++◌, ℕ, List, false, IfOk, OnOk, Some, codes, decimal, length, map, slice_get, string_bytes};
 ghost use Rattle.uring_core.specs.Histories.{Event, history_of};
 ghost use Rattle.uring_text.specs.Lines.{ended, joined};
 ghost use Rattle.uring_trace.specs.Text.{text_of};
+ghost use Rattle.uring_check.specs.SetupLines.{setup_text};
 ghost use Rattle.uring_fill.specs.Filling.{Begins, seen_in};
 ghost use Rattle.uring_fill.specs.Filling as spec;
 ghost use Rattle.uring_seen.specs.Seen.{Shows};
-ghost use Rattle.uring_seen.specs.Told.{AreLinesOf, IsLineOf, hidden_text, setup_text};
+ghost use Rattle.uring_seen.specs.Told.{AreLinesOf, IsLineOf, hidden_text};
 ghost use Rattle.uring_seen.specs.Sights.{ArePaired};
 
 use std::alloc::{AllocError, Global};
+use uring_check::push_setup;
 use uring_core::{Answer, Setup, Step};
 use uring_text::{push_bytes, push_number, push_text};
 use uring_trace::push_answer;
 
 /// Appends the line of a set-up.
-pub(crate) fn push_setup(alloc: Global, text: &mut Vec<u8>, setup: &Setup) -> Result<(), AllocError>
+pub(crate) fn push_setup_line(
+    alloc: Global,
+    text: &mut Vec<u8>,
+    setup: &Setup,
+) -> Result<(), AllocError>
     ensures { OnOk result (text.new.items ≡ text.old.items ++ setup_text setup.now) }
 {
     let mut line = String::new(alloc);
-    push_size(alloc, &mut line, "# setup --sq ", setup.sq())?;
-    push_size(alloc, &mut line, " --cq ", setup.cq())?;
-    push_size(alloc, &mut line, " --files ", setup.files())?;
-    push_size(alloc, &mut line, " --start ", setup.start())?;
-    push_text(&alloc, &mut line, stop_of(setup.stops()))?;
+    push_setup(alloc, &mut line, setup)?;
     push_bytes(&alloc, text, line.as_bytes())
-}
-
-/// What stands at the end of that line.
-fn stop_of(stops: bool) -> &'static str
-    ensures { result.now ≡ (if stops then codes " --stop\n" else codes "\n") }
-{
-    if stops { " --stop\n" } else { "\n" }
-}
-
-/// Appends a name and a number.
-fn push_size(alloc: Global, line: &mut String, name: &str, number: u32) -> Result<(), AllocError>
-    ensures { OnOk result
-        (string_bytes line.new ≡ string_bytes line.old ++ name.now ++ decimal number) }
-{
-    push_text(&alloc, line, name)?;
-    push_number(&alloc, line, u64::from(number))
 }
 
 /// Appends a line for each event of a history: of a step that was seen the line that showed it, and of any other its own.

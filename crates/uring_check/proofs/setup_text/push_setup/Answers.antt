@@ -1,0 +1,23 @@
+use Rattle.std.proofs.Common.{◌≡◌, ◌++◌, List, ℕ, Bool, if◌then◌else◌, refl, ap, ◌∙◌, append_assoc}
+use Rattle.std.specs.Prelude.{codes, string_bytes}
+use Rattle.std.specs.Fmt.{decimal}
+use Rattle.std.proofs.lemmas.Result.{on_ok_weaker}
+use Rattle.uring_check.proofs.setup_text.push_setup.Goals as goal
+
+-- what is appended in five parts, four of a name and a number
+five_parts : (old a b c d new u k v l w m x n y z : List ℕ) → a ≡ old ++ u ++ k → b ≡ a ++ v ++ l
+    → c ≡ b ++ w ++ m → d ≡ c ++ x ++ n → new ≡ d ++ y → y ≡ z
+    → new ≡ old ++ (u ++ k ++ v ++ l ++ w ++ m ++ x ++ n ++ z)
+five_parts old a b c d new u k v l w m x n y z e f g h i is =
+    i ∙ ap (λ (t : List ℕ). d ++ t) is
+    ∙ ap (λ (t : List ℕ). t ++ z) (h ∙ ap (λ (t : List ℕ). t ++ x ++ n) (g ∙ ap (λ (t : List ℕ). t ++ w ++ m) (f ∙ ap (λ (t : List ℕ). t ++ v ++ l) e)))
+    ∙ simp append_assoc (refl)
+
+pub returns : goal.returns
+returns c =
+    let g = c.args.setup.now in
+    let stop : c.stop_of.result.now ≡ (if g.stops then codes " --stop\n" else codes "\n") = c.stop_of.ensures ∙ ap (λ (b : Bool). if b then codes " --stop\n" else codes "\n") c.stops.ensures.value in
+    on_ok_weaker c.push_text.result
+    (λ last. five_parts (string_bytes c.args.text.now) _ _ _ _ _ (codes "# setup --sq ") (decimal g.sq) (codes " --cq ") (decimal g.cq) (codes " --files ") (decimal g.files) (codes " --start ") (decimal g.start) _ _
+    (rw c.sq.ensures.value at c.in_ok-push_named.ensures) (rw c.cq.ensures.value at c.in_ok-push_named-2.ensures) (rw c.files.ensures.value at c.in_ok-push_named-3.ensures) (rw c.start.ensures.value at c.in_ok-push_named-4.ensures) last stop)
+    c.push_text.ensures.bytes

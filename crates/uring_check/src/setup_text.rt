@@ -1,0 +1,35 @@
+//! The line of a set-up, as it is written.
+
+ghost use Rattle.std.specs.Prelude.{◌≡◌, ◌++◌, OnOk, codes, decimal, string_bytes, if◌then◌else◌};
+ghost use Rattle.uring_check.specs.SetupLines.{setup_text};
+
+use std::alloc::{AllocError, Global};
+use uring_machine::Setup;
+use uring_text::{push_number, push_text};
+
+/// Appends the line of a set-up, in the form that `said_by` reads.
+pub fn push_setup(alloc: Global, text: &mut String, setup: &Setup) -> Result<(), AllocError>
+    ensures { OnOk result (string_bytes text.new ≡ string_bytes text.old ++ setup_text setup.now) }
+{
+    push_named(alloc, text, "# setup --sq ", setup.sq())?;
+    push_named(alloc, text, " --cq ", setup.cq())?;
+    push_named(alloc, text, " --files ", setup.files())?;
+    push_named(alloc, text, " --start ", setup.start())?;
+    push_text(&alloc, text, stop_of(setup.stops()))
+}
+
+/// What stands at the end of that line.
+fn stop_of(stops: bool) -> &'static str
+    ensures { result.now ≡ (if stops then codes " --stop\n" else codes "\n") }
+{
+    if stops { " --stop\n" } else { "\n" }
+}
+
+/// Appends a number behind its name.
+fn push_named(alloc: Global, text: &mut String, name: &str, number: u32) -> Result<(), AllocError>
+    ensures { OnOk result
+        (string_bytes text.new ≡ string_bytes text.old ++ name.now ++ decimal number) }
+{
+    push_text(&alloc, text, name)?;
+    push_number(&alloc, text, u64::from(number))
+}
