@@ -1,6 +1,6 @@
 //! The text of a history.
 
-ghost use Rattle.std.specs.Prelude.{◌≡◌, ◌++◌, ℕ, List, false, IfOk, OnOk, Some, codes, decimal, length, map, slice_get, string_bytes};
+ghost use Rattle.std.specs.Prelude.{◌≡◌, ◌++◌, ℕ, List, false, IfOk, OnOk, Some, codes, decimal, length, map, slice_get, string_bytes, if◌then◌else◌};
 ghost use Rattle.uring_core.specs.Histories.{Event, history_of};
 ghost use Rattle.uring_text.specs.Lines.{ended, joined};
 ghost use Rattle.uring_trace.specs.Text.{text_of};
