@@ -4,6 +4,7 @@
 mod answer_text;
 mod check_loop;
 mod checker;
+mod ends;
 mod follower;
 mod judging;
 pub mod laws;
@@ -15,6 +16,7 @@ mod telling;
 mod verdict;
 
 pub use check_loop::{check, check_in};
+pub use ends::Ends;
 pub use record_line::split_record;
 pub use setup_line::{Said, said_by, said_by_in};
 pub use uring_entry::Setup;
