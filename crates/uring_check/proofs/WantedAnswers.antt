@@ -153,11 +153,14 @@ pub end_unread : (h : History) (m : Follower) (n : ℕ) (text : List ℕ) → is
     → ((res : ℤ) → IsFile res → text_of (answer.Ended res no_bytes) ≡ text → ⊥)
     → IsWanted h m (step.Finish n) AnyEnd
     → IsJudged (rules_of m) h m (step.Finish n) text (Some AnyEnd)
-end_unread h m n text apart none is = (record {
-  not_called = λ a c same plain. go (is_apart (rules_of m).ends) apart a (is.0.called a c.0) same plain;
-  called = λ a c. is.0.called a c.0;
-  only = λ a ended allowed. (is.0.only a ended, allowed);
-}, is.1)
+end_unread h m n text apart none is = (
+  record {
+    not_called = λ a c same plain. go (is_apart (rules_of m).ends) apart a (is.0.called a c.0) same plain;
+    called = λ a c. is.0.called a c.0;
+    only = λ a ended allowed. (is.0.only a ended, allowed);
+  },
+  is.1,
+)
   where
     go : (b : Bool) → b ≡ true → (a : Answer) → IsEnded a → text_of a ≡ text → IsPlain a b (step.Finish n) → ⊥
     go true e (answer.Ended res bytes) ended same plain = none res plain.0 same
@@ -183,11 +186,14 @@ pub end_refused : (h : History) (m : Follower) (n : ℕ) (text : List ℕ) (res 
     → (MayGive (answer.Ended res no_bytes) (entry_asked (rules_of m) h (step.Finish n)) → ⊥)
     → IsWanted h m (step.Finish n) AnyEnd
     → IsJudged (rules_of m) h m (step.Finish n) text (Some AnyEnd)
-end_refused h m n text res file same no is = (record {
-  not_called = λ a c as plain. not_allowed (rules_of m).ends (world (rules_of m).setup h).requests n res text a file same no (is.0.called a c.0) c.1 as plain;
-  called = λ a c. is.0.called a c.0;
-  only = λ a ended allowed. (is.0.only a ended, allowed);
-}, is.1)
+end_refused h m n text res file same no is = (
+  record {
+    not_called = λ a c text_is plain. not_allowed (rules_of m).ends (world (rules_of m).setup h).requests n res text a file same no (is.0.called a c.0) c.1 text_is plain;
+    called = λ a c. is.0.called a c.0;
+    only = λ a ended allowed. (is.0.only a ended, allowed);
+  },
+  is.1,
+)
 
 -- an end without bytes is told by its text
 plain_end : (res : ℤ) (apart : Bool) (s : Step) → IsFile res → IsPlain (answer.Ended res no_bytes) apart s

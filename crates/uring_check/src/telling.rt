@@ -216,11 +216,7 @@ fn push_end<M: TextMemory>(
 }
 
 /// Appends a result of this entry's operation.
-fn push_result<M: TextMemory>(
-    memory: &M,
-    text: &mut String,
-    entry: &Sqe,
-) -> Result<(), AllocError>
+fn push_result<M: TextMemory>(memory: &M, text: &mut String, entry: &Sqe) -> Result<(), AllocError>
     ensures told { OnOk result
         (string_bytes text.new ≡ string_bytes text.old ++ end_text (Some entry.now)) }
     ensures granted { ((n : ℕ) → M.grants memory.now n) → IsOk result }
