@@ -148,67 +148,32 @@ only_judged h m s text x (Some wanted) judged is =
 
 -- ---- any end
 
--- the text is that of no end
-pub end_unread : (h : History) (m : Follower) (n : ℕ) (text : List ℕ) → is_apart (rules_of m).ends ≡ true
-    → ((res : ℤ) → IsFile res → text_of (answer.Ended res no_bytes) ≡ text → ⊥)
-    → IsWanted h m (step.Finish n) AnyEnd
-    → IsJudged (rules_of m) h m (step.Finish n) text (Some AnyEnd)
-end_unread h m n text apart none is = (
-  record {
-    not_called = λ a c same plain. go (is_apart (rules_of m).ends) apart a (is.0.called a c.0) same plain;
-    called = λ a c. is.0.called a c.0;
-    only = λ a ended allowed. (is.0.only a ended, allowed);
-  },
-  is.1,
-)
-  where
-    go : (b : Bool) → b ≡ true → (a : Answer) → IsEnded a → text_of a ≡ text → IsPlain a b (step.Finish n) → ⊥
-    go true e (answer.Ended res bytes) ended same plain = none res plain.0 same
-    go true e _ ended same plain = ended
-    go false e a ended same plain = absurd cc
-
--- the result isn't allowed
-not_allowed : (e : Ends) (r : Requests) (n : ℕ) (res : ℤ) (text : List ℕ) (a : Answer) → IsFile res
+-- an end whose result isn't allowed is no other's text
+not_allowed : (e : Ends) (r : Requests) (s : Step) (res : ℤ) (text : List ℕ) (a : Answer) → IsFile res
     → text_of (answer.Ended res no_bytes) ≡ text
-    → (MayGive (answer.Ended res no_bytes) (entry_in e r (step.Finish n)) → ⊥) → IsEnded a
-    → MayGive a (entry_in e r (step.Finish n)) → text_of a ≡ text
-    → IsPlain a (is_apart e) (step.Finish n) → ⊥
-not_allowed ends.Allowed r n res text (answer.Ended other bytes) file is no ended may same plain =
+    → (MayGive (answer.Ended res no_bytes) (entry_in e r s) → ⊥) → IsEnded a
+    → MayGive a (entry_in e r s) → text_of a ≡ text → IsPlain a (is_apart e) s → ⊥
+not_allowed ends.Allowed r (step.Finish n) res text (answer.Ended other bytes) file is bad ended may same plain =
     let results : other ≡ res = result_once other res plain.0 file (ap (λ (l : List ℕ). drop 6 l) (same ∙ sym is)) in
     let one : answer.Ended other bytes ≡ answer.Ended res no_bytes = λ i. answer.Ended (results i) (plain.1 i) in
-    no (subst (λ (b : Answer). MayGive b (entry_outstanding r n)) one may)
-not_allowed ends.Allowed r n res text _ file is no ended may same plain = ended
-not_allowed ends.Given r n res text a file is no ended may same plain = no tt
-not_allowed ends.Any r n res text a file is no ended may same plain = no tt
+    bad (subst (λ (b : Answer). MayGive b (entry_outstanding r n)) one may)
+not_allowed ends.Allowed r (step.Finish n) res text _ file is bad ended may same plain = ended
+not_allowed ends.Allowed r _ res text a file is bad ended may same plain = bad tt
+not_allowed ends.Given r s res text a file is bad ended may same plain = bad tt
+not_allowed ends.Any r s res text a file is bad ended may same plain = bad tt
 
-pub end_refused : (h : History) (m : Follower) (n : ℕ) (text : List ℕ) (res : ℤ) → IsFile res
+pub end_refused : (h : History) (m : Follower) (s : Step) (text : List ℕ) (res : ℤ) → IsFile res
     → text_of (answer.Ended res no_bytes) ≡ text
-    → (MayGive (answer.Ended res no_bytes) (entry_asked (rules_of m) h (step.Finish n)) → ⊥)
-    → IsWanted h m (step.Finish n) AnyEnd
-    → IsJudged (rules_of m) h m (step.Finish n) text (Some AnyEnd)
-end_refused h m n text res file same no is = (
+    → (MayGive (answer.Ended res no_bytes) (entry_asked (rules_of m) h s) → ⊥)
+    → IsWanted h m s AnyEnd → IsJudged (rules_of m) h m s text (Some AnyEnd)
+end_refused h m s text res file same bad is = (
   record {
-    not_called = λ a c text_is plain. not_allowed (rules_of m).ends (world (rules_of m).setup h).requests n res text a file same no (is.0.called a c.0) c.1 text_is plain;
+    not_called = λ a c text_is plain. not_allowed (rules_of m).ends (world (rules_of m).setup h).requests s res text a file same bad (is.0.called a c.0) c.1 text_is plain;
     called = λ a c. is.0.called a c.0;
     only = λ a ended allowed. (is.0.only a ended, allowed);
   },
   is.1,
 )
-
--- an end without bytes is told by its text
-plain_end : (res : ℤ) (apart : Bool) (s : Step) → IsFile res → IsPlain (answer.Ended res no_bytes) apart s
-plain_end res true (step.Finish n) file = (file, refl)
-plain_end res true _ file = tt
-plain_end res false s file = tt
-
--- the end of this text was made
-pub end_made : (old new : Follower) (h : History) (s : Step) (text : List ℕ) (res : ℤ) → IsFile res
-    → text_of (answer.Ended res no_bytes) ≡ text
-    → MayGive (answer.Ended res no_bytes) (entry_asked (rules_of old) h s)
-    → FitsBy new ((s, answer.Ended res no_bytes) ∷ h)
-    → IsJudged (rules_of old) h new s text None
-end_made old new h s text res file same may fits =
-    (answer.Ended res no_bytes, same, plain_end res (is_apart (rules_of old).ends) s file, may, fits)
 
 -- ---- either of two answers
 

@@ -90,8 +90,8 @@ none_taken n (e ∷ before) none =
 running_free : (g : Setup) (h : History) (n : ℕ) → IsLawfulApart g h
     → is_running (world g h).requests n ≡ true → effect_of (at_finishes h) n ≡ None
 running_free g h n lawful running =
-    let open : has_ended (world g h).requests n ≡ false = not-true _ (and_parts _ _ running).1 in
-    none_taken n h (ap (λ (l : List Ending). list_any (is_of n) l) (sym (own_requests g h lawful).ended) ∙ open)
+    let idle : has_ended (world g h).requests n ≡ false = not-true _ (and_parts _ _ running).1 in
+    none_taken n h (ap (λ (l : List Ending). list_any (is_of n) l) (sym (own_requests g h lawful).ended) ∙ idle)
 
 -- ---- the timeline is timely
 
@@ -108,13 +108,17 @@ timely_more g (step.Finish n, answer.Ended res bytes) before apart called prior 
     let o : Outcome = record { res = res; bytes = bytes } in
     let t : Timeline = at_finishes before in
     let called_so = ended_running (files_of g (world g before)) (world g before).requests n (is_running (world g before).requests n) o called in
-    let files : files_of g (world g before) ≡ files_left (first_files g) (effects_in g t) = files_by_operations g before apart ∙ ap (λ (l : List Done). files_left (first_files g) l) (sym (effects g before)) in
-    (ap (λ (b : Bool). if b then Some o else effect_of t n) (eq-eqb n n refl),
-     (record {
-       runs = subst (λ (h : History). is_running (world g h).requests n ≡ true) (sym (made before)) called_so.0;
-       first = running_free g before n apart called_so.0;
-       gives = subst (λ (h : History). IsOutcome (files_left (first_files g) (effects_in g t)) (operation_of (entry_of (world g h).requests n)) o) (sym (made before)) (subst (λ (fs : List FileContents). IsOutcome fs (operation_of (entry_of (world g before).requests n)) o) files called_so.1);
-     }, prior))
+    let files : files_of g (world g before) ≡ files_left (first_files g) (effects_in g t) = files_by_operations g before apart ∙ ap (λ (l : List Done). files_left (first_files g) l) (sym (effects g before)) in (
+      ap (λ (b : Bool). if b then Some o else effect_of t n) (eq-eqb n n refl),
+      (
+        record {
+          runs = subst (λ (h : History). is_running (world g h).requests n ≡ true) (sym (made before)) called_so.0;
+          first = running_free g before n apart called_so.0;
+          gives = subst (λ (h : History). IsOutcome (files_left (first_files g) (effects_in g t)) (operation_of (entry_of (world g h).requests n)) o) (sym (made before)) (subst (λ (fs : List FileContents). IsOutcome fs (operation_of (entry_of (world g before).requests n)) o) files called_so.1);
+        },
+        prior,
+      ),
+    )
 timely_more g (step.Finish n, _) before apart called prior = (tt, prior)
 timely_more g _ before apart called prior = (tt, prior)
 

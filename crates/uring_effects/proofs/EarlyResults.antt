@@ -54,7 +54,7 @@ effect_allowed g (Makes (s, a) ∷ before) timely lawful n o is =
 effect_allowed g (Takes m outcome ∷ before) timely lawful n o is = go (m == n) refl is
   where
     go : (b : Bool) → (m == n) ≡ b → (if b then Some outcome else effect_of before n) ≡ Some o → Allows (requests_in g before) n o
-    go true same e = subst (λ (k : ℕ). Allows (requests_in g before) k o) (eqb-true m n same) (subst (λ (x : Outcome). Allows (requests_in g before) m x) (same_Some e) (taken_allowed g before m outcome lawful timely.0))
+    go true same e = subst (λ (k : ℕ). Allows (requests_in g before) k o) (eqb-true m n same) (subst (λ (x : Outcome). Allows (requests_in g before) m x) (same_Some outcome o e) (taken_allowed g before m outcome lawful timely.0))
     go false other e = effect_allowed g before timely.1 lawful n o e
 
 event_allowed : (g : Setup) (e : Event) (before : Timeline) → IsTimely g before
