@@ -46,16 +46,23 @@ allows_then r later n o more a = record {
   may = subst (λ (e : Sqe). may_end e o.res ≡ true) (sym (more.same_entry n a.accepted)) a.may;
 }
 
+-- the newest effect, or one before it
+newest_allowed : (g : Setup) (before : Timeline) (m n : ℕ) (outcome o : Outcome) (b : Bool) → (m == n) ≡ b
+    → IsLawfulApart g (made_in before) → TakesEffect g before m outcome
+    → (effect_of before n ≡ Some o → Allows (requests_in g before) n o)
+    → (if b then Some outcome else effect_of before n) ≡ Some o → Allows (requests_in g before) n o
+newest_allowed g before m n outcome o true same lawful takes earlier is =
+    subst (λ (k : ℕ). Allows (requests_in g before) k o) (eqb-true m n same)
+    (subst (λ (x : Outcome). Allows (requests_in g before) m x) (same_Some outcome o is) (taken_allowed g before m outcome lawful takes))
+newest_allowed g before m n outcome o false other lawful takes earlier is = earlier is
+
 effect_allowed : (g : Setup) (t : Timeline) → IsTimely g t → IsLawfulApart g (made_in t) → (n : ℕ)
     → (o : Outcome) → effect_of t n ≡ Some o → Allows (requests_in g t) n o
 effect_allowed g [] timely lawful n o is = absurd cc
 effect_allowed g (Makes (s, a) ∷ before) timely lawful n o is =
     allows_then (requests_in g before) (requests_in g (Makes (s, a) ∷ before)) n o (event_grows g s a (made_in before) lawful) (effect_allowed g before timely.1 lawful.1 n o is)
-effect_allowed g (Takes m outcome ∷ before) timely lawful n o is = go (m == n) refl is
-  where
-    go : (b : Bool) → (m == n) ≡ b → (if b then Some outcome else effect_of before n) ≡ Some o → Allows (requests_in g before) n o
-    go true same e = subst (λ (k : ℕ). Allows (requests_in g before) k o) (eqb-true m n same) (subst (λ (x : Outcome). Allows (requests_in g before) m x) (same_Some outcome o e) (taken_allowed g before m outcome lawful timely.0))
-    go false other e = effect_allowed g before timely.1 lawful n o e
+effect_allowed g (Takes m outcome ∷ before) timely lawful n o is =
+    newest_allowed g before m n outcome o (m == n) refl lawful timely.0 (effect_allowed g before timely.1 lawful n o) is
 
 event_allowed : (g : Setup) (e : Event) (before : Timeline) → IsTimely g before
     → IsLawfulApart g (made_in before) → EndsAsTaken before e → GivesAllowed (requests_in g before) e
