@@ -91,5 +91,5 @@ def explain(scenario, recorded, uring=None, is_linux=False):
 
 def judged(uring, trace):
     """What the proved checker says of a trace: nothing if it is lawful."""
-    ran = subprocess.run([*uring, "check", "--apart"], input=trace, capture_output=True, text=True)
+    ran = subprocess.run([*uring, "check", "--results"], input=trace, capture_output=True, text=True)
     return "" if ran.returncode == 0 else ran.stdout + ran.stderr

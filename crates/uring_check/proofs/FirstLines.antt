@@ -9,6 +9,7 @@ use Rattle.uring_check.specs.Findings.{Found, has_stopped, history_behind, lines
 use Rattle.uring_check.specs.Posters.{posters}
 use Rattle.uring_check.specs.Reports.{closing, missed_text, steps_of, told_of_all}
 use Rattle.uring_check.specs.Rules.{AreJudgedBy, Rules}
+use Rattle.uring_check.specs.declared.ends.Ends.{Ends}
 use Rattle.uring_check.specs.SetupLines.{IsSaid}
 use Rattle.uring_entry.specs.Setup.{Setup}
 use Rattle.uring_check.specs.declared.checker.Checker.{Checker}
@@ -117,20 +118,20 @@ took_first d all lines text old new waits said goes k =
     }
 
 -- rules of this set-up
-abbrev pub with_setup : Setup → Bool → Rules
-with_setup s apart = record { setup = s; is_apart = apart }
+abbrev pub with_setup : Setup → Ends → Rules
+with_setup s ends = record { setup = s; ends = ends }
 
 -- a first line that says one
 pub took_setup : (d : Rules) (all : Bool) (lines : List (List ℕ)) (text : List ℕ) (s : Setup) (old new : Checker) (m : Follower)
     → old.awaits ≡ true → IsSaid text (Says s)
-    → rules_of m ≡ with_setup s (rules_of old.machine).is_apart → FitsBy m []
+    → rules_of m ≡ with_setup s (rules_of old.machine).ends → FitsBy m []
     → Goes text (with_follower old m) new → Looks d all lines old
     → Looks d all (text ∷ lines) new
 took_setup d all lines text s old new m waits said rules fits goes k =
     let none : lines ≡ [] = first_by lines (sym k.awaits ∙ waits) in
     let l : LooksBy d all [] old = first_looks d all lines old none k in
-    let g : Rules = with_setup s d.is_apart in
-    let same : rules_of m ≡ g = rules ∙ ap (λ (r : Rules). with_setup s r.is_apart) l.same in
+    let g : Rules = with_setup s d.ends in
+    let same : rules_of m ≡ g = rules ∙ ap (λ (r : Rules). with_setup s r.ends) l.same in
     subst (λ (ls : List (List ℕ)). Looks d all (text ∷ ls) new) (sym none)
     (record {
       rules = Some g;

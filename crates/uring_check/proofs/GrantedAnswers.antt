@@ -2,7 +2,7 @@
 use Rattle.std.proofs.Common.{◌≡◌, ◌≤◌, ℕ, ℤ, ◌∷◌, ◌⊎◌, pos, neg_ℤ, Bool, true, false, List, [], refl, sym, ap, subst, ◌∙◌, inl, inr, arith}
 use Rattle.std.specs.Prelude.{negsuc, if◌then◌else◌, is_some}
 use Rattle.std.proofs.lemmas.Bool.{true≢false}
-use Rattle.uring_entry.specs.Requests.{Requests, is_running}
+use Rattle.uring_entry.specs.Requests.{Requests, is_running, no_bytes}
 use Rattle.uring_entry.specs.Setup.{Setup}
 use Rattle.uring_entry.specs.Submission.{call_length}
 use Rattle.uring_entry.specs.declared.errno.TheConstants.{ENOMEM}
@@ -10,15 +10,18 @@ use Rattle.uring_entry.specs.declared.operation.Outcome.{Outcome}
 use Rattle.uring_files.specs.Contents.{FileContents}
 use Rattle.uring_core.specs.CalledFor.{EndsOn, files_of}
 use Rattle.uring_core.specs.Histories.{History, world}
-use Rattle.uring_core.specs.StepAnswers.{IsEnded, OrAgain, is_spent}
+use Rattle.uring_core.specs.Recorded.{IsWrong, Meets}
+use Rattle.uring_core.specs.StepAnswers.{FinishesApart, IsEnded, OrAgain, is_spent}
 use Rattle.uring_core.specs.World.{World}
 use Rattle.uring_core.specs.declared.answer.Answer.{Answer}
 use Rattle.uring_core.specs.declared.answer.Answer.TheVariants as answer
 use Rattle.uring_core.specs.declared.step.Step.{Step}
 use Rattle.uring_core.specs.declared.step.Step.TheVariants as step
-use Rattle.uring_core.specs.declared.wanted.Wanted.TheVariants.{AnyEnd}
+use Rattle.uring_core.specs.declared.wanted.Wanted.TheVariants.{AnyEnd, EndOrNoMemory}
 use Rattle.uring_check.specs.Checking.{HasOneAnswer, IsWanted, rules_of}
-use Rattle.uring_check.specs.Rules.{Rules, CalledIn, IsCalled}
+use Rattle.uring_check.specs.Rules.{AllowedBy, CalledBy, CalledIn, MayGive, entry_in, is_apart}
+use Rattle.uring_check.specs.declared.ends.Ends.{Ends}
+use Rattle.uring_check.specs.declared.ends.Ends.TheVariants as ends
 use Rattle.uring_check.specs.declared.follower.Follower.{Follower}
 use Rattle.uring_check.proofs.WantedAnswers.{one_answer}
 
@@ -50,6 +53,10 @@ abbrev IsNoByte : List ℕ → Type 0
 IsNoByte [] = Unit {0}
 IsNoByte (byte ∷ bytes) = ⊥
 
+abbrev GivesEnd : Answer → Type 0
+GivesEnd (answer.Ended res bytes) = Unit {0}
+GivesEnd _ = ⊥
+
 abbrev IsSuccess : ℤ → Type 0
 IsSuccess (pos n) = Unit {0}
 IsSuccess (negsuc n) = ⊥
@@ -78,12 +85,13 @@ IsAnyhow true (step.Finish n) = Unit {0}
 IsAnyhow _ _ = ⊥
 
 -- every end is called for, behind this history
-abbrev AnyCalled : Rules → History → Step → Type 0
-AnyCalled g h s = (a : Answer) → IsEnded a → IsCalled g h s a
+abbrev AnyCalled : Bool → Setup → History → Step → Type 0
+AnyCalled apart g h s = (a : Answer) → IsEnded a → CalledIn apart g (world g h) s a
 
-not_one : (g : Rules) (h : History) (s : Step) → AnyCalled g h s → HasOneAnswer s → ⊥
-not_one g h s any one =
-    two_ends (one_answer g h s (end_with []) (end_with (0 ∷ [])) one (any (end_with []) tt) (any (end_with (0 ∷ [])) tt))
+not_one : (apart : Bool) (g : Setup) (h : History) (s : Step) → AnyCalled apart g h s
+    → HasOneAnswer s → ⊥
+not_one apart g h s any one =
+    two_ends (one_answer apart g (world g h) s (end_with []) (end_with (0 ∷ [])) one (any (end_with []) tt) (any (end_with (0 ∷ [])) tt))
 
 -- more than one answer may be called for to these two
 abbrev IsOpen : Step → Type 0
@@ -97,7 +105,7 @@ one_or_open (step.Finish n) = inr tt
 one_or_open _ = inl tt
 
 open_called : (apart : Bool) (g : Setup) (h : History) (s : Step) → IsOpen s
-    → AnyCalled (record { setup = g; is_apart = apart }) h s → IsAnyhow apart s
+    → AnyCalled apart g h s → IsAnyhow apart s
 open_called true g h (step.Finish n) is any = tt
 open_called false g h (step.Finish n) is any = absurd (two_on_files (files_of g (world g h)) (world g h).requests n (is_running (world g h).requests n) (any (end_with []) tt) (any (end_with (0 ∷ [])) tt))
 open_called apart g h (step.Begin count) is any =
@@ -105,16 +113,16 @@ open_called apart g h (step.Begin count) is any =
 open_called apart g h _ is any = absurd is
 
 any_called : (apart : Bool) (g : Setup) (h : History) (s : Step)
-    → AnyCalled (record { setup = g; is_apart = apart }) h s → IsAnyhow apart s
+    → AnyCalled apart g h s → IsAnyhow apart s
 any_called apart g h s any = elim (one_or_open s) [
-  | inl one ↦ absurd (not_one (record { setup = g; is_apart = apart }) h s any one)
+  | inl one ↦ absurd (not_one apart g h s any one)
   | inr is ↦ open_called apart g h s is any
 ]
 
 -- any end is wanted of a Finish alone
 pub any_finishes : (m : Follower) (s : Step) (h : History) → IsWanted h m s AnyEnd
     → ((n : ℕ) → s ≡ step.Finish n → ⊥) → ⊥
-any_finishes m s h is none = go (rules_of m).is_apart s (any_called (rules_of m).is_apart (rules_of m).setup h s is.0.only) none
+any_finishes m s h is none = go (is_apart (rules_of m).ends) s (any_called (is_apart (rules_of m).ends) (rules_of m).setup h s is.0.only) none
   where
     go : (apart : Bool) (t : Step) → IsAnyhow apart t → ((n : ℕ) → t ≡ step.Finish n → ⊥) → ⊥
     go true (step.Finish n) any none = none n refl
@@ -123,12 +131,34 @@ any_finishes m s h is none = go (rules_of m).is_apart s (any_called (rules_of m)
 
 -- and without files
 pub any_apart : (m : Follower) (s : Step) (h : History) → IsWanted h m s AnyEnd
-    → (rules_of m).is_apart ≡ false → ⊥
-any_apart m s h is off = go (rules_of m).is_apart s (any_called (rules_of m).is_apart (rules_of m).setup h s is.0.only) off
+    → is_apart (rules_of m).ends ≡ false → ⊥
+any_apart m s h is off = go (is_apart (rules_of m).ends) s (any_called (is_apart (rules_of m).ends) (rules_of m).setup h s is.0.only) off
   where
     go : (apart : Bool) (t : Step) → IsAnyhow apart t → apart ≡ false → ⊥
     go true t any off = absurd (true≢false off)
     go false t any off = any
+
+-- without files no two ends alone are wanted
+no_either : (running : Bool) (res : ℤ)
+    → ((a : Answer) → FinishesApart running a → Meets (EndOrNoMemory res) a)
+    → ((a : Answer) → Meets (EndOrNoMemory res) a → FinishesApart running a) → ⊥
+no_either true res called only = elim (called (end_with []) tt) [
+  | inl e ↦ subst GivesNoByte e tt
+  | inr e ↦ subst GivesNoByte e tt
+]
+no_either false res called only = subst GivesEnd (only (answer.Ended res no_bytes) (inl refl)) tt
+
+-- so results need not be allowed where they are
+pub either_allowed : (m : Follower) (s : Step) (h : History) (res : ℤ) (x : Answer)
+    → IsWanted h m s (EndOrNoMemory res) → AllowedBy (rules_of m) h s x
+either_allowed m s h res x is = go x (rules_of m).ends s is.0
+  where
+    go : (y : Answer) (e : Ends) (t : Step) → IsWrong (CalledIn (is_apart e) (rules_of m).setup (world (rules_of m).setup h) t) answer.Filled (EndOrNoMemory res) → MayGive y (entry_in e (world (rules_of m).setup h).requests t)
+    go (answer.Ended z bytes) ends.Allowed (step.Finish n) w = absurd (no_either (is_running (world (rules_of m).setup h).requests n) res w.called w.only)
+    go (answer.Ended z bytes) ends.Allowed _ w = tt
+    go (answer.Ended z bytes) ends.Given t w = tt
+    go (answer.Ended z bytes) ends.Any t w = tt
+    go _ e t w = tt
 
 -- so many elements suffice
 pub at_most : (n : ℕ) → n ≤ n

@@ -9,7 +9,7 @@ use Rattle.uring_check.specs.Checks.{Says}
 use Rattle.uring_check.specs.Findings.{Found, Finding, AreFound, IsFinding, IsFindingBehind, first_fault, has_stopped, history_behind, judged, lines_of, verdict_of}
 use Rattle.uring_check.specs.Findings as finding
 use Rattle.uring_check.specs.Records.{AreRecorded, IsLawfulText, Records}
-use Rattle.uring_check.specs.Rules.{Rules, IsCalled, IsLawfulBy, IsPlain}
+use Rattle.uring_check.specs.Rules.{Rules, IsCalled, IsLawfulBy, IsPlain, is_apart}
 use Rattle.uring_check.specs.declared.verdict.Verdict.{Verdict}
 use Rattle.uring_check.specs.declared.verdict.Verdict.TheVariants as verdict
 use Rattle.uring_check.proofs.RuleLaws.{called_first, called_once, lawful_more, lawful_none, lawful_rest}
@@ -77,7 +77,7 @@ same_event g past known line s t a b same rec is called right =
     let once = record_once line t s (text_of b) (text_of a) rec.0 is.0 in
     let there : IsCalled g known t b = subst (λ (h : History). IsCalled g h t b) same called in
     let here : IsCalled g known s b = subst (λ (x : Step). IsCalled g known x b) once.0 there in
-    let plain : IsPlain b g.is_apart s = subst (λ (x : Step). IsPlain b g.is_apart x) once.0 rec.1 in
+    let plain : IsPlain b (is_apart g.ends) s = subst (λ (x : Step). IsPlain b (is_apart g.ends) x) once.0 rec.1 in
     let answers : b ≡ a = called_once g known s b a here right once.1 plain is.1 in
     λ i. (once.0 i, answers i) ∷ same i
 
@@ -120,7 +120,7 @@ none_more g line lines known h (finding.Wrong s wanted) is v prior lawful (inr r
     let so : IsLawfulBy g (r.0 ∷ r.1) = subst (IsLawfulBy g) r.2 lawful in
     let once = record_once line r.0.0 s (text_of r.0.1) is.0 r.3.0 is.1 in
     let there : IsCalled g known r.0.0 r.0.1 = subst (λ (past : History). IsCalled g past r.0.0 r.0.1) (prior r.1 (lawful_rest g r.0.0 r.0.1 r.1 so) r.4) (called_first g r.0.0 r.0.1 r.1 so) in
-    is.2.not_called r.0.1 (subst (λ (x : Step). IsCalled g known x r.0.1) once.0 there) once.1 (subst (λ (x : Step). IsPlain r.0.1 g.is_apart x) once.0 r.3.1)
+    is.2.not_called r.0.1 (subst (λ (x : Step). IsCalled g known x r.0.1) once.0 there) once.1 (subst (λ (x : Step). IsPlain r.0.1 (is_apart g.ends) x) once.0 r.3.1)
 none_more g line lines known h finding.Bad is v prior lawful (inl passed) =
     true≢false (sym passed.0.1 ∙ is.1)
 none_more g line lines known h finding.Bad is v prior lawful (inr r) =

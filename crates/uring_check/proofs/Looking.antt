@@ -12,14 +12,14 @@ use Rattle.uring_core.specs.declared.wanted.Wanted.{Wanted}
 use Rattle.uring_trace.specs.Explanations.{line_number}
 use Rattle.uring_text.specs.Lines.{ended}
 use Rattle.uring_text.specs.Remarks.{is_remark}
-use Rattle.uring_check.specs.Checking.{FitsBy, IsStanding, Judges, Knows, LooksBy, Looked, LooksAt, noted_poster, reasons_by, rules_of}
+use Rattle.uring_check.specs.Checking.{FitsBy, IsStanding, Judges, Knows, TellsWanted, LooksBy, Looked, LooksAt, noted_poster, reasons_by, rules_of}
 use Rattle.uring_check.specs.Findings.{IsFinding, IsFindingBehind, first_fault, has_stopped, history_behind, judged, stops, with_finding}
 use Rattle.uring_check.specs.Findings as finding
 use Rattle.uring_check.specs.Records.{IsRecord, IsNoRecord}
 use Rattle.uring_check.specs.Posters.{posters}
 use Rattle.uring_check.specs.Reports.{completion_wanted, counted_with, line_text, reasons_told, told_of, told_of_all, wanted_text, why_bad}
 use Rattle.uring_text.specs.Visible.{visible_line}
-use Rattle.uring_check.specs.Rules.{Rules, IsCalled}
+use Rattle.uring_check.specs.Rules.{Rules, CalledBy, entry_asked}
 use Rattle.uring_check.specs.declared.answer_text.AnswerText.{AnswerText}
 use Rattle.uring_check.specs.declared.checker.Checker.{Checker}
 use Rattle.uring_check.specs.declared.follower.Follower.{Follower}
@@ -51,7 +51,7 @@ looked_passed c line h none remark over fits = record {
 three_parts : (i a b c : List ℕ) → i ++ a ++ b ++ c ≡ i ++ (a ++ b ++ c)
 three_parts i a b c = simp append_assoc refl
 
-bad_told : (g : Setup) (h : History) (n : ℕ) (line items : List ℕ)
+bad_told : (g : Rules) (h : History) (n : ℕ) (line items : List ℕ)
     → items ++ line_text n ++ ended (codes "bad line") ++ why_bad line
     ≡ items ++ told_of g h n line finding.Bad
 bad_told g h n line items = three_parts items (line_text n) (ended (codes "bad line")) (why_bad line)
@@ -59,10 +59,10 @@ bad_told g h n line items = three_parts items (line_text n) (ended (codes "bad l
 regroup : (i a b c d e : List ℕ) → i ++ a ++ b ++ c ++ d ++ e ≡ i ++ (a ++ b ++ c ++ d ++ e)
 regroup i a b c d e = simp append_assoc refl
 
-wrong_told : (g : Setup) (h : History) (n : ℕ) (line items : List ℕ) (s : Step) (wanted : Wanted)
-    → items ++ line_text n ++ ended (visible_line line) ++ codes "wanted: " ++ ended (wanted_text wanted) ++ reasons_told g h s wanted
+wrong_told : (g : Rules) (h : History) (n : ℕ) (line items : List ℕ) (s : Step) (wanted : Wanted)
+    → items ++ line_text n ++ ended (visible_line line) ++ codes "wanted: " ++ ended (wanted_text (entry_asked g h s) wanted) ++ reasons_told g.setup h s wanted
     ≡ items ++ told_of g h n line (finding.Wrong s wanted)
-wrong_told g h n line items s wanted = regroup items (line_text n) (ended (visible_line line)) (codes "wanted: ") (ended (wanted_text wanted)) (reasons_told g h s wanted)
+wrong_told g h n line items s wanted = regroup items (line_text n) (ended (visible_line line)) (codes "wanted: ") (ended (wanted_text (entry_asked g h s) wanted)) (reasons_told g.setup h s wanted)
 
 -- they are those of what was asked
 reasons_are : (g : Setup) (h : History) (s : Step) (x : Standing) (wanted : Wanted) (completion : Option ℕ)
@@ -92,7 +92,7 @@ looked_bad old mid report line h is none remark fits =
       counted = refl;
       decided = refl;
       stopped = refl;
-      told = told ∙ bad_told (rules_of old.machine).setup h old.number line old.report.items;
+      told = told ∙ bad_told (rules_of old.machine) h old.number line old.report.items;
     })
 
 -- a checker whose machine made a step, to which this text was told
@@ -116,9 +116,9 @@ looked_right old m t p steps before after s text line notes counted same over ju
     let eq : (rules_of old.machine).setup ≡ (rules_of m).setup = ap (λ (r : Rules). r.setup) (sym same) in
     record {
       finding = finding.Right s j.0;
-      is_so = (subst (λ (x : List ℕ). IsRecord line s x) (sym j.1) is, j.2, subst (λ (g : Rules). IsCalled g h s j.0) same (fits_called m s j.0 h j.3));
+      is_so = (subst (λ (x : List ℕ). IsRecord line s x) (sym j.1) is, j.2, (subst (λ (g : Rules). CalledBy g h s j.0) same (fits_called m s j.0 h j.4), j.3));
       same = same;
-      fits = (j.3, knows_step (rules_of m).setup s j.0 h old.posters.items p.items before after (fits_lawful m ((s, j.0) ∷ h) j.3) (f.1 ∙ ap (λ (g : Setup). posters g h) eq) (notes.before_is h f ∙ ap (λ (g : Setup). length (world g h).completions.posted) eq) (notes.after_is ((s, j.0) ∷ h) j.3) notes.more);
+      fits = (j.4, knows_step (rules_of m).setup s j.0 h old.posters.items p.items before after (fits_lawful m ((s, j.0) ∷ h) j.4) (f.1 ∙ ap (λ (g : Setup). posters g h) eq) (notes.before_is h f ∙ ap (λ (g : Setup). length (world g h).completions.posted) eq) (notes.after_is ((s, j.0) ∷ h) j.4) notes.more);
       is_all = refl;
       awaits = refl;
       numbered = refl;
@@ -135,7 +135,7 @@ found_wrong c report = record c { verdict = first_fault c.verdict verdict.Wrong;
 pub looked_wrong : (old new : Checker) (m : Follower) (t : AnswerText) (p : Vec ℕ Global) (before after : ℕ) (s : Step) (text line : List ℕ) (shown : Told) (x : Standing)
     → Notes old m p s before after → rules_of m ≡ rules_of old.machine
     → ((h : History) → Knows old h → IsStanding (rules_of old.machine).setup h s x)
-    → (wanted : Wanted) × (shown.text.items ≡ wanted_text wanted) × (shown.completion ≡ completion_wanted wanted) × Judges old.machine m s text (Some wanted)
+    → (wanted : Wanted) × TellsWanted old.machine s wanted shown.text.items × (shown.completion ≡ completion_wanted wanted) × Judges old.machine m s text (Some wanted)
     → new ≡ found_wrong (with_machine old m t p) new.report
     → new.report.items
     ≡ old.report.items ++ line_text old.number ++ ended (visible_line line) ++ codes "wanted: " ++ ended shown.text.items ++ reasons_by x shown.completion
@@ -159,9 +159,9 @@ looked_wrong old new m t p before after s text line shown x notes same asked jud
       stopped = ap (λ (c : Checker). c.is_over) is;
       told =
           told
-          ∙ ap (λ (t : List ℕ). old.report.items ++ line_text old.number ++ ended (visible_line line) ++ codes "wanted: " ++ ended t ++ reasons_by x shown.completion) judges.1
-          ∙ ap (λ (w : List ℕ). old.report.items ++ line_text old.number ++ ended (visible_line line) ++ codes "wanted: " ++ ended (wanted_text wanted) ++ w) (reasons_are (rules_of old.machine).setup h s x wanted shown.completion (asked h f) judges.2)
-          ∙ wrong_told (rules_of old.machine).setup h old.number line old.report.items s wanted;
+          ∙ ap (λ (t : List ℕ). old.report.items ++ line_text old.number ++ ended (visible_line line) ++ codes "wanted: " ++ ended t ++ reasons_by x shown.completion) (judges.1 h f.0)
+          ∙ ap (λ (w : List ℕ). old.report.items ++ line_text old.number ++ ended (visible_line line) ++ codes "wanted: " ++ ended (wanted_text (entry_asked (rules_of old.machine) h s) wanted) ++ w) (reasons_are (rules_of old.machine).setup h s x wanted shown.completion (asked h f) judges.2)
+          ∙ wrong_told (rules_of old.machine) h old.number line old.report.items s wanted;
     }
 
 -- ---- all lines
@@ -190,9 +190,9 @@ took_looked g all lines old mid n line next over looks k =
           ∙ sym (or-false (stops all l.finding))
           ∙ ap (λ (b : Bool). stops all l.finding || b) (sym none);
       told =
-          l.told ∙ ap (λ (t : List ℕ). t ++ told_of (rules_of old.machine).setup past old.number line l.finding) k.told
-          ∙ ap (λ (x : Rules). told_of_all g k.found ++ told_of x.setup past old.number line l.finding) k.same
-          ∙ ap (λ (x : ℕ). told_of_all g k.found ++ told_of g.setup past x line l.finding) k.numbered;
+          l.told ∙ ap (λ (t : List ℕ). t ++ told_of (rules_of old.machine) past old.number line l.finding) k.told
+          ∙ ap (λ (x : Rules). told_of_all g k.found ++ told_of x past old.number line l.finding) k.same
+          ∙ ap (λ (x : ℕ). told_of_all g k.found ++ told_of g past x line l.finding) k.numbered;
     }
 
 pub took_awaits : (g : Rules) (all : Bool) (lines : List (List ℕ)) (old mid : Checker) (line : List ℕ)

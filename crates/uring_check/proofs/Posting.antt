@@ -23,7 +23,7 @@ use Rattle.uring_core.proofs.CompletionMoves.{CompletionMove, stays, ends, flush
 use Rattle.uring_check.specs.Checking.{FitsBy, noted_poster, number_in, rules_of}
 use Rattle.uring_check.specs.Posters.{poster_of, posters}
 use Rattle.uring_check.specs.declared.follower.Follower.{Follower}
-use Rattle.uring_check.specs.declared.follower.Follower.TheVariants.{Whole, Apart}
+use Rattle.uring_check.specs.declared.follower.Follower.TheVariants.{Whole, Apart, Allowed}
 
 -- ---- what one step posts
 
@@ -118,3 +118,4 @@ knows_resumed g s (EndOrNoMemory res) h known later before after lawful is was n
 pub fits_lawful : (m : Follower) (h : History) → FitsBy m h → IsLawfulApart (rules_of m).setup h
 fits_lawful (Whole m) h f = f.core.lawful
 fits_lawful (Apart c) h f = f.lawful
+fits_lawful (Allowed c) h f = f.lawful

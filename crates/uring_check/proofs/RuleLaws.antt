@@ -15,14 +15,14 @@ use Rattle.uring_core.specs.declared.step.Step.{Step}
 use Rattle.uring_core.specs.declared.step.Step.TheVariants as step
 use Rattle.uring_text.specs.Spelling.{IsFile}
 use Rattle.uring_trace.specs.Text.{text_of}
-use Rattle.uring_check.specs.Rules.{Rules, CalledIn, LawfulIn, IsCalled, IsLawfulBy, IsPlain}
+use Rattle.uring_check.specs.Rules.{Rules, CalledIn, LawfulIn, IsCalled, IsLawfulBy, IsPlain, is_apart}
 use Rattle.uring_check.proofs.SameTexts.{answer_once, begin_once}
 
 -- ---- histories
 
 pub called_first : (g : Rules) (s : Step) (a : Answer) (h : History) → IsLawfulBy g ((s, a) ∷ h)
     → IsCalled g h s a
-called_first g s a h p = go g.is_apart p
+called_first g s a h p = (go (is_apart g.ends) p.0, p.1.0)
   where
     go : (b : Bool) → LawfulIn b g.setup ((s, a) ∷ h) → CalledIn b g.setup (world g.setup h) s a
     go true p = p.0
@@ -30,7 +30,7 @@ called_first g s a h p = go g.is_apart p
 
 pub lawful_rest : (g : Rules) (s : Step) (a : Answer) (h : History) → IsLawfulBy g ((s, a) ∷ h)
     → IsLawfulBy g h
-lawful_rest g s a h p = go g.is_apart p
+lawful_rest g s a h p = (go (is_apart g.ends) p.0, p.1.1)
   where
     go : (b : Bool) → LawfulIn b g.setup ((s, a) ∷ h) → LawfulIn b g.setup h
     go true p = p.1
@@ -38,14 +38,14 @@ lawful_rest g s a h p = go g.is_apart p
 
 pub lawful_more : (g : Rules) (s : Step) (a : Answer) (h : History) → IsCalled g h s a
     → IsLawfulBy g h → IsLawfulBy g ((s, a) ∷ h)
-lawful_more g s a h called lawful = go g.is_apart called lawful
+lawful_more g s a h called lawful = (go (is_apart g.ends) called.0 lawful.0, (called.1, lawful.1))
   where
     go : (b : Bool) → CalledIn b g.setup (world g.setup h) s a → LawfulIn b g.setup h → LawfulIn b g.setup ((s, a) ∷ h)
     go true p q = (p, q)
     go false p q = (p, q)
 
 pub lawful_none : (g : Rules) → IsLawfulBy g []
-lawful_none g = go g.is_apart
+lawful_none g = (go (is_apart g.ends), tt)
   where
     go : (b : Bool) → LawfulIn b g.setup []
     go true = tt
@@ -57,7 +57,7 @@ bounded : (z : ℤ) → IsFile z → mag z < 2 ^ 63
 bounded (pos n) h = omega arith
 bounded (negsuc n) h = omega arith
 
-result_once : (y z : ℤ) → IsFile y → IsFile z → signed_decimal y ≡ signed_decimal z → y ≡ z
+pub result_once : (y z : ℤ) → IsFile y → IsFile z → signed_decimal y ≡ signed_decimal z → y ≡ z
 result_once y z p q e = signed_decimal_injective y z (bounded y p) (bounded z q) e
 
 finish_once : (n : ℕ) (running : Bool) (a b : Answer) → FinishesApart running a
@@ -81,9 +81,9 @@ apart_once g w (step.Finish n) a b p q same x y =
 apart_once g w _ a b p q same x y = p ∙ sym q
 
 pub called_once : (g : Rules) (h : History) (s : Step) (a b : Answer) → IsCalled g h s a
-    → IsCalled g h s b → text_of a ≡ text_of b → IsPlain a g.is_apart s → IsPlain b g.is_apart s
+    → IsCalled g h s b → text_of a ≡ text_of b → IsPlain a (is_apart g.ends) s → IsPlain b (is_apart g.ends) s
     → a ≡ b
-called_once g h s a b p q same x y = go g.is_apart p q x y
+called_once g h s a b p q same x y = go (is_apart g.ends) p.0 q.0 x y
   where
     go : (c : Bool) → CalledIn c g.setup (world g.setup h) s a → CalledIn c g.setup (world g.setup h) s b → IsPlain a c s → IsPlain b c s → a ≡ b
     go true p q x y = apart_once g.setup (world g.setup h) s a b p q same x y

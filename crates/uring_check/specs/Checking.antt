@@ -26,10 +26,11 @@ use Rattle.uring_trace.specs.Reasons.{found_text}
 use Rattle.uring_check.specs.Cancels.{found_asked}
 use Rattle.uring_check.specs.Posters.{next_poster, posters}
 use Rattle.uring_check.specs.Reports.{missed_text, report, told_of, told_of_all, counted_with, steps_of, wanted_text, completion_wanted, whom_told, whose_told, why_asked, why_told}
-use Rattle.uring_check.specs.Rules.{AreJudgedBy, Rules, IsCalled, IsPlain}
+use Rattle.uring_check.specs.Rules.{AreJudgedBy, Rules, AllowedBy, CalledBy, IsPlain, MayGive, entry_asked, is_apart}
+use Rattle.uring_check.specs.declared.ends.Ends.TheVariants as ends
 use Rattle.uring_check.specs.declared.checker.Checker.{Checker}
 use Rattle.uring_check.specs.declared.follower.Follower.{Follower}
-use Rattle.uring_check.specs.declared.follower.Follower.TheVariants.{Whole, Apart}
+use Rattle.uring_check.specs.declared.follower.Follower.TheVariants.{Whole, Apart, Allowed}
 use Rattle.uring_check.specs.declared.judging.Told.{Told}
 use Rattle.uring_check.specs.declared.reading.Reading.{Reading}
 use Rattle.uring_check.specs.declared.standing.Standing.{Standing}
@@ -53,18 +54,21 @@ HasOneAnswer _ = Unit {0}
 
 -- by what a follower judges
 abbrev pub rules_of : Follower → Rules
-rules_of (Whole m) = record { setup = m.core.setup; is_apart = false }
-rules_of (Apart c) = record { setup = c.setup; is_apart = true }
+rules_of (Whole m) = record { setup = m.core.setup; ends = ends.Given }
+rules_of (Apart c) = record { setup = c.setup; ends = ends.Any }
+rules_of (Allowed c) = record { setup = c.setup; ends = ends.Allowed }
 
--- the follower fits a history: its machine does, or its core apart from what operations gave
+-- the follower fits a history: its machine does, or its core apart from what operations gave, whichever results are allowed
 abbrev pub FitsBy : Follower → History → Type 0
 FitsBy (Whole m) h = Fits m h
 FitsBy (Apart c) h = FitsApart c h
+FitsBy (Allowed c) h = FitsApart c h
 
 -- What is found behind a history of a step with the text of an answer, and what the machine then fits: `None` if the text is that of an answer that is called for.
 abbrev pub IsJudged : Rules → History → Follower → Step → List ℕ → Option Wanted → Type 0
 IsJudged g h m s text None =
-    (a : Answer) × (text_of a ≡ text) × IsPlain a g.is_apart s × FitsBy m ((s, a) ∷ h)
+    (a : Answer) × (text_of a ≡ text) × IsPlain a (is_apart g.ends) s × AllowedBy g h s a
+    × FitsBy m ((s, a) ∷ h)
 IsJudged g h m s text (Some wanted) =
     IsWrongText g h s text wanted × FitsBy m (resumed s (refusal.Wrong wanted) h)
 
@@ -78,15 +82,20 @@ abbrev pub Judges : Follower → Follower → Step → List ℕ → Option Wante
 Judges old new s text found =
     (h : History) → FitsBy old h → IsJudged (rules_of old) h new s text found
 
+-- the text tells what is wanted, whatever the history that the follower fits
+abbrev pub TellsWanted : Follower → Step → Wanted → List ℕ → Type 0
+TellsWanted m s wanted text = (h : History) → FitsBy m h
+    → text ≡ wanted_text (entry_asked (rules_of m) h s) wanted
+
 -- the same, with the text of the answers that are called for, and the user data of a completion that is
 abbrev pub JudgesTold : Follower → Follower → Step → List ℕ → Option Told → Type 0
 JudgesTold old new s text None = Judges old new s text None
 JudgesTold old new s text (Some told) =
-    (wanted : Wanted) × (told.text.items ≡ wanted_text wanted) × (told.completion ≡ completion_wanted wanted) × Judges old new s text (Some wanted)
+    (wanted : Wanted) × TellsWanted old s wanted told.text.items × (told.completion ≡ completion_wanted wanted) × Judges old new s text (Some wanted)
 
 -- a refusal told that these answers are wanted, and the machine goes on from there
 abbrev pub IsWanted : History → Follower → Step → Wanted → Type 0
-IsWanted h m s wanted = IsWrong (IsCalled (rules_of m) h s) answer.Filled wanted
+IsWanted h m s wanted = IsWrong (CalledBy (rules_of m) h s) answer.Filled wanted
     × FitsBy m (resumed s (refusal.Wrong wanted) h)
 
 -- either of two answers is wanted, and so a refusal makes nothing
@@ -186,7 +195,7 @@ pub record Looked (old new : Checker) (line : List ℕ) (h : History) : Type 0 w
   pub decided : new.verdict ≡ judged old.verdict finding
   pub stopped : new.is_over ≡ stops old.is_all finding
   pub told : new.report.items
-      ≡ old.report.items ++ told_of (rules_of old.machine).setup h old.number line finding
+      ≡ old.report.items ++ told_of (rules_of old.machine) h old.number line finding
 
 -- a line was looked at, whatever the history
 abbrev pub LooksAt : Checker → Checker → List ℕ → Type 0

@@ -10,7 +10,7 @@ use Rattle.uring_core.specs.declared.wanted.Wanted.{Wanted}
 use Rattle.uring_text.specs.Remarks.{is_remark}
 use Rattle.uring_trace.specs.Text.{text_of}
 use Rattle.uring_check.specs.Records.{IsRecord, IsNoRecord, IsPassed}
-use Rattle.uring_check.specs.Rules.{Rules, IsCalled, IsPlain}
+use Rattle.uring_check.specs.Rules.{Rules, AllowedBy, IsCalled, IsPlain, is_apart}
 use Rattle.uring_check.specs.declared.verdict.Verdict.{Verdict}
 use Rattle.uring_check.specs.declared.verdict.Verdict.TheVariants as verdict
 
@@ -27,11 +27,11 @@ pub record Found : Type 0 where
   pub line : List ℕ
   pub finding : Finding
 
--- No answer with this text is called for, and exactly these are.
+-- No answer with this text is called for, and exactly these are, of which the result is allowed.
 pub record IsWrongText (g : Rules) (h : History) (s : Step) (text : List ℕ) (wanted : Wanted) : Type 0 where
-  pub not_called : (a : Answer) → IsCalled g h s a → text_of a ≡ text → IsPlain a g.is_apart s → ⊥
+  pub not_called : (a : Answer) → IsCalled g h s a → text_of a ≡ text → IsPlain a (is_apart g.ends) s → ⊥
   pub called : (a : Answer) → IsCalled g h s a → Meets wanted a
-  pub only : (a : Answer) → Meets wanted a → IsCalled g h s a
+  pub only : (a : Answer) → Meets wanted a → AllowedBy g h s a → IsCalled g h s a
 
 -- what goes before, with this finding: a right event, and of a wrong one the one answer that was called for counts as given; else the step counts as not made
 abbrev pub with_finding : Finding → History → History
@@ -59,7 +59,7 @@ stops all _ = false
 abbrev pub IsFinding : Rules → History → List ℕ → Finding → Type 0
 IsFinding g h line Passed = IsPassed line
 IsFinding g h line (Right s a) =
-    IsRecord line s (text_of a) × IsPlain a g.is_apart s × IsCalled g h s a
+    IsRecord line s (text_of a) × IsPlain a (is_apart g.ends) s × IsCalled g h s a
 IsFinding g h line (Wrong s wanted) =
     (text : List ℕ) × IsRecord line s text × IsWrongText g h s text wanted
 IsFinding g h line Bad = IsNoRecord line × (is_remark line ≡ false)

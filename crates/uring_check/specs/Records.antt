@@ -6,7 +6,7 @@ use Rattle.uring_core.specs.declared.step.Step.{Step}
 use Rattle.uring_text.specs.Remarks.{is_remark}
 use Rattle.uring_trace.specs.Spelling.{IsStep}
 use Rattle.uring_trace.specs.Text.{text_of}
-use Rattle.uring_check.specs.Rules.{Rules, IsLawfulBy, IsPlain}
+use Rattle.uring_check.specs.Rules.{Rules, IsLawfulBy, IsPlain, is_apart}
 
 -- The line is a step and a text for its answer, with ` = ` between them. It has at most 300 bytes, and its first `=` is this one.
 pub record IsRecord (line : List ℕ) (s : Step) (text : List ℕ) : Type 0 where
@@ -22,7 +22,7 @@ IsNoRecord line = (s : Step) (text : List ℕ) → IsRecord line s text → ⊥
 
 -- the line records the event: its step, and the text of its answer
 abbrev pub Records : Rules → List ℕ → Event → Type 0
-Records g line event = IsRecord line event.0 (text_of event.1) × IsPlain event.1 g.is_apart event.0
+Records g line event = IsRecord line event.0 (text_of event.1) × IsPlain event.1 (is_apart g.ends) event.0
 
 -- a line that is passed over
 abbrev pub IsPassed : List ℕ → Type 0

@@ -1,9 +1,12 @@
 -- The text of a check's report. Its words are our own rule.
-use Rattle.std.specs.Prelude.{ℕ, ◌+◌, ◌-◌, ◌^◌, min, List, [], ◌∷◌, ◌++◌, length, codes, option_map, Option, Some, None}
+use Rattle.std.specs.Prelude.{ℕ, ◌==◌, if◌then◌else◌, ◌+◌, ◌-◌, ◌^◌, min, List, [], ◌∷◌, ◌++◌, length, codes, option_map, Option, Some, None}
 use Rattle.std.specs.Fmt.{decimal, signed_decimal}
+use Rattle.uring_entry.specs.Layout.{Sqe, len_of, opcode_of}
+use Rattle.uring_entry.specs.Preparation.{is_read, is_write}
 use Rattle.uring_entry.specs.Requests.{Requests}
 use Rattle.uring_entry.specs.Setup.{Setup}
 use Rattle.uring_entry.specs.Why.{why_of}
+use Rattle.uring_entry.specs.declared.opcode.TheConstants.{FSYNC}
 use Rattle.uring_entry.specs.declared.why.Why.{Why}
 use Rattle.uring_core.specs.Histories.{History, world}
 use Rattle.uring_core.specs.declared.answer.Answer.TheVariants as answer
@@ -23,16 +26,31 @@ use Rattle.uring_check.specs.Findings.{Found, Finding, history_behind, verdict_o
 use Rattle.uring_check.specs.Findings as finding
 use Rattle.uring_check.specs.Cancels.{found_asked}
 use Rattle.uring_check.specs.Posters.{next_poster}
-use Rattle.uring_check.specs.Rules.{Rules}
+use Rattle.uring_check.specs.Rules.{Rules, entry_asked}
 use Rattle.uring_check.specs.declared.verdict.Verdict.{Verdict}
 use Rattle.uring_check.specs.declared.verdict.Verdict.TheVariants as verdict
 
--- the answers that are called for
-abbrev pub wanted_text : Wanted → List ℕ
-wanted_text (Only a) = text_of a
-wanted_text (CallOrAgain length) = codes "call " ++ decimal length ++ codes " or again"
-wanted_text AnyEnd = codes "an end"
-wanted_text (EndOrNoMemory res) = codes "ended " ++ signed_decimal res ++ codes " or ended -12"
+-- what a request of this entry does, and of a read and a write its length
+abbrev pub operation_text : Sqe → List ℕ
+operation_text e =
+    if is_read e then codes "a read of " ++ decimal (len_of e) else
+    if is_write e then codes "a write of " ++ decimal (len_of e) else
+    if opcode_of e == FSYNC then codes "an fsync" else
+    codes "a no-op"
+
+-- an end: any, or one with a result that a request of this entry may end with
+abbrev pub end_text : Option Sqe → List ℕ
+end_text None = codes "an end"
+end_text (Some e) = codes "a result of " ++ operation_text e
+
+-- the answers that are called for; a result is to be one of this entry's operation, if there is one
+abbrev pub wanted_text : Option Sqe → Wanted → List ℕ
+wanted_text asked (Only a) = text_of a
+wanted_text asked (CallOrAgain length) =
+    codes "call " ++ decimal length ++ codes " or again"
+wanted_text asked AnyEnd = end_text asked
+wanted_text asked (EndOrNoMemory res) =
+    codes "ended " ++ signed_decimal res ++ codes " or ended -12"
 
 -- of an issue and of a finish, the number of its request and why that stands as it does
 abbrev pub why_asked : Requests → Step → Option (ℕ × Why)
@@ -76,9 +94,9 @@ abbrev pub why_bad : List ℕ → List ℕ
 why_bad line = codes "why: " ++ ended (line_flaw language.Records line)
 
 -- What is told of the line with this number, by the history before it: of a wrong one the line, in which no byte is invisible, the answers that are called for, and why; and that a line is bad, and why.
-abbrev pub told_of : Setup → History → ℕ → List ℕ → Finding → List ℕ
+abbrev pub told_of : Rules → History → ℕ → List ℕ → Finding → List ℕ
 told_of g h number line (finding.Wrong s wanted) =
-    line_text number ++ ended (visible_line line) ++ codes "wanted: " ++ ended (wanted_text wanted) ++ reasons_told g h s wanted
+    line_text number ++ ended (visible_line line) ++ codes "wanted: " ++ ended (wanted_text (entry_asked g h s) wanted) ++ reasons_told g.setup h s wanted
 told_of g h number line finding.Bad = line_text number ++ ended (codes "bad line") ++ why_bad line
 told_of g h number line _ = []
 
@@ -96,7 +114,7 @@ steps_of (x ∷ before) = counted_with x.finding (steps_of before)
 abbrev pub told_of_all : Rules → List Found → List ℕ
 told_of_all g [] = []
 told_of_all g (x ∷ before) =
-    told_of_all g before ++ told_of g.setup (history_behind before) (line_number (length before)) x.line x.finding
+    told_of_all g before ++ told_of g (history_behind before) (line_number (length before)) x.line x.finding
 
 -- the last line, if all is lawful: how many steps there were
 abbrev pub closing : Verdict → ℕ → List ℕ

@@ -5,6 +5,7 @@ ghost use Rattle.uring_check.specs.Checking.{Has};
 ghost use Rattle.uring_check.specs.Checks.{IsChecked};
 ghost use Rattle.uring_check.specs.Rules.{Rules};
 
+use crate::ends::Ends;
 use crate::reading::{Reading, read_all};
 use crate::verdict::Verdict;
 use std::alloc::Global;
@@ -18,7 +19,7 @@ use uring_text::{Calls, TextMemory, TraceFault, write_all};
 ///
 /// The first line may say the set-up, which then counts in place of the one that is given: `# setup --sq N --cq N --files N --start N`, with `--stop` behind it for a ring that stops. One that begins with `# setup` and is no such line is `Bad`, and no other line is looked at.
 ///
-/// With `is_apart` the trace is judged apart from what operations give, as that of a ring without files: a running request may end with any result of 32 bits with a sign, and gives no bytes, so that the data of each completion is `-`. That is our own rule.
+/// With `Ends::Any` the trace is judged apart from what operations give, as that of a ring without files: a running request may end with any result of 32 bits with a sign, and gives no bytes, so that the data of each completion is `-`. With `Ends::Allowed` it is judged so too, but a running request ends with a result that its operation may give (`uring_results::may_end`), and `wanted: ` says of which one. That is our own rule.
 ///
 /// An interrupted read or write is made again. Nothing is written before the end of the input.
 ///
@@ -31,13 +32,13 @@ pub fn check<R: Read, W: Write>(
     writer: &mut W,
     setup: &Setup,
     is_all: bool,
-    is_apart: bool,
+    ends: Ends,
 ) -> Result<Verdict, TraceFault>
-    ensures { IsChecked (record { setup = setup.now; is_apart = is_apart }) is_all result
+    ensures { IsChecked (record { setup = setup.now; ends = ends }) is_all result
         (R.remaining reader.old) (R.remaining reader.new) (W.contents writer.old)
         (W.contents writer.new) }
 {
-    check_in(&alloc, alloc, reader, writer, setup, is_all, is_apart)
+    check_in(&alloc, alloc, reader, writer, setup, is_all, ends)
 }
 
 /// As `check`, by this memory. If it grants whatever is asked for, it never ends with `Memory`.
@@ -48,14 +49,14 @@ pub fn check_in<M: TextMemory, R: Read, W: Write>(
     writer: &mut W,
     setup: &Setup,
     is_all: bool,
-    is_apart: bool,
+    ends: Ends,
 ) -> Result<Verdict, TraceFault>
-    ensures checked { IsChecked (record { setup = setup.now; is_apart = is_apart }) is_all result
+    ensures checked { IsChecked (record { setup = setup.now; ends = ends }) is_all result
         (R.remaining reader.old) (R.remaining reader.new) (W.contents writer.old)
         (W.contents writer.new) }
     ensures granted { ((n : ℕ) → M.grants memory.now n) → result ≢ Err TraceFault.Memory }
 {
-    let mut reading = Reading::new(memory, alloc, setup, is_all, is_apart)?;
+    let mut reading = Reading::new(memory, alloc, setup, is_all, ends)?;
     let checked = check_all(memory, &mut reading, reader, writer);
     drop(reading);
     checked

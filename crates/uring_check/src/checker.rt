@@ -13,6 +13,7 @@ ghost use Rattle.uring_check.specs.Reports.{line_text, missed_text};
 ghost use Rattle.uring_check.specs.Records.{IsRecord, IsNoRecord};
 
 use crate::answer_text::AnswerText;
+use crate::ends::Ends;
 use crate::follower::Follower;
 use crate::judging::{Told, judge_told};
 use crate::record_line::split_record;
@@ -58,17 +59,17 @@ impl Checker {
         alloc: Global,
         setup: &Setup,
         is_all: bool,
-        is_apart: bool,
+        ends: Ends,
     ) -> Result<Checker, AllocError>
         ensures looks { IfOk result
-            (Looks (record { setup = setup.now; is_apart = is_apart }) is_all []) }
+            (Looks (record { setup = setup.now; ends = ends }) is_all []) }
         ensures granted { ((n : ℕ) → M.grants memory.now n) → IsOk result }
     {
         Ok(Checker {
             alloc,
             awaits: true,
             is_all,
-            machine: Follower::new(memory, alloc, setup, is_apart)?,
+            machine: Follower::new(memory, alloc, setup, ends)?,
             posters: Vec::new(alloc),
             number: 1,
             steps: 0,
@@ -114,7 +115,7 @@ impl Checker {
         match said {
             Said::Nothing => self.take_next(memory, line),
             Said::Says(setup) => {
-                self.machine = Follower::new(memory, self.alloc, &setup, self.machine.is_apart())?;
+                self.machine = Follower::new(memory, self.alloc, &setup, self.machine.ends())?;
                 self.take_next(memory, line)
             }
             Said::Misses => self.miss(memory),

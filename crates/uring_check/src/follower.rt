@@ -5,9 +5,12 @@ ghost use Rattle.uring_core.specs.Core.{FitsApart};
 ghost use Rattle.uring_core.specs.Histories.{History, world};
 ghost use Rattle.uring_core.specs.Recorded.{IsRefused, resumed};
 ghost use Rattle.uring_check.specs.Checking.{FitsBy, HasOneAnswer, rules_of};
-ghost use Rattle.uring_check.specs.Rules.{IsCalled};
+ghost use Rattle.uring_check.specs.Rules as spec;
+ghost use Rattle.uring_check.specs.Rules.{CalledBy, entry_in};
 
+use crate::ends::Ends;
 use std::alloc::{AllocError, Global};
+use uring_entry::Sqe;
 use uring_machine::{Answer, Core, Machine, Refusal, Setup, Step};
 use uring_memory::Memory;
 
@@ -19,6 +22,9 @@ pub(crate) enum Follower {
 
     /// Without files: a running request may end with any result.
     Apart(Core),
+
+    /// Without files too, but a running request is to end with a result that its operation may give. It follows any.
+    Allowed(Core),
 }
 
 impl Follower {
@@ -27,27 +33,49 @@ impl Follower {
         memory: &M,
         alloc: Global,
         setup: &Setup,
-        is_apart: bool,
+        ends: Ends,
     ) -> Result<Follower, AllocError>
         ensures rules { IfOk result
-            (λ follower. rules_of follower ≡ record { setup = setup.now; is_apart = is_apart }) }
+            (λ follower. rules_of follower ≡ record { setup = setup.now; ends = ends }) }
         ensures fits { IfOk result (λ follower. FitsBy follower []) }
         ensures granted { ((n : ℕ) → M.grants memory.now n) → IsOk result }
     {
-        if is_apart {
-            Ok(Follower::Apart(Core::new_in(memory, alloc, setup)?))
-        } else {
-            Ok(Follower::Whole(Machine::new_in(memory, alloc, setup)?))
+        match ends {
+            Ends::Given => Ok(Follower::Whole(Machine::new_in(memory, alloc, setup)?)),
+            Ends::Any => Ok(Follower::Apart(Core::new_in(memory, alloc, setup)?)),
+            Ends::Allowed => Ok(Follower::Allowed(Core::new_in(memory, alloc, setup)?)),
         }
     }
 
     /// Whether it follows without files.
     pub(crate) fn is_apart(&self) -> bool
-        ensures { result ≡ (rules_of self.now).is_apart }
+        ensures { result ≡ spec.is_apart (rules_of self.now).ends }
     {
         match self {
             Follower::Whole(_) => false,
-            Follower::Apart(_) => true,
+            Follower::Apart(_) | Follower::Allowed(_) => true,
+        }
+    }
+
+    /// What is asked of the ends of running requests.
+    pub(crate) fn ends(&self) -> Ends
+        ensures { result ≡ (rules_of self.now).ends }
+    {
+        match self {
+            Follower::Whole(_) => Ends::Given,
+            Follower::Apart(_) => Ends::Any,
+            Follower::Allowed(_) => Ends::Allowed,
+        }
+    }
+
+    /// Of a finish the entry of its request, if a result is to be one that its operation may give.
+    pub(crate) fn entry_asked(&self, step: &Step) -> Option<Sqe>
+        ensures { (h : History) → FitsBy self.now h
+            → result ≡ spec.entry_asked (rules_of self.now) h step.now }
+    {
+        match self {
+            Follower::Whole(_) | Follower::Apart(_) => None,
+            Follower::Allowed(core) => finished_entry(core, step),
         }
     }
 
@@ -62,10 +90,11 @@ impl Follower {
         match self {
             Follower::Whole(machine) => machine.step_in(memory, *step),
             Follower::Apart(core) => core.step_in(memory, *step),
+            Follower::Allowed(core) => core.step_in(memory, *step),
         }
     }
 
-    /// Follows a step with an answer, any. If the memory grants whatever is asked for, the refusal is never `NoMemory`.
+    /// Follows a step with an answer, any, also an end whose result isn't allowed. If the memory grants whatever is asked for, the refusal is never `NoMemory`.
     pub(crate) fn follow<M: Memory>(
         &mut self,
         memory: &M,
@@ -77,7 +106,7 @@ impl Follower {
             ((h : History) → FitsBy self.old h → FitsBy self.new ((step.now, given.now) ∷ h)) }
         ensures refused { IfErr result
             (λ refusal. (h : History) → FitsBy self.old h
-            → IsRefused (IsCalled (rules_of self.old) h step.now) given.now refusal) }
+            → IsRefused (CalledBy (rules_of self.old) h step.now) given.now refusal) }
         ensures resumed { IfErr result
             (λ refusal. (h : History) → FitsBy self.old h
             → FitsBy self.new (resumed step.now refusal h)) }
@@ -87,6 +116,7 @@ impl Follower {
         match self {
             Follower::Whole(machine) => machine.follow_in(memory, *step, *given),
             Follower::Apart(core) => core.follow_in(memory, *step, *given),
+            Follower::Allowed(core) => core.follow_in(memory, *step, *given),
         }
     }
 
@@ -98,6 +128,7 @@ impl Follower {
         match self {
             Follower::Whole(machine) => machine.counts().posted,
             Follower::Apart(core) => core.counts().posted,
+            Follower::Allowed(core) => core.counts().posted,
         }
     }
 
@@ -109,6 +140,18 @@ impl Follower {
         match self {
             Follower::Whole(machine) => machine.core(),
             Follower::Apart(core) => core,
+            Follower::Allowed(core) => core,
         }
+    }
+}
+
+/// Of a finish the entry of its request, if that is outstanding.
+fn finished_entry(core: &Core, step: &Step) -> Option<Sqe>
+    ensures { (h : History) → FitsApart core.now h
+        → result ≡ entry_in Ends.Allowed (world core.now.setup h).requests step.now }
+{
+    match step {
+        Step::Finish { number } => core.entry(*number),
+        _ => None,
     }
 }

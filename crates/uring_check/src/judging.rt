@@ -1,12 +1,13 @@
 //! Whether the text of an answer is that of one that is called for.
 
+ghost use Rattle.std.specs.Bool.{Decides};
 ghost use Rattle.std.specs.Prelude.{◌≡◌, ◌∷◌, ℕ, ℤ, IfOk, IsOk, MatchOption, OnOk};
 ghost use Rattle.uring_entry.specs.Requests.{no_bytes};
 ghost use Rattle.uring_core.specs.Histories.{History};
 ghost use Rattle.uring_core.specs.declared.answer.Answer.TheVariants as answer;
 ghost use Rattle.uring_text.specs.Spelling.{IsFile};
 ghost use Rattle.uring_trace.specs.Text.{text_of};
-ghost use Rattle.uring_check.specs.Rules.{IsCalled, IsPlain};
+ghost use Rattle.uring_check.specs.Rules.{AllowedBy, CalledBy, IsPlain, MayGive, is_apart};
 ghost use Rattle.uring_check.specs.Reports.{completion_wanted, wanted_text};
 ghost use Rattle.uring_check.specs.Checking.{FitsBy, rules_of, Judges, JudgesTold, IsJudged, IsOneJudged, HasOneAnswer, IsWanted, IsEither};
 
@@ -14,8 +15,9 @@ use crate::answer_text::AnswerText;
 use crate::follower::Follower;
 use crate::telling::push_wanted;
 use std::alloc::{AllocError, Global};
-use uring_entry::errno;
+use uring_entry::{Sqe, errno};
 use uring_machine::{Answer, Refusal, Step, Wanted};
+use uring_results::may_end;
 use uring_text::{TextMemory, push_bytes, spelled_signed};
 
 /// What is told of the answers that are called for.
@@ -60,21 +62,27 @@ pub(crate) fn judge_told<M: TextMemory>(
     ensures granted { ((n : ℕ) → M.grants memory.now n) → (h : History) → FitsBy machine.old h
         → IsOk result }
 {
+    let asked = machine.entry_asked(step);
     match judge(memory, told, machine, step, text) {
         Ok(None) => Ok(None),
-        Ok(Some(wanted)) => Ok(Some(told_of(memory, alloc, &wanted)?)),
+        Ok(Some(wanted)) => Ok(Some(told_of(memory, alloc, &asked, &wanted)?)),
         Err(error) => Err(error),
     }
 }
 
-/// What is told of the answers that are called for.
-fn told_of<M: TextMemory>(memory: &M, alloc: Global, wanted: &Wanted) -> Result<Told, AllocError>
-    ensures text { IfOk result (λ told. told.text.items ≡ wanted_text wanted.now) }
+/// What is told of the answers that are called for. A result is to be one of this entry's operation, if there is one.
+fn told_of<M: TextMemory>(
+    memory: &M,
+    alloc: Global,
+    asked: &Option<Sqe>,
+    wanted: &Wanted,
+) -> Result<Told, AllocError>
+    ensures text { IfOk result (λ told. told.text.items ≡ wanted_text asked.now wanted.now) }
     ensures completion { IfOk result (λ told. told.completion ≡ completion_wanted wanted.now) }
     ensures granted { ((n : ℕ) → M.grants memory.now n) → IsOk result }
 {
     Ok(Told {
-        text: wanted_bytes(memory, alloc, wanted)?,
+        text: wanted_bytes(memory, alloc, asked, wanted)?,
         completion: completion_in(wanted),
     })
 }
@@ -93,13 +101,14 @@ fn completion_in(wanted: &Wanted) -> Option<u64>
 fn wanted_bytes<M: TextMemory>(
     memory: &M,
     alloc: Global,
+    asked: &Option<Sqe>,
     wanted: &Wanted,
 ) -> Result<Vec<u8>, AllocError>
-    ensures text { IfOk result (λ told. told.items ≡ wanted_text wanted.now) }
+    ensures text { IfOk result (λ told. told.items ≡ wanted_text asked.now wanted.now) }
     ensures granted { ((n : ℕ) → M.grants memory.now n) → IsOk result }
 {
     let mut text = String::new(alloc);
-    push_wanted(memory, &mut text, wanted)?;
+    push_wanted(memory, &mut text, asked, wanted)?;
     let mut bytes = Vec::new(alloc);
     push_bytes(memory, &mut bytes, text.as_bytes())?;
     Ok(bytes)
@@ -144,7 +153,7 @@ fn judge_open<M: TextMemory>(
 }
 
 /// Judges a step to which these answers are called for.
-#[tactic(auto, using(crate::proofs::WantedAnswers::either_call, crate::proofs::WantedAnswers::either_end))]
+#[tactic(auto, using(crate::proofs::WantedAnswers::either_call, crate::proofs::WantedAnswers::either_end, crate::proofs::GrantedAnswers::either_allowed))]
 fn judge_wanted<M: TextMemory>(
     memory: &M,
     told: &mut AnswerText,
@@ -215,8 +224,12 @@ fn judge_either<M: TextMemory>(
     text: &[u8],
 ) -> Result<Option<Wanted>, AllocError>
     requires either { IsEither wanted one.now other.now }
-    requires plain { IsPlain one.now (rules_of machine.old).is_apart step.now }
-    requires other_plain { IsPlain other.now (rules_of machine.old).is_apart step.now }
+    requires plain { IsPlain one.now (is_apart (rules_of machine.old).ends) step.now }
+    requires other_plain { IsPlain other.now (is_apart (rules_of machine.old).ends) step.now }
+    requires allowed { (h : History) → IsWanted h machine.old step.now wanted
+        → AllowedBy (rules_of machine.old) h step.now one.now }
+    requires other_allowed { (h : History) → IsWanted h machine.old step.now wanted
+        → AllowedBy (rules_of machine.old) h step.now other.now }
     ensures rules { rules_of machine.new ≡ rules_of machine.old }
     ensures judges { IfOk result
         (λ found. (h : History) → IsWanted h machine.old step.now wanted
@@ -235,7 +248,7 @@ fn judge_either<M: TextMemory>(
     Ok(Some(wanted))
 }
 
-/// Judges a Finish of a running request, which may end with any result. A follower with files knows each end, and never comes here.
+/// Judges a Finish of a running request, which may end with any result, or with any that its operation may give. A follower with files knows each end, and never comes here.
 fn judge_end<M: TextMemory>(
     memory: &M,
     machine: &mut Follower,
@@ -258,6 +271,9 @@ fn judge_end<M: TextMemory>(
     let Some(res) = end_of(text) else {
         return Ok(Some(Wanted::AnyEnd));
     };
+    if !may_give(&machine.entry_asked(step), res) {
+        return Ok(Some(Wanted::AnyEnd));
+    }
     make(
         memory,
         machine,
@@ -276,6 +292,16 @@ fn end_of(text: &[u8]) -> Option<i32>
     spelled_signed(text.strip_prefix(b"ended ")?)
 }
 
+/// Whether a running request of this entry may end with this result, if there is one.
+fn may_give(asked: &Option<Sqe>, res: i32) -> bool
+    ensures { Decides result (MayGive (answer.Ended res no_bytes) asked.now) }
+{
+    match asked {
+        Some(entry) => may_end(entry, res),
+        None => true,
+    }
+}
+
 /// Makes a step with an answer that is called for.
 fn make<M: TextMemory>(
     memory: &M,
@@ -287,7 +313,7 @@ fn make<M: TextMemory>(
     ensures made { OnOk result
         ((h : History) → FitsBy machine.old h → FitsBy machine.new ((step.now, answer.now) ∷ h)) }
     ensures granted { ((n : ℕ) → M.grants memory.now n) → (h : History) → FitsBy machine.old h
-        → IsCalled (rules_of machine.old) h step.now answer.now → IsOk result }
+        → CalledBy (rules_of machine.old) h step.now answer.now → IsOk result }
 {
     match machine.follow(memory, step, answer) {
         Ok(()) => Ok(()),

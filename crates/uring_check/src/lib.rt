@@ -4,6 +4,7 @@
 mod answer_text;
 mod check_loop;
 mod checker;
+mod ends;
 mod follower;
 mod judging;
 pub mod laws;
@@ -16,6 +17,7 @@ mod telling;
 mod verdict;
 
 pub use check_loop::{check, check_in};
+pub use ends::Ends;
 pub use record_line::split_record;
 pub use setup_line::{Said, said_by, said_by_in};
 pub use setup_text::push_setup;

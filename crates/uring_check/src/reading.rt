@@ -7,6 +7,7 @@ ghost use Rattle.uring_check.specs.Checks.{IsVerdict};
 ghost use Rattle.uring_check.specs.Rules.{Rules};
 
 use crate::checker::Checker;
+use crate::ends::Ends;
 use crate::verdict::Verdict;
 use std::alloc::{AllocError, Global};
 use std::io::Read;
@@ -57,16 +58,16 @@ impl Reading {
         alloc: Global,
         setup: &Setup,
         is_all: bool,
-        is_apart: bool,
+        ends: Ends,
     ) -> Result<Reading, AllocError>
         ensures has { IfOk result
-            (λ r. Has (record { setup = setup.now; is_apart = is_apart }) is_all r []) }
+            (λ r. Has (record { setup = setup.now; ends = ends }) is_all r []) }
         ensures granted { ((n : ℕ) → M.grants memory.now n) → IsOk result }
     {
         let line = KeptLine::new_in(memory, alloc)?;
         Ok(Reading {
             line,
-            checker: Checker::new(memory, alloc, setup, is_all, is_apart)?,
+            checker: Checker::new(memory, alloc, setup, is_all, ends)?,
         })
     }
 

@@ -1,8 +1,8 @@
 //! The lines of a report.
 
-ghost use Rattle.std.specs.Prelude.{◌≡◌, ℕ, List, [], ◌++◌, OnOk, IsOk, string_bytes, codes};
+ghost use Rattle.std.specs.Prelude.{◌≡◌, ℕ, List, [], ◌++◌, OnOk, IsOk, Some, None, decimal, string_bytes, codes};
 ghost use Rattle.uring_text.specs.Lines.{ended};
-ghost use Rattle.uring_check.specs.Reports.{closing, line_text, wanted_text, why_bad};
+ghost use Rattle.uring_check.specs.Reports.{closing, end_text, line_text, operation_text, wanted_text, why_bad};
 ghost use Rattle.uring_check.specs.Checking.{reasons_by};
 ghost use Rattle.uring_text.specs.KeptLine.{kept_of};
 ghost use Rattle.uring_text.specs.Visible.{visible_line};
@@ -12,6 +12,7 @@ use crate::judging::Told;
 use crate::standing::Standing;
 use crate::verdict::Verdict;
 use std::alloc::{AllocError, Global};
+use uring_entry::{Sqe, opcode};
 use uring_machine::Wanted;
 use uring_text::{
     KeptLine, TextMemory, push_bytes, push_number, push_signed, push_text, push_visible_line_in,
@@ -179,22 +180,82 @@ fn tell_reasons<M: TextMemory>(
     push_bytes(memory, report, text.as_bytes())
 }
 
-/// Appends the answers that are called for.
+/// Appends the answers that are called for. A result is to be one of this entry's operation, if there is one.
 pub(crate) fn push_wanted<M: TextMemory>(
     memory: &M,
     text: &mut String,
+    asked: &Option<Sqe>,
     wanted: &Wanted,
 ) -> Result<(), AllocError>
     ensures told { OnOk result
-        (string_bytes text.new ≡ string_bytes text.old ++ wanted_text wanted.now) }
+        (string_bytes text.new ≡ string_bytes text.old ++ wanted_text asked.now wanted.now) }
     ensures granted { ((n : ℕ) → M.grants memory.now n) → IsOk result }
 {
     match wanted {
         Wanted::Only(answer) => push_answer_in(memory, text, answer),
         Wanted::CallOrAgain(length) => push_call_or_again(memory, text, *length),
-        Wanted::AnyEnd => push_text(memory, text, "an end"),
+        Wanted::AnyEnd => push_end(memory, text, asked),
         Wanted::EndOrNoMemory(res) => push_end_or_no_memory(memory, text, *res),
     }
+}
+
+/// Appends an end: any, or one with a result of this entry's operation.
+fn push_end<M: TextMemory>(
+    memory: &M,
+    text: &mut String,
+    asked: &Option<Sqe>,
+) -> Result<(), AllocError>
+    ensures told { OnOk result
+        (string_bytes text.new ≡ string_bytes text.old ++ end_text asked.now) }
+    ensures granted { ((n : ℕ) → M.grants memory.now n) → IsOk result }
+{
+    match asked {
+        Some(entry) => push_result(memory, text, entry),
+        None => push_text(memory, text, "an end"),
+    }
+}
+
+/// Appends a result of this entry's operation.
+fn push_result<M: TextMemory>(memory: &M, text: &mut String, entry: &Sqe) -> Result<(), AllocError>
+    ensures told { OnOk result
+        (string_bytes text.new ≡ string_bytes text.old ++ end_text (Some entry.now)) }
+    ensures granted { ((n : ℕ) → M.grants memory.now n) → IsOk result }
+{
+    push_text(memory, text, "a result of ")?;
+    push_operation(memory, text, entry)
+}
+
+/// Appends what a request of this entry does, and of a read and a write its length.
+fn push_operation<M: TextMemory>(
+    memory: &M,
+    text: &mut String,
+    entry: &Sqe,
+) -> Result<(), AllocError>
+    ensures told { OnOk result
+        (string_bytes text.new ≡ string_bytes text.old ++ operation_text entry.now) }
+    ensures granted { ((n : ℕ) → M.grants memory.now n) → IsOk result }
+{
+    match entry.opcode() {
+        opcode::READ => push_length(memory, text, "a read of ", entry.len()),
+        opcode::WRITE => push_length(memory, text, "a write of ", entry.len()),
+        opcode::FSYNC => push_text(memory, text, "an fsync"),
+        _ => push_text(memory, text, "a no-op"),
+    }
+}
+
+/// Appends these words and a length.
+fn push_length<M: TextMemory>(
+    memory: &M,
+    text: &mut String,
+    words: &str,
+    len: u32,
+) -> Result<(), AllocError>
+    ensures told { OnOk result
+        (string_bytes text.new ≡ string_bytes text.old ++ words.now ++ decimal len) }
+    ensures granted { ((n : ℕ) → M.grants memory.now n) → IsOk result }
+{
+    push_text(memory, text, words)?;
+    push_number(memory, text, len as u64)
 }
 
 /// Appends a call of this length, or `again`.
@@ -204,7 +265,7 @@ fn push_call_or_again<M: TextMemory>(
     length: u32,
 ) -> Result<(), AllocError>
     ensures told { OnOk result
-        (string_bytes text.new ≡ string_bytes text.old ++ wanted_text (Wanted.CallOrAgain length)) }
+        (string_bytes text.new ≡ string_bytes text.old ++ wanted_text None (Wanted.CallOrAgain length)) }
     ensures granted { ((n : ℕ) → M.grants memory.now n) → IsOk result }
 {
     push_text(memory, text, "call ")?;
@@ -219,7 +280,7 @@ fn push_end_or_no_memory<M: TextMemory>(
     res: i32,
 ) -> Result<(), AllocError>
     ensures told { OnOk result
-        (string_bytes text.new ≡ string_bytes text.old ++ wanted_text (Wanted.EndOrNoMemory res)) }
+        (string_bytes text.new ≡ string_bytes text.old ++ wanted_text None (Wanted.EndOrNoMemory res)) }
     ensures granted { ((n : ℕ) → M.grants memory.now n) → IsOk result }
 {
     push_text(memory, text, "ended ")?;

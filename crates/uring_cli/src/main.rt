@@ -26,7 +26,7 @@ use std::io::{ErrorKind, Read, Write};
 use std::process::ExitCode;
 use std::sync::Wait;
 use std::thread::Threads;
-use uring_check::{Verdict, check};
+use uring_check::{Ends, Verdict, check};
 use uring_litmus::Form as Shown;
 use uring_options::{Options, Setup, not_text, options};
 use uring_page::Form;
@@ -122,7 +122,8 @@ fn run_words<R: Threads + Wait + Copy + Send + 'static>(
             setup,
             is_all,
             is_apart,
-        } => run_check(rt, &setup, is_all, is_apart),
+            has_results,
+        } => run_check(rt, &setup, is_all, ends_of(is_apart, has_results)),
         Options::Explain(setup) => run_explain(rt, &setup),
         Options::Graph { setup, at } => run_graph(rt, &setup, at),
         Options::Timeline(setup) => run_timeline(rt, &setup),
@@ -236,10 +237,21 @@ fn tell_strict<R: Read + Drop>(rt: &HostRuntime, input: &StrictReader<R>) -> Res
     }
 }
 
+/// What is asked of the ends of running requests: with `--results` they are apart from files too.
+fn ends_of(is_apart: bool, has_results: bool) -> Ends {
+    if has_results {
+        Ends::Allowed
+    } else if is_apart {
+        Ends::Any
+    } else {
+        Ends::Given
+    }
+}
+
 /// A check of the trace that standard input has.
-fn run_check(rt: &HostRuntime, setup: &Setup, is_all: bool, is_apart: bool) -> Result<u8, Fault> {
+fn run_check(rt: &HostRuntime, setup: &Setup, is_all: bool, ends: Ends) -> Result<u8, Fault> {
     let (mut input, mut output) = (rt.stdin(), Outlet::new(rt.stdout()));
-    let checked = check(rt.alloc(), &mut input, &mut output, setup, is_all, is_apart);
+    let checked = check(rt.alloc(), &mut input, &mut output, setup, is_all, ends);
     Ok(status_of(unless_closed(&output, checked)?))
 }
 

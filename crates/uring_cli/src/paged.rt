@@ -5,7 +5,7 @@ use crate::outlet::Outlet;
 use crate::{status_behind, status_of, unless_closed};
 use std::alloc::{AllocError, Global};
 use std::io::{ErrorKind, Read};
-use uring_check::{Said, Verdict, check, said_by};
+use uring_check::{Ends, Said, Verdict, check, said_by};
 use uring_options::Setup;
 use uring_page::{Form, page, recorded_page};
 use uring_text::KeptLine;
@@ -91,7 +91,7 @@ fn verdict_on(
     setup: &Setup,
 ) -> Result<Verdict, TraceFault> {
     let mut lines = trace;
-    match check(alloc, &mut lines, report, setup, false, false) {
+    match check(alloc, &mut lines, report, setup, false, Ends::Given) {
         Ok(verdict) => Ok(verdict),
         // A list of bytes takes what is written unless memory is refused.
         Err(_) => Err(TraceFault::Memory),

@@ -1,15 +1,16 @@
 -- What can be seen of a history, and the histories that show it.
-use Rattle.std.specs.Prelude.{◌≡◌, Bool, true, false, List, [], ◌∷◌, ◌++◌, if◌then◌else◌}
+use Rattle.std.specs.Prelude.{◌≡◌, ℕ, ℤ, Bool, true, false, List, [], ◌∷◌, ◌++◌, if◌then◌else◌}
 use Rattle.std.specs.List.{filter_map}
 use Rattle.uring_entry.specs.Setup.{Setup}
-use Rattle.uring_entry.specs.Layout.{Cqe}
-use Rattle.uring_entry.specs.Requests.{Requests, entry_of, outstanding_in}
+use Rattle.uring_entry.specs.Layout.{Cqe, Sqe}
+use Rattle.uring_entry.specs.Success.{posts_completion}
+use Rattle.uring_entry.specs.Requests.{Requests, entry_of, no_bytes, outstanding_in}
+use Rattle.uring_results.specs.Results.{may_end}
 use Rattle.uring_core.specs.Histories.{Event, History, world, IsLawfulApart}
 use Rattle.uring_core.specs.Events.{reaped_by}
 use Rattle.uring_core.specs.declared.step.Step.{Step}
 use Rattle.uring_core.specs.declared.step.Step.TheVariants as step
 use Rattle.uring_core.specs.declared.answer.Answer.TheVariants as answer
-use Rattle.uring_fill.specs.Results.{MayEndWith}
 
 -- whether a step can't be seen from outside: the dispatcher issues a request, finishes one, or loads the completion ring's head
 abbrev pub is_hidden : Step → Bool
@@ -26,6 +27,11 @@ seen_in (e ∷ before) = if is_hidden e.0 then seen_in before else seen_in befor
 -- the completions that were reaped in what was seen, in order
 abbrev pub completions_in : List Event → List Cqe
 completions_in seen = filter_map reaped_by seen
+
+-- A running request of this entry may end so. What no completion tells has no bytes, which is our own rule: nobody could have seen them.
+pub record MayEndWith (e : Sqe) (res : ℤ) (bytes : List ℕ) : Type 0 where
+  pub result : may_end e res ≡ true
+  pub untold : posts_completion e res ≡ false → bytes ≡ no_bytes
 
 -- if the event ends a running request, it may end so
 abbrev pub GivesAllowed : Requests → Event → Type 0

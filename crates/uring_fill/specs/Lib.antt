@@ -1,4 +1,3 @@
-pub mod Results
 pub mod Filling
 pub mod Parts
 pub mod Found

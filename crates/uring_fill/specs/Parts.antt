@@ -12,8 +12,7 @@ use Rattle.uring_core.specs.Histories.{Event, History, world, history_of, IsLawf
 use Rattle.uring_core.specs.declared.step.Step.{Step}
 use Rattle.uring_core.specs.declared.step.Step.TheVariants as step
 use Rattle.uring_core.specs.declared.answer.Answer.TheVariants as answer
-use Rattle.uring_fill.specs.Filling.{is_hidden, seen_in, completions_in, IsPart}
-use Rattle.uring_fill.specs.Results.{MayEndWith}
+use Rattle.uring_fill.specs.Filling.{is_hidden, seen_in, completions_in, IsPart, MayEndWith}
 
 -- the lists of events that vectors hold
 abbrev pub paths_of : List (Vec Event Global) → List (List Event)

@@ -2,6 +2,7 @@
 
 ghost use Rattle.std.specs.Prelude.{◌≡◌, ◌↔◌, ◌<◌, ◌≤◌, ◌+◌, ◌∷◌, ℕ, ℤ, pos, true, false, List, IsTrue, OnOk, Some, Contains, length};
 ghost use Rattle.uring_entry.specs.Success as success;
+ghost use Rattle.uring_results.specs.Results as results;
 ghost use Rattle.uring_entry.specs.Layout.{Sqe};
 ghost use Rattle.uring_entry.specs.Preparation.{is_cancel_all};
 ghost use Rattle.uring_entry.specs.Requests.{entry_of, is_running, no_bytes, count_result};
@@ -11,13 +12,12 @@ ghost use Rattle.uring_core.specs.declared.step.Step.TheVariants as step;
 ghost use Rattle.uring_core.specs.declared.answer.Answer.TheVariants as answer;
 ghost use Rattle.uring_fill.specs.Filling.{IsPart};
 ghost use Rattle.uring_fill.specs.Parts.{StandsAt, Adds, HasEndsOf, TellsNext, FinishFits};
-ghost use Rattle.uring_fill.specs.Results as results;
 
-use crate::results::{may_end, most_of};
 use crate::seen::accepted_of;
 use std::alloc::AllocError;
 use uring_core::{Answer, Core, Cqe, Sqe, SqeFlags, Step};
 use uring_entry::{posts_completion, succeeded};
+use uring_results::{greatest_result, may_end};
 
 /// The bytes of an end that gives none.
 const NO_BYTES: [u8; 64] = [0; 64];
@@ -168,7 +168,7 @@ fn quiet_result(entry: &Sqe) -> Option<i32>
         → results.may_end entry.now res ≡ true → result ≡ Some res }
 {
     if entry.has(SqeFlags::CQE_SKIP_SUCCESS) {
-        Some(most_of(entry))
+        Some(greatest_result(entry))
     } else {
         None
     }

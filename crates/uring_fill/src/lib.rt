@@ -4,11 +4,9 @@
 mod ends;
 mod next;
 mod replay;
-mod results;
 mod search;
 mod seen;
 mod starts;
 
-pub use results::may_end;
 pub use search::{Filled, Reach, fill};
 pub use uring_core::{Answer, Cqe, Setup, Sqe, Step};

@@ -73,21 +73,24 @@ explained_over rows n s o false false false false at over graph moment timeline 
     subst (IsRunOver Explains rows n) (sym is) (refl, over, graph, timeline, page, json)
 
 -- what is checked over it, as the options of a check say
-pub checked_over : (rows : List Row) (n : Numbers) (s : Setup) (o : Options) (all apart pages tells : Bool)
+pub checked_over : (rows : List Row) (n : Numbers) (s : Setup) (o : Options) (all apart results pages tells : Bool)
     → IsTracedOver rows n s → IsGiven rows (codes "all") all → IsGiven rows (codes "apart") apart
+    → IsGiven rows (codes "results") results
     → IsGiven rows (codes "page") pages → IsGiven rows (codes "json") tells
-    → o ≡ (if all || apart then Check s all apart else if pages then CheckPage s else if tells then CheckJson s else Check s all apart)
+    → o ≡ (if all || apart || results then Check s all apart results else if pages then CheckPage s else if tells then CheckJson s else Check s all apart results)
     → IsRunOver Checks rows n o
-checked_over rows n s o true apart pages tells over whole ends page json is =
-    subst (IsRunOver Checks rows n) (sym is) (refl, over, whole, ends, tt)
-checked_over rows n s o false true pages tells over whole ends page json is =
-    subst (IsRunOver Checks rows n) (sym is) (refl, over, whole, ends, tt)
-checked_over rows n s o false false true tells over whole ends page json is =
-    subst (IsRunOver Checks rows n) (sym is) (refl, over, (whole, ends), page)
-checked_over rows n s o false false false true over whole ends page json is =
-    subst (IsRunOver Checks rows n) (sym is) (refl, over, (whole, ends), page, json)
-checked_over rows n s o false false false false over whole ends page json is =
-    subst (IsRunOver Checks rows n) (sym is) (refl, over, whole, ends, (page, json))
+checked_over rows n s o true apart results pages tells over whole ends gives page json is =
+    subst (IsRunOver Checks rows n) (sym is) (refl, over, whole, ends, gives, tt)
+checked_over rows n s o false true results pages tells over whole ends gives page json is =
+    subst (IsRunOver Checks rows n) (sym is) (refl, over, whole, ends, gives, tt)
+checked_over rows n s o false false true pages tells over whole ends gives page json is =
+    subst (IsRunOver Checks rows n) (sym is) (refl, over, whole, ends, gives, tt)
+checked_over rows n s o false false false true tells over whole ends gives page json is =
+    subst (IsRunOver Checks rows n) (sym is) (refl, over, (whole, ends, gives), page)
+checked_over rows n s o false false false false true over whole ends gives page json is =
+    subst (IsRunOver Checks rows n) (sym is) (refl, over, (whole, ends, gives), page, json)
+checked_over rows n s o false false false false false over whole ends gives page json is =
+    subst (IsRunOver Checks rows n) (sym is) (refl, over, whole, ends, gives, (page, json))
 
 -- what is played over it, as the option for shared words says
 pub played_over : (rows : List Row) (n : Numbers) (s : Setup) (workers : ℕ) (o : Options) (shared : Bool)

@@ -45,6 +45,8 @@ pub enum Options {
         is_all: bool,
         /// Whether a running request may end with any result, and gives no bytes (`--apart`).
         is_apart: bool,
+        /// The same, but with a result that its operation may give (`--results`).
+        has_results: bool,
     },
 
     /// `uring check --page`: the page that draws a recorded trace over this set-up, up to the line at which its check ends.

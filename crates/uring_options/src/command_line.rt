@@ -31,7 +31,7 @@ const DEFAULT_FILE: u32 = 0;
 /// Bytes of a unit if the command line doesn't say.
 const DEFAULT_UNIT: u32 = 1;
 
-/// Reads a command line, whose first word is the program's name: `uring`, or `uring trace`, `uring explain`, `uring check`, `uring play`, `uring crash`, `uring outcomes` or `uring fill` with options for the entries of the submission ring (`--sq`, 1 to 4,096, else 4) and of the completion ring (`--cq`, 1 to 8,192, else twice as many), for the files (`--files`, 1 to 64, else 2) and for the word at which both rings begin (`--start`, 32 bits, else 0). A play takes one more for its workers (`--workers`, 1 to 8, else 2) and one by which its application and dispatcher share words (`--shared`, else they have lanes), and the others but outcomes one by which submission calls stop behind an entry with a fault (`--stop`, else they go on). A trace takes one by which its steps are written too (`--echo`) and one by which the first bad line ends it (`--strict`), an explained trace four for what is written in place of the answers (`--graph`, `--timeline`, `--page` and `--json`, of which the first in this order counts), and a check one by which all wrong lines are told (`--all`), one by which ends may be any (`--apart`), and two for what is written in place of the verdict (`--page`, which goes before `--json`; with `--all` or `--apart` the verdict is written). A crash takes one for its file (`--file`, 0 to 63, else 0), one for its unit (`--unit`, 1 to 65,536 bytes, else 1), one for the line behind which the power fails (`--at`, 32 bits, else the last), one for the seed of an image (`--seed`, 32 bits, else the least is left), two for what is asked of all images (`--count` and `--all`), one for the most images that are listed (`--most`, 1 to 2^32 - 1), and one by which it is asked if each has some bytes (`--holds`). Outcomes take one by which completions are sorted (`--results`), one by which files follow (`--contents`), one for the most paths that are taken (`--most`, 1 to 2^32 - 1), one for the outcome of which a history is written (`--explain`, the same), and two for what is claimed of lines (`--never` and `--always`). A fill takes one for the most histories that are looked at (`--most`, the same). Our own rule.
+/// Reads a command line, whose first word is the program's name: `uring`, or `uring trace`, `uring explain`, `uring check`, `uring play`, `uring crash`, `uring outcomes` or `uring fill` with options for the entries of the submission ring (`--sq`, 1 to 4,096, else 4) and of the completion ring (`--cq`, 1 to 8,192, else twice as many), for the files (`--files`, 1 to 64, else 2) and for the word at which both rings begin (`--start`, 32 bits, else 0). A play takes one more for its workers (`--workers`, 1 to 8, else 2) and one by which its application and dispatcher share words (`--shared`, else they have lanes), and the others but outcomes one by which submission calls stop behind an entry with a fault (`--stop`, else they go on). A trace takes one by which its steps are written too (`--echo`) and one by which the first bad line ends it (`--strict`), an explained trace four for what is written in place of the answers (`--graph`, `--timeline`, `--page` and `--json`, of which the first in this order counts), and a check one by which all wrong lines are told (`--all`), one by which ends may be any (`--apart`), one by which they may be any that operations give (`--results`), and two for what is written in place of the verdict (`--page`, which goes before `--json`; with `--all`, `--apart` or `--results` the verdict is written). A crash takes one for its file (`--file`, 0 to 63, else 0), one for its unit (`--unit`, 1 to 65,536 bytes, else 1), one for the line behind which the power fails (`--at`, 32 bits, else the last), one for the seed of an image (`--seed`, 32 bits, else the least is left), two for what is asked of all images (`--count` and `--all`), one for the most images that are listed (`--most`, 1 to 2^32 - 1), and one by which it is asked if each has some bytes (`--holds`). Outcomes take one by which completions are sorted (`--results`), one by which files follow (`--contents`), one for the most paths that are taken (`--most`, 1 to 2^32 - 1), one for the outcome of which a history is written (`--explain`, the same), and two for what is claimed of lines (`--never` and `--always`). A fill takes one for the most histories that are looked at (`--most`, the same). Our own rule.
 ///
 /// `Words` comes for a fault of the words, a number out of its range among them, for a call for help, and if memory is refused. `Small` comes if there is none, and the options give a completion ring that is smaller after rounding than the submission ring. Numbers may have a leading `+` or leading zeros.
 pub fn options<'a>(alloc: Global, args: &'a [&'a str]) -> Result<Options, OptionsFault>
@@ -120,22 +120,25 @@ fn checked(matches: &ArgMatches<'_>) -> Result<Options, OptionsFault>
     let setup = traced_setup_of(matches)?;
     let is_all = is_given(matches, "all");
     let is_apart = is_given(matches, "apart");
+    let has_results = is_given(matches, "results");
     let page = is_given(matches, "page");
     let json = is_given(matches, "json");
-    Ok(checked_over(setup, is_all, is_apart, page, json))
-}
-
-/// What is written of a recorded trace over the set-up: a page or its data if one is asked for, and neither all wrong lines nor ends of any result, and else the verdict.
-fn checked_over(setup: Setup, is_all: bool, is_apart: bool, page: bool, json: bool) -> Options
-    ensures { result
-        ≡ (if is_all || is_apart then Options.Check setup is_all is_apart else if page then Options.CheckPage setup else if json then Options.CheckJson setup else Options.Check setup is_all is_apart) }
-{
     let verdict = Options::Check {
         setup,
         is_all,
         is_apart,
+        has_results,
     };
-    if is_all || is_apart {
+    let tells = is_all || is_apart || has_results;
+    Ok(checked_over(setup, verdict, tells, page, json))
+}
+
+/// What is written of a recorded trace over the set-up: the verdict if that alone is asked for, else a page or its data if one is, and else the verdict.
+fn checked_over(setup: Setup, verdict: Options, tells: bool, page: bool, json: bool) -> Options
+    ensures { result
+        ≡ (if tells then verdict else if page then Options.CheckPage setup else if json then Options.CheckJson setup else verdict) }
+{
+    if tells {
         verdict
     } else if page {
         Options::CheckPage(setup)

@@ -114,6 +114,12 @@ const APART: OptionRow = OptionRow {
     numbers: None,
 };
 
+const ALLOWED: OptionRow = OptionRow {
+    id: "results",
+    help: "The same, but with a result that its operation may give",
+    numbers: None,
+};
+
 const WORKERS: OptionRow = OptionRow {
     id: "workers",
     help: "Workers, 1 to 8, each with a thread and files of its own [default: 2]",
@@ -239,7 +245,7 @@ static CHECK: CommandRow = CommandRow {
     name: "check",
     about: "Read a recorded trace, a step with its answer on each line, and tell whether it is lawful",
     after_help: RECORDS,
-    options: &[SQ, CQ, FILES, START, STOP, ALL, APART, PAGE, JSON],
+    options: &[SQ, CQ, FILES, START, STOP, ALL, APART, ALLOWED, PAGE, JSON],
 };
 
 /// `uring play`.

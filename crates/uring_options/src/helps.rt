@@ -103,11 +103,15 @@ than one, the step counts as not made. A bad line ends the check even so.
 
 With --apart the trace is that of a ring without files: a running request may
 end with any result, ended RES, and no data is given: reap = cqe UD RES -. What
-is wanted there is: an end.
+is wanted there is: an end. With --results that is so too, but it ends with what
+its operation may give: 0 of a no-op, 0 or an error of an fsync, 0 to the length
+or an error of a read or a write. An error is -1 to -4095, and not -125. What is
+wanted there is of the form: a result of a write of 5.
 
 With --page a page of HTML is written in place of this, which draws the lines up
 to the first that is wrong or bad, and with --json its data; --page goes before
---json. The status stays the same. With --all or --apart there is no page.";
+--json. The status stays the same. With --all, --apart or
+--results there is no page.";
 
 /// The lines of a play, for its help.
 pub(crate) const ITEMS: &str = "\

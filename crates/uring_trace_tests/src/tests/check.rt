@@ -2,7 +2,7 @@
 
 use std::alloc::Global;
 use std::test::Fail;
-use uring_check::{Setup, Verdict, check};
+use uring_check::{Ends, Setup, Verdict, check};
 
 /// Whether a check of this trace, over a submission ring of 4 entries and two files, comes to this verdict and report.
 fn is_told(
@@ -12,7 +12,7 @@ fn is_told(
     verdict: Verdict,
     report: &str,
 ) -> Result<bool, Fail> {
-    is_told_by(alloc, is_all, false, trace, verdict, report)
+    is_told_by(alloc, is_all, Ends::Given, trace, verdict, report)
 }
 
 /// Whether a check without files comes to this verdict and report.
@@ -23,14 +23,14 @@ fn is_told_apart(
     verdict: Verdict,
     report: &str,
 ) -> Result<bool, Fail> {
-    is_told_by(alloc, is_all, true, trace, verdict, report)
+    is_told_by(alloc, is_all, Ends::Any, trace, verdict, report)
 }
 
-/// Whether a check with or without files comes to this verdict and report.
+/// Whether a check that asks this of ends comes to this verdict and report.
 fn is_told_by(
     alloc: Global,
     is_all: bool,
-    is_apart: bool,
+    ends: Ends,
     trace: &str,
     verdict: Verdict,
     report: &str,
@@ -38,7 +38,7 @@ fn is_told_by(
     let setup = Setup::new(4, Some(4), 2, 0)?;
     let mut writer = Vec::new(alloc);
     let mut reader = trace.as_bytes();
-    let result = check(alloc, &mut reader, &mut writer, &setup, is_all, is_apart);
+    let result = check(alloc, &mut reader, &mut writer, &setup, is_all, ends);
     let is_so = result == Ok(verdict) && writer.as_slice() == report.as_bytes();
     drop(writer);
     Ok(is_so)

@@ -1,5 +1,11 @@
-use Rattle.std.proofs.Common.{refl, sym, ◌∙◌}
+use Rattle.std.proofs.Common.{refl, sym, subst, w32, ◌∙◌, rules}
+use Rattle.std.proofs.lemmas.Bool.{both_ways}
+use Rattle.std.proofs.lemmas.Int.{to_z-of_z}
+use Rattle.uring_entry.specs.Requests.{no_bytes}
+use Rattle.uring_core.specs.declared.answer.Answer.TheVariants as answer
+use Rattle.uring_check.specs.Rules.{MayGive}
 use Rattle.uring_check.proofs.GrantedAnswers.{any_apart, any_finishes}
+use Rattle.uring_check.proofs.WantedAnswers.{end_refused}
 use Rattle.uring_check.proofs.judging.judge_end.Goals as goal
 
 pub returns-in_default : goal.returns-in_default
@@ -12,3 +18,9 @@ returns-in_default g c = record {
 pub returns-then-not-is_apart-clause-granted : goal.returns-then-not-is_apart-clause-granted
 returns-then-not-is_apart-clause-granted g c = λ sure h is.
     absurd (any_apart c.args.machine.now c.args.step.now h is (sym c.is_apart.ensures ∙ c.if-not-is_apart.true))
+
+pub returns-then-not-may_give-clause-judges : goal.returns-then-not-may_give-clause-judges
+returns-then-not-may_give-clause-judges g c = λ h is.
+    let decides = rw (to_z-of_z w32 c.in-Some.res (search rules)) at c.may_give.ensures in
+    end_refused h c.args.machine.now c.args.step.now c.args.text.now c.in-Some.res c.in-Some.ensures.1 c.in-Some.ensures.0
+    (λ may. both_ways c.may_give.result c.if-not-may_give.true (decides.1 (subst (MayGive (answer.Ended c.in-Some.res no_bytes)) (sym (c.entry_asked.ensures h is.1)) may))) is

@@ -4,7 +4,7 @@ use Rattle.uring_check.proofs.checker.Checker.new.Goals as goal
 
 pub returns-clause-looks : goal.returns-clause-looks
 returns-clause-looks g c = record {
-  rules = let g : Rules = record { setup = c.args.setup.now; is_apart = c.args.is_apart } in Some g;
+  rules = let g : Rules = record { setup = c.args.setup.now; ends = c.args.ends } in Some g;
   ruled = refl;
   looked = record {
     found = [];

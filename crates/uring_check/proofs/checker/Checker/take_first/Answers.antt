@@ -13,7 +13,7 @@ returns-in-Nothing-clause-looks g c =
 
 pub returns-in_ok-self-in-Says-clause-looks : goal.returns-in_ok-self-in-Says-clause-looks
 returns-in_ok-self-in-Says-clause-looks g c =
-    let setup_is : rules_of c.in_ok-self-in-Says.field-0 ≡ with_setup c.in-Says.setup (rules_of c.args.self.now.machine).is_apart = c.in_ok-self-in-Says.ensures.rules ∙ ap (with_setup c.in-Says.setup) c.is_apart.ensures in
+    let setup_is : rules_of c.in_ok-self-in-Says.field-0 ≡ with_setup c.in-Says.setup (rules_of c.args.self.now.machine).ends = c.in_ok-self-in-Says.ensures.rules ∙ ap (with_setup c.in-Says.setup) c.ends.ensures in
     on_ok_weaker c.take_next-in-Says.result
     (λ looks d all lines text e k. took_setup d all lines text c.in-Says.setup c.args.self.now c.take_next-in-Says.new.self c.in_ok-self-in-Says.field-0 c.requires (rw c.in-Says.is at (c.in_ok-said.ensures.said text e)) setup_is c.in_ok-self-in-Says.ensures.fits (λ g a ls. looks g a ls text e) k)
     c.take_next-in-Says.ensures.looks

@@ -8,3 +8,7 @@ returns-in-Whole-clause-granted g c = λ sure h fits none.
 pub returns-in-Apart-clause-granted : goal.returns-in-Apart-clause-granted
 returns-in-Apart-clause-granted g c = λ sure h fits none.
     c.follow_in-in-Apart.ensures.granted h _ (rw c.in-Apart.is at fits) (sure _) (at_most _) none
+
+pub returns-in-Allowed-clause-granted : goal.returns-in-Allowed-clause-granted
+returns-in-Allowed-clause-granted g c = λ sure h fits none.
+    c.follow_in-in-Allowed.ensures.granted h _ (rw c.in-Allowed.is at fits) (sure _) (at_most _) none

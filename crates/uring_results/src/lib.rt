@@ -1,8 +1,9 @@
 //! The results that an operation may give on files that nobody knows.
+#![tactic(auto)]
 
 ghost use Rattle.std.specs.Prelude.{◌≡◌, int_le, pos, min, ◌-◌, ◌^◌};
 ghost use Rattle.std.specs.Ordering.{int_eq};
-ghost use Rattle.uring_fill.specs.Results as spec;
+ghost use Rattle.uring_results.specs.Results as spec;
 
 use uring_entry::{Sqe, errno, opcode};
 
@@ -22,7 +23,7 @@ pub fn may_end(entry: &Sqe, res: i32) -> bool
     if !is_at_most(0, res) {
         return false;
     }
-    is_at_most(res, most_of(entry))
+    is_at_most(res, greatest_result(entry))
 }
 
 /// Whether a request of this entry may end with an error of its own.
@@ -34,8 +35,8 @@ fn may_fail(entry: &Sqe) -> bool
 }
 
 /// The greatest result of a request of this entry.
-pub(crate) fn most_of(entry: &Sqe) -> i32
-    ensures { result ≡ pos (spec.most_of entry.now) }
+pub fn greatest_result(entry: &Sqe) -> i32
+    ensures { result ≡ pos (spec.greatest_result entry.now) }
 {
     let code = entry.opcode();
     if code == opcode::READ || code == opcode::WRITE {

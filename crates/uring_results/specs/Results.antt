@@ -1,12 +1,10 @@
 -- The results that an operation may give on files that nobody knows.
-use Rattle.std.specs.Prelude.{◌≡◌, ℕ, ℤ, pos, negsuc, neg_ℤ, Bool, true, false, not, ◌&&◌, ◌||◌, ◌==◌, List, int_le, min, ◌-◌, ◌^◌, if◌then◌else◌}
+use Rattle.std.specs.Prelude.{ℕ, ℤ, pos, negsuc, neg_ℤ, Bool, not, ◌&&◌, ◌||◌, ◌==◌, int_le, min, ◌-◌, ◌^◌, if◌then◌else◌}
 use Rattle.std.specs.Ordering.{int_eq}
 use Rattle.uring_entry.specs.declared.errno.TheConstants.{ECANCELED}
 use Rattle.uring_entry.specs.declared.opcode.TheConstants.{FSYNC}
 use Rattle.uring_entry.specs.Layout.{Sqe, opcode_of, len_of}
 use Rattle.uring_entry.specs.Preparation.{is_transfer}
-use Rattle.uring_entry.specs.Success.{posts_completion}
-use Rattle.uring_entry.specs.Requests.{no_bytes}
 
 -- whether a result is an error that an operation gives by itself: the negative of a number from 1 to 4,095, and not that of ECANCELED, with which no operation of its own ends. errno(3), and the numbers that a system call may return
 abbrev pub is_own_error : ℤ → Bool
@@ -18,15 +16,10 @@ abbrev pub may_fail : Sqe → Bool
 may_fail e = is_transfer e || (opcode_of e == FSYNC)
 
 -- the greatest result of a request of this entry: the length of a read or a write, as far as a result can tell it, and 0 of another
-abbrev pub most_of : Sqe → ℕ
-most_of e = if is_transfer e then min (len_of e) (2 ^ 31 - 1) else 0
+abbrev pub greatest_result : Sqe → ℕ
+greatest_result e = if is_transfer e then min (len_of e) (2 ^ 31 - 1) else 0
 
 -- whether a running request of this entry may end with this result, whatever its file has: a read or a write with 0 to its length or an error, an fsync with 0 or an error, and a no-op with 0. read(2), write(2), fsync(2)
 abbrev pub may_end : Sqe → ℤ → Bool
 may_end e res =
-    if is_own_error res then may_fail e else int_le (pos 0) res && int_le res (pos (most_of e))
-
--- A running request of this entry may end so. What no completion tells has no bytes, which is our own rule: nobody could have seen them.
-pub record MayEndWith (e : Sqe) (res : ℤ) (bytes : List ℕ) : Type 0 where
-  pub result : may_end e res ≡ true
-  pub untold : posts_completion e res ≡ false → bytes ≡ no_bytes
+    if is_own_error res then may_fail e else int_le (pos 0) res && int_le res (pos (greatest_result e))

@@ -1,0 +1,3 @@
+mod AtFinishes
+mod AllowedResults
+mod EarlyResults

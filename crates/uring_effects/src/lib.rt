@@ -1,0 +1,15 @@
+//! Effects of operations at any moment between the issue of a request and its finish, as a kernel may have them: what is lawful then, and its laws. No code.
+#![tactic(auto)]
+
+ghost use Rattle.uring_entry.specs.Setup.{Setup};
+ghost use Rattle.uring_effects.specs.Laws.{EarlyEffectsAllowMore, EarlyEffectsGiveAllowed};
+
+/// What is lawful by the core's files, which take each effect at the finish, is lawful by early effects.
+pub fn early_effects_allow_more()
+    ensures { (g : Setup) → EarlyEffectsAllowMore g }
+{}
+
+/// Whenever effects are taken, each result is one that its operation may give (`uring_results::may_end`).
+pub fn early_effects_give_allowed()
+    ensures { (g : Setup) → EarlyEffectsGiveAllowed g }
+{}
