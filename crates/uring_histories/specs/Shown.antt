@@ -12,6 +12,7 @@ use Rattle.uring_text.specs.Lines.{joined}
 use Rattle.uring_trace.specs.Exchanges.{Exchange, IsReadAs, answers_of, events_of}
 use Rattle.uring_check.specs.Checks.{IsVerdict}
 use Rattle.uring_check.specs.SetupLines.{setup_text}
+use Rattle.uring_check.specs.declared.ends.Ends.TheVariants.{Given}
 use Rattle.uring_check.specs.declared.verdict.Verdict.TheVariants as verdict
 use Rattle.uring_moves.specs.Outcomes.{CallsOutcome, ComesTo}
 use Rattle.uring_outcomes.specs.Outcomes.{Ending}
@@ -40,7 +41,7 @@ whole = record { is_sorted = false; has_files = true }
 -- a check of these bytes, as a recorded trace of this set-up, finds them lawful
 abbrev pub IsAccepted : Setup → List ℕ → Type 0
 IsAccepted g bytes = (report : List ℕ)
-    × IsVerdict (record { setup = g; is_apart = false }) false bytes report verdict.Lawful
+    × IsVerdict (record { setup = g; ends = Given }) false bytes report verdict.Lawful
 
 -- What was written: the set-up, a remark on this outcome, and a history of the calls that these bytes tell which comes to it. A check accepts it.
 pub record WritesHistory (g : Setup) (bytes : List ℕ) (e : Ending) (held_before held_after : Option (List ℕ)) : Type 0 where

@@ -4,7 +4,7 @@ ghost use Rattle.std.specs.Prelude.{◌≡◌, true, IfOk};
 ghost use Rattle.uring_histories.specs.Shown.{IsAccepted};
 
 use std::alloc::Global;
-use uring_check::{Verdict, check};
+use uring_check::{Ends, Verdict, check};
 use uring_entry::Setup;
 use uring_litmus::PlayFault;
 
@@ -14,7 +14,7 @@ pub(crate) fn is_accepted(alloc: Global, setup: &Setup, bytes: &[u8]) -> Result<
 {
     let mut reader = bytes;
     let mut report = Vec::new(alloc);
-    let checked = check(alloc, &mut reader, &mut report, setup, false, false);
+    let checked = check(alloc, &mut reader, &mut report, setup, false, Ends::Given);
     drop(report);
     match checked {
         Ok(verdict) => Ok(is_lawful(verdict)),
