@@ -318,6 +318,7 @@ impl CrashMachinePlace {
             (λ log. IfOk result (λ images. AreTheImages log.volume.unit log.volume.first log.volume.history (map (λ b. b.items) images.items)))) }
         ensures too_many { IsSomeAnd (crash_machine_in self.old) (λ machine. IsSomeAnd (log_at machine.logs fd)
             (λ log. result ≡ Err TooMany → HasMore log.volume most)) }
+        ensures within { IfOk result (λ images. length images.items ≤ most) }
         ensures granted { ((n : ℕ) → M.grants memory.now n) → IfErr result (λ error. error ≡ TooMany) }
     {
         let Some(machine) = self.take(alloc) else {
@@ -418,6 +419,7 @@ fn images<M: Memory>(
         (λ log. IfOk result (λ images. AreTheImages log.volume.unit log.volume.first log.volume.history (map (λ b. b.items) images.items))) }
     ensures too_many { IsSomeAnd (log_at machine.now.logs fd)
         (λ log. result ≡ Err TooMany → HasMore log.volume most) }
+    ensures within { IfOk result (λ images. length images.items ≤ most) }
     ensures granted { ((n : ℕ) → M.grants memory.now n) → IfErr result (λ error. error ≡ TooMany) }
 {
     let Some(log) = machine.log(fd) else {
