@@ -1,5 +1,5 @@
 //! The calls of a machine whose power may fail that tell what a crash leaves of one file, made on the machine in a place. Each takes the machine out, and puts it back as it was.
-ghost use Rattle.std.specs.Prelude.{◌≡◌, ℕ, IfOk, IfErr, IsOk, IsSome, IsSomeAnd, Err, map};
+ghost use Rattle.std.specs.Prelude.{◌≡◌, ℕ, ◌≤◌, length, IfOk, IfErr, IsOk, IsSome, IsSomeAnd, Err, map};
 ghost use Rattle.uring_volume.specs.Choices.{IsLeftBy};
 ghost use Rattle.uring_volume.specs.Images.{IsImage};
 ghost use Rattle.uring_volume.specs.Listing.{AreTheImages};
@@ -77,6 +77,7 @@ impl CrashMachinePlace {
             (λ log. IfOk result (λ images. AreTheImages log.volume.unit log.volume.first log.volume.history (map (λ b. b.items) images.items)))) }
         ensures too_many { IsSomeAnd (crash_machine_in self.old) (λ machine. IsSomeAnd (log_at machine.logs fd)
             (λ log. result ≡ Err TooMany → HasMore log.volume most)) }
+        ensures within { IfOk result (λ images. length images.items ≤ most) }
         ensures granted { ((n : ℕ) → M.grants memory.now n) → IfErr result (λ error. error ≡ TooMany) }
     {
         let Some(machine) = self.take(alloc) else {
@@ -139,6 +140,7 @@ fn images<M: Memory>(
         (λ log. IfOk result (λ images. AreTheImages log.volume.unit log.volume.first log.volume.history (map (λ b. b.items) images.items))) }
     ensures too_many { IsSomeAnd (log_at machine.now.logs fd)
         (λ log. result ≡ Err TooMany → HasMore log.volume most) }
+    ensures within { IfOk result (λ images. length images.items ≤ most) }
     ensures granted { ((n : ℕ) → M.grants memory.now n) → IfErr result (λ error. error ≡ TooMany) }
 {
     let Some(log) = machine.log(fd) else {

@@ -1,7 +1,7 @@
 //! The calls that C makes of what a crash leaves of one file of a machine whose power may fail: `wulgach_crash_machine_image`, `_count_images` and `_images` of the header.
 //!
 //! Each returns 0, or the negative of an error number: -9 (EBADF) exactly at an empty place.
-ghost use Rattle.std.specs.Prelude.{◌≡◌, ◌↔◌, ◌-◌, ◌^◌, min, true, false, pos, neg_ℤ, None, IsSomeAnd, length};
+ghost use Rattle.std.specs.Prelude.{◌≡◌, ◌↔◌, ◌≤◌, ◌-◌, ◌^◌, min, true, false, pos, neg_ℤ, None, IsSomeAnd, length};
 ghost use Rattle.uring_entry.specs.declared.errno.TheConstants.{EBADF, EFBIG, ENOENT, ENOMEM};
 ghost use Rattle.uring_epochs.specs.Asked.{log_at};
 ghost use Rattle.uring_c.specs.Places.{crash_machine_in};
@@ -65,7 +65,7 @@ pub extern "C" fn wulgach_crash_machine_count_images(
     crash_machine_count_images_in(&alloc, alloc, place, fd, count)
 }
 
-/// Writes the images of the file of a descriptor, each once and one behind another, as much as there is room for; the length of each; how many there are, and how many bytes in all. It refuses as `wulgach_crash_machine_image`, and with -27 (EFBIG) only if there are more images than lengths have room for (or than 2^32 - 1).
+/// Writes the images of the file of a descriptor, each once and one behind another, as much as there is room for; the length of each; how many there are, and how many bytes in all. It refuses as `wulgach_crash_machine_image`, and with -27 (EFBIG) exactly if there are more images than lengths have room for (or than 2^32 - 1), unless memory is refused.
 #[unsafe(no_mangle)]
 pub extern "C" fn wulgach_crash_machine_images(
     alloc: Global,
@@ -91,6 +91,7 @@ pub extern "C" fn wulgach_crash_machine_images(
     ensures too_many { result ≡ neg_ℤ EFBIG → IsSomeAnd (crash_machine_in place.old)
         (λ machine. IsSomeAnd (log_at machine.logs fd)
         (λ log. HasMore log.volume (min (length lens.old) (2 ^ 32 - 1)))) }
+    ensures within { result ≡ pos 0 → count.new ≤ min (length lens.old) (2 ^ 32 - 1) }
     ensures told { result ≡ pos 0 → IsSomeAnd (crash_machine_in place.old)
         (λ machine. IsSomeAnd (log_at machine.logs fd)
         (λ log. TellsImages log.volume bytes.old bytes.new lens.old lens.new count.new total.new)) }

@@ -310,6 +310,7 @@ pub fn crash_machine_images_in<M: Memory>(
     ensures too_many { result ≡ neg_ℤ EFBIG → IsSomeAnd (crash_machine_in place.old)
         (λ machine. IsSomeAnd (log_at machine.logs fd)
         (λ log. HasMore log.volume (min (length lens.old) (2 ^ 32 - 1)))) }
+    ensures within { result ≡ pos 0 → count.new ≤ min (length lens.old) (2 ^ 32 - 1) }
     ensures told { result ≡ pos 0 → IsSomeAnd (crash_machine_in place.old)
         (λ machine. IsSomeAnd (log_at machine.logs fd)
         (λ log. TellsImages log.volume bytes.old bytes.new lens.old lens.new count.new total.new)) }

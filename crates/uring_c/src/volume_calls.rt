@@ -236,6 +236,7 @@ impl VolumePlace {
         ensures kept { volume_in self.new ≡ volume_in self.old }
         ensures images { IsSomeAnd (volume_in self.old) (λ v. IfOk result
             (λ images. AreTheImages v.unit v.first v.history (map (λ b. b.items) images.items))) }
+        ensures within { IfOk result (λ images. length images.items ≤ most) }
         ensures too_many { IsSomeAnd (volume_in self.old) (λ v. result ≡ Err TooMany → HasMore v most) }
         ensures granted { ((n : ℕ) → M.grants memory.now n) → IfErr result (λ error. error ≡ TooMany) }
     {

@@ -324,6 +324,7 @@ pub fn volume_images_in<M: Memory>(
         × (count.new ≡ count.old) × (total.new ≡ total.old) }
     ensures too_many { result ≡ neg_ℤ EFBIG
         → IsSomeAnd (volume_in place.old) (λ v. HasMore v (min (length lens.old) (2 ^ 32 - 1))) }
+    ensures within { result ≡ pos 0 → count.new ≤ min (length lens.old) (2 ^ 32 - 1) }
     ensures told { result ≡ pos 0 → IsSomeAnd (volume_in place.old)
         (λ v. TellsImages v bytes.old bytes.new lens.old lens.new count.new total.new) }
     ensures granted { ((n : ℕ) → M.grants memory.now n) → result ≡ neg_ℤ ENOMEM → ⊥ }

@@ -1,6 +1,9 @@
 //! The whole calls of a core that C makes, by any memory: they copy what C gives and gets.
-ghost use Rattle.std.specs.Prelude.{◌≡◌, ◌↔◌, ℕ, ◌≤◌, pos, neg_ℤ, None, IfOk, IsOk, length, map, take, drop};
+ghost use Rattle.std.specs.Prelude.{◌≡◌, ◌↔◌, ℕ, ◌≤◌, pos, neg_ℤ, None, IfSome, IfOk, IsOk, length, map, take, drop};
 ghost use Rattle.uring_entry.specs.declared.errno.TheConstants.{EBADF, ENOMEM};
+ghost use Rattle.uring_core.specs.Core.{FitsApart, elements_for_call};
+ghost use Rattle.uring_core.specs.Histories.{History};
+ghost use Rattle.uring_c.specs.AnswerForm.{IsAgain};
 ghost use Rattle.uring_c.specs.Places.{core_in};
 ghost use Rattle.uring_c.specs.ReadingForms.{words_of_completion};
 ghost use Rattle.uring_c.specs.Whole.{TellsSubmit, TellsReaped};
@@ -21,7 +24,7 @@ pub struct EntryWords {
     pub words: [u64; 16],
 }
 
-/// What `wulgach_core_submit` does, by this memory. If it grants as many elements as there are entries, -12 isn't returned.
+/// What `wulgach_core_submit` does, by this memory. If it grants as many elements as there are entries, -12 isn't returned; and if it grants as many as the call may need in one list, the answer is never Again.
 pub fn core_submit_in<M: Memory>(
     memory: &M,
     alloc: Global,
@@ -38,6 +41,9 @@ pub fn core_submit_in<M: Memory>(
         answer.new }
     ensures granted { (n : ℕ) → M.grants memory.now n → length entries.now ≤ n
         → result ≡ neg_ℤ ENOMEM → ⊥ }
+    ensures unrefused { result ≡ pos 0 → IfSome (core_in place.old)
+        (λ core. (h : History) (n : ℕ) → FitsApart core h → M.grants memory.now n
+        → elements_for_call core (length entries.now) ≤ n → IsAgain answer.new → ⊥) }
 {
     if !place.is_full {
         return -errno::EBADF;

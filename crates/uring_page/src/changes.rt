@@ -1,13 +1,16 @@
 //! What the lines change of requests and completions.
 
-use crate::json_text::{push_count, push_member, push_name, push_quoted};
-use crate::requests::Requests;
+ghost use Rattle.std.specs.Prelude.{ℕ, IsOk};
+
+use crate::change_text::{other_of, push_change, push_end, push_state, result_of, state_of};
+use crate::json_text::{push_count, push_member};
+use crate::requests::{Request, Requests};
+use crate::submission::push_value;
 use std::alloc::{AllocError, Global};
-use std::fmt::Write;
 use uring_entry::{opcode, succeeded};
-use uring_machine::{Counts, Doom, Machine, Sqe, Why};
-use uring_text::spelled_signed;
-use uring_trace::push_why;
+use uring_machine::{Counts, Machine, Sqe, Why};
+use uring_text::{TextMemory, push_text};
+use uring_trace::push_why_in;
 
 /// A line as it is looked at.
 #[derive(Clone, Copy)]
@@ -66,46 +69,64 @@ impl Changes {
     }
 
     /// Adds the requests that a call accepted.
-    pub(crate) fn accept(
+    pub(crate) fn accept<M: TextMemory>(
         &mut self,
+        memory: &M,
         text: &mut String,
         entries: &[Sqe],
         call: u64,
-    ) -> Result<(), AllocError> {
+    ) -> Result<(), AllocError>
+        ensures { ((n : ℕ) → M.grants memory.now n) → IsOk result }
+    {
         let mut is_first = true;
         for entry in entries {
             let number = self.requests.count();
-            self.requests.add(*entry, call, is_first)?;
-            self.outstanding.push(number)?;
-            push_change(text, number, "accepted")?;
-            text.push_str("}")?;
+            self.requests.add(memory, *entry, call, is_first)?;
+            push_value(memory, &mut self.outstanding, number)?;
+            push_state(memory, text, number, "accepted")?;
             is_first = false;
         }
         Ok(())
     }
 
     /// Appends what has changed by a line.
-    pub(crate) fn look(
+    pub(crate) fn look<M: TextMemory>(
         &mut self,
+        memory: &M,
         text: &mut String,
         machine: &Machine,
         look: Look<'_>,
-    ) -> Result<(), AllocError> {
+    ) -> Result<(), AllocError>
+        ensures { ((n : ℕ) → M.grants memory.now n) → IsOk result }
+    {
         let counts = machine.counts();
         let put = counts.posted.saturating_sub(machine.overflowing());
         if counts == self.counts && put == self.put {
             return Ok(());
         }
         self.note_issue(look);
-        self.look_at_all(text, machine, look)?;
-        if counts.posted > self.counts.posted {
-            self.post(text, put, look)?;
-        }
-        self.note_moves(text, put, counts.reaped)?;
-        self.note_safe(text, look)?;
+        self.look_at_all(memory, text, machine, look)?;
+        self.note_completions(memory, text, put, counts, look)?;
         self.put = put;
         self.counts = counts;
-        Ok(())
+        self.note_safe(memory, text, look)
+    }
+
+    /// Notes that a completion was posted, and appends which were put into the ring and which were reaped.
+    fn note_completions<M: TextMemory>(
+        &mut self,
+        memory: &M,
+        text: &mut String,
+        put: u64,
+        counts: Counts,
+        look: Look<'_>,
+    ) -> Result<(), AllocError>
+        ensures { ((n : ℕ) → M.grants memory.now n) → IsOk result }
+    {
+        if counts.posted > self.counts.posted {
+            self.post(memory, text, put, look)?;
+        }
+        self.note_moves(memory, text, put, counts.reaped)
     }
 
     /// Notes at which line a request was issued.
@@ -119,131 +140,201 @@ impl Changes {
     }
 
     /// Looks at each outstanding request.
-    fn look_at_all(
+    fn look_at_all<M: TextMemory>(
         &mut self,
+        memory: &M,
         text: &mut String,
         machine: &Machine,
         look: Look<'_>,
-    ) -> Result<(), AllocError> {
+    ) -> Result<(), AllocError>
+        ensures { ((n : ℕ) → M.grants memory.now n) → IsOk result }
+    {
         let mut left = Vec::new(self.alloc);
         for place in 0..self.outstanding.len() {
             let Some(number) = self.outstanding.get(place).copied() else {
                 continue;
             };
             let why = machine.why(number);
-            self.look_at(text, number, why, look)?;
-            if why != Why::HasEnded {
-                left.push(number)?;
-            }
+            self.look_at(memory, text, number, why, look)?;
+            push_unless_ended(memory, &mut left, number, why)?;
         }
         self.outstanding = left;
         Ok(())
     }
 
     /// Appends how a request stands, if that has changed.
-    fn look_at(
+    fn look_at<M: TextMemory>(
         &mut self,
+        memory: &M,
         text: &mut String,
         number: u64,
         why: Why,
         look: Look<'_>,
-    ) -> Result<(), AllocError> {
-        let Some(request) = self.requests.get_mut(number) else {
+    ) -> Result<(), AllocError>
+        ensures { ((n : ℕ) → M.grants memory.now n) → IsOk result }
+    {
+        if !self.has_changed(number, why, look.line) {
             return Ok(());
+        }
+        if why == Why::HasEnded {
+            return push_end(memory, text, number, look);
+        }
+        self.push_standing(memory, text, number, why, look)
+    }
+
+    /// Notes how a request stands at this line. Returns whether that has changed.
+    fn has_changed(&mut self, number: u64, why: Why, line: u64) -> bool {
+        let Some(request) = self.requests.get_mut(number) else {
+            return false;
         };
         if request.why == why {
-            return Ok(());
+            return false;
         }
         request.why = why;
         if why == Why::HasEnded {
-            request.ended = Some(look.line);
-            return push_end(text, number, look);
+            request.ended = Some(line);
         }
-        push_change(text, number, state_of(why))?;
+        true
+    }
+
+    /// Appends how an outstanding request stands.
+    fn push_standing<M: TextMemory>(
+        &self,
+        memory: &M,
+        text: &mut String,
+        number: u64,
+        why: Why,
+        look: Look<'_>,
+    ) -> Result<(), AllocError>
+        ensures { ((n : ℕ) → M.grants memory.now n) → IsOk result }
+    {
+        push_change(memory, text, number, state_of(why))?;
         if let Some(other) = other_of(why, look) {
-            push_count(text, "of", other)?;
+            push_count(memory, text, "of", other)?;
         }
-        self.push_reason(text, why)
+        self.push_reason(memory, text, why)
     }
 
     /// Appends why a request stands as it does, in the words of `explain`.
-    fn push_reason(&self, text: &mut String, why: Why) -> Result<(), AllocError> {
+    fn push_reason<M: TextMemory>(
+        &self,
+        memory: &M,
+        text: &mut String,
+        why: Why,
+    ) -> Result<(), AllocError>
+        ensures { ((n : ℕ) → M.grants memory.now n) → IsOk result }
+    {
         let mut words = String::new(self.alloc);
-        push_why(&mut words, why)?;
-        push_member(text, "why", words.as_bytes())?;
-        text.push_str("}")
+        push_why_in(memory, &mut words, why)?;
+        push_member(memory, text, "why", words.as_bytes())?;
+        push_text(memory, text, "}")
     }
 
     /// Notes that the request of this line has posted its completion: to the ring, or to the overflow list.
-    fn post(&mut self, text: &mut String, put: u64, look: Look<'_>) -> Result<(), AllocError> {
+    fn post<M: TextMemory>(
+        &mut self,
+        memory: &M,
+        text: &mut String,
+        put: u64,
+        look: Look<'_>,
+    ) -> Result<(), AllocError>
+        ensures { ((n : ℕ) → M.grants memory.now n) → IsOk result }
+    {
         let Some(number) = look.moved else {
             return Ok(());
         };
         let place = self.posters.len() as u64;
-        self.posters.push(number)?;
-        if place >= put {
-            push_change(text, number, "overflow")?;
-            text.push_str("}")?;
+        push_value(memory, &mut self.posters, number)?;
+        if place < put {
+            return Ok(());
         }
-        Ok(())
+        push_state(memory, text, number, "overflow")
     }
 
     /// Appends which completions were put into the ring, and which were reaped.
-    fn note_moves(&self, text: &mut String, put: u64, reaped: u64) -> Result<(), AllocError> {
+    fn note_moves<M: TextMemory>(
+        &self,
+        memory: &M,
+        text: &mut String,
+        put: u64,
+        reaped: u64,
+    ) -> Result<(), AllocError>
+        ensures { ((n : ℕ) → M.grants memory.now n) → IsOk result }
+    {
         for place in self.put..put {
-            self.push_posted(text, place, "ring")?;
+            self.push_posted(memory, text, place, "ring")?;
         }
         for place in self.counts.reaped..reaped {
-            self.push_posted(text, place, "reaped")?;
+            self.push_posted(memory, text, place, "reaped")?;
         }
         Ok(())
     }
 
     /// Appends what became of the completion that was posted at this place.
-    fn push_posted(&self, text: &mut String, place: u64, state: &str) -> Result<(), AllocError> {
+    fn push_posted<M: TextMemory>(
+        &self,
+        memory: &M,
+        text: &mut String,
+        place: u64,
+        state: &str,
+    ) -> Result<(), AllocError>
+        ensures { ((n : ℕ) → M.grants memory.now n) → IsOk result }
+    {
         let Some(number) = self.posters.get(place as usize) else {
             return Ok(());
         };
-        push_change(text, *number, state)?;
-        text.push_str("}")
+        push_state(memory, text, *number, state)
     }
 
     /// Notes a write that has succeeded, and appends which writes a sync that has succeeded makes safe.
-    fn note_safe(&mut self, text: &mut String, look: Look<'_>) -> Result<(), AllocError> {
+    fn note_safe<M: TextMemory>(
+        &mut self,
+        memory: &M,
+        text: &mut String,
+        look: Look<'_>,
+    ) -> Result<(), AllocError>
+        ensures { ((n : ℕ) → M.grants memory.now n) → IsOk result }
+    {
         let Some(number) = look.moved else {
             return Ok(());
         };
-        let Some(request) = self.requests.get(number) else {
+        let Some(request) = self.succeeded_at(number, look) else {
             return Ok(());
         };
-        if request.ended != Some(look.line) || !succeeded(&request.entry, result_of(look.answer)) {
-            return Ok(());
-        }
         match request.entry.opcode() {
-            opcode::WRITE => Ok(self.writes.push(number)?),
-            opcode::FSYNC => self.make_safe(text, &request.entry, request.issued),
+            opcode::WRITE => push_value(memory, &mut self.writes, number),
+            opcode::FSYNC => self.make_safe(memory, text, &request.entry, request.issued),
             _ => Ok(()),
         }
     }
 
+    /// A request, if it has ended at this line and has succeeded.
+    fn succeeded_at(&self, number: u64, look: Look<'_>) -> Option<Request> {
+        let request = self.requests.get(number)?;
+        if request.ended == Some(look.line) && succeeded(&request.entry, result_of(look.answer)) {
+            Some(request)
+        } else {
+            None
+        }
+    }
+
     /// Appends which writes a sync of a file makes safe: those of that file that had ended when it was issued.
-    fn make_safe(
+    fn make_safe<M: TextMemory>(
         &mut self,
+        memory: &M,
         text: &mut String,
         sync: &Sqe,
         issued: Option<u64>,
-    ) -> Result<(), AllocError> {
+    ) -> Result<(), AllocError>
+        ensures { ((n : ℕ) → M.grants memory.now n) → IsOk result }
+    {
         let mut left = Vec::new(self.alloc);
         for place in 0..self.writes.len() {
             let Some(number) = self.writes.get(place).copied() else {
                 continue;
             };
-            if self.is_covered(number, sync, issued) {
-                push_change(text, number, "safe")?;
-                text.push_str("}")?;
-            } else {
-                left.push(number)?;
-            }
+            let is_safe = self.is_covered(number, sync, issued);
+            push_safe(memory, text, &mut left, number, is_safe)?;
         }
         self.writes = left;
         Ok(())
@@ -261,52 +352,34 @@ impl Changes {
     }
 }
 
-/// Appends the beginning of a change.
-fn push_change(text: &mut String, number: u64, state: &str) -> Result<(), AllocError> {
-    if !text.is_empty() {
-        text.push_str(",")?;
+/// Adds a request to those that are left, unless it has ended.
+fn push_unless_ended<M: TextMemory>(
+    memory: &M,
+    left: &mut Vec<u64>,
+    number: u64,
+    why: Why,
+) -> Result<(), AllocError>
+    ensures { ((n : ℕ) → M.grants memory.now n) → IsOk result }
+{
+    if why == Why::HasEnded {
+        return Ok(());
     }
-    write!(text, "{{\"request\":{number}")?;
-    push_name(text, "is")?;
-    push_quoted(text, state.as_bytes())
+    push_value(memory, left, number)
 }
 
-/// Appends that the request of this line has ended.
-fn push_end(text: &mut String, number: u64, look: Look<'_>) -> Result<(), AllocError> {
-    push_change(text, number, "ended")?;
-    if let Some(found) = look.found {
-        push_count(text, "of", found)?;
-    }
-    let result = result_of(look.answer);
-    push_name(text, "result")?;
-    write!(text, "{result}}}")
-}
-
-/// The result in the answer of an end.
-fn result_of(answer: &[u8]) -> i32 {
-    match answer.strip_prefix(b"ended ") {
-        Some(result) => spelled_signed(result).unwrap_or(0),
-        None => 0,
-    }
-}
-
-/// The word for how an outstanding request stands.
-fn state_of(why: Why) -> &'static str {
-    match why {
-        Why::Runs => "runs",
-        Why::IsDoomed(_) => "doomed",
-        Why::Waits { .. } => "waits",
-        _ => "ready",
-    }
-}
-
-/// The request that holds one back, or that dooms it.
-fn other_of(why: Why, look: Look<'_>) -> Option<u64> {
-    match why {
-        Why::Waits { least, .. } => Some(least),
-        Why::IsDoomed(Doom::FaultOf(other)) => Some(other),
-        Why::IsDoomed(Doom::FailureOf(other)) => Some(other),
-        Why::IsDoomed(Doom::Cancel) => look.moved,
-        _ => None,
+/// Appends that a write is safe, or adds it to those that are left.
+fn push_safe<M: TextMemory>(
+    memory: &M,
+    text: &mut String,
+    left: &mut Vec<u64>,
+    number: u64,
+    is_safe: bool,
+) -> Result<(), AllocError>
+    ensures { ((n : ℕ) → M.grants memory.now n) → IsOk result }
+{
+    if is_safe {
+        push_state(memory, text, number, "safe")
+    } else {
+        push_value(memory, left, number)
     }
 }

@@ -1,12 +1,14 @@
 //! The check of a recorded trace that is written as data or as a page.
 
+ghost use Rattle.std.specs.Prelude.{◌≢◌, ℕ, Err};
+
 use crate::json_text::last_number;
 use crate::recorder::{Recorder, Told};
 use crate::watching::{Form, watch_byte, write_form};
 use std::alloc::Global;
 use std::io::Write;
 use uring_machine::Setup;
-use uring_text::{TraceFault, is_name};
+use uring_text::{TextMemory, TraceFault, is_name};
 use uring_trace::Explainer;
 
 /// Writes to `writer` what the lines of a recorded trace show, of which `report` is what `uring_check::check` wrote without going on behind a fault: up to the first that is wrong or bad, and of that what the report tells. As JSON, or as a page.
@@ -23,10 +25,25 @@ pub fn recorded_page<W: Write>(
     setup: &Setup,
     form: Form,
 ) -> Result<(), TraceFault> {
-    let mut recorder = Recorder::new(alloc, setup)?;
-    let recorded = record_lines(alloc, setup, &mut recorder, trace, report);
+    recorded_page_in(&alloc, alloc, trace, report, writer, setup, form)
+}
+
+/// As `recorded_page`, by this memory. If it grants whatever is asked for, it never ends with `Memory`.
+pub fn recorded_page_in<M: TextMemory, W: Write>(
+    memory: &M,
+    alloc: Global,
+    trace: &[u8],
+    report: &[u8],
+    writer: &mut W,
+    setup: &Setup,
+    form: Form,
+) -> Result<(), TraceFault>
+    ensures granted { ((n : ℕ) → M.grants memory.now n) → result ≢ Err TraceFault.Memory }
+{
+    let mut recorder = Recorder::new(memory, alloc, setup)?;
+    let recorded = record_lines(memory, alloc, setup, &mut recorder, trace, report);
     let written = match recorded {
-        Ok(()) => write_form(&mut recorder, writer, form),
+        Ok(()) => write_form(memory, &mut recorder, writer, form),
         Err(fault) => Err(fault),
     };
     drop(recorder);
@@ -49,15 +66,34 @@ fn first_words(report: &[u8]) -> &[u8] {
 }
 
 /// Records the lines up to that which the report tells of.
-fn record_lines(
+fn record_lines<M: TextMemory>(
+    memory: &M,
     alloc: Global,
     setup: &Setup,
     recorder: &mut Recorder,
     trace: &[u8],
     report: &[u8],
-) -> Result<(), TraceFault> {
+) -> Result<(), TraceFault>
+    ensures { ((n : ℕ) → M.grants memory.now n) → result ≢ Err TraceFault.Memory }
+{
+    let mut explainer = Explainer::new_in(memory, alloc, setup)?;
+    let recorded = record_all(memory, alloc, &mut explainer, recorder, trace, report);
+    drop(explainer);
+    recorded
+}
+
+/// The same, by an explainer before the first line.
+fn record_all<M: TextMemory>(
+    memory: &M,
+    alloc: Global,
+    explainer: &mut Explainer,
+    recorder: &mut Recorder,
+    trace: &[u8],
+    report: &[u8],
+) -> Result<(), TraceFault>
+    ensures { ((n : ℕ) → M.grants memory.now n) → result ≢ Err TraceFault.Memory }
+{
     let last = last_line(report);
-    let mut explainer = Explainer::new(alloc, setup)?;
     let mut number: u64 = 1;
     let mut rest = trace;
     for _ in 0..trace.len() {
@@ -65,16 +101,14 @@ fn record_lines(
             break;
         };
         if number == last {
-            record_wrong(recorder, line, report)?;
-            break;
+            return record_wrong(memory, recorder, line, report);
         }
-        if !record_line(alloc, &mut explainer, recorder, line)? {
+        if !record_line(memory, alloc, explainer, recorder, line)? {
             break;
         }
         number = number.saturating_add(1);
         rest = behind;
     }
-    drop(explainer);
     Ok(())
 }
 
@@ -92,12 +126,15 @@ fn next_line(bytes: &[u8]) -> Option<(&[u8], &[u8])> {
 }
 
 /// Records a line that is lawful or passed over. Returns whether the explainer goes along with it.
-fn record_line(
+fn record_line<M: TextMemory>(
+    memory: &M,
     alloc: Global,
     explainer: &mut Explainer,
     recorder: &mut Recorder,
     line: &[u8],
-) -> Result<bool, TraceFault> {
+) -> Result<bool, TraceFault>
+    ensures { ((n : ℕ) → M.grants memory.now n) → result ≢ Err TraceFault.Memory }
+{
     let (step, answer) = split_record(line);
     if is_name(answer, "again") || is_name(answer, "ended -12") {
         keep_all(recorder, step);
@@ -105,33 +142,43 @@ fn record_line(
             text: answer,
             note: b"",
         };
-        recorder.end_line(explainer.machine(), told)?;
+        recorder.end_line(memory, explainer.machine(), told)?;
         return Ok(is_name(answer, "again"));
     }
-    explain_line(alloc, explainer, recorder, step)?;
+    explain_line(memory, alloc, explainer, recorder, step)?;
     Ok(true)
 }
 
 /// Has a step explained, and recorded.
-fn explain_line(
+fn explain_line<M: TextMemory>(
+    memory: &M,
     alloc: Global,
     explainer: &mut Explainer,
     recorder: &mut Recorder,
     step: &[u8],
-) -> Result<(), TraceFault> {
+) -> Result<(), TraceFault>
+    ensures { ((n : ℕ) → M.grants memory.now n) → result ≢ Err TraceFault.Memory }
+{
     let mut text = String::new(alloc);
     let mut notes = String::new(alloc);
     for byte in step {
-        watch_byte(explainer, recorder, *byte, &mut text, &mut notes)?;
+        watch_byte(memory, explainer, recorder, *byte, &mut text, &mut notes)?;
     }
-    watch_byte(explainer, recorder, b'\n', &mut text, &mut notes)
+    watch_byte(memory, explainer, recorder, b'\n', &mut text, &mut notes)
 }
 
 /// Records the line that isn't lawful.
-fn record_wrong(recorder: &mut Recorder, line: &[u8], report: &[u8]) -> Result<(), TraceFault> {
+fn record_wrong<M: TextMemory>(
+    memory: &M,
+    recorder: &mut Recorder,
+    line: &[u8],
+    report: &[u8],
+) -> Result<(), TraceFault>
+    ensures { ((n : ℕ) → M.grants memory.now n) → result ≢ Err TraceFault.Memory }
+{
     let (step, answer) = split_record(line);
     keep_all(recorder, step);
-    Ok(recorder.push_wrong(answer, told_of(report))?)
+    Ok(recorder.push_wrong(memory, answer, told_of(report))?)
 }
 
 /// Takes in the bytes of a line.

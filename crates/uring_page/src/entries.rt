@@ -1,86 +1,134 @@
 //! Entries as JSON has them.
 
+ghost use Rattle.std.specs.Prelude.{ℕ, IsOk};
+
 use crate::json_text::{push_count, push_name};
 use std::alloc::AllocError;
-use std::fmt::Write;
 use uring_entry::opcode;
 use uring_machine::{Sqe, SqeFlags};
+use uring_text::{TextMemory, push_number, push_signed, push_text};
 
-/// Appends the members of an entry, behind another member. Numbers of 64 bits are strings, since many readers of JSON keep 53.
-pub(crate) fn push_entry(text: &mut String, entry: &Sqe) -> Result<(), AllocError> {
-    push_long(text, "user_data", entry.user_data())?;
-    push_operation(text, entry)?;
-    push_flags(text, entry)?;
+/// Appends the members of an entry, behind another member. Here and below, and in all that is recorded: if the memory grants whatever is asked for, there is no error. Numbers of 64 bits are strings, since many readers of JSON keep 53.
+pub(crate) fn push_entry<M: TextMemory>(
+    memory: &M,
+    text: &mut String,
+    entry: &Sqe,
+) -> Result<(), AllocError>
+    ensures { ((n : ℕ) → M.grants memory.now n) → IsOk result }
+{
+    push_long(memory, text, "user_data", entry.user_data())?;
+    push_operation(memory, text, entry)?;
+    push_flags(memory, text, entry)?;
     match entry.opcode() {
-        opcode::FSYNC => push_file(text, entry),
+        opcode::FSYNC => push_file(memory, text, entry),
         opcode::READ => {
-            push_file(text, entry)?;
-            push_range(text, entry)
+            push_file(memory, text, entry)?;
+            push_range(memory, text, entry)
         }
         opcode::WRITE => {
-            push_file(text, entry)?;
-            push_range(text, entry)
+            push_file(memory, text, entry)?;
+            push_range(memory, text, entry)
         }
-        opcode::ASYNC_CANCEL => push_long(text, "target", entry.addr()),
+        opcode::ASYNC_CANCEL => push_long(memory, text, "target", entry.addr()),
         _ => Ok(()),
     }
 }
 
 /// Appends a number of 64 bits.
-fn push_long(text: &mut String, name: &str, number: u64) -> Result<(), AllocError> {
-    push_name(text, name)?;
-    write!(text, "\"{number}\"")
+fn push_long<M: TextMemory>(
+    memory: &M,
+    text: &mut String,
+    name: &str,
+    number: u64,
+) -> Result<(), AllocError>
+    ensures { ((n : ℕ) → M.grants memory.now n) → IsOk result }
+{
+    push_name(memory, text, name)?;
+    push_text(memory, text, "\"")?;
+    push_number(memory, text, number)?;
+    push_text(memory, text, "\"")
 }
 
 /// Appends the operation, by its name in the trace language.
-fn push_operation(text: &mut String, entry: &Sqe) -> Result<(), AllocError> {
-    push_name(text, "operation")?;
+fn push_operation<M: TextMemory>(
+    memory: &M,
+    text: &mut String,
+    entry: &Sqe,
+) -> Result<(), AllocError>
+    ensures { ((n : ℕ) → M.grants memory.now n) → IsOk result }
+{
+    push_name(memory, text, "operation")?;
     match entry.opcode() {
-        opcode::NOP => text.push_str("\"nop\""),
-        opcode::FSYNC => text.push_str("\"fsync\""),
-        opcode::READ => text.push_str("\"read\""),
-        opcode::WRITE => text.push_str("\"write\""),
-        opcode::ASYNC_CANCEL if entry.is_cancel_all() => text.push_str("\"cancelall\""),
-        opcode::ASYNC_CANCEL => text.push_str("\"cancel\""),
-        code => write!(text, "\"op {code}\""),
+        opcode::NOP => push_text(memory, text, "\"nop\""),
+        opcode::FSYNC => push_text(memory, text, "\"fsync\""),
+        opcode::READ => push_text(memory, text, "\"read\""),
+        opcode::WRITE => push_text(memory, text, "\"write\""),
+        opcode::ASYNC_CANCEL if entry.is_cancel_all() => push_text(memory, text, "\"cancelall\""),
+        opcode::ASYNC_CANCEL => push_text(memory, text, "\"cancel\""),
+        code => push_other(memory, text, code),
     }
 }
 
+/// Appends an operation that has no name in the trace language.
+fn push_other<M: TextMemory>(memory: &M, text: &mut String, code: u8) -> Result<(), AllocError>
+    ensures { ((n : ℕ) → M.grants memory.now n) → IsOk result }
+{
+    push_text(memory, text, "\"op ")?;
+    push_number(memory, text, u64::from(code))?;
+    push_text(memory, text, "\"")
+}
+
 /// Appends the flags, by their letters.
-fn push_flags(text: &mut String, entry: &Sqe) -> Result<(), AllocError> {
-    push_name(text, "flags")?;
-    text.push_str("\"")?;
-    push_letter(text, entry, SqeFlags::IO_DRAIN, "D")?;
-    push_letter(text, entry, SqeFlags::IO_LINK, "L")?;
-    push_letter(text, entry, SqeFlags::IO_HARDLINK, "H")?;
-    push_letter(text, entry, SqeFlags::ASYNC, "A")?;
-    push_letter(text, entry, SqeFlags::CQE_SKIP_SUCCESS, "S")?;
-    text.push_str("\"")
+fn push_flags<M: TextMemory>(memory: &M, text: &mut String, entry: &Sqe) -> Result<(), AllocError>
+    ensures { ((n : ℕ) → M.grants memory.now n) → IsOk result }
+{
+    push_name(memory, text, "flags")?;
+    push_text(memory, text, "\"")?;
+    push_letters(memory, text, entry)?;
+    push_text(memory, text, "\"")
+}
+
+/// Appends the letters of the flags that are set.
+fn push_letters<M: TextMemory>(memory: &M, text: &mut String, entry: &Sqe) -> Result<(), AllocError>
+    ensures { ((n : ℕ) → M.grants memory.now n) → IsOk result }
+{
+    push_letter(memory, text, entry, SqeFlags::IO_DRAIN, "D")?;
+    push_letter(memory, text, entry, SqeFlags::IO_LINK, "L")?;
+    push_letter(memory, text, entry, SqeFlags::IO_HARDLINK, "H")?;
+    push_letter(memory, text, entry, SqeFlags::ASYNC, "A")?;
+    push_letter(memory, text, entry, SqeFlags::CQE_SKIP_SUCCESS, "S")
 }
 
 /// Appends the letter of a flag that is set.
-fn push_letter(
+fn push_letter<M: TextMemory>(
+    memory: &M,
     text: &mut String,
     entry: &Sqe,
     flag: SqeFlags,
     letter: &str,
-) -> Result<(), AllocError> {
+) -> Result<(), AllocError>
+    ensures { ((n : ℕ) → M.grants memory.now n) → IsOk result }
+{
     if entry.has(flag) {
-        text.push_str(letter)
+        push_text(memory, text, letter)
     } else {
         Ok(())
     }
 }
 
 /// Appends the file.
-fn push_file(text: &mut String, entry: &Sqe) -> Result<(), AllocError> {
+fn push_file<M: TextMemory>(memory: &M, text: &mut String, entry: &Sqe) -> Result<(), AllocError>
+    ensures { ((n : ℕ) → M.grants memory.now n) → IsOk result }
+{
     let fd = entry.fd();
-    push_name(text, "file")?;
-    write!(text, "{fd}")
+    push_name(memory, text, "file")?;
+    push_signed(memory, text, fd)
 }
 
 /// Appends offset and length.
-fn push_range(text: &mut String, entry: &Sqe) -> Result<(), AllocError> {
-    push_long(text, "offset", entry.off())?;
-    push_count(text, "length", u64::from(entry.len()))
+fn push_range<M: TextMemory>(memory: &M, text: &mut String, entry: &Sqe) -> Result<(), AllocError>
+    ensures { ((n : ℕ) → M.grants memory.now n) → IsOk result }
+{
+    push_long(memory, text, "offset", entry.off())?;
+    push_count(memory, text, "length", u64::from(entry.len()))
 }

@@ -1,57 +1,112 @@
 //! Texts as JSON has them.
 
+ghost use Rattle.std.specs.Prelude.{ℕ, IsOk};
+
 use std::alloc::{AllocError, Global};
-use std::fmt::Write;
-use uring_text::push_visible;
+use uring_text::{TextMemory, push_number, push_text, push_visible_in};
 
 /// Appends bytes as a string of JSON, in which each byte can be seen, and none of which ends a script of HTML.
-pub(crate) fn push_string(
+pub(crate) fn push_string<M: TextMemory>(
+    memory: &M,
     alloc: Global,
     text: &mut String,
     bytes: &[u8],
-) -> Result<(), AllocError> {
+) -> Result<(), AllocError>
+    ensures { ((n : ℕ) → M.grants memory.now n) → IsOk result }
+{
     let mut seen = String::new(alloc);
-    push_visible(alloc, &mut seen, bytes)?;
-    push_quoted(text, seen.as_bytes())
+    push_visible_in(memory, &mut seen, bytes)?;
+    push_quoted(memory, text, seen.as_bytes())
 }
 
 /// Appends printing bytes of ASCII, and ends of lines, as a string of JSON.
-pub(crate) fn push_quoted(text: &mut String, bytes: &[u8]) -> Result<(), AllocError> {
-    text.push_str("\"")?;
+pub(crate) fn push_quoted<M: TextMemory>(
+    memory: &M,
+    text: &mut String,
+    bytes: &[u8],
+) -> Result<(), AllocError>
+    ensures { ((n : ℕ) → M.grants memory.now n) → IsOk result }
+{
+    push_text(memory, text, "\"")?;
     for byte in bytes {
-        push_byte(text, *byte)?;
+        push_byte(memory, text, *byte)?;
     }
-    text.push_str("\"")
+    push_text(memory, text, "\"")
 }
 
 /// Appends a byte of a string.
-fn push_byte(text: &mut String, byte: u8) -> Result<(), AllocError> {
+fn push_byte<M: TextMemory>(memory: &M, text: &mut String, byte: u8) -> Result<(), AllocError>
+    ensures { ((n : ℕ) → M.grants memory.now n) → IsOk result }
+{
     match byte {
-        b'"' => text.push_str("\\\""),
-        b'\\' => text.push_str("\\\\"),
-        b'\n' => text.push_str("\\n"),
-        b'<' => text.push_str("\\u003c"),
-        _ => text.push(byte as char),
+        b'"' => push_text(memory, text, "\\\""),
+        b'\\' => push_text(memory, text, "\\\\"),
+        b'\n' => push_text(memory, text, "\\n"),
+        b'<' => push_text(memory, text, "\\u003c"),
+        _ => push_plain(memory, text, byte),
     }
 }
 
+/// Appends the character of this code.
+fn push_plain<M: TextMemory>(memory: &M, text: &mut String, code: u8) -> Result<(), AllocError>
+    ensures { ((n : ℕ) → M.grants memory.now n) → IsOk result }
+{
+    memory.reserve_text(text, 2)?;
+    text.push(code as char)
+}
+
 /// Appends a member of an object that is a string, behind another.
-pub(crate) fn push_member(text: &mut String, name: &str, bytes: &[u8]) -> Result<(), AllocError> {
-    push_name(text, name)?;
-    push_quoted(text, bytes)
+pub(crate) fn push_member<M: TextMemory>(
+    memory: &M,
+    text: &mut String,
+    name: &str,
+    bytes: &[u8],
+) -> Result<(), AllocError>
+    ensures { ((n : ℕ) → M.grants memory.now n) → IsOk result }
+{
+    push_name(memory, text, name)?;
+    push_quoted(memory, text, bytes)
 }
 
 /// Appends a member of an object that is a number, behind another.
-pub(crate) fn push_count(text: &mut String, name: &str, number: u64) -> Result<(), AllocError> {
-    push_name(text, name)?;
-    write!(text, "{number}")
+pub(crate) fn push_count<M: TextMemory>(
+    memory: &M,
+    text: &mut String,
+    name: &str,
+    number: u64,
+) -> Result<(), AllocError>
+    ensures { ((n : ℕ) → M.grants memory.now n) → IsOk result }
+{
+    push_name(memory, text, name)?;
+    push_number(memory, text, number)
+}
+
+/// Appends a member of an object that is an array of these elements, behind another.
+pub(crate) fn push_array<M: TextMemory>(
+    memory: &M,
+    text: &mut String,
+    name: &str,
+    elements: &str,
+) -> Result<(), AllocError>
+    ensures { ((n : ℕ) → M.grants memory.now n) → IsOk result }
+{
+    push_name(memory, text, name)?;
+    push_text(memory, text, "[")?;
+    push_text(memory, text, elements)?;
+    push_text(memory, text, "]")
 }
 
 /// Appends a comma and the name of a member.
-pub(crate) fn push_name(text: &mut String, name: &str) -> Result<(), AllocError> {
-    text.push_str(",\"")?;
-    text.push_str(name)?;
-    text.push_str("\":")
+pub(crate) fn push_name<M: TextMemory>(
+    memory: &M,
+    text: &mut String,
+    name: &str,
+) -> Result<(), AllocError>
+    ensures { ((n : ℕ) → M.grants memory.now n) → IsOk result }
+{
+    push_text(memory, text, ",\"")?;
+    push_text(memory, text, name)?;
+    push_text(memory, text, "\":")
 }
 
 /// The number at the end of a text, 0 if there is none.

@@ -1,15 +1,17 @@
 //! The lines of a run as data.
 
+ghost use Rattle.std.specs.Prelude.{ℕ, IsOk};
+
 use crate::changes::{Changes, Look};
-use crate::json_text::{last_number, push_count, push_name, push_quoted, push_string};
+use crate::json_text::{last_number, push_array, push_count, push_name, push_quoted, push_string};
 use crate::requests::push_separator;
+use crate::state_text::{push_head, push_state};
 use crate::submission::Submission;
 use std::alloc::{AllocError, Global};
-use std::fmt::Write;
 use uring_entry::opcode;
 use uring_machine::{Found, Machine, Setup, Step};
-use uring_text::KeptLine;
-use uring_trace::read_step;
+use uring_text::{KeptLine, TextMemory, push_number, push_text};
+use uring_trace::read_step_in;
 
 /// How many index words there are.
 const WORDS: u64 = 4_294_967_296;
@@ -42,17 +44,24 @@ pub(crate) struct Recorder {
 
 impl Recorder {
     /// Before the first line.
-    pub(crate) fn new(alloc: Global, setup: &Setup) -> Result<Recorder, AllocError> {
+    pub(crate) fn new<M: TextMemory>(
+        memory: &M,
+        alloc: Global,
+        setup: &Setup,
+    ) -> Result<Recorder, AllocError>
+        ensures { ((n : ℕ) → M.grants memory.now n) → IsOk result }
+    {
+        let line = KeptLine::new_in(memory, alloc)?;
         let mut text = String::new(alloc);
-        push_head(&mut text, setup)?;
+        push_head(memory, &mut text, setup)?;
         Ok(Recorder {
             alloc,
             setup: *setup,
-            line: KeptLine::new(alloc)?,
+            line,
             number: 1,
             step: None,
             found: None,
-            submission: Submission::new(alloc, *setup)?,
+            submission: Submission::new(memory, alloc, *setup)?,
             changes: Changes::new(alloc),
             text,
         })
@@ -69,9 +78,15 @@ impl Recorder {
     }
 
     /// Looks at the machine before the line is answered.
-    pub(crate) fn look(&mut self, machine: &Machine) -> Result<(), AllocError> {
+    pub(crate) fn look<M: TextMemory>(
+        &mut self,
+        memory: &M,
+        machine: &Machine,
+    ) -> Result<(), AllocError>
+        ensures { ((n : ℕ) → M.grants memory.now n) → IsOk result }
+    {
         self.step = match self.line.whole() {
-            Some(bytes) => read_step(self.alloc, bytes)?,
+            Some(bytes) => read_step_in(memory, self.alloc, bytes)?,
             None => None,
         };
         self.found = match self.step {
@@ -82,47 +97,82 @@ impl Recorder {
     }
 
     /// Ends a line: appends what is told of it and what it has changed, and begins the next.
-    pub(crate) fn end_line(&mut self, machine: &Machine, told: Told<'_>) -> Result<(), AllocError> {
-        let line = self.number;
-        self.push_line()?;
-        let (answer, reason) = split_told(told.text);
-        self.push_told(answer, reason, told.note)?;
-        if let Some(step) = self.step {
-            self.push_step(machine, &step, answer)?;
-        }
-        self.text.push_str("}")?;
-        self.step = None;
-        self.found = None;
-        self.line.clear();
-        self.number = line.saturating_add(1);
+    pub(crate) fn end_line<M: TextMemory>(
+        &mut self,
+        memory: &M,
+        machine: &Machine,
+        told: Told<'_>,
+    ) -> Result<(), AllocError>
+        ensures { ((n : ℕ) → M.grants memory.now n) → IsOk result }
+    {
+        self.push_ended(memory, machine, told)?;
+        self.begin_line();
         Ok(())
     }
 
+    /// Appends the object of the line: what is told of it and what it has changed.
+    fn push_ended<M: TextMemory>(
+        &mut self,
+        memory: &M,
+        machine: &Machine,
+        told: Told<'_>,
+    ) -> Result<(), AllocError>
+        ensures { ((n : ℕ) → M.grants memory.now n) → IsOk result }
+    {
+        self.push_line(memory)?;
+        let (answer, reason) = split_told(told.text);
+        self.push_told(memory, answer, reason, told.note)?;
+        if let Some(step) = self.step {
+            self.push_step(memory, machine, &step, answer)?;
+        }
+        push_text(memory, &mut self.text, "}")
+    }
+
+    /// Begins the next line.
+    fn begin_line(&mut self) {
+        self.step = None;
+        self.found = None;
+        self.line.clear();
+        self.number = self.number.saturating_add(1);
+    }
+
     /// Appends a line of a recorded trace whose answer isn't called for, with what a check told of it.
-    pub(crate) fn push_wrong(&mut self, answer: &[u8], report: &[u8]) -> Result<(), AllocError> {
-        self.push_line()?;
-        push_name(&mut self.text, "answer")?;
-        push_string(self.alloc, &mut self.text, answer)?;
-        push_name(&mut self.text, "wrong")?;
-        push_quoted(&mut self.text, report)?;
-        self.text.push_str("}")
+    pub(crate) fn push_wrong<M: TextMemory>(
+        &mut self,
+        memory: &M,
+        answer: &[u8],
+        report: &[u8],
+    ) -> Result<(), AllocError>
+        ensures { ((n : ℕ) → M.grants memory.now n) → IsOk result }
+    {
+        self.push_line(memory)?;
+        push_name(memory, &mut self.text, "answer")?;
+        push_string(memory, self.alloc, &mut self.text, answer)?;
+        push_name(memory, &mut self.text, "wrong")?;
+        push_quoted(memory, &mut self.text, report)?;
+        push_text(memory, &mut self.text, "}")
     }
 
     /// All that was written, ended.
-    pub(crate) fn end(&mut self) -> Result<&str, AllocError> {
-        self.text.push_str("\n],\"requests\":[")?;
-        self.changes.requests.push_all(&mut self.text)?;
-        self.text.push_str("\n]}\n")?;
+    pub(crate) fn end<M: TextMemory>(&mut self, memory: &M) -> Result<&str, AllocError>
+        ensures { ((n : ℕ) → M.grants memory.now n) → IsOk result }
+    {
+        push_text(memory, &mut self.text, "\n],\"requests\":[")?;
+        self.changes.requests.push_all(memory, &mut self.text)?;
+        push_text(memory, &mut self.text, "\n]}\n")?;
         Ok(self.text.as_str())
     }
 
     /// Begins the object of the line, with its number and itself: nothing, if it has more than 300 bytes.
-    fn push_line(&mut self) -> Result<(), AllocError> {
-        push_separator(&mut self.text, self.number == 1)?;
-        let line = self.number;
-        write!(self.text, "{{\"line\":{line}")?;
-        push_name(&mut self.text, "text")?;
+    fn push_line<M: TextMemory>(&mut self, memory: &M) -> Result<(), AllocError>
+        ensures { ((n : ℕ) → M.grants memory.now n) → IsOk result }
+    {
+        push_separator(memory, &mut self.text, self.number == 1)?;
+        push_text(memory, &mut self.text, "{\"line\":")?;
+        push_number(memory, &mut self.text, self.number)?;
+        push_name(memory, &mut self.text, "text")?;
         push_string(
+            memory,
             self.alloc,
             &mut self.text,
             self.line.whole().unwrap_or_default(),
@@ -130,56 +180,120 @@ impl Recorder {
     }
 
     /// Appends answer, reason and note.
-    fn push_told(&mut self, answer: &[u8], reason: &[u8], note: &[u8]) -> Result<(), AllocError> {
-        self.push_some("answer", answer)?;
-        self.push_some("reason", reason)?;
-        self.push_some("bad", note)
+    fn push_told<M: TextMemory>(
+        &mut self,
+        memory: &M,
+        answer: &[u8],
+        reason: &[u8],
+        note: &[u8],
+    ) -> Result<(), AllocError>
+        ensures { ((n : ℕ) → M.grants memory.now n) → IsOk result }
+    {
+        self.push_some(memory, "answer", answer)?;
+        self.push_some(memory, "reason", reason)?;
+        self.push_some(memory, "bad", note)
     }
 
     /// Appends a member, unless its text is empty.
-    fn push_some(&mut self, name: &str, bytes: &[u8]) -> Result<(), AllocError> {
+    fn push_some<M: TextMemory>(
+        &mut self,
+        memory: &M,
+        name: &str,
+        bytes: &[u8],
+    ) -> Result<(), AllocError>
+        ensures { ((n : ℕ) → M.grants memory.now n) → IsOk result }
+    {
         if bytes.is_empty() {
             return Ok(());
         }
-        push_name(&mut self.text, name)?;
-        push_quoted(&mut self.text, bytes)
+        push_name(memory, &mut self.text, name)?;
+        push_quoted(memory, &mut self.text, bytes)
     }
 
     /// Appends what a step has changed.
-    fn push_step(
+    fn push_step<M: TextMemory>(
         &mut self,
+        memory: &M,
         machine: &Machine,
         step: &Step,
         answer: &[u8],
-    ) -> Result<(), AllocError> {
-        self.submission.take_in(step, answer)?;
+    ) -> Result<(), AllocError>
+        ensures { ((n : ℕ) → M.grants memory.now n) → IsOk result }
+    {
+        self.submission.take_in(memory, step, answer)?;
         let put = self.changes.put();
+        self.push_changes(memory, machine, step, answer)?;
+        self.push_index(memory, step, answer)?;
+        self.push_tail(memory, put)?;
+        self.push_file(memory, machine, step, answer)
+    }
+
+    /// Appends what a step has changed of requests and completions, if it has.
+    fn push_changes<M: TextMemory>(
+        &mut self,
+        memory: &M,
+        machine: &Machine,
+        step: &Step,
+        answer: &[u8],
+    ) -> Result<(), AllocError>
+        ensures { ((n : ℕ) → M.grants memory.now n) → IsOk result }
+    {
         let mut changes = String::new(self.alloc);
-        if matches!(step, Step::End) && answer.starts_with(b"taken ") {
-            let entries = self.submission.entries();
-            self.changes
-                .accept(&mut changes, entries, self.submission.call())?;
+        self.note_changes(memory, &mut changes, machine, step, answer)?;
+        if changes.is_empty() {
+            return Ok(());
         }
+        push_array(memory, &mut self.text, "changes", changes.as_str())
+    }
+
+    /// Appends to `changes` what a step has changed.
+    fn note_changes<M: TextMemory>(
+        &mut self,
+        memory: &M,
+        changes: &mut String,
+        machine: &Machine,
+        step: &Step,
+        answer: &[u8],
+    ) -> Result<(), AllocError>
+        ensures { ((n : ℕ) → M.grants memory.now n) → IsOk result }
+    {
+        self.note_accepted(memory, changes, step, answer)?;
         let look = Look {
             line: self.number,
             moved: moved_by(step),
             found: self.found,
             answer,
         };
-        self.changes.look(&mut changes, machine, look)?;
-        if !changes.is_empty() {
-            push_name(&mut self.text, "changes")?;
-            self.text.push_str("[")?;
-            self.text.push_str(changes.as_str())?;
-            self.text.push_str("]")?;
+        self.changes.look(memory, changes, machine, look)
+    }
+
+    /// Appends to `changes` which requests a step has accepted.
+    fn note_accepted<M: TextMemory>(
+        &mut self,
+        memory: &M,
+        changes: &mut String,
+        step: &Step,
+        answer: &[u8],
+    ) -> Result<(), AllocError>
+        ensures { ((n : ℕ) → M.grants memory.now n) → IsOk result }
+    {
+        if !matches!(step, Step::End) || !answer.starts_with(b"taken ") {
+            return Ok(());
         }
-        self.push_index(step, answer)?;
-        self.push_tail(put)?;
-        self.push_file(machine, step, answer)
+        let call = self.submission.call();
+        self.changes
+            .accept(memory, changes, self.submission.entries(), call)
     }
 
     /// Appends the head or tail that a step has stored or loaded.
-    fn push_index(&mut self, step: &Step, answer: &[u8]) -> Result<(), AllocError> {
+    fn push_index<M: TextMemory>(
+        &mut self,
+        memory: &M,
+        step: &Step,
+        answer: &[u8],
+    ) -> Result<(), AllocError>
+        ensures { ((n : ℕ) → M.grants memory.now n) → IsOk result }
+    {
         let name = match step {
             Step::StoreTail => "sq_tail",
             Step::End if answer.starts_with(b"taken ") => "sq_head",
@@ -188,26 +302,31 @@ impl Recorder {
             Step::LoadCqTail => "cq_tail_seen",
             _ => return Ok(()),
         };
-        push_count(&mut self.text, name, last_number(answer))
+        push_count(memory, &mut self.text, name, last_number(answer))
     }
 
     /// Appends the completion ring's tail, if it isn't that which so many completions had made.
-    fn push_tail(&mut self, put: u64) -> Result<(), AllocError> {
+    fn push_tail<M: TextMemory>(&mut self, memory: &M, put: u64) -> Result<(), AllocError>
+        ensures { ((n : ℕ) → M.grants memory.now n) → IsOk result }
+    {
         let now = self.changes.put();
         if now == put {
             return Ok(());
         }
         let tail = u64::from(self.setup.start()).wrapping_add(now) % WORDS;
-        push_count(&mut self.text, "cq_tail", tail)
+        push_count(memory, &mut self.text, "cq_tail", tail)
     }
 
     /// Appends how the file of a request stands that a finish has ended.
-    fn push_file(
+    fn push_file<M: TextMemory>(
         &mut self,
+        memory: &M,
         machine: &Machine,
         step: &Step,
         answer: &[u8],
-    ) -> Result<(), AllocError> {
+    ) -> Result<(), AllocError>
+        ensures { ((n : ℕ) → M.grants memory.now n) → IsOk result }
+    {
         let Step::Finish { number } = step else {
             return Ok(());
         };
@@ -222,24 +341,9 @@ impl Recorder {
         let Some(state) = machine.state(fd) else {
             return Ok(());
         };
-        let (len, writes, synced) = (state.len, state.writes, state.synced);
-        push_name(&mut self.text, "file")?;
-        write!(self.text, "{{\"file\":{fd},\"length\":{len}")?;
-        write!(self.text, ",\"writes\":{writes},\"synced\":{synced}}}")
+        push_name(memory, &mut self.text, "file")?;
+        push_state(memory, &mut self.text, fd, &state)
     }
-}
-
-/// Appends the set-up, and begins the lines.
-fn push_head(text: &mut String, setup: &Setup) -> Result<(), AllocError> {
-    let (sq, cq, files) = (setup.sq(), setup.cq(), setup.files());
-    let (start, stops) = (setup.start(), setup.stops());
-    write!(text, "{{\"form\":1,\"setup\":{{\"sq\":{sq},\"cq\":{cq}")?;
-    write!(text, ",\"files\":{files},\"start\":{start}")?;
-    text.push_str(if stops {
-        ",\"stops\":true},\"lines\":["
-    } else {
-        ",\"stops\":false},\"lines\":["
-    })
 }
 
 /// The request that a step issues or finishes.

@@ -1,10 +1,12 @@
 //! The requests of a run.
 
+ghost use Rattle.std.specs.Prelude.{ℕ, IsOk};
+
 use crate::entries::push_entry;
 use crate::json_text::push_count;
 use std::alloc::{AllocError, Global};
-use std::fmt::Write;
 use uring_machine::{Sqe, Why};
+use uring_text::{TextMemory, push_number, push_text};
 
 /// A request, as far as the lines so far tell of it.
 #[derive(Clone, Copy, Debug, PartialEq, Eq)]
@@ -47,18 +49,26 @@ impl Requests {
     }
 
     /// Adds the request that this call accepted next. `is_first`: it is the first of its call.
-    pub(crate) fn add(&mut self, entry: Sqe, call: u64, is_first: bool) -> Result<(), AllocError> {
+    pub(crate) fn add<M: TextMemory>(
+        &mut self,
+        memory: &M,
+        entry: Sqe,
+        call: u64,
+        is_first: bool,
+    ) -> Result<(), AllocError>
+        ensures { ((n : ℕ) → M.grants memory.now n) → IsOk result }
+    {
         let chain = self.next_chain(is_first);
-        Ok(
-            self.all.push(Request {
-                entry,
-                call,
-                chain,
-                why: Why::NeverAccepted,
-                issued: None,
-                ended: None,
-            })?,
-        )
+        memory.reserve(&mut self.all, 1)?;
+        self.all.push_reserved(Request {
+            entry,
+            call,
+            chain,
+            why: Why::NeverAccepted,
+            issued: None,
+            ended: None,
+        });
+        Ok(())
     }
 
     /// The first member of the chain of the next request: a chain ends with its call, and behind an entry without a link.
@@ -80,11 +90,17 @@ impl Requests {
     }
 
     /// Appends all requests, as elements of an array.
-    pub(crate) fn push_all(&self, text: &mut String) -> Result<(), AllocError> {
+    pub(crate) fn push_all<M: TextMemory>(
+        &self,
+        memory: &M,
+        text: &mut String,
+    ) -> Result<(), AllocError>
+        ensures { ((n : ℕ) → M.grants memory.now n) → IsOk result }
+    {
         let mut number: u64 = 0;
         for request in &self.all {
-            push_separator(text, number == 0)?;
-            push_request(text, number, request)?;
+            push_separator(memory, text, number == 0)?;
+            push_request(memory, text, number, request)?;
             number = number.saturating_add(1);
         }
         Ok(())
@@ -92,19 +108,33 @@ impl Requests {
 }
 
 /// Appends what stands between two elements of an array, a line for each.
-pub(crate) fn push_separator(text: &mut String, is_first: bool) -> Result<(), AllocError> {
+pub(crate) fn push_separator<M: TextMemory>(
+    memory: &M,
+    text: &mut String,
+    is_first: bool,
+) -> Result<(), AllocError>
+    ensures { ((n : ℕ) → M.grants memory.now n) → IsOk result }
+{
     if is_first {
-        text.push_str("\n")
+        push_text(memory, text, "\n")
     } else {
-        text.push_str(",\n")
+        push_text(memory, text, ",\n")
     }
 }
 
 /// Appends a request.
-fn push_request(text: &mut String, number: u64, request: &Request) -> Result<(), AllocError> {
-    write!(text, "{{\"request\":{number}")?;
-    push_entry(text, &request.entry)?;
-    push_count(text, "call", request.call)?;
-    push_count(text, "chain", request.chain)?;
-    text.push_str("}")
+fn push_request<M: TextMemory>(
+    memory: &M,
+    text: &mut String,
+    number: u64,
+    request: &Request,
+) -> Result<(), AllocError>
+    ensures { ((n : ℕ) → M.grants memory.now n) → IsOk result }
+{
+    push_text(memory, text, "{\"request\":")?;
+    push_number(memory, text, number)?;
+    push_entry(memory, text, &request.entry)?;
+    push_count(memory, text, "call", request.call)?;
+    push_count(memory, text, "chain", request.chain)?;
+    push_text(memory, text, "}")
 }

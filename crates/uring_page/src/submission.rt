@@ -1,7 +1,10 @@
 //! What the application has filled and staged, and what the open call has taken of it.
 
+ghost use Rattle.std.specs.Prelude.{ℕ, IsOk};
+
 use std::alloc::{AllocError, Global};
 use uring_machine::{Setup, Sqe, Step};
+use uring_memory::Memory;
 use uring_text::is_name;
 
 /// The entries that an open call took, and what they are taken from. It is read off the steps and their answers.
@@ -21,13 +24,15 @@ pub(crate) struct Submission {
 
 impl Submission {
     /// Before the first step.
-    pub(crate) fn new(alloc: Global, setup: Setup) -> Result<Submission, AllocError> {
-        let mut slots = Vec::new(alloc);
-        for _ in 0..setup.sq() {
-            slots.push(None)?;
-        }
+    pub(crate) fn new<M: Memory>(
+        memory: &M,
+        alloc: Global,
+        setup: Setup,
+    ) -> Result<Submission, AllocError>
+        ensures { ((n : ℕ) → M.grants memory.now n) → IsOk result }
+    {
         Ok(Submission {
-            slots,
+            slots: memory.filled(alloc, None, setup.sq() as usize)?,
             staged: Vec::new(alloc),
             taken: 0,
             entries: Vec::new(alloc),
@@ -36,18 +41,27 @@ impl Submission {
     }
 
     /// Takes in a step with its answer.
-    pub(crate) fn take_in(&mut self, step: &Step, answer: &[u8]) -> Result<(), AllocError> {
+    pub(crate) fn take_in<M: Memory>(
+        &mut self,
+        memory: &M,
+        step: &Step,
+        answer: &[u8],
+    ) -> Result<(), AllocError>
+        ensures { ((n : ℕ) → M.grants memory.now n) → IsOk result }
+    {
         match step {
             Step::Fill { slot, entry } if is_name(answer, "ok") => {
                 self.fill(*slot, *entry);
                 Ok(())
             }
-            Step::Index { word } if is_name(answer, "ok") => Ok(self.staged.push(*word)?),
+            Step::Index { word } if is_name(answer, "ok") => {
+                push_value(memory, &mut self.staged, *word)
+            }
             Step::Begin { .. } if answer.starts_with(b"call ") => {
                 self.begin();
                 Ok(())
             }
-            Step::Take if answer.starts_with(b"entry ") => self.take(),
+            Step::Take if answer.starts_with(b"entry ") => self.take(memory),
             Step::Take if is_name(answer, "dropped") => {
                 self.taken = self.taken.saturating_add(1);
                 Ok(())
@@ -80,11 +94,13 @@ impl Submission {
     }
 
     /// Takes the entry that the next word names.
-    fn take(&mut self) -> Result<(), AllocError> {
+    fn take<M: Memory>(&mut self, memory: &M) -> Result<(), AllocError>
+        ensures { ((n : ℕ) → M.grants memory.now n) → IsOk result }
+    {
         let entry = self.next_entry();
         self.taken = self.taken.saturating_add(1);
         match entry {
-            Some(entry) => Ok(self.entries.push(entry)?),
+            Some(entry) => push_value(memory, &mut self.entries, entry),
             None => Ok(()),
         }
     }
@@ -97,4 +113,17 @@ impl Submission {
             None => None,
         }
     }
+}
+
+/// Appends a value to a list.
+pub(crate) fn push_value<M: Memory, T: Drop>(
+    memory: &M,
+    list: &mut Vec<T>,
+    value: T,
+) -> Result<(), AllocError>
+    ensures { ((n : ℕ) → M.grants memory.now n) → IsOk result }
+{
+    memory.reserve(list, 1)?;
+    list.push_reserved(value);
+    Ok(())
 }

@@ -1,5 +1,7 @@
 //! The page round the data, as the files of the folder `page` give it.
 
+ghost use Rattle.std.specs.Prelude.{◌≡◌, IfErr};
+
 mod head_0;
 mod tail_0;
 mod tail_1;
@@ -9,12 +11,16 @@ use std::io::Write;
 use uring_text::{Calls, TraceFault, write_all};
 
 /// Writes what stands before the data.
-pub(crate) fn write_head<W: Write>(writer: &mut W, writes: &mut Calls) -> Result<(), TraceFault> {
+pub(crate) fn write_head<W: Write>(writer: &mut W, writes: &mut Calls) -> Result<(), TraceFault>
+    ensures { IfErr result (λ fault. fault ≡ TraceFault.Write) }
+{
     write_all(writer, head_0::PIECE.as_bytes(), writes)
 }
 
 /// Writes what stands behind the data.
-pub(crate) fn write_tail<W: Write>(writer: &mut W, writes: &mut Calls) -> Result<(), TraceFault> {
+pub(crate) fn write_tail<W: Write>(writer: &mut W, writes: &mut Calls) -> Result<(), TraceFault>
+    ensures { IfErr result (λ fault. fault ≡ TraceFault.Write) }
+{
     write_all(writer, tail_0::PIECE.as_bytes(), writes)?;
     write_all(writer, tail_1::PIECE.as_bytes(), writes)?;
     write_all(writer, tail_2::PIECE.as_bytes(), writes)

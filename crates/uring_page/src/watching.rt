@@ -1,6 +1,6 @@
 //! The run of a trace that is written as data or as a page.
 
-ghost use Rattle.std.specs.Prelude.{ℕ, List, [], ◌∷◌, ◌++◌, IfOk, OnOk, string_bytes};
+ghost use Rattle.std.specs.Prelude.{◌≢◌, ℕ, List, [], ◌∷◌, ◌++◌, IfOk, IsOk, OnOk, Err, string_bytes};
 ghost use Rattle.uring_entry.specs.Setup.{Setup};
 ghost use Rattle.uring_trace.specs.Explaining.{HasTold, HasEnded};
 ghost use Rattle.uring_pictures.specs.Drawings.{Reads};
@@ -11,7 +11,7 @@ use crate::viewer;
 use std::alloc::{AllocError, Global};
 use std::io::{Read, Write};
 use uring_machine::Setup;
-use uring_text::{Calls, TraceFault, read_once, write_all};
+use uring_text::{Calls, TextMemory, TraceFault, read_once, write_all};
 use uring_trace::Explainer;
 
 /// Most bytes that are read at once.
@@ -45,14 +45,41 @@ pub fn page<R: Read, W: Write, E: Write>(
     ensures { IfOk result
         (λ bad. Reads setup.now bad (R.remaining reader.old) (R.remaining reader.new) (E.contents errors.old) (E.contents errors.new)) }
 {
-    let mut explainer = Explainer::new(alloc, setup)?;
-    let drawn = draw_all(alloc, &mut explainer, reader, writer, errors, setup, form);
+    page_in(&alloc, alloc, reader, writer, errors, setup, form)
+}
+
+/// As `page`, by this memory. If it grants whatever is asked for, it never ends with `Memory`.
+pub fn page_in<M: TextMemory, R: Read, W: Write, E: Write>(
+    memory: &M,
+    alloc: Global,
+    reader: &mut R,
+    writer: &mut W,
+    errors: &mut E,
+    setup: &Setup,
+    form: Form,
+) -> Result<bool, TraceFault>
+    ensures lines { IfOk result
+        (λ bad. Reads setup.now bad (R.remaining reader.old) (R.remaining reader.new) (E.contents errors.old) (E.contents errors.new)) }
+    ensures granted { ((n : ℕ) → M.grants memory.now n) → result ≢ Err TraceFault.Memory }
+{
+    let mut explainer = Explainer::new_in(memory, alloc, setup)?;
+    let drawn = draw_all(
+        memory,
+        alloc,
+        &mut explainer,
+        reader,
+        writer,
+        errors,
+        setup,
+        form,
+    );
     drop(explainer);
     drawn
 }
 
 /// Takes in all lines, and writes what they show. Returns whether a line was bad.
-fn draw_all<R: Read, W: Write, E: Write>(
+fn draw_all<M: TextMemory, R: Read, W: Write, E: Write>(
+    memory: &M,
     alloc: Global,
     explainer: &mut Explainer,
     reader: &mut R,
@@ -61,12 +88,14 @@ fn draw_all<R: Read, W: Write, E: Write>(
     setup: &Setup,
     form: Form,
 ) -> Result<bool, TraceFault>
-    ensures { IfOk result
+    ensures lines { IfOk result
         (λ bad. (setup : Setup) → HasTold setup explainer.old [] [] []
         → Reads setup bad (R.remaining reader.old) (R.remaining reader.new) (E.contents errors.old) (E.contents errors.new)) }
+    ensures granted { ((n : ℕ) → M.grants memory.now n) → result ≢ Err TraceFault.Memory }
 {
-    let mut recorder = Recorder::new(alloc, setup)?;
+    let mut recorder = Recorder::new(memory, alloc, setup)?;
     let drawn = watch_and_write(
+        memory,
         explainer,
         &mut recorder,
         reader,
@@ -80,7 +109,8 @@ fn draw_all<R: Read, W: Write, E: Write>(
 }
 
 /// Takes in all lines, and writes what they show. Returns whether a line was bad.
-fn watch_and_write<R: Read, W: Write, E: Write>(
+fn watch_and_write<M: TextMemory, R: Read, W: Write, E: Write>(
+    memory: &M,
     explainer: &mut Explainer,
     recorder: &mut Recorder,
     reader: &mut R,
@@ -89,22 +119,26 @@ fn watch_and_write<R: Read, W: Write, E: Write>(
     alloc: Global,
     form: Form,
 ) -> Result<bool, TraceFault>
-    ensures { IfOk result
+    ensures lines { IfOk result
         (λ bad. (setup : Setup) → HasTold setup explainer.old [] [] []
         → Reads setup bad (R.remaining reader.old) (R.remaining reader.new) (E.contents errors.old) (E.contents errors.new)) }
+    ensures granted { ((n : ℕ) → M.grants memory.now n) → result ≢ Err TraceFault.Memory }
 {
-    let bad = watch_all(alloc, explainer, recorder, reader, errors)?;
-    write_form(recorder, writer, form)?;
+    let bad = watch_all(memory, alloc, explainer, recorder, reader, errors)?;
+    write_form(memory, recorder, writer, form)?;
     Ok(bad)
 }
 
 /// Writes what was recorded.
-pub(crate) fn write_form<W: Write>(
+pub(crate) fn write_form<M: TextMemory, W: Write>(
+    memory: &M,
     recorder: &mut Recorder,
     writer: &mut W,
     form: Form,
-) -> Result<(), TraceFault> {
-    let text = recorder.end()?;
+) -> Result<(), TraceFault>
+    ensures { ((n : ℕ) → M.grants memory.now n) → result ≢ Err TraceFault.Memory }
+{
+    let text = recorder.end(memory)?;
     let mut writes = Calls::new();
     match form {
         Form::Json => write_all(writer, text.as_bytes(), &mut writes),
@@ -117,24 +151,27 @@ pub(crate) fn write_form<W: Write>(
 }
 
 /// Takes in all lines, and writes what is noted of them. Returns whether a line was bad.
-fn watch_all<R: Read, E: Write>(
+fn watch_all<M: TextMemory, R: Read, E: Write>(
+    memory: &M,
     alloc: Global,
     explainer: &mut Explainer,
     recorder: &mut Recorder,
     reader: &mut R,
     errors: &mut E,
 ) -> Result<bool, TraceFault>
-    ensures { IfOk result
+    ensures lines { IfOk result
         (λ bad. (setup : Setup) → HasTold setup explainer.old [] [] []
         → ReadsAll setup bad explainer.new (R.remaining reader.old) (R.remaining reader.new) (E.contents errors.old) (E.contents errors.new)) }
+    ensures granted { ((n : ℕ) → M.grants memory.now n) → result ≢ Err TraceFault.Memory }
 {
     let mut reads = Calls::new();
     let mut writes = Calls::new();
     let mut chunk = [0; CHUNK];
     while !reads.are_over() {
         match read_once(reader, &mut chunk, &mut reads) {
-            Ok(0) => return watch_end(alloc, explainer, recorder, errors, &mut writes),
+            Ok(0) => return watch_end(memory, alloc, explainer, recorder, errors, &mut writes),
             Ok(count) => watch(
+                memory,
                 alloc,
                 explainer,
                 recorder,
@@ -149,7 +186,8 @@ fn watch_all<R: Read, E: Write>(
 }
 
 /// Takes in these bytes, and writes what is noted of the lines that they complete.
-fn watch<E: Write>(
+fn watch<M: TextMemory, E: Write>(
+    memory: &M,
     alloc: Global,
     explainer: &mut Explainer,
     recorder: &mut Recorder,
@@ -157,52 +195,58 @@ fn watch<E: Write>(
     errors: &mut E,
     writes: &mut Calls,
 ) -> Result<(), TraceFault>
-    ensures { OnOk result
+    ensures taken { OnOk result
         (TakesIn explainer.old explainer.new bytes.now (E.contents errors.old) (E.contents errors.new)) }
+    ensures granted { ((n : ℕ) → M.grants memory.now n) → result ≢ Err TraceFault.Memory }
 {
     let mut text = String::new(alloc);
     let mut notes = String::new(alloc);
-    watch_bytes(explainer, recorder, bytes, &mut text, &mut notes)?;
+    watch_bytes(memory, explainer, recorder, bytes, &mut text, &mut notes)?;
     write_all(errors, notes.as_bytes(), writes)
 }
 
 /// Takes in these bytes, and records each line that they complete.
-fn watch_bytes(
+fn watch_bytes<M: TextMemory>(
+    memory: &M,
     explainer: &mut Explainer,
     recorder: &mut Recorder,
     bytes: &[u8],
     text: &mut String,
     notes: &mut String,
 ) -> Result<(), TraceFault>
-    ensures { OnOk result
+    ensures taken { OnOk result
         ((setup : Setup) (before told noted : List ℕ)
         → HasTold setup explainer.old before (told ++ string_bytes text.old) (noted ++ string_bytes notes.old)
         → HasTold setup explainer.new (before ++ bytes.now) (told ++ string_bytes text.new) (noted ++ string_bytes notes.new)) }
+    ensures granted { ((n : ℕ) → M.grants memory.now n) → result ≢ Err TraceFault.Memory }
 {
     for byte in bytes {
-        watch_byte(explainer, recorder, *byte, text, notes)?;
+        watch_byte(memory, explainer, recorder, *byte, text, notes)?;
     }
     Ok(())
 }
 
 /// Takes in one byte, and records the line if it completes one.
-pub(crate) fn watch_byte(
+pub(crate) fn watch_byte<M: TextMemory>(
+    memory: &M,
     explainer: &mut Explainer,
     recorder: &mut Recorder,
     byte: u8,
     text: &mut String,
     notes: &mut String,
 ) -> Result<(), TraceFault>
-    ensures { OnOk result
+    ensures taken { OnOk result
         ((setup : Setup) (before told noted : List ℕ)
         → HasTold setup explainer.old before (told ++ string_bytes text.old) (noted ++ string_bytes notes.old)
         → HasTold setup explainer.new (before ++ byte ∷ []) (told ++ string_bytes text.new) (noted ++ string_bytes notes.new)) }
+    ensures granted { ((n : ℕ) → M.grants memory.now n) → result ≢ Err TraceFault.Memory }
 {
     let (told_before, noted_before) = (text.len(), notes.len());
-    see_byte(explainer, recorder, byte)?;
-    explainer.feed(&[byte], text, notes)?;
+    see_byte(memory, explainer, recorder, byte)?;
+    explainer.feed_in(memory, &[byte], text, notes)?;
     if byte == b'\n' {
         record(
+            memory,
             explainer,
             recorder,
             rest_of(text, told_before),
@@ -213,9 +257,16 @@ pub(crate) fn watch_byte(
 }
 
 /// Keeps a byte of a line, or looks at the machine before the line is answered.
-fn see_byte(explainer: &Explainer, recorder: &mut Recorder, byte: u8) -> Result<(), AllocError> {
+fn see_byte<M: TextMemory>(
+    memory: &M,
+    explainer: &Explainer,
+    recorder: &mut Recorder,
+    byte: u8,
+) -> Result<(), AllocError>
+    ensures { ((n : ℕ) → M.grants memory.now n) → IsOk result }
+{
     if byte == b'\n' {
-        recorder.look(explainer.machine())
+        recorder.look(memory, explainer.machine())
     } else {
         recorder.keep(byte);
         Ok(())
@@ -223,14 +274,17 @@ fn see_byte(explainer: &Explainer, recorder: &mut Recorder, byte: u8) -> Result<
 }
 
 /// Records a line of which this was told and noted.
-fn record(
+fn record<M: TextMemory>(
+    memory: &M,
     explainer: &Explainer,
     recorder: &mut Recorder,
     text: &[u8],
     note: &[u8],
-) -> Result<(), AllocError> {
+) -> Result<(), AllocError>
+    ensures { ((n : ℕ) → M.grants memory.now n) → IsOk result }
+{
     let told = Told { text, note };
-    recorder.end_line(explainer.machine(), told)
+    recorder.end_line(memory, explainer.machine(), told)
 }
 
 /// What a text has from a place on, without the end of its line.
@@ -240,53 +294,65 @@ fn rest_of(text: &str, place: usize) -> &[u8] {
 }
 
 /// Ends the input, and writes what is noted of its last line. Returns whether a line was bad.
-fn watch_end<E: Write>(
+fn watch_end<M: TextMemory, E: Write>(
+    memory: &M,
     alloc: Global,
     explainer: &mut Explainer,
     recorder: &mut Recorder,
     errors: &mut E,
     writes: &mut Calls,
 ) -> Result<bool, TraceFault>
-    ensures { IfOk result
+    ensures ended { IfOk result
         (λ bad. EndsIn bad explainer.old explainer.new (E.contents errors.old) (E.contents errors.new)) }
+    ensures granted { ((n : ℕ) → M.grants memory.now n) → result ≢ Err TraceFault.Memory }
 {
-    watch_last(alloc, explainer, recorder, errors, writes)?;
+    watch_last(memory, alloc, explainer, recorder, errors, writes)?;
     Ok(explainer.has_bad())
 }
 
 /// Ends the input, and writes what is noted of its last line.
-fn watch_last<E: Write>(
+fn watch_last<M: TextMemory, E: Write>(
+    memory: &M,
     alloc: Global,
     explainer: &mut Explainer,
     recorder: &mut Recorder,
     errors: &mut E,
     writes: &mut Calls,
 ) -> Result<(), TraceFault>
-    ensures { OnOk result
+    ensures ended { OnOk result
         (EndsLine explainer.old explainer.new (E.contents errors.old) (E.contents errors.new)) }
+    ensures granted { ((n : ℕ) → M.grants memory.now n) → result ≢ Err TraceFault.Memory }
 {
     let mut text = String::new(alloc);
     let mut notes = String::new(alloc);
-    end_last(explainer, recorder, &mut text, &mut notes)?;
+    end_last(memory, explainer, recorder, &mut text, &mut notes)?;
     write_all(errors, notes.as_bytes(), writes)
 }
 
 /// Ends the input, and records its last line, if that has no end.
-fn end_last(
+fn end_last<M: TextMemory>(
+    memory: &M,
     explainer: &mut Explainer,
     recorder: &mut Recorder,
     text: &mut String,
     notes: &mut String,
 ) -> Result<(), TraceFault>
-    ensures { OnOk result
+    ensures ended { OnOk result
         ((setup : Setup) (before told noted : List ℕ)
         → HasTold setup explainer.old before (told ++ string_bytes text.old) (noted ++ string_bytes notes.old)
         → HasEnded setup explainer.new before (told ++ string_bytes text.new) (noted ++ string_bytes notes.new)) }
+    ensures granted { ((n : ℕ) → M.grants memory.now n) → result ≢ Err TraceFault.Memory }
 {
-    recorder.look(explainer.machine())?;
-    explainer.finish(text, notes)?;
+    recorder.look(memory, explainer.machine())?;
+    explainer.finish_in(memory, text, notes)?;
     if !recorder.is_empty() {
-        record(explainer, recorder, rest_of(text, 0), rest_of(notes, 0))?;
+        record(
+            memory,
+            explainer,
+            recorder,
+            rest_of(text, 0),
+            rest_of(notes, 0),
+        )?;
     }
     Ok(())
 }

@@ -7,17 +7,17 @@ use Rattle.uring_page.proofs.watching.watch_all.Goals as goal
 pub loop-alloc-init : goal.loop-alloc-init
 loop-alloc-init g c = λ setup h. far_start setup _ _ c.args.explainer.now h
 
-pub returns-in-Ok-eq0 : goal.returns-in-Ok-eq0
-returns-in-Ok-eq0 g c =
+pub returns-in-Ok-eq0-clause-lines : goal.returns-in-Ok-eq0-clause-lines
+returns-in-Ok-eq0-clause-lines g c =
     let none_is : c.in-Ok-eq0.field-0 ≡ 0 = search rules in
     let read : Consumes (g.R.Read.remaining c.loop-alloc.reader) (g.R.Read.remaining c.read_once.new.reader) [] =
     subst (λ (n : ℕ). Consumes (g.R.Read.remaining c.loop-alloc.reader) (g.R.Read.remaining c.read_once.new.reader) (take n c.read_once.new.buf)) none_is c.in-Ok-eq0.ensures.bytes.0 in
     IfOk-weaker c.watch_end.result _ _
     (λ bad ends setup h. far_end setup bad _ _ _ _ _ _ c.loop-alloc.explainer c.watch_end.new.explainer read (c.in-Ok-eq0.ensures.bytes.1 none_is (search rules)) ends (c.loop-alloc.invariant setup h))
-    c.watch_end.ensures
+    c.watch_end.ensures.ended
 
 pub loop-alloc-preserved-in-Continue-1 : goal.loop-alloc-preserved-in-Continue-1
-loop-alloc-preserved-in-Continue-1 g c = λ setup h. far_on setup _ _ _ _ _ _ c.loop-alloc.explainer c.watch.new.explainer _ c.in-Ok.ensures.bytes.0 c.in_ok-watch-in-Ok.ensures (c.loop-alloc.invariant setup h)
+loop-alloc-preserved-in-Continue-1 g c = λ setup h. far_on setup _ _ _ _ _ _ c.loop-alloc.explainer c.watch.new.explainer _ c.in-Ok.ensures.bytes.0 c.in_ok-watch-in-Ok.ensures.taken (c.loop-alloc.invariant setup h)
 
 pub loop-alloc-preserved : goal.loop-alloc-preserved
 loop-alloc-preserved g c = λ setup h. far_again setup _ _ _ _ _ c.loop-alloc.explainer c.in-Err.ensures.bytes (c.loop-alloc.invariant setup h)

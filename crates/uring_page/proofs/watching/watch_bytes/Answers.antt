@@ -1,14 +1,19 @@
-use Rattle.std.proofs.Common.{◌≡◌, ◌<◌, ◌+◌, ℕ, List, [], ◌∷◌, ◌++◌, length, take, get_or, sym, ap, subst, ◌∙◌, append_assoc, rules}
-use Rattle.std.proofs.lemmas.List.{take_more}
+use Rattle.std.proofs.Common.{◌≡◌, ◌<◌, ◌+◌, ℕ, List, [], ◌∷◌, ◌++◌, length, take, get_or, sym, ap, subst, ◌∙◌, append_assoc, arith, rules}
+use Rattle.std.proofs.lemmas.List.{take_all, take_more}
 use Rattle.std.specs.Prelude.{string_bytes}
 use Rattle.uring_trace.specs.Explaining.{HasTold}
 use Rattle.uring_page.proofs.watching.watch_bytes.Goals as goal
 
 pub loop-byte-preserved : goal.loop-byte-preserved
-loop-byte-preserved c = λ setup before told noted h.
+loop-byte-preserved g c = λ setup before told noted h.
     let bytes : List ℕ = c.args.bytes.now in
     let i : ℕ = c.loop-byte.byte-index in
-    let more = c.in_ok-watch_byte.ensures setup (before ++ take i bytes) told noted (c.loop-byte.invariant setup before told noted h) in
+    let more = c.in_ok-watch_byte.ensures.taken setup (before ++ take i bytes) told noted (c.loop-byte.invariant setup before told noted h) in
     let lt : i < length bytes = search rules in
     let next : take (i + 1) bytes ≡ take i bytes ++ get_or bytes i 0 ∷ [] = take_more bytes i 0 lt in
     subst (λ (l : List ℕ). HasTold setup c.watch_byte.new.explainer l (told ++ string_bytes c.watch_byte.new.text) (noted ++ string_bytes c.watch_byte.new.notes)) (append_assoc before (take i bytes) (get_or bytes i 0 ∷ []) ∙ ap (λ (l : List ℕ). before ++ l) (sym next)) more
+
+pub returns-clause-taken : goal.returns-clause-taken
+returns-clause-taken g c = λ setup before told noted h.
+    let whole : take c.loop-byte.byte-index c.args.bytes.now ≡ c.args.bytes.now = take_all c.loop-byte.byte-index c.args.bytes.now (omega (arith, c.loop-byte-test.false)) in
+    rw whole at (c.loop-byte.invariant setup before told noted h)

@@ -1,0 +1,10 @@
+use Rattle.std.proofs.Common.{length, ap, ◌∙◌}
+use Rattle.std.proofs.lemmas.List.{length-map}
+use Rattle.uring_c.specs.AnswerForm.{words_of}
+use Rattle.uring_c.specs.Places.{core_in}
+use Rattle.uring_c.proofs.Refusals.{submit_granted}
+use Rattle.uring_c.proofs.whole_call_memory.core_submit_in.Goals as goal
+
+pub returns-clause-unrefused : goal.returns-clause-unrefused
+returns-clause-unrefused g c = λ done.
+    submit_granted (g.M.Memory.grants c.args.memory.now) (core_in c.args.place.now) (core_in c.submit_in-made.new.self) c.deref.result.now (length c.args.entries.now) (ap length (c.deref.ensures.value ∙ c.in-Ok.ensures.entries) ∙ length-map _ _) c.submit_in-made.result _ (c.answer_words.ensures ∙ ap words_of c.submit_told.ensures) c.submit_in-made.ensures.made c.submit_in-made.ensures.granted
