@@ -4,11 +4,13 @@ ghost use Rattle.std.specs.Prelude.{◌<◌};
 
 use crate::fault::Fault;
 use crate::outlet::Outlet;
-use crate::{status_behind, unless_closed};
+use crate::paged::read_trace;
+use crate::{BAD_LINE, status_behind, unless_closed};
 use std::alloc::{AllocError, Global};
-use std::io::Write;
+use std::io::{Read, Write};
 use uring_crash::{Asked, Question, Reply, TraceFault, ask, crash};
 use uring_options::Setup;
+use uring_text::{push_number, push_text};
 
 /// The exit status if all went well.
 const DONE: u8 = 0;
@@ -18,9 +20,6 @@ const NOT_SO: u8 = 1;
 
 /// The exit status if there are more images than may be listed.
 const UNKNOWN: u8 = 3;
-
-/// The exit status if a line was bad.
-const BAD_LINE: u8 = 4;
 
 /// How many images are listed if the command line doesn't say.
 const DEFAULT_MOST: u32 = 1_000;
@@ -72,7 +71,7 @@ pub(crate) fn asked_of(file: u32, unit: u32, at: Option<u32>, seed: Option<u32>)
     }
 }
 
-/// What a crash behind the trace that standard input has leaves of a file, or what is asked of all images.
+/// What a crash behind the trace that standard input has leaves of a file, or what is asked of all images; with `is_each` behind each line in turn.
 pub(crate) fn run_crash(
     rt: &HostRuntime,
     setup: &Setup,
@@ -80,6 +79,7 @@ pub(crate) fn run_crash(
     asked: &Asked,
     kind: Kind,
     most: Option<u32>,
+    is_each: bool,
     words: &[&str],
 ) -> Result<u8, Fault>
     requires { 0 < asked.now.unit }
@@ -88,27 +88,142 @@ pub(crate) fn run_crash(
         return Err(Fault::NoFile(file, setup.files()));
     }
     let most = most.unwrap_or(DEFAULT_MOST);
+    let question = question_of(rt.alloc(), kind, most, words)?;
+    let told = if is_each {
+        run_each(rt, setup, asked, &question, most)
+    } else {
+        run_once(rt, &mut rt.stdin(), setup, asked, &question, most)
+    };
+    drop(question);
+    told
+}
+
+/// The question of all images that is asked, if one is.
+fn question_of(
+    alloc: Global,
+    kind: Kind,
+    most: u32,
+    words: &[&str],
+) -> Result<Option<Question>, Fault> {
     match kind {
-        Kind::One => run_one(rt, setup, asked),
-        Kind::Count => run_question(rt, setup, asked, &Question::Count, most),
-        Kind::All => run_question(rt, setup, asked, &Question::All { most }, most),
-        Kind::Holds => {
-            let question = wanted(rt.alloc(), words, most)?;
-            let told = run_question(rt, setup, asked, &question, most);
-            drop(question);
-            told
+        Kind::One => Ok(None),
+        Kind::Count => Ok(Some(Question::Count)),
+        Kind::All => Ok(Some(Question::All { most })),
+        Kind::Holds => Ok(Some(wanted(alloc, words, most)?)),
+    }
+}
+
+/// Answers behind each line of the trace that standard input has, up to that of the crash.
+fn run_each(
+    rt: &HostRuntime,
+    setup: &Setup,
+    asked: &Asked,
+    question: &Option<Question>,
+    most: u32,
+) -> Result<u8, Fault>
+    requires { 0 < asked.now.unit }
+{
+    let trace = read_trace(rt.alloc(), &mut rt.stdin())?;
+    let told = tell_each(rt, trace.as_slice(), setup, asked, question, most);
+    drop(trace);
+    told
+}
+
+/// Answers behind each line of a trace, below a line with its number, up to the first bad one. The status is that of the last.
+fn tell_each(
+    rt: &HostRuntime,
+    trace: &[u8],
+    setup: &Setup,
+    asked: &Asked,
+    question: &Option<Question>,
+    most: u32,
+) -> Result<u8, Fault>
+    requires { 0 < asked.now.unit }
+{
+    let mut status = DONE;
+    for before in 0..count_lines(trace).min(asked.lines) {
+        let behind = Asked {
+            fd: asked.fd,
+            unit: asked.unit,
+            lines: before + 1,
+            seed: asked.seed,
+        };
+        write_head(rt, behind.lines)?;
+        let mut input = trace;
+        status = run_once(rt, &mut input, setup, &behind, question, most)?;
+        if status == BAD_LINE {
+            return Ok(status);
         }
+    }
+    Ok(status)
+}
+
+/// How many lines a text has. What stands behind the last end counts as one.
+fn count_lines(text: &[u8]) -> u64 {
+    let mut count = 0u64;
+    let mut is_ended = true;
+    for byte in text {
+        if is_ended {
+            count = count.saturating_add(1);
+        }
+        is_ended = *byte == b'\n';
+    }
+    count
+}
+
+/// Writes the line that stands above an answer.
+fn write_head(rt: &HostRuntime, line: u64) -> Result<(), Fault> {
+    let Ok(head) = head_of(rt.alloc(), line) else {
+        return Err(Fault::Trace(TraceFault::Memory));
+    };
+    let mut output = Outlet::new(rt.stdout());
+    let written = match output.write_all(head.as_bytes()) {
+        Ok(()) => Ok(()),
+        Err(_) => Err(TraceFault::Write),
+    };
+    drop(head);
+    unless_closed(&output, written)
+}
+
+/// The line that stands above the answer behind this line.
+fn head_of(alloc: Global, line: u64) -> Result<String, AllocError> {
+    let mut head = String::new(alloc);
+    push_text(&alloc, &mut head, "behind line ")?;
+    push_number(&alloc, &mut head, line)?;
+    push_text(&alloc, &mut head, ":\n")?;
+    Ok(head)
+}
+
+/// What is asked behind the lines of a trace that count.
+fn run_once<R: Read>(
+    rt: &HostRuntime,
+    input: &mut R,
+    setup: &Setup,
+    asked: &Asked,
+    question: &Option<Question>,
+    most: u32,
+) -> Result<u8, Fault>
+    requires { 0 < asked.now.unit }
+{
+    match question {
+        Some(question) => run_question(rt, input, setup, asked, question, most),
+        None => run_one(rt, input, setup, asked),
     }
 }
 
 /// What a crash leaves.
-fn run_one(rt: &HostRuntime, setup: &Setup, asked: &Asked) -> Result<u8, Fault>
+fn run_one<R: Read>(
+    rt: &HostRuntime,
+    input: &mut R,
+    setup: &Setup,
+    asked: &Asked,
+) -> Result<u8, Fault>
     requires { 0 < asked.now.unit }
 {
-    let (mut input, mut output) = (rt.stdin(), Outlet::new(rt.stdout()));
+    let mut output = Outlet::new(rt.stdout());
     let left = crash(
         rt.alloc(),
-        &mut input,
+        input,
         &mut output,
         &mut rt.stderr(),
         setup,
@@ -118,8 +233,9 @@ fn run_one(rt: &HostRuntime, setup: &Setup, asked: &Asked) -> Result<u8, Fault>
 }
 
 /// What is asked of all images.
-fn run_question(
+fn run_question<R: Read>(
     rt: &HostRuntime,
+    input: &mut R,
     setup: &Setup,
     asked: &Asked,
     question: &Question,
@@ -127,10 +243,10 @@ fn run_question(
 ) -> Result<u8, Fault>
     requires { 0 < asked.now.unit }
 {
-    let (mut input, mut output) = (rt.stdin(), Outlet::new(rt.stdout()));
+    let mut output = Outlet::new(rt.stdout());
     let replied = ask(
         rt.alloc(),
-        &mut input,
+        input,
         &mut output,
         &mut rt.stderr(),
         setup,

@@ -141,10 +141,11 @@ fn run_words<R: Threads + Wait + Copy + Send + 'static>(
             is_all,
             most,
             is_holds,
+            is_each,
         } => {
             let asked = asked_of(file, unit, at, seed);
             let kind = kind_of(is_count, is_all, is_holds);
-            run_crash(rt, &setup, file, &asked, kind, most, lines)
+            run_crash(rt, &setup, file, &asked, kind, most, is_each, lines)
         }
         Options::Fill { setup, most } => run_fill(rt, &setup, most),
         Options::Outcomes {

@@ -57,7 +57,7 @@ own_options Plays = number (codes "workers") 1 8 ∷ flag (codes "shared") ∷ [
 own_options Crashes = flag (codes "stop") ∷ number (codes "file") 0 63
     ∷ number (codes "unit") 1 65536 ∷ number (codes "at") 0 4294967295
     ∷ number (codes "seed") 0 4294967295 ∷ flag (codes "count") ∷ flag (codes "all")
-    ∷ number (codes "most") 1 4294967295 ∷ flag (codes "holds") ∷ []
+    ∷ number (codes "most") 1 4294967295 ∷ flag (codes "holds") ∷ flag (codes "each") ∷ []
 own_options Lists = flag (codes "results") ∷ flag (codes "contents")
     ∷ number (codes "most") 1 4294967295 ∷ number (codes "explain") 1 4294967295
     ∷ flag (codes "never") ∷ flag (codes "always") ∷ []
@@ -241,12 +241,13 @@ IsRunOver run rows n (Play s workers) =
     (run ≡ Plays) × IsSetupOver n s × AreWorkers rows workers × IsGiven rows (codes "shared") false
 IsRunOver run rows n (Shared s workers) =
     (run ≡ Plays) × IsSetupOver n s × AreWorkers rows workers × IsGiven rows (codes "shared") true
-IsRunOver run rows n (Crash s file unit at seed is_count is_all most is_holds) =
+IsRunOver run rows n (Crash s file unit at seed is_count is_all most is_holds is_each) =
     (run ≡ Crashes) × IsTracedOver rows n s
     × IsNumberOr rows (codes "file") 0 63 0 file × IsNumberOr rows (codes "unit") 1 65536 1 unit
     × Gives rows (codes "at") at × Gives rows (codes "seed") seed
     × IsGiven rows (codes "count") is_count × IsGiven rows (codes "all") is_all
     × Gives rows (codes "most") most × IsGiven rows (codes "holds") is_holds
+    × IsGiven rows (codes "each") is_each
 IsRunOver run rows n (Outcomes s is_sorted has_files most line is_never is_always) =
     (run ≡ Lists) × IsSetupOver n s
     × IsGiven rows (codes "results") is_sorted × IsGiven rows (codes "contents") has_files

@@ -80,6 +80,8 @@ pub enum Options {
         most: Option<u32>,
         /// Whether it is asked if each has some bytes (`--holds`).
         is_holds: bool,
+        /// Whether it is asked behind each line (`--each`).
+        is_each: bool,
     },
 
     /// `uring outcomes`: what calls may come to over this set-up.

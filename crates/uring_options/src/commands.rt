@@ -180,6 +180,12 @@ const HOLDS: OptionRow = OptionRow {
     numbers: None,
 };
 
+const EACH: OptionRow = OptionRow {
+    id: "each",
+    help: "Write it behind each line in turn, up to that of --at",
+    numbers: None,
+};
+
 const RESULTS: OptionRow = OptionRow {
     id: "results",
     help: "Sort the completions of each outcome by user data, and say how many orders it has",
@@ -263,6 +269,7 @@ static CRASH: CommandRow = CommandRow {
     after_help: IMAGES,
     options: &[
         SQ, CQ, FILES, START, STOP, FILE, UNIT, AT, SEED, COUNT, LIST, LISTED, HOLDS,
+        EACH,
     ],
 };
 

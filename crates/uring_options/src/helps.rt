@@ -165,6 +165,10 @@ With one of these another thing is written; of several the first listed counts:
                  not kept at OFFSET: HEX, an image that hasn't, and its writes,
                  and the status is 1
 
+With --each it is written behind each line in turn, below a line
+  behind line K:
+and the status is that of the last. Each is found anew, from the first line on.
+
 A bad line is told on standard error with its number, and nothing is written;
 the status is then 4. It is 2 if there is no such file.";
 

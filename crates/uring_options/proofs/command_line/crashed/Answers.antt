@@ -7,4 +7,4 @@ returns c =
     let at = c.given_number-at.ensures 0 4294967295 (omega arith) c.requires.1.1.1.1.0 in
     let seed = c.given_number-seed.ensures 0 4294967295 (omega arith) c.requires.1.1.1.1.1.0 in
     let most = c.given_number-most.ensures 1 4294967295 (omega arith) c.requires.1.1.1.1.1.1.1.1.0 in
-    (over.0, over.1, (refl, over.2, c.file_of-file.ensures, c.unit_of-unit.ensures, at.0, seed.0, c.is_given-is_count.ensures, c.is_given-is_all.ensures, most.0, c.is_given-is_holds.ensures))
+    (over.0, over.1, (refl, over.2, c.file_of-file.ensures, c.unit_of-unit.ensures, at.0, seed.0, c.is_given-is_count.ensures, c.is_given-is_all.ensures, most.0, c.is_given-is_holds.ensures, c.is_given-is_each.ensures))
