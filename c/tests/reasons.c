@@ -1,5 +1,6 @@
 /* Why requests stand as they do: each case, each doom, each reason to wait and each fault, by its name in the header, of a core
- * and of a machine. And that a function that makes an entry leaves nothing of what the words held before. */
+ * and of a machine. And that a function that makes an entry leaves nothing of what the words held before, and that a write has its
+ * bytes. */
 #include "wulgach.h"
 
 #include <stdio.h>
@@ -197,12 +198,27 @@ static void made_over(void)
     }
 }
 
+/* The bytes of a write stand in its last eight words, eight in each, the first in the lowest byte of the first; behind them are zeros. */
+static void bytes_of_writes(void)
+{
+    uint8_t bytes[64];
+    for (int i = 0; i < 64; i++)
+        bytes[i] = (uint8_t)(i + 1);
+    for (uint32_t len = 0; len <= 64; len++) {
+        uint64_t entry[16];
+        wulgach_write(entry, 7, 0, 1, 100, bytes, len);
+        for (uint32_t i = 0; i < 64; i++)
+            check((uint8_t)(entry[8 + i / 8] >> i % 8 * 8) == (i < len ? bytes[i] : 0), "a byte of a write");
+    }
+}
+
 int main(void)
 {
     faults();
     dooms();
     waits();
     made_over();
+    bytes_of_writes();
     printf("reasons: as they should be\n");
     return 0;
 }
