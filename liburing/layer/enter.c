@@ -8,6 +8,7 @@
 #include "enrolling.h"
 #include "fault.h"
 #include "outlook.h"
+#include "pipes.h"
 #include "policy.h"
 #include "progress.h"
 #include "readiness.h"
@@ -125,8 +126,10 @@ static enum wulgach_reply_kind go_on_fully(struct ring *ring)
 
 static enum wulgach_reply_kind sleep_on(struct ring *ring, const struct waiting *waiting, struct wulgach_reply *reply)
 {
+    watch_pipes(ring);
     show_readiness(ring);
     int result = wait_for_any(ring, &waiting->deadline, &waiting->signals);
+    hear_pipes(ring);
     switch (result) {
     case 0:
         return WULGACH_WOKEN;
@@ -213,9 +216,11 @@ static int enter_ring(struct ring *ring, uint32_t flags, struct waiting *waiting
         return -EEXIST;
     ring->call_number++;
     ring->moment++;
+    hear_pipes(ring);
     pass_real_time(ring);
     int result = carry_call_out(ring, waiting, flags);
     hold_files(ring);
+    watch_pipes(ring);
     show_readiness(ring);
     show(ring);
     return result;
