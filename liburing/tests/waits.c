@@ -212,6 +212,38 @@ static void test_come_and_gone(void)
     close_ring(&ring);
 }
 
+/* One that starts behind a write and a read of its pipe isn't told of them, though another was running before. */
+static void test_gone_before(void)
+{
+    struct ring ring;
+    char byte = 'b';
+    int ends[2];
+    bool is_seen[4] = {false};
+    check(pipe(ends) == 0);
+    make_ring(&ring, 8, 0, 0);
+    put_poll(&ring, 0, ends[0], 0);
+    check(enter(&ring, 1, 0, 0) == 1);
+    check(enter_for(&ring, 1, 1000) == -ETIME);
+    put_transfer(&ring, IORING_OP_WRITE, 1, IOSQE_IO_LINK, ends[1], &byte, 1, 0);
+    put_transfer(&ring, IORING_OP_READ, 2, IOSQE_IO_LINK, ends[0], &byte, 1, 0);
+    put_poll(&ring, 3, ends[0], 0);
+    check(enter(&ring, 3, 0, 0) == 3);
+    while (!is_seen[1] || !is_seen[2])
+        is_seen[next_of(&ring).user_data] = true;
+    for (int i = 0; i < 3; i++) {
+        enter_for(&ring, 1, 1000);
+        if (count_ready(&ring) > 0)
+            is_seen[next_of(&ring).user_data] = true;
+    }
+    check(!is_seen[3]);
+    check(write(ends[1], "b", 1) == 1);
+    while (!is_seen[0] || !is_seen[3])
+        is_seen[next_of(&ring).user_data] = true;
+    close(ends[0]);
+    close(ends[1]);
+    close_ring(&ring);
+}
+
 static void test_events_in_choices(void)
 {
     int ends[2];
@@ -298,6 +330,7 @@ int main(int count, char **words)
         {"cancels", test_cancels},
         {"polls", test_polls},
         {"come and gone", test_come_and_gone},
+        {"gone before", test_gone_before},
         {"events in choices", test_events_in_choices},
         {"wrong end", test_wrong_end},
         {"splice", test_splice},
