@@ -126,7 +126,8 @@ static enum wulgach_reply_kind go_on_fully(struct ring *ring)
 
 static enum wulgach_reply_kind sleep_on(struct ring *ring, const struct waiting *waiting, struct wulgach_reply *reply)
 {
-    watch_pipes(ring);
+    if (watch_pipes(ring))
+        return WULGACH_WOKEN;
     show_readiness(ring);
     int result = wait_for_any(ring, &waiting->deadline, &waiting->signals);
     hear_pipes(ring);

@@ -117,8 +117,8 @@ static void drop_watches(struct ring *ring)
     pipes->count = kept;
 }
 
-/* What was written while nobody looked: the first watcher says whether it is there still. */
-static void tell_of_write(struct ring *ring, int watch)
+/* What was written while nobody looked: the first watcher says whether it is there still. Returns whether it is gone. */
+static bool tell_of_write(struct ring *ring, int watch)
 {
     bool is_known = false, is_gone = false;
     for (size_t i = 0; i < ring->running.count; i++) {
@@ -133,34 +133,39 @@ static void tell_of_write(struct ring *ring, int watch)
         request->has_to_wait &= !is_gone;
     }
     ring->moment += is_gone;
+    return is_gone;
 }
 
-/* Reads the writes that were told since they were last read, and passes them on, or drops them. */
-static void read_writes(struct ring *ring, bool is_dropping)
+/* Reads the writes that were told since they were last read, and passes them on, or drops them. Returns whether a poll was told. */
+static bool read_writes(struct ring *ring, bool is_dropping)
 {
     _Alignas(struct inotify_event) char events[4096];
     ssize_t length;
+    bool is_told = false;
     while ((length = read(ring->pipes.inotify, events, sizeof events)) > 0) {
         for (ssize_t at = 0; at < length;) {
             const struct inotify_event *event = (const void *)(events + at);
             if (!is_dropping && event->mask & IN_MODIFY)
-                tell_of_write(ring, event->wd);
+                is_told |= tell_of_write(ring, event->wd);
             at += (ssize_t)(sizeof *event + event->len);
         }
     }
+    return is_told;
 }
 
-void watch_pipes(struct ring *ring)
+/* What the ring's own requests have written and read since isn't told: in which order they go on is the policy's choice. */
+bool watch_pipes(struct ring *ring)
 {
     add_watches(ring);
     if (ring->pipes.count == 0)
-        return;
+        return false;
     drop_watches(ring);
-    read_writes(ring, true);
+    return read_writes(ring, ring->moment != ring->pipes.heard_at);
 }
 
 void hear_pipes(struct ring *ring)
 {
     if (ring->pipes.count > 0)
         read_writes(ring, false);
+    ring->pipes.heard_at = ring->moment;
 }

@@ -134,11 +134,13 @@ static void test_pipe(void)
 }
 
 /* What a pipe had while nobody called makes the descriptor readable too, and wakes a thread that sleeps in a call. */
+static unsigned later;
+
 static void *write_and_read_later(void *of)
 {
     const int *ends = of;
     char byte;
-    usleep(20000);
+    usleep(later);
     check(write(ends[1], "x", 1) == 1 && read(ends[0], &byte, 1) == 1);
     return NULL;
 }
@@ -150,7 +152,9 @@ static void test_come_and_gone(void)
     int ends[2];
     check(pipe(ends) == 0);
     make_ring(&ring, 4, 0, 0);
-    for (int is_asleep = 0; is_asleep < 2; is_asleep++) {
+    for (unsigned round = 0; round < 60; round++) {
+        bool is_asleep = round % 2;
+        later = round < 4 ? 20000 : round * 7 % 50;
         struct io_uring_sqe *entry = put(&ring, IORING_OP_POLL_ADD, 0, 0);
         entry->fd = ends[0];
         entry->poll32_events = POLLIN;
