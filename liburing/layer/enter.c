@@ -8,6 +8,7 @@
 #include "enrolling.h"
 #include "fault.h"
 #include "outlook.h"
+#include "pipes.h"
 #include "policy.h"
 #include "progress.h"
 #include "readiness.h"
@@ -125,8 +126,11 @@ static enum wulgach_reply_kind go_on_fully(struct ring *ring)
 
 static enum wulgach_reply_kind sleep_on(struct ring *ring, const struct waiting *waiting, struct wulgach_reply *reply)
 {
+    if (watch_pipes(ring))
+        return WULGACH_WOKEN;
     show_readiness(ring);
     int result = wait_for_any(ring, &waiting->deadline, &waiting->signals);
+    hear_pipes(ring);
     switch (result) {
     case 0:
         return WULGACH_WOKEN;
@@ -213,9 +217,11 @@ static int enter_ring(struct ring *ring, uint32_t flags, struct waiting *waiting
         return -EEXIST;
     ring->call_number++;
     ring->moment++;
+    hear_pipes(ring);
     pass_real_time(ring);
     int result = carry_call_out(ring, waiting, flags);
     hold_files(ring);
+    watch_pipes(ring);
     show_readiness(ring);
     show(ring);
     return result;
@@ -223,7 +229,15 @@ static int enter_ring(struct ring *ring, uint32_t flags, struct waiting *waiting
 
 enum { SERVED_FLAGS = IORING_ENTER_GETEVENTS | IORING_ENTER_SQ_WAKEUP | IORING_ENTER_SQ_WAIT | IORING_ENTER_EXT_ARG | IORING_ENTER_REGISTERED_RING };
 
-int enter(int fd, uint32_t to_submit, uint32_t min_complete, uint32_t flags, const void *argument, size_t size)
+/* Operations are carried out in the call, where the kernel's would be out of a signal's reach. */
+static void block_signals(sigset_t *before)
+{
+    sigset_t all;
+    sigfillset(&all);
+    pthread_sigmask(SIG_BLOCK, &all, before);
+}
+
+int enter(int fd, uint32_t to_submit, uint32_t min_complete, uint32_t flags, const void *argument, size_t size, const sigset_t *signals)
 {
     if (flags & ~(uint32_t)SERVED_FLAGS)
         return -EINVAL;
@@ -234,15 +248,16 @@ int enter(int fd, uint32_t to_submit, uint32_t min_complete, uint32_t flags, con
         return fcntl(fd, F_GETFD) < 0 ? -EBADF : -EOPNOTSUPP;
     ring->called_fd = fd;
     struct waiting waiting = {.to_submit = to_submit, .min_complete = min_complete, .is_looking = flags & IORING_ENTER_GETEVENTS && min_complete == 0};
-    sigset_t all;
-    sigfillset(&all);
-    /* Operations are carried out here, where the kernel's would be out of a signal's reach. */
-    pthread_sigmask(SIG_BLOCK, &all, &waiting.signals);
+    if (signals)
+        waiting.signals = *signals;
+    else
+        block_signals(&waiting.signals);
     sigset_t own = waiting.signals;
     int result = read_waiting(&waiting, flags, argument, size);
     if (result == 0)
         result = enter_ring(ring, flags, &waiting);
     unlock_ring(ring);
-    pthread_sigmask(SIG_SETMASK, &own, NULL);
+    if (!signals)
+        pthread_sigmask(SIG_SETMASK, &own, NULL);
     return result;
 }

@@ -5,6 +5,7 @@
 #ifndef ENTER_H
 #define ENTER_H
 
+#include <signal.h>
 #include <stdbool.h>
 #include <stddef.h>
 #include <stdint.h>
@@ -12,7 +13,8 @@
 struct io_uring_params;
 
 int setup(uint32_t entries, struct io_uring_params *params, bool is_polled);
-int enter(int fd, uint32_t to_submit, uint32_t min_complete, uint32_t flags, const void *argument, size_t size);
+/* `signals`: NULL, or all signals are blocked already, and these are what the thread has blocked else. */
+int enter(int fd, uint32_t to_submit, uint32_t min_complete, uint32_t flags, const void *argument, size_t size, const sigset_t *signals);
 int register_at(int fd, uint32_t code, void *argument, uint32_t count);
 
 /* Maps a part of a ring whose descriptor polls; any other file as mmap does. */

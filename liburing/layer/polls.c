@@ -4,6 +4,7 @@
 #define _GNU_SOURCE
 #include "polls.h"
 #include "operations.h"
+#include "pipes.h"
 
 #include <errno.h>
 #include <sys/epoll.h>
@@ -36,6 +37,7 @@ static short events_of(const struct request *request)
 
 int start_poll(struct request *request)
 {
+    request->is_of_pipe = is_poll_of_pipe(request);
     struct epoll_event event = {.events = (uint16_t)events_of(request) | EPOLLET};
     if (!goes_on(request))
         return 0;
@@ -54,7 +56,7 @@ struct pollfd poll_of_poll(const struct request *request)
     return (struct pollfd){.fd = request->fd, .events = events_of(request)};
 }
 
-int32_t take_events(struct request *request)
+static int32_t take_present_events(const struct request *request)
 {
     struct epoll_event event;
     struct pollfd at = {.fd = request->fd, .events = events_of(request)};
@@ -63,4 +65,12 @@ int32_t take_events(struct request *request)
     if (poll(&at, 1, 0) == 0)
         return WOULD_WAIT;
     return at.revents & POLLNVAL ? -EBADF : at.revents;
+}
+
+int32_t take_events(struct request *request)
+{
+    int32_t events = take_present_events(request);
+    bool was_told = request->is_told;
+    request->is_told = false;
+    return events == WOULD_WAIT && was_told ? events_of(request) & (POLLIN | POLLRDNORM) : events;
 }

@@ -1,4 +1,6 @@
-/* The kernel empties a page of the layer's in each child, however that was forked: so a number that stands in it is still
+/* Which process and which thread this is.
+ *
+ * The kernel empties a page of the layer's in each child, however that was forked: so a number that stands in it is still
  * this process's, and needn't be asked for at each call.
  */
 #define _GNU_SOURCE
@@ -34,4 +36,17 @@ pid_t this_process(void)
     if (kept)
         __atomic_store_n(kept, process, __ATOMIC_RELAXED);
     return process;
+}
+
+/* A forked child has the memory of the thread that forked it. */
+pid_t this_thread(void)
+{
+    static __thread struct {
+        pid_t process, thread;
+    } own;
+    if (own.process != this_process()) {
+        own.process = this_process();
+        own.thread = gettid();
+    }
+    return own.thread;
 }

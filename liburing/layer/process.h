@@ -7,4 +7,7 @@
 /* The number of this process, without a system call. In a child of vfork(), which has its parent's memory, its parent's. */
 pid_t this_process(void);
 
+/* The number of this thread, asked for once. In a child of vfork(), its parent's. */
+pid_t this_thread(void);
+
 #endif

@@ -69,6 +69,8 @@ static int by_descriptor(const void *one, const void *other)
 static size_t list_watched(const struct ring *ring, struct watched *watched)
 {
     size_t count = 0, kept = 0;
+    if (ring->pipes.count > 0)
+        watched[count++] = (struct watched){.fd = ring->pipes.inotify, .events = EPOLLIN};
     for (size_t i = 0; i < ring->running.count; i++) {
         const struct request *request = ring->running.rows[i];
         if (!request->is_stream)
@@ -127,7 +129,7 @@ static void watch_streams(struct ring *ring, int fd)
 {
     if (ring->running.count == 0 && ring->watched_count == 0)
         return;
-    struct watched *watched = calloc(ring->running.count + 1, sizeof *watched);
+    struct watched *watched = calloc(ring->running.count + 2, sizeof *watched);
     if (!watched)
         return;
     size_t count = list_watched(ring, watched);

@@ -1,4 +1,5 @@
 /* io_uring_register(2): the probe of operations, registered files, buffers, rings and an eventfd, and restrictions. */
+#define _GNU_SOURCE
 #include "cancels.h"
 #include "copying.h"
 #include "descriptors.h"

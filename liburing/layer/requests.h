@@ -40,6 +40,9 @@ struct request {
     bool is_cancelled;              /* a cancel found it running */
     bool has_fired;                 /* a linked timeout: the request before it was cancelled by it */
     int epoll;                      /* what tells of the events of a poll that goes on; or negative */
+    bool is_of_pipe;                /* a poll for what a pipe has to be read: */
+    int watch;                      /* the number by which writes to that are told, or 0, */
+    bool is_told;                   /* and whether something was written, and is gone */
     /* What the entry points to, copied when it is submitted: the application may reuse it at once. */
     struct iovec *vectors;
     uint32_t vector_count;

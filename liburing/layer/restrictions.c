@@ -2,6 +2,7 @@
 #define _GNU_SOURCE
 #include "restrictions.h"
 #include "copying.h"
+#include "process.h"
 #include "ring.h"
 #include "strict.h"
 
@@ -59,12 +60,12 @@ void note_issuer(struct ring *ring)
 {
     bool is_one = ring->flags & IORING_SETUP_DEFER_TASKRUN || (is_strict() && ring->flags & IORING_SETUP_SINGLE_ISSUER);
     if (is_one && !ring->is_disabled)
-        ring->issuer = gettid();
+        ring->issuer = this_thread();
 }
 
 bool is_of_another(const struct ring *ring)
 {
-    return ring->issuer && ring->issuer != gettid();
+    return ring->issuer && ring->issuer != this_thread();
 }
 
 bool is_submission_of_another(const struct ring *ring, uint32_t to_submit)

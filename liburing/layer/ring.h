@@ -9,6 +9,7 @@
 #include "extras.h"
 #include "files.h"
 #include "memory.h"
+#include "pipes.h"
 #include "requests.h"
 #include "restrictions.h"
 #include "wulgach.h"
@@ -64,6 +65,7 @@ struct ring {
     struct files files;                 /* registered */
     struct buffers buffers;
     struct group *groups;               /* of provided buffers */
+    struct pipes pipes;                 /* that polls wait for */
     struct inbox inbox;
     uint32_t head;                      /* the submission ring's, as the application was told it */
     uint32_t own_positions;             /* how many positions of the core's submission ring were the layer's own */

@@ -62,6 +62,7 @@ void free_ring(struct ring *ring)
     free_completions(&ring->completions);
     free_memory(&ring->memory);
     free_polled(ring);
+    free_pipes(&ring->pipes);
     free_files(ring);
     unregister_buffers(ring);
     free_groups(ring);
@@ -136,6 +137,7 @@ static int make_ring(struct ring **made, uint32_t entries, struct io_uring_param
     pthread_mutex_init(&ring->lock, NULL);
     make_inbox(&ring->inbox);
     make_files(&ring->files);
+    make_pipes(&ring->pipes);
     wulgach_shown_begin(&ring->completions.at);
     ring->ready_fd = -1;
     ring->eventfd = -1;

@@ -73,7 +73,7 @@ static int poll_unlocked(struct ring *ring, struct pollfd *polled, nfds_t count,
 
 int sleep_until(struct ring *ring, const struct wulgach_limit *until, const sigset_t *signals)
 {
-    struct pollfd *polled = calloc(ring->running.count + 1, sizeof *polled);
+    struct pollfd *polled = calloc(ring->running.count + 2, sizeof *polled);
     if (!polled)
         return -ENOMEM;
     wake_sleepers(ring);
@@ -81,6 +81,8 @@ int sleep_until(struct ring *ring, const struct wulgach_limit *until, const sigs
     ring->sleepers = &self;
     nfds_t count = list_streams(ring, polled);
     polled[count++] = (struct pollfd){.fd = self.wake, .events = POLLIN};
+    if (ring->pipes.count > 0)
+        polled[count++] = (struct pollfd){.fd = ring->pipes.inotify, .events = POLLIN};
     struct wulgach_limit limit = {.at = wulgach_time_left(until->at, ring->times.time), .is_set = until->is_set};
     bool is_nap = self.wake < 0 && (!limit.is_set || limit.at > NAP);
     if (is_nap)

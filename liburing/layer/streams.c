@@ -60,6 +60,8 @@ static void look_at_all(struct ring *ring)
 
 bool is_found_ready(struct ring *ring, struct request *request)
 {
+    if (request->is_told)
+        return true;
     if (request->looked_at != ring->moment && ring->running.count > 1)
         look_at_all(ring);
     if (request->looked_at != ring->moment)

@@ -32,6 +32,7 @@
 #include <unistd.h>
 
 long wulgach_polled_syscall(long call, ...);
+long wulgach_blocked_enter(const long words[6], const sigset_t *signals);
 void *wulgach_mmap(void *at, size_t size, int protection, int flags, int fd, off_t offset);
 
 /* The code of a SIGSYS that a filter raised: the kernel's header has it as SYS_SECCOMP, and can't stand beside the C
@@ -84,14 +85,28 @@ static long call_layer(long call, const long words[6])
     return result;
 }
 
-/* The result of a trapped call. */
-static long serve(long call, const greg_t *registers)
+/* The mask that the thread had when it was trapped. The kernel's set is 64 bits. */
+static sigset_t mask_of(const ucontext_t *at)
 {
+    sigset_t mask;
+    sigemptyset(&mask);
+    memcpy(&mask, &at->uc_sigmask, sizeof(uint64_t));
+    return mask;
+}
+
+/* The result of a trapped call. The return from the handler puts the thread's mask back: so one of enter, which wants all signals
+ * blocked, takes no call for that; the others have the thread's mask. */
+static long serve(long call, const ucontext_t *at)
+{
+    const greg_t *registers = at->uc_mcontext.gregs;
     const long words[6] = {registers[REG_RDI], registers[REG_RSI], registers[REG_RDX], registers[REG_R10], registers[REG_R8], registers[REG_R9]};
+    const sigset_t mask = mask_of(at);
     long result;
+    if (call == SYS_io_uring_enter)
+        return wulgach_blocked_enter(words, &mask);
+    real_sigmask(SIG_SETMASK, &mask, NULL);
     switch (call) {
     case SYS_io_uring_setup:
-    case SYS_io_uring_enter:
     case SYS_io_uring_register:
         return call_layer(call, words);
     case SYS_mmap:
@@ -115,7 +130,7 @@ static void serve_trapped(void *argument)
 {
     const struct trapped *trapped = argument;
     greg_t *registers = trapped->at->uc_mcontext.gregs;
-    registers[REG_RAX] = serve(trapped->call, registers);
+    registers[REG_RAX] = serve(trapped->call, trapped->at);
 }
 
 static void answer(int number, siginfo_t *info, void *context)

@@ -133,6 +133,50 @@ static void test_pipe(void)
     close_ring(&ring);
 }
 
+/* What a pipe had while nobody called makes the descriptor readable too, and wakes a thread that sleeps in a call. */
+static unsigned later;
+
+static void *write_and_read_later(void *of)
+{
+    const int *ends = of;
+    char byte;
+    usleep(later);
+    check(write(ends[1], "x", 1) == 1 && read(ends[0], &byte, 1) == 1);
+    return NULL;
+}
+
+static void test_come_and_gone(void)
+{
+    struct ring ring;
+    pthread_t thread;
+    int ends[2];
+    check(pipe(ends) == 0);
+    make_ring(&ring, 4, 0, 0);
+    for (unsigned round = 0; round < 60; round++) {
+        bool is_asleep = round % 2;
+        later = round < 4 ? 20000 : round * 7 % 50;
+        struct io_uring_sqe *entry = put(&ring, IORING_OP_POLL_ADD, 0, 0);
+        entry->fd = ends[0];
+        entry->poll32_events = POLLIN;
+        check(enter(&ring, 1, 0, 0) == 1);
+        check(enter_for(&ring, 1, 1000) == -ETIME && !is_readable(&ring, 0));
+        if (is_asleep) {
+            check(pthread_create(&thread, NULL, write_and_read_later, ends) == 0);
+        } else {
+            write_and_read_later(ends);
+            check(is_readable(&ring, 0));
+        }
+        check(enter(&ring, 0, 1, IORING_ENTER_GETEVENTS) == 0);
+        check(reap(&ring).res == POLLIN);
+        if (is_asleep)
+            check(pthread_join(thread, NULL) == 0);
+        check(enter(&ring, 0, 0, IORING_ENTER_GETEVENTS) == 0 && !is_readable(&ring, 0));
+    }
+    close(ends[0]);
+    close(ends[1]);
+    close_ring(&ring);
+}
+
 static void *submit_later(void *ring)
 {
     usleep(20000);
@@ -177,7 +221,7 @@ int main(void)
     static const struct {
         const char *name;
         void (*run)(void);
-    } tests[] = {{"refused", test_refused}, {"poll", test_poll}, {"overflow", test_overflow}, {"epoll", test_epoll}, {"pipe", test_pipe}, {"threads", test_threads}, {"file limit", test_file_limit}};
+    } tests[] = {{"refused", test_refused}, {"poll", test_poll}, {"overflow", test_overflow}, {"epoll", test_epoll}, {"pipe", test_pipe}, {"come and gone", test_come_and_gone}, {"threads", test_threads}, {"file limit", test_file_limit}};
     alarm(30);
     for (size_t i = 0; i < sizeof tests / sizeof *tests; i++) {
         test = tests[i].name;

@@ -13,6 +13,7 @@
 #include <stdarg.h>
 #include <sys/epoll.h>
 #include <sys/eventfd.h>
+#include <sys/inotify.h>
 #include <sys/stat.h>
 #include <sys/uio.h>
 #include <sys/wait.h>
@@ -63,6 +64,8 @@ WRAP(int, fsync, -1, EIO, (int fd), (fd))
 WRAP(ssize_t, read, -1, EIO, (int fd, void *at, size_t size), (fd, at, size))
 WRAP(ssize_t, write, -1, EIO, (int fd, const void *at, size_t size), (fd, at, size))
 WRAP(DIR *, opendir, NULL, EMFILE, (const char *path), (path))
+WRAP(int, inotify_init1, -1, EMFILE, (int flags), (flags))
+WRAP(int, inotify_add_watch, -1, ENOSPC, (int fd, const char *path, uint32_t mask), (fd, path, mask))
 
 int __real_fcntl(int fd, int command, ...);
 int __wrap_fcntl(int fd, int command, ...);
@@ -93,7 +96,7 @@ static bool open_refused(struct ring *ring, bool is_polled)
     memset(ring, 0, sizeof *ring);
     struct io_uring_params *params = &ring->params;
     is_in_layer = true;
-    ring->fd = (int)(is_polled ? wulgach_polled_syscall(SYS_io_uring_setup, 8u, params) : wulgach_syscall(SYS_io_uring_setup, 8u, params));
+    ring->fd = (int)(is_polled ? wulgach_polled_syscall(SYS_io_uring_setup, 16u, params) : wulgach_syscall(SYS_io_uring_setup, 16u, params));
     is_in_layer = false;
     check(ring->fd >= 0 || refused <= asked);
     if (ring->fd < 0)
@@ -106,18 +109,20 @@ static bool open_refused(struct ring *ring, bool is_polled)
     return true;
 }
 
+enum { REQUESTS = 9 };
+
 static unsigned reap_refused(struct ring *ring, unsigned *seen)
 {
     unsigned reaped = 0;
     for (; count_ready(ring) > 0; reaped++) {
         struct completion found = reap(ring);
-        check(found.user_data < 8 && !(*seen & 1u << found.user_data));
+        check(found.user_data < REQUESTS && !(*seen & 1u << found.user_data));
         *seen |= 1u << found.user_data;
     }
     return reaped;
 }
 
-/* Eight requests: a chain on a file, a read of a pipe, which is fed later, a timeout, and vectors. */
+/* A chain on a file, a read of a pipe, which is fed later, and a poll of it, a timeout, and vectors. */
 static void put_all(struct ring *ring, int file, const int *ends, char *bytes, struct iovec *vectors, struct __kernel_timespec *time)
 {
     put_transfer(ring, IORING_OP_WRITE, 0, IOSQE_IO_LINK, file, bytes, 8, 0);
@@ -129,7 +134,10 @@ static void put_all(struct ring *ring, int file, const int *ends, char *bytes, s
     entry->len = 1;
     put_transfer(ring, IORING_OP_WRITEV, 5, 0, file, vectors, 2, 100);
     put(ring, IORING_OP_ASYNC_CANCEL, 6, 0)->addr = 99;
-    put(ring, IORING_OP_NOP, 7, IOSQE_IO_DRAIN);
+    entry = put(ring, IORING_OP_POLL_ADD, 7, 0);
+    entry->fd = ends[0];
+    entry->poll32_events = POLLIN;
+    put(ring, IORING_OP_NOP, 8, IOSQE_IO_DRAIN);
 }
 
 static void run_refused(bool is_polled)
@@ -144,14 +152,14 @@ static void run_refused(bool is_polled)
         return;
     put_all(&ring, file, ends, bytes, vectors, &time);
     unsigned submitted = 0, reaped = 0, seen = 0;
-    for (int round = 0; submitted < 8 || reaped < submitted; round++) {
+    for (int round = 0; submitted < REQUESTS || reaped < submitted; round++) {
         check(round < 200);
-        long result = enter_refused(&ring, 8 - submitted, 1);
+        long result = enter_refused(&ring, REQUESTS - submitted, 1);
         check(result >= 0 || result == -ETIME || refused <= asked);
         submitted += result > 0 ? (unsigned)result : 0;
         reaped += reap_refused(&ring, &seen);
         if (round == 2)
-            check(write(ends[1], "four", 4) == 4);
+            check(write(ends[1], "four and", 8) == 8);
     }
     close_ring(&ring);
     if (open_refused(&second, is_polled))

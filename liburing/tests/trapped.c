@@ -1,7 +1,7 @@
 /* A program that is linked with nothing of ours and calls io_uring by the processor's own instruction. Run by uring-run
  * its rings are the layer's, which it sees by their descriptors: those are epoll instances.
  *
- *   trapped nop | shared | blocked | threads | fork | vfork | exec | list | spawn | shell | sqpoll | filter | static PROGRAM
+ *   trapped nop | shared | blocked | signals | issuers | threads | fork | vfork | exec | list | spawn | shell | sqpoll | filter | static PROGRAM
  *
  * Status 0: all was as it is to be. Else the number of the line that wasn't.
  */
@@ -23,6 +23,7 @@
 #include <sys/mman.h>
 #include <sys/prctl.h>
 #include <sys/syscall.h>
+#include <sys/time.h>
 #include <sys/wait.h>
 #include <unistd.h>
 
@@ -66,32 +67,63 @@ static void want_readable(int fd, bool is_readable)
     WANT(close(all) == 0);
 }
 
-/* A no-op through both rings, which stand in one mapping. */
+struct ring {
+    int fd;
+    struct io_uring_params params;
+    char *sq, *cq;
+    struct io_uring_sqe *entries;
+};
+
+/* Both rings stand in one mapping. */
+static struct ring set_up(uint32_t flags)
+{
+    struct ring ring = {.params.flags = flags};
+    ring.fd = (int)call(SYS_io_uring_setup, 4, (long)&ring.params, 0, 0, 0, 0);
+    WANT(ring.fd >= 0);
+    want_layer(ring.fd);
+    want_readable(ring.fd, false);
+    WANT(ring.params.features & IORING_FEAT_SINGLE_MMAP);
+    size_t size = ring.params.cq_off.cqes + ring.params.cq_entries * sizeof(struct io_uring_cqe);
+    ring.sq = map(size, ring.fd, IORING_OFF_SQ_RING);
+    ring.cq = map(size, ring.fd, IORING_OFF_CQ_RING);
+    ring.entries = map(ring.params.sq_entries * sizeof *ring.entries, ring.fd, IORING_OFF_SQES);
+    WANT(ring.sq && ring.cq && ring.entries && !map(size, ring.fd, 4096));
+    return ring;
+}
+
+/* Publishes the first entry. */
+static void publish(const struct ring *ring, struct io_uring_sqe entry)
+{
+    ring->entries[0] = entry;
+    *(uint32_t *)(ring->sq + ring->params.sq_off.array) = 0;
+    __atomic_store_n((uint32_t *)(ring->sq + ring->params.sq_off.tail), 1, __ATOMIC_RELEASE);
+}
+
+static long enter(const struct ring *ring, unsigned to_submit, unsigned min_complete, const uint64_t *signals)
+{
+    return call(SYS_io_uring_enter, ring->fd, to_submit, min_complete, IORING_ENTER_GETEVENTS, (long)signals, signals ? sizeof *signals : 0);
+}
+
+static void no_op_on(const struct ring *ring)
+{
+    publish(ring, (struct io_uring_sqe){.opcode = IORING_OP_NOP, .user_data = 77});
+    errno = 5;
+    WANT(enter(ring, 1, 1, NULL) == 1);
+    WANT(errno == 5);
+    WANT(__atomic_load_n((uint32_t *)(ring->cq + ring->params.cq_off.tail), __ATOMIC_ACQUIRE) == 1);
+    struct io_uring_cqe *completion = (struct io_uring_cqe *)(ring->cq + ring->params.cq_off.cqes);
+    WANT(completion->user_data == 77 && completion->res == 0);
+    WANT(memcmp(ring->sq + ring->params.cq_off.cqes, completion, sizeof *completion) == 0);
+    want_readable(ring->fd, true);
+}
+
+/* A no-op through a ring of its own. */
 static void no_op(void)
 {
-    struct io_uring_params params = {0};
-    int ring = (int)call(SYS_io_uring_setup, 4, (long)&params, 0, 0, 0, 0);
-    WANT(ring >= 0);
-    want_layer(ring);
-    want_readable(ring, false);
-    WANT(params.features & IORING_FEAT_SINGLE_MMAP);
-    size_t size = params.cq_off.cqes + params.cq_entries * sizeof(struct io_uring_cqe);
-    char *sq = map(size, ring, IORING_OFF_SQ_RING), *cq = map(size, ring, IORING_OFF_CQ_RING);
-    struct io_uring_sqe *entries = map(params.sq_entries * sizeof *entries, ring, IORING_OFF_SQES);
-    WANT(sq && cq && entries && !map(size, ring, 4096));
-    entries[0] = (struct io_uring_sqe){.opcode = IORING_OP_NOP, .user_data = 77};
-    *(uint32_t *)(sq + params.sq_off.array) = 0;
-    __atomic_store_n((uint32_t *)(sq + params.sq_off.tail), 1, __ATOMIC_RELEASE);
-    errno = 5;
-    WANT(call(SYS_io_uring_enter, ring, 1, 1, IORING_ENTER_GETEVENTS, 0, 0) == 1);
-    WANT(errno == 5);
-    WANT(__atomic_load_n((uint32_t *)(cq + params.cq_off.tail), __ATOMIC_ACQUIRE) == 1);
-    struct io_uring_cqe *completion = (struct io_uring_cqe *)(cq + params.cq_off.cqes);
-    WANT(completion->user_data == 77 && completion->res == 0);
-    WANT(memcmp(sq + params.cq_off.cqes, completion, sizeof *completion) == 0);
-    want_readable(ring, true);
+    struct ring ring = set_up(0);
+    no_op_on(&ring);
     WANT(call(SYS_io_uring_enter, -1, 0, 0, 0, 0, 0) == -EBADF);
-    WANT(close(ring) == 0);
+    WANT(close(ring.fd) == 0);
 }
 
 /* Memory that is shared with files, and written, goes to the kernel. */
@@ -127,6 +159,79 @@ static void blocked(void)
     sigfillset(&all);
     WANT(sigprocmask(SIG_SETMASK, &all, NULL) == 0);
     no_op();
+}
+
+static volatile sig_atomic_t alarms, others;
+
+static void count_signal(int number)
+{
+    if (number == SIGALRM)
+        alarms++;
+    else
+        others++;
+}
+
+static void want_mask(const sigset_t *wanted)
+{
+    sigset_t mask;
+    WANT(sigprocmask(SIG_SETMASK, NULL, &mask) == 0);
+    for (int number = 1; number < 32; number++)
+        WANT(sigismember(&mask, number) == sigismember(wanted, number));
+}
+
+/* A trapped call leaves the thread's mask as it was, sleeps with it, or with the one that it is given, and is ended by a signal. */
+static void signals(void)
+{
+    const uint64_t none = 0;
+    const struct sigaction action = {.sa_handler = count_signal};
+    sigset_t mask;
+    int ends[2];
+    WANT(pipe(ends) == 0 && sigaction(SIGALRM, &action, NULL) == 0 && sigaction(SIGUSR1, &action, NULL) == 0);
+    sigemptyset(&mask);
+    sigaddset(&mask, SIGUSR1);
+    WANT(sigprocmask(SIG_SETMASK, &mask, NULL) == 0);
+    WANT(raise(SIGUSR1) == 0);
+    struct ring ring = set_up(0);
+    want_mask(&mask);
+    publish(&ring, (struct io_uring_sqe){.opcode = IORING_OP_POLL_ADD, .fd = ends[0], .poll32_events = POLLIN});
+    WANT(enter(&ring, 1, 0, NULL) == 1);
+    want_mask(&mask);
+    const struct itimerval soon = {.it_value.tv_usec = 20000, .it_interval.tv_usec = 20000}, never = {.it_value.tv_usec = 0};
+    WANT(setitimer(ITIMER_REAL, &soon, NULL) == 0);
+    WANT(enter(&ring, 0, 1, NULL) == -EINTR);
+    WANT(setitimer(ITIMER_REAL, &never, NULL) == 0);
+    WANT(alarms > 0 && others == 0);
+    want_mask(&mask);
+    WANT(enter(&ring, 0, 1, &none) == -EINTR && others == 1);
+    want_mask(&mask);
+    WANT(call(SYS_io_uring_register, ring.fd, IORING_REGISTER_PROBE, 0, 0, 0, 0) < 0);
+    want_mask(&mask);
+}
+
+static void *call_from_another(void *of)
+{
+    const struct ring *ring = of;
+    publish(ring, (struct io_uring_sqe){.opcode = IORING_OP_NOP});
+    WANT(enter(ring, 1, 0, NULL) == -EEXIST);
+    return NULL;
+}
+
+/* A ring that belongs to one thread: to another it says so; a child may have one too, and so may a thread of the child. */
+static void issuers(void)
+{
+    pthread_t other;
+    for (int generation = 0; generation < 2; generation++) {
+        struct ring ring = set_up(IORING_SETUP_SINGLE_ISSUER | IORING_SETUP_DEFER_TASKRUN);
+        WANT(pthread_create(&other, NULL, call_from_another, &ring) == 0);
+        pthread_join(other, NULL);
+        no_op_on(&ring);
+        pid_t child = generation == 0 ? fork() : 0;
+        if (child > 0) {
+            int status;
+            WANT(waitpid(child, &status, 0) == child && status == 0);
+            return;
+        }
+    }
 }
 
 static void *in_thread(void *none)
@@ -224,6 +329,10 @@ int main(int argc, char **argv)
         shared();
     else if (strcmp(name, "blocked") == 0)
         blocked();
+    else if (strcmp(name, "signals") == 0)
+        signals();
+    else if (strcmp(name, "issuers") == 0)
+        issuers();
     else if (strcmp(name, "threads") == 0)
         threads();
     else if (strcmp(name, "fork") == 0)

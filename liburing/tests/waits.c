@@ -152,6 +152,98 @@ static void test_polls(void)
 
 /* Polls that go on, and can at once, beside no-ops that run: in a turn of its own each is looked at while the ways of a choice are
  * listed, and may want room for its next event. */
+static void put_poll(struct ring *ring, uint64_t user_data, int fd, uint32_t how)
+{
+    struct io_uring_sqe *entry = put_plain(ring, IORING_OP_POLL_ADD, user_data, fd);
+    entry->poll32_events = POLLIN;
+    entry->len = how;
+}
+
+static void write_and_read(const int ends[2])
+{
+    char byte;
+    check(write(ends[1], "b", 1) == 1 && read(ends[0], &byte, 1) == 1);
+}
+
+/* A poll that runs is told of what a pipe had between two calls, and one that comes later isn't; nor is one of another pipe. */
+static void test_come_and_gone(void)
+{
+    struct ring ring;
+    int ends[2], others[2];
+    check(pipe(ends) == 0 && pipe(others) == 0);
+    make_ring(&ring, 8, 0, 0);
+    for (int round = 0; round < 3; round++) {
+        put_poll(&ring, 0, others[0], 0);
+        put_poll(&ring, 1, ends[0], 0);
+        put_poll(&ring, 2, ends[0], IORING_POLL_ADD_MULTI);
+        check(enter(&ring, 3, 0, 0) == 3);
+        check(enter_for(&ring, 1, 1000) == -ETIME);
+        write_and_read(ends);
+        write_and_read(ends);
+        check(enter(&ring, 0, 2, IORING_ENTER_GETEVENTS) == 0 && count_ready(&ring) == 2);
+        for (int i = 0; i < 2; i++) {
+            struct seen found = next_of(&ring);
+            check(found.res == POLLIN && found.flags == (found.user_data == 2 ? IORING_CQE_F_MORE : 0) && found.user_data != 0);
+        }
+        write_and_read(ends);
+        struct seen more = next_of(&ring);
+        check(more.user_data == 2 && more.res == POLLIN && more.flags == IORING_CQE_F_MORE);
+        put(&ring, IORING_OP_POLL_REMOVE, 3, 0)->addr = 2;
+        check(enter(&ring, 1, 0, 0) == 1);
+        check(enter(&ring, 0, 2, IORING_ENTER_GETEVENTS) == 0);
+        for (int i = 0; i < 2; i++)
+            next_of(&ring);
+        write_and_read(ends);
+        put_poll(&ring, 4, ends[0], 0);
+        check(enter(&ring, 1, 0, 0) == 1);
+        check(enter_for(&ring, 1, 1000) == -ETIME);
+        write_and_read(others);
+        check(next_of(&ring).user_data == 0);
+        check(enter_for(&ring, 1, 1000) == -ETIME);
+        check(write(ends[1], "b", 1) == 1);
+        check(next_of(&ring).user_data == 4);
+        char byte;
+        check(read(ends[0], &byte, 1) == 1);
+    }
+    for (int i = 0; i < 2; i++) {
+        close(ends[i]);
+        close(others[i]);
+    }
+    close_ring(&ring);
+}
+
+/* One that starts behind a write and a read of its pipe isn't told of them, though another was running before. */
+static void test_gone_before(void)
+{
+    struct ring ring;
+    char byte = 'b';
+    int ends[2];
+    bool is_seen[4] = {false};
+    check(pipe(ends) == 0);
+    make_ring(&ring, 8, 0, 0);
+    put_poll(&ring, 0, ends[0], 0);
+    check(enter(&ring, 1, 0, 0) == 1);
+    check(enter_for(&ring, 1, 1000) == -ETIME);
+    put_transfer(&ring, IORING_OP_WRITE, 1, IOSQE_IO_LINK, ends[1], &byte, 1, 0);
+    put_transfer(&ring, IORING_OP_READ, 2, IOSQE_IO_LINK, ends[0], &byte, 1, 0);
+    put_poll(&ring, 3, ends[0], 0);
+    check(enter(&ring, 3, 0, 0) == 3);
+    while (!is_seen[1] || !is_seen[2])
+        is_seen[next_of(&ring).user_data] = true;
+    for (int i = 0; i < 3; i++) {
+        enter_for(&ring, 1, 1000);
+        if (count_ready(&ring) > 0)
+            is_seen[next_of(&ring).user_data] = true;
+    }
+    check(!is_seen[3]);
+    check(write(ends[1], "b", 1) == 1);
+    while (!is_seen[0] || !is_seen[3])
+        is_seen[next_of(&ring).user_data] = true;
+    close(ends[0]);
+    close(ends[1]);
+    close_ring(&ring);
+}
+
 static void test_events_in_choices(void)
 {
     int ends[2];
@@ -237,6 +329,8 @@ int main(int count, char **words)
         {"timeouts", test_timeouts},
         {"cancels", test_cancels},
         {"polls", test_polls},
+        {"come and gone", test_come_and_gone},
+        {"gone before", test_gone_before},
         {"events in choices", test_events_in_choices},
         {"wrong end", test_wrong_end},
         {"splice", test_splice},

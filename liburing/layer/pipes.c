@@ -1,0 +1,171 @@
+/* The kernel tells a poll of a write in the moment of the write, also if what was written is read at once. The layer looks
+ * at a descriptor in its calls, and finds nothing then. So it has inotify tell of writes to the pipes that polls wait for while
+ * it isn't called: that keeps no file open, and knows pipes, though not sockets.
+ */
+#define _GNU_SOURCE
+#include "pipes.h"
+#include "polls.h"
+#include "ring.h"
+
+#include <fcntl.h>
+#include <poll.h>
+#include <stdio.h>
+#include <stdlib.h>
+#include <string.h>
+#include <sys/inotify.h>
+#include <sys/stat.h>
+#include <unistd.h>
+
+/* A program that closes a low number twice doesn't close this. */
+enum { HIGH_NUMBER = 512 };
+
+void make_pipes(struct pipes *pipes)
+{
+    *pipes = (struct pipes){.inotify = -1};
+}
+
+void free_pipes(struct pipes *pipes)
+{
+    if (pipes->inotify >= 0)
+        close(pipes->inotify);
+    free(pipes->watches);
+}
+
+bool is_poll_of_pipe(const struct request *request)
+{
+    struct stat status;
+    return request->entry.poll32_events & (POLLIN | POLLRDNORM) && fstat(request->fd, &status) == 0 && S_ISFIFO(status.st_mode);
+}
+
+static bool is_watching(const struct request *request)
+{
+    return is_poll(request) && request->is_of_pipe && !request->is_cancelled;
+}
+
+static int make_inotify(void)
+{
+    int low = inotify_init1(IN_CLOEXEC | IN_NONBLOCK);
+    int high = low < 0 ? -1 : fcntl(low, F_DUPFD_CLOEXEC, HIGH_NUMBER);
+    if (high < 0)
+        return low;
+    close(low);
+    return high;
+}
+
+/* The watch of a descriptor's pipe, which is one however many descriptors it has; 0: there is none to be had. */
+static int watch_of(struct pipes *pipes, int fd)
+{
+    char path[32];
+    if (pipes->inotify < 0)
+        pipes->inotify = make_inotify();
+    if (pipes->count == pipes->room) {
+        int *watches = realloc(pipes->watches, 2 * (pipes->room + 4) * sizeof *watches);
+        if (!watches)
+            return 0;
+        pipes->watches = watches;
+        pipes->room = 2 * (pipes->room + 4);
+    }
+    snprintf(path, sizeof path, "/proc/self/fd/%d", fd);
+    int watch = inotify_add_watch(pipes->inotify, path, IN_MODIFY);
+    return watch < 0 ? 0 : watch;
+}
+
+static bool has_watch(const struct pipes *pipes, int watch)
+{
+    for (size_t i = 0; i < pipes->count; i++)
+        if (pipes->watches[i] == watch)
+            return true;
+    return false;
+}
+
+/* Sees that each running poll has its watch. Those that were submitted together wait for the same pipe, mostly. */
+static void add_watches(struct ring *ring)
+{
+    const struct request *before = NULL;
+    for (size_t i = 0; i < ring->running.count; i++) {
+        struct request *request = ring->running.rows[i];
+        if (!is_watching(request))
+            continue;
+        if (request->watch == 0)
+            request->watch = before && before->fd == request->fd ? before->watch : watch_of(&ring->pipes, request->fd);
+        if (request->watch > 0 && !has_watch(&ring->pipes, request->watch))
+            ring->pipes.watches[ring->pipes.count++] = request->watch;
+        before = request;
+    }
+}
+
+static bool is_watched_for(const struct ring *ring, int watch)
+{
+    for (size_t i = 0; i < ring->running.count; i++)
+        if (is_watching(ring->running.rows[i]) && ring->running.rows[i]->watch == watch)
+            return true;
+    return false;
+}
+
+/* Takes away those that no poll waits for any more. */
+static void drop_watches(struct ring *ring)
+{
+    struct pipes *pipes = &ring->pipes;
+    size_t kept = 0;
+    for (size_t i = 0; i < pipes->count; i++) {
+        int watch = pipes->watches[i];
+        if (is_watched_for(ring, watch))
+            pipes->watches[kept++] = watch;
+        else
+            inotify_rm_watch(pipes->inotify, watch);
+    }
+    pipes->count = kept;
+}
+
+/* What was written while nobody looked: the first watcher says whether it is there still. Returns whether it is gone. */
+static bool tell_of_write(struct ring *ring, int watch)
+{
+    bool is_known = false, is_gone = false;
+    for (size_t i = 0; i < ring->running.count; i++) {
+        struct request *request = ring->running.rows[i];
+        struct pollfd at = {.fd = request->fd, .events = POLLIN};
+        if (!is_watching(request) || request->watch != watch)
+            continue;
+        if (!is_known)
+            is_gone = poll(&at, 1, 0) == 0;
+        is_known = true;
+        request->is_told |= is_gone;
+        request->has_to_wait &= !is_gone;
+    }
+    ring->moment += is_gone;
+    return is_gone;
+}
+
+/* Reads the writes that were told since they were last read, and passes them on, or drops them. Returns whether a poll was told. */
+static bool read_writes(struct ring *ring, bool is_dropping)
+{
+    _Alignas(struct inotify_event) char events[4096];
+    ssize_t length;
+    bool is_told = false;
+    while ((length = read(ring->pipes.inotify, events, sizeof events)) > 0) {
+        for (ssize_t at = 0; at < length;) {
+            const struct inotify_event *event = (const void *)(events + at);
+            if (!is_dropping && event->mask & IN_MODIFY)
+                is_told |= tell_of_write(ring, event->wd);
+            at += (ssize_t)(sizeof *event + event->len);
+        }
+    }
+    return is_told;
+}
+
+/* What the ring's own requests have written and read since isn't told: in which order they go on is the policy's choice. */
+bool watch_pipes(struct ring *ring)
+{
+    add_watches(ring);
+    if (ring->pipes.count == 0)
+        return false;
+    drop_watches(ring);
+    return read_writes(ring, ring->moment != ring->pipes.heard_at);
+}
+
+void hear_pipes(struct ring *ring)
+{
+    if (ring->pipes.count > 0)
+        read_writes(ring, false);
+    ring->pipes.heard_at = ring->moment;
+}

@@ -1,0 +1,33 @@
+/* What comes to a pipe, and goes again, between two calls. */
+#ifndef PIPES_H
+#define PIPES_H
+
+#include <stdbool.h>
+#include <stddef.h>
+#include <stdint.h>
+
+struct request;
+struct ring;
+
+/* The pipes that a ring's polls wait for. */
+struct pipes {
+    int inotify;        /* what tells of writes to them, or negative */
+    int *watches;       /* its number of each, */
+    size_t count, room; /* how many there are, and may be */
+    uint64_t heard_at;  /* the moment at which writes were last told */
+};
+
+void make_pipes(struct pipes *pipes);
+void free_pipes(struct pipes *pipes);
+
+/* Whether a poll waits for what a pipe has to be read. */
+bool is_poll_of_pipe(const struct request *request);
+
+/* A call returns, or sleeps: from now on writes to the pipes that running polls wait for count. If the kernel refuses, they don't. Returns
+ * whether one was told meanwhile of what another thread wrote. */
+bool watch_pipes(struct ring *ring);
+
+/* A call begins, or sleeps no longer: running polls are told of what was written to their pipes, and is gone. */
+void hear_pipes(struct ring *ring);
+
+#endif
