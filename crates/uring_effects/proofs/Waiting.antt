@@ -1,5 +1,5 @@
 -- Effects can wait: a step that ends no running request changes places with the effects right before it, since their requests still run behind it, and those that happened last are left out.
-use Rattle.std.proofs.Common.{◌≡◌, ◌==◌, ◌++◌, ◌||◌, ◌<◌, ℕ, ℤ, Bool, true, false, not, List, [], ◌∷◌, length, Option, Some, None, if◌then◌else◌, refl, sym, ap, subst, ◌∙◌}
+use Rattle.std.proofs.Common.{◌≡◌, ◌==◌, ◌++◌, ◌||◌, ◌&&◌, ◌<◌, ℕ, ℤ, Bool, true, false, not, List, [], ◌∷◌, length, Option, Some, None, if◌then◌else◌, refl, sym, ap, subst, ◌∙◌}
 use Rattle.std.specs.List.{list_any}
 use Rattle.std.proofs.lemmas.Bool.{and_parts, both_ways, eqb-true, false_from_ne_true}
 use Rattle.uring_entry.specs.Preparation.{operation_of}
@@ -65,7 +65,7 @@ change_runs g w s a n (dooms m outstanding idle doomed) other running =
     end_runs (with_cancelled w.requests (chosen_by w.requests m (doomed_result w.requests m))) m n (doomed_result w.requests m) no_bytes idle running
 change_runs g w s a n (cancels m outstanding idle spared ready cancel) other running =
     end_runs (with_cancelled w.requests (chosen_by w.requests m (cancel_result w.requests m))) m n (cancel_result w.requests m) no_bytes idle running
-change_runs g w s a n (finishes m res bytes runs) other running =
+change_runs g w s a n (finishes m res bytes ran) other running =
     absurd (let f : true ≡ false = other in cc)
 change_runs g w s a n _ other running = running
 
