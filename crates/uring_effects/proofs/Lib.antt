@@ -1,3 +1,4 @@
 mod AtFinishes
 mod AllowedResults
 mod EarlyResults
+mod Waiting

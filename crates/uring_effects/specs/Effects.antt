@@ -1,5 +1,5 @@
 -- Effects of operations at any moment between the issue of a request and its finish. A kernel's operations have them so, where the core's files take each at the finish. io_uring_enter(2) says of no operation when it takes effect; that it is one moment is our own rule
-use Rattle.std.specs.Prelude.{◌≡◌, ℕ, true, ◌==◌, List, [], ◌∷◌, ◌++◌, Option, Some, None, if◌then◌else◌}
+use Rattle.std.specs.Prelude.{◌≡◌, ℕ, Bool, true, false, ◌==◌, List, [], ◌∷◌, ◌++◌, Option, Some, None, if◌then◌else◌}
 use Rattle.uring_entry.specs.Setup.{Setup}
 use Rattle.uring_entry.specs.Preparation.{operation_of}
 use Rattle.uring_entry.specs.Requests.{Requests, entry_of, is_running}
@@ -76,3 +76,21 @@ pub record IsLawfulEarly (g : Setup) (h : History) : Type 0 where
   pub timeline : Timeline
   pub made : made_in timeline ≡ h
   pub timely : IsTimely g timeline
+
+-- whether an event is the finish of a running request
+abbrev pub ends_running : Event → Bool
+ends_running (step.Finish n, answer.Ended res bytes) = true
+ends_running event = false
+
+-- whether an effect happened last
+abbrev pub ends_in_effect : Timeline → Bool
+ends_in_effect [] = false
+ends_in_effect (Makes event ∷ before) = false
+ends_in_effect (Takes n outcome ∷ before) = true
+
+-- effects wait for a finish: no other step stands right behind one
+abbrev pub EffectsWait : Timeline → Type 0
+EffectsWait [] = Unit {0}
+EffectsWait (Makes event ∷ before) =
+    (ends_in_effect before ≡ true → ends_running event ≡ true) × EffectsWait before
+EffectsWait (Takes n outcome ∷ before) = EffectsWait before

@@ -2,7 +2,7 @@
 #![tactic(auto)]
 
 ghost use Rattle.uring_entry.specs.Setup.{Setup};
-ghost use Rattle.uring_effects.specs.Laws.{EarlyEffectsAllowMore, EarlyEffectsGiveAllowed};
+ghost use Rattle.uring_effects.specs.Laws.{EarlyEffectsAllowMore, EarlyEffectsCanWait, EarlyEffectsGiveAllowed};
 
 /// What is lawful by the core's files, which take each effect at the finish, is lawful by early effects.
 pub fn early_effects_allow_more()
@@ -12,4 +12,9 @@ pub fn early_effects_allow_more()
 /// Whenever effects are taken, each result is one that its operation may give (`uring_results::may_end`).
 pub fn early_effects_give_allowed()
     ensures { (g : Setup) → EarlyEffectsGiveAllowed g }
+{}
+
+/// Effects can wait for a finish: where a history is lawful by early effects, there is a timeline with effects right before finishes alone.
+pub fn early_effects_can_wait()
+    ensures { (g : Setup) → EarlyEffectsCanWait g }
 {}

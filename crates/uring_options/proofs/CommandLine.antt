@@ -73,24 +73,35 @@ explained_over rows n s o false false false false at over graph moment timeline 
     subst (IsRunOver Explains rows n) (sym is) (refl, over, graph, timeline, page, json)
 
 -- what is checked over it, as the options of a check say
-pub checked_over : (rows : List Row) (n : Numbers) (s : Setup) (o : Options) (all apart results pages tells : Bool)
+checked_by : (rows : List Row) (n : Numbers) (s : Setup) (o : Options) (all apart results pages tells : Bool)
     → IsTracedOver rows n s → IsGiven rows (codes "all") all → IsGiven rows (codes "apart") apart
     → IsGiven rows (codes "results") results
     → IsGiven rows (codes "page") pages → IsGiven rows (codes "json") tells
     → o ≡ (if all || apart || results then Check s all apart results else if pages then CheckPage s else if tells then CheckJson s else Check s all apart results)
     → IsRunOver Checks rows n o
-checked_over rows n s o true apart results pages tells over whole ends gives page json is =
+checked_by rows n s o true apart results pages tells over whole ends gives page json is =
     subst (IsRunOver Checks rows n) (sym is) (refl, over, whole, ends, gives, tt)
-checked_over rows n s o false true results pages tells over whole ends gives page json is =
+checked_by rows n s o false true results pages tells over whole ends gives page json is =
     subst (IsRunOver Checks rows n) (sym is) (refl, over, whole, ends, gives, tt)
-checked_over rows n s o false false true pages tells over whole ends gives page json is =
+checked_by rows n s o false false true pages tells over whole ends gives page json is =
     subst (IsRunOver Checks rows n) (sym is) (refl, over, whole, ends, gives, tt)
-checked_over rows n s o false false false true tells over whole ends gives page json is =
+checked_by rows n s o false false false true tells over whole ends gives page json is =
     subst (IsRunOver Checks rows n) (sym is) (refl, over, (whole, ends, gives), page)
-checked_over rows n s o false false false false true over whole ends gives page json is =
+checked_by rows n s o false false false false true over whole ends gives page json is =
     subst (IsRunOver Checks rows n) (sym is) (refl, over, (whole, ends, gives), page, json)
-checked_over rows n s o false false false false false over whole ends gives page json is =
+checked_by rows n s o false false false false false over whole ends gives page json is =
     subst (IsRunOver Checks rows n) (sym is) (refl, over, whole, ends, gives, (page, json))
+
+pub checked_over : (rows : List Row) (n : Numbers) (s : Setup) (o : Options) (all apart results verdict pages tells : Bool)
+    → IsTracedOver rows n s → IsGiven rows (codes "all") all → IsGiven rows (codes "apart") apart
+    → IsGiven rows (codes "results") results
+    → IsGiven rows (codes "page") pages → IsGiven rows (codes "json") tells
+    → verdict ≡ (all || apart || results)
+    → o ≡ (if verdict then Check s all apart results else if pages then CheckPage s else if tells then CheckJson s else Check s all apart results)
+    → IsRunOver Checks rows n o
+checked_over rows n s o all apart results verdict pages tells over whole ends gives page json same is =
+    checked_by rows n s o all apart results pages tells over whole ends gives page json
+    (is ∙ ap (λ (b : Bool). if b then Check s all apart results else if pages then CheckPage s else if tells then CheckJson s else Check s all apart results) same)
 
 -- what is played over it, as the option for shared words says
 pub played_over : (rows : List Row) (n : Numbers) (s : Setup) (workers : ℕ) (o : Options) (shared : Bool)

@@ -1,5 +1,5 @@
 -- The command line, and what it asks for. The options are our own rule.
-use Rattle.std.specs.Prelude.{◌≡◌, ℕ, ◌<◌, ◌≤◌, ◌⊎◌, pos, Bool, true, false, List, [], ◌∷◌, Option, Some, None, codes, unwrap_or, if◌then◌else◌}
+use Rattle.std.specs.Prelude.{◌||◌, ◌≡◌, ℕ, ◌<◌, ◌≤◌, ◌⊎◌, pos, Bool, true, false, List, [], ◌∷◌, Option, Some, None, codes, unwrap_or, if◌then◌else◌}
 use Rattle.std.specs.Int.{IsNextPowerOfTwo}
 use Rattle.std.specs.Str.{bytes_eq}
 use Rattle.std.specs.Str.Parse.{IsNumeral, digits_value, without_leading_plus}

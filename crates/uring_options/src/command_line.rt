@@ -129,8 +129,15 @@ fn checked(matches: &ArgMatches<'_>) -> Result<Options, OptionsFault>
         is_apart,
         has_results,
     };
-    let tells = is_all || is_apart || has_results;
+    let tells = asks_verdict(is_all, is_apart, has_results);
     Ok(checked_over(setup, verdict, tells, page, json))
+}
+
+/// Whether the verdict alone is asked for.
+fn asks_verdict(is_all: bool, is_apart: bool, has_results: bool) -> bool
+    ensures { result ≡ (is_all || is_apart || has_results) }
+{
+    is_all || is_apart || has_results
 }
 
 /// What is written of a recorded trace over the set-up: the verdict if that alone is asked for, else a page or its data if one is, and else the verdict.

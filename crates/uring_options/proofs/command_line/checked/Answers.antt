@@ -5,4 +5,4 @@ use Rattle.uring_options.proofs.command_line.checked.Goals as goal
 pub returns : goal.returns
 returns c =
     let over = c.in_ok-setup.ensures.ok in
-    (over.0, over.1, checked_over (rows_of (found_of c.args.matches.now)) over.0 _ _ _ _ _ _ _ over.2 c.is_given-is_all.ensures c.is_given-is_apart.ensures c.is_given-has_results.ensures c.is_given-page.ensures c.is_given-json.ensures c.checked_over.ensures)
+    (over.0, over.1, checked_over (rows_of (found_of c.args.matches.now)) over.0 _ _ _ _ _ _ _ _ over.2 c.is_given-is_all.ensures c.is_given-is_apart.ensures c.is_given-has_results.ensures c.is_given-page.ensures c.is_given-json.ensures c.asks_verdict-tells.ensures c.checked_over.ensures)
