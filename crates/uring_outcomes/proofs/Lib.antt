@@ -13,6 +13,8 @@ pub mod Walking
 pub mod SameEndings
 -- Places that are noted for marks:
 pub mod Indexing
+-- Why a walk ended before its end:
+pub mod Faulting
 -- How many files there are:
 pub mod FileCounts
 -- The law:

@@ -2,4 +2,5 @@ pub mod Outcomes
 pub mod Laws
 pub mod Runs
 pub mod Index
+pub mod Faults
 pub mod Walks

@@ -1,6 +1,6 @@
 //! What calls came to.
 
-ghost use Rattle.std.specs.Prelude.{◌≡◌, ◌↔◌, ◌<◌, ◌≤◌, ℕ, List, IsTrue, OnOk, length};
+ghost use Rattle.std.specs.Prelude.{◌≡◌, ◌↔◌, ◌<◌, ◌≤◌, ℕ, List, IsOk, IsTrue, OnOk, length};
 ghost use Rattle.uring_entry.specs.Layout.{Sqe};
 ghost use Rattle.uring_moves.specs.Moments.{Moment};
 ghost use Rattle.uring_moves.specs.Outcomes.{IsOver};
@@ -10,9 +10,9 @@ ghost use Rattle.uring_outcomes.specs.Index.{IsIndexed};
 ghost use Rattle.uring_outcomes.specs.Walks.{HasNoted};
 
 use crate::endings::Endings;
-use crate::fault::WalkFault;
+use crate::map_memory::MapMemory;
 use crate::run::Run;
-use std::alloc::Global;
+use std::alloc::{AllocError, Global};
 use std::marker::Model;
 use std::mem;
 use uring_entry::{Cqe, Setup};
@@ -53,17 +53,23 @@ impl Ending {
 }
 
 /// Notes what the calls came to, which is over, if it isn't there yet. The run is used up.
-pub(crate) fn note(alloc: Global, run: &mut Run, found: &mut Endings) -> Result<(), WalkFault>
+pub(crate) fn note<M: MapMemory>(
+    memory: &M,
+    alloc: Global,
+    run: &mut Run,
+    found: &mut Endings,
+) -> Result<(), AllocError>
     requires stands { (calls : List (List Sqe)) × Stands calls run.old }
     requires indexed { IsIndexed found.old }
     ensures noted { (calls : List (List Sqe)) (m : Moment) → StandsAt calls run.old m → IsOver m
         → OnOk result (HasNoted m found.old.list.items found.new.list.items) }
     ensures indexed { OnOk result (IsIndexed found.new) }
+    ensures granted { ((n : ℕ) → M.grants memory.now n) → IsOk result }
 {
-    let none = Files::new(alloc, 0)?;
+    let none = Files::new_in(memory, alloc, 0)?;
     let posted = mem::replace(&mut run.posted, Vec::new(alloc));
     let files = mem::replace(&mut run.files, none);
-    found.add_once(alloc, Ending { posted, files })
+    found.add_once(memory, alloc, Ending { posted, files })
 }
 
 /// Whether two endings are the same.

@@ -1,15 +1,16 @@
 //! The endings that a walk has found, each once.
 
-ghost use Rattle.std.specs.Prelude.{◌≡◌, ◌↔◌, ◌++◌, ◌∷◌, ℕ, [], true, false, Some, IsTrue, IfOk, OnOk, Contains, slice_get, nat_eq};
-ghost use Rattle.std.specs.HashMap.{get};
+ghost use Rattle.std.specs.Prelude.{◌≡◌, ◌↔◌, ◌<◌, ◌≤◌, ◌++◌, ◌∷◌, ℕ, [], true, false, Some, IsTrue, IfOk, IsOk, OnOk, Contains, length, slice_get, nat_eq, vec_len, vec_capacity};
+ghost use Rattle.std.specs.HashMap.{get, spare};
 ghost use Rattle.uring_outcomes.specs.Index.{mixed, mark_of, HasPlace, IsIndexed, NotesPlace};
 ghost use Rattle.uring_outcomes.specs.Walks.{AddsOnce};
 
 use crate::ending::{Ending, is_same};
-use crate::fault::WalkFault;
-use std::alloc::Global;
+use crate::map_memory::MapMemory;
+use std::alloc::{AllocError, Global};
 use std::collections::HashMap;
 use uring_entry::Cqe;
+use uring_memory::Memory;
 
 /// Endings, none of them twice, and where in their list those of a mark are.
 #[derive(Drop)]
@@ -40,17 +41,23 @@ impl Endings {
     }
 
     /// Adds an ending, unless it is there.
-    pub(crate) fn add_once(&mut self, alloc: Global, ending: Ending) -> Result<(), WalkFault>
+    pub(crate) fn add_once<M: MapMemory>(
+        &mut self,
+        memory: &M,
+        alloc: Global,
+        ending: Ending,
+    ) -> Result<(), AllocError>
         requires { IsIndexed self.old }
         ensures adds { OnOk result (AddsOnce ending self.old.list.items self.new.list.items) }
         ensures indexed { OnOk result (IsIndexed self.new) }
+        ensures granted { ((n : ℕ) → M.grants memory.now n) → IsOk result }
     {
         let mark = mark(ending.posted());
         if self.contains(mark, &ending) {
             drop(ending);
             return Ok(());
         }
-        self.push(alloc, mark, ending)
+        self.push(memory, alloc, mark, ending)
     }
 
     /// Whether an ending of this mark is there.
@@ -66,19 +73,41 @@ impl Endings {
     }
 
     /// Adds an ending of this mark.
-    fn push(&mut self, alloc: Global, mark: u64, ending: Ending) -> Result<(), WalkFault>
+    fn push<M: MapMemory>(
+        &mut self,
+        memory: &M,
+        alloc: Global,
+        mark: u64,
+        ending: Ending,
+    ) -> Result<(), AllocError>
         requires indexed { IsIndexed self.old }
         requires mark { mark ≡ mark_of ending.posted }
         ensures is { OnOk result (self.new.list.items ≡ self.old.list.items ++ ending ∷ []) }
         ensures indexed { OnOk result (IsIndexed self.new) }
+        ensures granted { ((n : ℕ) → M.grants memory.now n) → IsOk result }
     {
-        let noted = note_place(alloc, &mut self.places, mark, self.list.len());
-        if let Err(fault) = noted {
+        if let Err(refused) = self.make_place(memory, alloc, mark) {
             drop(ending);
-            return Err(fault);
+            return Err(refused);
         }
-        self.list.push(ending)?;
+        self.list.push_reserved(ending);
         Ok(())
+    }
+
+    /// Makes room for an ending of this mark, and notes its place.
+    fn make_place<M: MapMemory>(
+        &mut self,
+        memory: &M,
+        alloc: Global,
+        mark: u64,
+    ) -> Result<(), AllocError>
+        ensures list { self.new.list.items ≡ self.old.list.items }
+        ensures room { OnOk result (vec_len self.new.list < vec_capacity self.new.list) }
+        ensures noted { OnOk result (NotesPlace self.old.places self.new.places mark (length self.old.list.items)) }
+        ensures granted { ((n : ℕ) → M.grants memory.now n) → IsOk result }
+    {
+        memory.reserve(&mut self.list, 1)?;
+        note_place(memory, alloc, &mut self.places, mark, self.list.len())
     }
 }
 
@@ -107,16 +136,19 @@ fn is_one(list: &[Ending], place: usize, ending: &Ending) -> bool
 }
 
 /// Notes one more place for a mark.
-fn note_place(
+fn note_place<M: MapMemory>(
+    memory: &M,
     alloc: Global,
     places: &mut HashMap<u64, Vec<usize>>,
     mark: u64,
     place: usize,
-) -> Result<(), WalkFault>
-    ensures { OnOk result (NotesPlace places.old places.new mark place) }
+) -> Result<(), AllocError>
+    ensures noted { OnOk result (NotesPlace places.old places.new mark place) }
+    ensures granted { ((n : ℕ) → M.grants memory.now n) → IsOk result }
 {
+    memory.reserve_map(places, 1)?;
     let known = take_known(alloc, places, mark);
-    let more = with_place(known, place)?;
+    let more = with_place(memory, known, place)?;
     places.insert(mark, more)?;
     Ok(())
 }
@@ -126,6 +158,7 @@ fn take_known(alloc: Global, places: &mut HashMap<u64, Vec<usize>>, mark: u64) -
     ensures known { (k : ℕ) → HasPlace places.old mark k → Contains result.items k }
     ensures others { (m : ℕ) → (m ≡ mark → ⊥)
         → get nat_eq places.new m ≡ get nat_eq places.old m }
+    ensures spare { spare places.old ≤ spare places.new }
 {
     match places.remove(&mark) {
         Some(known) => known,
@@ -134,10 +167,16 @@ fn take_known(alloc: Global, places: &mut HashMap<u64, Vec<usize>>, mark: u64) -
 }
 
 /// These places and one more.
-fn with_place(mut known: Vec<usize>, place: usize) -> Result<Vec<usize>, WalkFault>
-    ensures { IfOk result (λ more. more.items ≡ known.items ++ place ∷ []) }
+fn with_place<M: Memory>(
+    memory: &M,
+    mut known: Vec<usize>,
+    place: usize,
+) -> Result<Vec<usize>, AllocError>
+    ensures items { IfOk result (λ more. more.items ≡ known.items ++ place ∷ []) }
+    ensures granted { ((n : ℕ) → M.grants memory.now n) → IsOk result }
 {
-    known.push(place)?;
+    memory.reserve(&mut known, 1)?;
+    known.push_reserved(place);
     Ok(known)
 }
 

@@ -1,6 +1,6 @@
 //! What keeps a walk from its end.
 
-use std::alloc::{AllocError, AllocFailed};
+use std::alloc::AllocError;
 use uring_dispatch::ReserveError;
 
 /// Why not all was found.
@@ -17,18 +17,22 @@ pub enum WalkFault {
 }
 
 impl From<AllocError> for WalkFault {
+    ghost use Rattle.std.specs.Prelude.{◌≡◌};
+    ghost use Rattle.uring_outcomes.specs.declared.fault.WalkFault.TheVariants.{Memory};
+
+    ghost from_gives = { λ _ fault. fault ≡ Memory };
+
     fn from(_error: AllocError) -> WalkFault {
         WalkFault::Memory
     }
 }
 
-impl<T: Drop> From<AllocFailed<T>> for WalkFault {
-    fn from(_error: AllocFailed<T>) -> WalkFault {
-        WalkFault::Memory
-    }
-}
-
 impl From<ReserveError> for WalkFault {
+    ghost use Rattle.std.specs.Prelude.{◌≡◌};
+    ghost use Rattle.uring_outcomes.specs.Faults.{fault_of};
+
+    ghost from_gives = { λ refusal fault. fault ≡ fault_of refusal };
+
     fn from(error: ReserveError) -> WalkFault {
         match error {
             ReserveError::Spent => WalkFault::Spent,

@@ -1,6 +1,6 @@
 //! The moves that can be made next.
 
-ghost use Rattle.std.specs.Prelude.{◌≡◌, ◌↔◌, ◌∷◌, [], true, List, IfOk, IsTrue, OnOk, MatchOption, Contains, Some};
+ghost use Rattle.std.specs.Prelude.{◌≡◌, ◌↔◌, ◌∷◌, ◌++◌, [], true, ℕ, List, IfOk, IsOk, IsTrue, OnOk, MatchOption, Contains, Some};
 ghost use Rattle.uring_entry.specs.Layout.{Sqe};
 ghost use Rattle.uring_entry.specs.Requests.{is_issuable, is_running};
 ghost use Rattle.uring_moves.specs.Moments.{Moment, moved, is_finishable};
@@ -9,49 +9,62 @@ ghost use Rattle.uring_moves.specs.declared.move_of_calls.Move.TheVariants as mo
 ghost use Rattle.uring_moves.specs.declared.move_of_calls.Move.{Move};
 ghost use Rattle.uring_outcomes.specs.Runs.{among, entries_of, Stands, StandsAt, HasNext, IsQuiet, HasBelow};
 
-use crate::fault::WalkFault;
 use crate::run::Run;
-use std::alloc::Global;
+use std::alloc::{AllocError, Global};
 use uring_entry::Sqe;
+use uring_memory::Memory;
 use uring_moves::Move;
 
 /// The direct moves that can be made next, with others, if cancels name these user data: the acceptance of the next call alone, if none names an entry of it; and else, while a request runs that none names, its finish alone.
-pub(crate) fn next_moves(
+pub(crate) fn next_moves<M: Memory>(
+    memory: &M,
     alloc: Global,
     run: &Run,
     calls: &[Vec<Sqe>],
     names: &[u64],
-) -> Result<Vec<Move>, WalkFault>
+) -> Result<Vec<Move>, AllocError>
     requires { Stands (entries_of calls.now) run.now }
-    ensures { (m : Moment) → StandsAt (entries_of calls.now) run.now m
+    ensures next { (m : Moment) → StandsAt (entries_of calls.now) run.now m
         → IfOk result (λ moves. HasNext names.now m moves.items) }
+    ensures granted { ((n : ℕ) → M.grants memory.now n) → IsOk result }
 {
     let mut moves = Vec::new(alloc);
-    match add_next(run, calls, names, &mut moves) {
+    match add_next(memory, run, calls, names, &mut moves) {
         Ok(()) => Ok(moves),
-        Err(fault) => {
+        Err(refused) => {
             drop(moves);
-            Err(fault)
+            Err(refused)
         }
     }
 }
 
 /// Adds the direct moves that can be made next to none.
-fn add_next(
+fn add_next<M: Memory>(
+    memory: &M,
     run: &Run,
     calls: &[Vec<Sqe>],
     names: &[u64],
     moves: &mut Vec<Move>,
-) -> Result<(), WalkFault>
+) -> Result<(), AllocError>
     requires stands { Stands (entries_of calls.now) run.now }
     requires none { moves.old.items ≡ [] }
-    ensures { (m : Moment) → StandsAt (entries_of calls.now) run.now m
+    ensures next { (m : Moment) → StandsAt (entries_of calls.now) run.now m
         → OnOk result (HasNext names.now m moves.new.items) }
+    ensures granted { ((n : ℕ) → M.grants memory.now n) → IsOk result }
 {
     let Some(only) = only_move(run, calls, names) else {
-        return add_all(run, calls, moves);
+        return add_all(memory, run, calls, moves);
     };
-    moves.push(only)?;
+    push_move(memory, moves, only)
+}
+
+/// Adds a move.
+fn push_move<M: Memory>(memory: &M, moves: &mut Vec<Move>, next: Move) -> Result<(), AllocError>
+    ensures pushed { OnOk result (moves.new.items ≡ moves.old.items ++ next ∷ []) }
+    ensures granted { ((n : ℕ) → M.grants memory.now n) → IsOk result }
+{
+    memory.reserve(moves, 1)?;
+    moves.push_reserved(next);
     Ok(())
 }
 
@@ -124,23 +137,34 @@ fn is_quiet(run: &Run, names: &[u64], number: u64) -> bool
 }
 
 /// Adds every move that can be made next.
-fn add_all(run: &Run, calls: &[Vec<Sqe>], moves: &mut Vec<Move>) -> Result<(), WalkFault>
+fn add_all<M: Memory>(
+    memory: &M,
+    run: &Run,
+    calls: &[Vec<Sqe>],
+    moves: &mut Vec<Move>,
+) -> Result<(), AllocError>
     requires { Stands (entries_of calls.now) run.now }
-    ensures { (m : Moment) → StandsAt (entries_of calls.now) run.now m
+    ensures all { (m : Moment) → StandsAt (entries_of calls.now) run.now m
         → OnOk result
         ((x : Move) (next : Moment) → moved m x ≡ Some next → Contains moves.new.items x) }
+    ensures granted { ((n : ℕ) → M.grants memory.now n) → IsOk result }
 {
     if run.next_call < calls.len() {
-        moves.push(Move::Accept)?;
+        push_move(memory, moves, Move::Accept)?;
     }
     for number in 0..run.dispatch.accepted() {
-        add_of(run, number, moves)?;
+        add_of(memory, run, number, moves)?;
     }
     Ok(())
 }
 
 /// Adds the issue and the finish of a request, if they can be made.
-fn add_of(run: &Run, number: u64, moves: &mut Vec<Move>) -> Result<(), WalkFault>
+fn add_of<M: Memory>(
+    memory: &M,
+    run: &Run,
+    number: u64,
+    moves: &mut Vec<Move>,
+) -> Result<(), AllocError>
     requires { (calls : List (List Sqe)) × Stands calls run.now }
     ensures kept { OnOk result
         ((x : Move) → Contains moves.old.items x → Contains moves.new.items x) }
@@ -150,12 +174,13 @@ fn add_of(run: &Run, number: u64, moves: &mut Vec<Move>) -> Result<(), WalkFault
     ensures finish { (calls : List (List Sqe)) (m : Moment) → StandsAt calls run.now m
         → OnOk result
         (is_finishable m.requests number ≡ true → Contains moves.new.items (move.Finish number)) }
+    ensures granted { ((n : ℕ) → M.grants memory.now n) → IsOk result }
 {
     if can_issue(run, number) {
-        moves.push(Move::Issue { number })?;
+        push_move(memory, moves, Move::Issue { number })?;
     }
     if runs(run, number) {
-        moves.push(Move::Finish { number })?;
+        push_move(memory, moves, Move::Finish { number })?;
     }
     Ok(())
 }

@@ -1,6 +1,6 @@
 //! A run of calls: what moves made of them.
 
-ghost use Rattle.std.specs.Prelude.{◌≡◌, ◌+◌, ◌≤◌, ℕ, true, length, List, IfOk, IsTrue, OnOk, Some};
+ghost use Rattle.std.specs.Prelude.{◌≡◌, ◌+◌, ◌≤◌, ℕ, true, length, List, IfOk, IfErr, IsOk, IsTrue, OnOk, Some};
 ghost use Rattle.uring_entry.specs.Setup.{Setup};
 ghost use Rattle.uring_entry.specs.Layout.{Sqe};
 ghost use Rattle.uring_entry.specs.Requests.{Requests, with_call};
@@ -9,10 +9,11 @@ ghost use Rattle.uring_moves.specs.Moments.{Moment, starting, moved, after_moves
 ghost use Rattle.uring_moves.specs.declared.move_of_calls.Move.TheVariants as move;
 
 use crate::fault::WalkFault;
-use std::alloc::Global;
+use std::alloc::{AllocError, Global};
 use uring_dispatch::{Dispatch, Issued};
 use uring_entry::{Cqe, Sqe, errno, posts_completion, succeeded};
 use uring_files::Files;
+use uring_memory::Memory;
 use uring_moves::Move;
 
 /// What moves made of calls.
@@ -30,13 +31,15 @@ pub(crate) struct Run {
 
 impl Run {
     ghost use Rattle.uring_outcomes.specs.Runs.{entries_of, Stands, StandsAt, MadeAs};
+    ghost use Rattle.uring_outcomes.specs.Faults.{IsReason};
 
     /// Nothing was accepted yet, and there are so many files.
-    pub(crate) fn new(alloc: Global, files: u32) -> Result<Run, WalkFault>
-        ensures { IfOk result
+    pub(crate) fn new<M: Memory>(memory: &M, alloc: Global, files: u32) -> Result<Run, AllocError>
+        ensures stands { IfOk result
             (λ run. (g : Setup) (calls : List (List Sqe)) → g.files ≡ files → files ≤ 64 → StandsAt calls run (starting g calls)) }
+        ensures granted { ((n : ℕ) → M.grants memory.now n) → IsOk result }
     {
-        let files = Files::new(alloc, files)?;
+        let files = Files::new_in(memory, alloc, files)?;
         Ok(Run {
             dispatch: Dispatch::new(alloc),
             files,
@@ -46,14 +49,20 @@ impl Run {
     }
 
     /// Makes these moves, one after the other, as far as each can be made, and tells whether all were.
-    pub(crate) fn replay(&mut self, calls: &[Vec<Sqe>], path: &[Move]) -> Result<bool, WalkFault>
+    pub(crate) fn replay<M: Memory>(
+        &mut self,
+        memory: &M,
+        calls: &[Vec<Sqe>],
+        path: &[Move],
+    ) -> Result<bool, WalkFault>
         requires { Stands (entries_of calls.now) self.old }
-        ensures { (m : Moment) → StandsAt (entries_of calls.now) self.old m
+        ensures made { (m : Moment) → StandsAt (entries_of calls.now) self.old m
             → IfOk result
             (λ made. MadeAs made (after_moves m path.now) (StandsAt (entries_of calls.now) self.new)) }
+        ensures fault { IfErr result (IsReason (M.grants memory.now) (entries_of calls.now)) }
     {
         for next in path {
-            if !self.make(calls, *next)? {
+            if !self.make(memory, calls, *next)? {
                 return Ok(false);
             }
         }
@@ -61,48 +70,56 @@ impl Run {
     }
 
     /// Makes a move, if it can be made, and tells whether it was.
-    pub(crate) fn make(&mut self, calls: &[Vec<Sqe>], next: Move) -> Result<bool, WalkFault>
+    pub(crate) fn make<M: Memory>(
+        &mut self,
+        memory: &M,
+        calls: &[Vec<Sqe>],
+        next: Move,
+    ) -> Result<bool, WalkFault>
         requires { Stands (entries_of calls.now) self.old }
-        ensures { (m : Moment) → StandsAt (entries_of calls.now) self.old m
+        ensures made { (m : Moment) → StandsAt (entries_of calls.now) self.old m
             → IfOk result
             (λ made. MadeAs made (moved m next) (StandsAt (entries_of calls.now) self.new)) }
+        ensures fault { IfErr result (IsReason (M.grants memory.now) (entries_of calls.now)) }
     {
         match next {
-            Move::Accept => self.accept(calls),
-            Move::Issue { number } => self.issue(number),
-            Move::Finish { number } => self.finish(number),
+            Move::Accept => self.accept(memory, calls),
+            Move::Issue { number } => Ok(self.issue(memory, number)?),
+            Move::Finish { number } => Ok(self.finish(memory, number)?),
         }
     }
 
     /// Accepts the next call, if one is left.
-    fn accept(&mut self, calls: &[Vec<Sqe>]) -> Result<bool, WalkFault>
+    fn accept<M: Memory>(&mut self, memory: &M, calls: &[Vec<Sqe>]) -> Result<bool, WalkFault>
         requires { Stands (entries_of calls.now) self.old }
-        ensures { (m : Moment) → StandsAt (entries_of calls.now) self.old m
+        ensures made { (m : Moment) → StandsAt (entries_of calls.now) self.old m
             → IfOk result
             (λ made. MadeAs made (moved m move.Accept) (StandsAt (entries_of calls.now) self.new)) }
+        ensures fault { IfErr result (IsReason (M.grants memory.now) (entries_of calls.now)) }
     {
         let Some(call) = calls.get(self.next_call) else {
             return Ok(false);
         };
-        self.dispatch.reserve(call.len() as u64)?;
+        self.dispatch.reserve_in(memory, call.len() as u64)?;
         accept_call(&mut self.dispatch, call.as_slice());
         self.next_call += 1;
         Ok(true)
     }
 
     /// Issues a request, if it can be issued.
-    fn issue(&mut self, number: u64) -> Result<bool, WalkFault>
+    fn issue<M: Memory>(&mut self, memory: &M, number: u64) -> Result<bool, AllocError>
         requires { (calls : List (List Sqe)) × Stands calls self.old }
-        ensures { (calls : List (List Sqe)) (m : Moment) → StandsAt calls self.old m
+        ensures made { (calls : List (List Sqe)) (m : Moment) → StandsAt calls self.old m
             → IfOk result
             (λ made. MadeAs made (moved m (move.Issue number)) (StandsAt calls self.new)) }
+        ensures granted { ((n : ℕ) → M.grants memory.now n) → IsOk result }
     {
         let entry = self.dispatch.entry(number);
         match self.dispatch.issue(number) {
             Issued::Run(_) => Ok(true),
             Issued::Ended(res) => {
                 let Some(entry) = entry else { unreachable!() };
-                post(&mut self.posted, &entry, res, [0; 64])?;
+                post(memory, &mut self.posted, &entry, res, [0; 64])?;
                 Ok(true)
             }
             Issued::NotReady | Issued::Running | Issued::Unknown => Ok(false),
@@ -110,11 +127,12 @@ impl Run {
     }
 
     /// Finishes a request, if it runs: as its operation calls for on the files that there are.
-    fn finish(&mut self, number: u64) -> Result<bool, WalkFault>
+    fn finish<M: Memory>(&mut self, memory: &M, number: u64) -> Result<bool, AllocError>
         requires { (calls : List (List Sqe)) × Stands calls self.old }
-        ensures { (calls : List (List Sqe)) (m : Moment) → StandsAt calls self.old m
+        ensures made { (calls : List (List Sqe)) (m : Moment) → StandsAt calls self.old m
             → IfOk result
             (λ made. MadeAs made (moved m (move.Finish number)) (StandsAt calls self.new)) }
+        ensures granted { ((n : ℕ) → M.grants memory.now n) → IsOk result }
     {
         let Some(op) = self.dispatch.running_op(number) else {
             return Ok(false);
@@ -122,12 +140,12 @@ impl Run {
         let Some(entry) = self.dispatch.entry(number) else {
             unreachable!()
         };
-        let outcome = self.files.apply(&op);
+        let outcome = self.files.apply_in(memory, &op);
         if outcome.res == -errno::ENOMEM {
-            return Err(WalkFault::Memory);
+            return Err(AllocError);
         }
         self.dispatch.finish(number, outcome);
-        post(&mut self.posted, &entry, outcome.res, outcome.bytes)?;
+        post(memory, &mut self.posted, &entry, outcome.res, outcome.bytes)?;
         Ok(true)
     }
 }
@@ -146,14 +164,22 @@ fn accept_call(dispatch: &mut Dispatch, entries: &[Sqe])
 }
 
 /// Posts the completion of a request of this entry that ended so, unless it is to be skipped.
-fn post(posted: &mut Vec<Cqe>, entry: &Sqe, res: i32, bytes: [u8; 64]) -> Result<(), WalkFault>
-    ensures { OnOk result
+fn post<M: Memory>(
+    memory: &M,
+    posted: &mut Vec<Cqe>,
+    entry: &Sqe,
+    res: i32,
+    bytes: [u8; 64],
+) -> Result<(), AllocError>
+    ensures posted { OnOk result
         (posted.new.items ≡ posted_with posted.old.items entry.now res bytes) }
+    ensures granted { ((n : ℕ) → M.grants memory.now n) → IsOk result }
 {
     let told = posts_completion(entry, succeeded(entry, res));
     if !told {
         return Ok(());
     }
-    posted.push(Cqe::new(entry.user_data(), res, bytes))?;
+    memory.reserve(posted, 1)?;
+    posted.push_reserved(Cqe::new(entry.user_data(), res, bytes));
     Ok(())
 }

@@ -1,6 +1,12 @@
+use Rattle.std.proofs.Common.{sym, subst, ◌∙◌}
+use Rattle.std.specs.Prelude.{Contains, IsSomeAnd}
 use Rattle.uring_outcomes.proofs.Indexing.{noted_more}
 use Rattle.uring_outcomes.proofs.endings.note_place.Goals as goal
 
-pub returns : goal.returns
-returns c =
-    noted_more c.args.places.now c.take_known-known.new.places c.insert.new.self c.take_known-known.result c.in_ok-more.more c.args.mark c.args.place c.take_known-known.ensures.known c.take_known-known.ensures.others c.in_ok-more.ensures c.in_ok-insert.ensures.updates.0
+pub returns-clause-noted : goal.returns-clause-noted
+returns-clause-noted g c =
+    let values = c.in_ok-reserve_map.ensures.values in
+    noted_more c.args.places.now c.take_known-known.new.places c.insert.new.self c.take_known-known.result c.in_ok-more.more c.args.mark c.args.place
+    (λ k has. c.take_known-known.ensures.known k (subst (λ o. IsSomeAnd o (λ v. Contains v.items k)) (sym (values c.args.mark)) has))
+    (λ m other. c.take_known-known.ensures.others m other ∙ values m)
+    c.in_ok-more.ensures.items c.in_ok-insert.ensures.updates.0

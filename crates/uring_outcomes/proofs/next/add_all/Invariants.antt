@@ -7,7 +7,7 @@ use Rattle.uring_outcomes.proofs.next.add_all.Given as goal
 
 -- what can be made of the requests so far is there
 abbrev pub invariant-loop-number : goal.invariant-loop-number
-invariant-loop-number l = record {
+invariant-loop-number g l = record {
   accepts : (m next : Moment) → StandsAt (entries_of l.calls) l.run m → moved m move.Accept ≡ Some next → Contains l.moves.items move.Accept;
   below : (m : Moment) → StandsAt (entries_of l.calls) l.run m → HasBelow m l.number l.moves.items;
 }

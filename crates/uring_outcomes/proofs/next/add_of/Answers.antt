@@ -8,23 +8,23 @@ use Rattle.uring_moves.specs.declared.move_of_calls.Move.{Move}
 use Rattle.uring_moves.specs.declared.move_of_calls.Move.TheVariants as move
 use Rattle.uring_outcomes.proofs.Moving.{finishable_tells}
 use Rattle.uring_outcomes.proofs.next.add_of.Goals as goal
-use Rattle.uring_outcomes.proofs.next.add_of.Goals.{then-can_issue+in_ok-push, else-can_issue}
+use Rattle.uring_outcomes.proofs.next.add_of.Goals.{then-can_issue+in_ok-push_move, else-can_issue}
 
 pub returns-else-runs-clause-issue : goal.returns-else-runs-clause-issue
-returns-else-runs-clause-issue c = λ calls m at can.
+returns-else-runs-clause-issue g c = λ calls m at can.
     elim c.if-can_issue.branch [
-      | then-can_issue+in_ok-push w ↦ subst (λ xs. Contains xs (move.Issue c.args.number)) (sym (ap (λ (v : Vec Move Global). v.items) w.moves-is ∙ w.in_ok-push.ensures.items)) (Contains-push c.args.moves.now.items (move.Issue c.args.number))
+      | then-can_issue+in_ok-push_move w ↦ subst (λ xs. Contains xs (move.Issue c.args.number)) (sym (ap (λ (v : Vec Move Global). v.items) w.moves-is ∙ w.in_ok-push_move.ensures.pushed)) (Contains-push c.args.moves.now.items (move.Issue c.args.number))
       | else-can_issue w ↦ absurd (both_ways c.can_issue.result w.if-can_issue.false (c.can_issue.ensures calls m at can))
     ]
 
-pub returns-in_ok-push-2-clause-issue : goal.returns-in_ok-push-2-clause-issue
-returns-in_ok-push-2-clause-issue c = λ calls m at can.
+pub returns-in_ok-push_move-2-clause-issue : goal.returns-in_ok-push_move-2-clause-issue
+returns-in_ok-push_move-2-clause-issue g c = λ calls m at can.
     let there : Contains c.if-can_issue.moves.items (move.Issue c.args.number) = elim c.if-can_issue.branch [
-      | then-can_issue+in_ok-push w ↦ subst (λ xs. Contains xs (move.Issue c.args.number)) (sym (ap (λ (v : Vec Move Global). v.items) w.moves-is ∙ w.in_ok-push.ensures.items)) (Contains-push c.args.moves.now.items (move.Issue c.args.number))
+      | then-can_issue+in_ok-push_move w ↦ subst (λ xs. Contains xs (move.Issue c.args.number)) (sym (ap (λ (v : Vec Move Global). v.items) w.moves-is ∙ w.in_ok-push_move.ensures.pushed)) (Contains-push c.args.moves.now.items (move.Issue c.args.number))
       | else-can_issue w ↦ absurd (both_ways c.can_issue.result w.if-can_issue.false (c.can_issue.ensures calls m at can))
     ] in
-    subst (λ xs. Contains xs (move.Issue c.args.number)) (sym c.in_ok-push-2.ensures.items) (Contains-append_left c.if-can_issue.moves.items _ (move.Issue c.args.number) there)
+    subst (λ xs. Contains xs (move.Issue c.args.number)) (sym c.in_ok-push_move-2.ensures.pushed) (Contains-append_left c.if-can_issue.moves.items _ (move.Issue c.args.number) there)
 
 pub returns-else-runs-clause-finish : goal.returns-else-runs-clause-finish
-returns-else-runs-clause-finish c = λ calls m at can.
+returns-else-runs-clause-finish g c = λ calls m at can.
     absurd (both_ways c.runs.result c.if-runs.false (c.runs.ensures calls m at ∙ (finishable_tells m.requests c.args.number can).1))

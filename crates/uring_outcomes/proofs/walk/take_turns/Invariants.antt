@@ -3,4 +3,4 @@ use Rattle.uring_outcomes.specs.Walks.{Goes}
 use Rattle.uring_outcomes.proofs.walk.take_turns.Given as goal
 
 abbrev pub invariant-turns : goal.invariant-turns
-invariant-turns l = Goes l.setup (entries_of l.calls) l.names l.walk
+invariant-turns g l = Goes l.setup (entries_of l.calls) l.names l.walk

@@ -6,19 +6,19 @@ use Rattle.uring_outcomes.proofs.Walking.{gone}
 use Rattle.uring_outcomes.proofs.walk.Walk.go_back.Goals as goal
 
 pub replay-requires : goal.replay-requires
-replay-requires c =
+replay-requires g c =
     let few : c.args.setup.now.files ≤ 64 = c.files.ensures.limits.files_limit in
     let same : c.files.result ≡ c.args.setup.now.files = c.files.ensures.value in
     record {
       moment = starting c.args.setup.now (entries_of c.args.calls.now);
-      at = c.in_ok-self.ensures c.args.setup.now (entries_of c.args.calls.now) (sym same) (omega arith);
+      at = c.in_ok-self.ensures.stands c.args.setup.now (entries_of c.args.calls.now) (sym same) (omega arith);
     }
 
-pub returns : goal.returns
-returns c = λ names off.
+pub returns-clause-goes : goal.returns-clause-goes
+returns-clause-goes g c = λ names off.
     let few : c.args.setup.now.files ≤ 64 = c.files.ensures.limits.files_limit in
     let same : c.files.result ≡ c.args.setup.now.files = c.files.ensures.value in
     let calls = entries_of c.args.calls.now in
     let start = starting c.args.setup.now calls in
     gone c.args.setup.now calls names (paths_of c.args.self.now.todo.items) c.args.self.now.path.items _ refl refl off.walk off.indexed
-    (subst (λ p. MadeAs c.in_ok-self-2.field-0 (after_moves start p) (StandsAt calls c.replay.new.self)) c.as_slice.ensures.value (c.in_ok-self-2.ensures start (c.in_ok-self.ensures c.args.setup.now calls (sym same) (omega arith))))
+    (subst (λ p. MadeAs c.in_ok-self-2.field-0 (after_moves start p) (StandsAt calls c.replay.new.self)) c.as_slice.ensures.value (c.in_ok-self-2.ensures.made start (c.in_ok-self.ensures.stands c.args.setup.now calls (sym same) (omega arith))))

@@ -4,16 +4,16 @@ use Rattle.uring_outcomes.specs.Walks.{paths_of, longer_by, HasLonger}
 use Rattle.uring_outcomes.proofs.Covering.{path_taken, none_noted}
 use Rattle.uring_outcomes.proofs.walk.Walk.move_on.Goals as goal
 
-pub returns : goal.returns
-returns c = λ g amid.
+pub returns-clause-goes : goal.returns-clause-goes
+returns-clause-goes g c = λ s amid.
     let calls = entries_of c.args.calls.now in
     let names = c.args.names.now in
     let found = c.args.self.now.found.list.items in
     let todo = paths_of c.args.self.now.todo.items in
-    let longer = c.in_ok-next.ensures amid.there.last amid.there.at in
+    let longer = c.in_ok-next.ensures.longer amid.there.last amid.there.at in
     let here = subst (λ p. HasLonger names amid.there.last p todo (paths_of c.fork.new.todo.items ++ longer_by p c.in_ok-next.next)) c.as_slice-path.ensures.value longer in
-    c.take.ensures g names (record {
-      walk = path_taken g calls names c.args.self.now.path.items amid.there.last todo (paths_of c.fork.new.todo.items ++ longer_by c.args.self.now.path.items c.in_ok-next.next) found found amid.there.leads here (none_noted amid.there.last found amid.more) amid.off.walk;
+    c.take.ensures.goes s names (record {
+      walk = path_taken s calls names c.args.self.now.path.items amid.there.last todo (paths_of c.fork.new.todo.items ++ longer_by c.args.self.now.path.items c.in_ok-next.next) found found amid.there.leads here (none_noted amid.there.last found amid.more) amid.off.walk;
       indexed = amid.off.indexed;
       there = amid.there;
     })

@@ -4,11 +4,11 @@ use Rattle.uring_outcomes.specs.Walks.{paths_of, IsWalk, IsBefore}
 use Rattle.uring_outcomes.proofs.Walking.{off_path}
 use Rattle.uring_outcomes.proofs.walk.Walk.take.Goals as goal
 
-pub returns-in-Some : goal.returns-in-Some
-returns-in-Some c = λ g names before.
-    c.step.ensures g names (subst (λ o. IsBefore g (entries_of c.args.calls.now) names o c.args.self.now) c.in-Some.is before)
+pub returns-in-Some-clause-goes : goal.returns-in-Some-clause-goes
+returns-in-Some-clause-goes g c = λ s names before.
+    c.step.ensures.goes s names (subst (λ o. IsBefore s (entries_of c.args.calls.now) names o c.args.self.now) c.in-Some.is before)
 
-pub returns-in-None : goal.returns-in-None
-returns-in-None c = λ g names before.
-    let none = subst (λ o. IsBefore g (entries_of c.args.calls.now) names o c.args.self.now) c.in-None.is before in
-    off_path g (entries_of c.args.calls.now) names _ refl (subst (λ ps. IsWalk g (entries_of c.args.calls.now) names ps c.args.self.now.found.list.items) (append-nil (paths_of c.args.self.now.todo.items)) none.walk) none.indexed
+pub returns-in-None-clause-goes : goal.returns-in-None-clause-goes
+returns-in-None-clause-goes g c = λ s names before.
+    let none = subst (λ o. IsBefore s (entries_of c.args.calls.now) names o c.args.self.now) c.in-None.is before in
+    off_path s (entries_of c.args.calls.now) names _ refl (subst (λ ps. IsWalk s (entries_of c.args.calls.now) names ps c.args.self.now.found.list.items) (append-nil (paths_of c.args.self.now.todo.items)) none.walk) none.indexed

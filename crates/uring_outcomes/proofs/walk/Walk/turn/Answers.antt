@@ -1,10 +1,10 @@
 use Rattle.uring_outcomes.proofs.walk.Walk.turn.Goals as goal
 
 pub returns-then-not-branch-clause-goes : goal.returns-then-not-branch-clause-goes
-returns-then-not-branch-clause-goes c = c.in_ok-resume.ensures.goes c.args.names.now c.requires
+returns-then-not-branch-clause-goes g c = c.in_ok-resume.ensures.goes c.args.names.now c.requires
 
 pub go_on-requires : goal.go_on-requires
-go_on-requires c = (c.args.setup.now, c.in_ok-resume.ensures.goes c.args.names.now c.requires)
+go_on-requires g c = (c.args.setup.now, c.in_ok-resume.ensures.goes c.args.names.now c.requires)
 
 pub returns-clause-goes : goal.returns-clause-goes
-returns-clause-goes c = c.in_ok-go_on.ensures c.args.setup.now (c.in_ok-resume.ensures.goes c.args.names.now c.requires)
+returns-clause-goes g c = c.in_ok-go_on.ensures.goes c.args.setup.now (c.in_ok-resume.ensures.goes c.args.names.now c.requires)

@@ -2,10 +2,10 @@ use Rattle.std.proofs.Common.{subst, arith, take}
 use Rattle.uring_moves.specs.Prompt.{NamesAll}
 use Rattle.uring_outcomes.specs.Runs.{among, entries_of}
 use Rattle.uring_outcomes.proofs.Walking.{named_kept, named_more}
-use Rattle.uring_outcomes.proofs.walk.add_names.Goals as goal
+use Rattle.uring_outcomes.proofs.names.add_names.Goals as goal
 
 pub loop-call-preserved : goal.loop-call-preserved
-loop-call-preserved c =
+loop-call-preserved g c =
     let new = c.add_named.new.names.items in
     let at = c.loop-call.call-index in
     named_more new c.args.calls.now at c.call-item.result (omega arith) c.call-item.is (subst (NamesAll (among new)) c.as_slice.ensures.value c.in_ok-add_named.ensures.named)

@@ -8,18 +8,18 @@ use Rattle.uring_entry.specs.Preparation.{is_cancel}
 use Rattle.uring_moves.specs.Prompt.{NamesAll}
 use Rattle.uring_outcomes.specs.Runs.{among}
 use Rattle.uring_outcomes.proofs.Walking.{among_kept, among_pushed, names_kept, names_more}
-use Rattle.uring_outcomes.proofs.walk.add_named.Goals as goal
-use Rattle.uring_outcomes.proofs.walk.add_named.Goals.{then-opcode-eq-ASYNC_CANCEL+in_ok-push, else-opcode-eq-ASYNC_CANCEL}
+use Rattle.uring_outcomes.proofs.names.add_named.Goals as goal
+use Rattle.uring_outcomes.proofs.names.add_named.Goals.{then-opcode-eq-ASYNC_CANCEL+in_ok-push_name, else-opcode-eq-ASYNC_CANCEL}
 
 pub loop-entry-preserved : goal.loop-entry-preserved
-loop-entry-preserved c =
+loop-entry-preserved g c =
     let names = c.loop-entry.names.items in
     let new = c.if-opcode-eq-ASYNC_CANCEL.names.items in
     let at = c.loop-entry.entry-index in
     let e = c.entry-item.result in
     elim c.if-opcode-eq-ASYNC_CANCEL.branch [
-      | then-opcode-eq-ASYNC_CANCEL+in_ok-push w ↦
-          let is : new ≡ names ++ w.addr.result ∷ [] = ap (λ (v : Vec ℕ Global). v.items) w.names-is ∙ w.in_ok-push.ensures.items in
+      | then-opcode-eq-ASYNC_CANCEL+in_ok-push_name w ↦
+          let is : new ≡ names ++ w.addr.result ∷ [] = ap (λ (v : Vec ℕ Global). v.items) w.names-is ∙ w.in_ok-push_name.ensures.pushed in
           let kept : (u : ℕ) → among names u ≡ true → among new u ≡ true = λ u there. subst (λ xs. among xs u ≡ true) (sym is) (among_kept names (w.addr.result ∷ []) u there) in
           let here : among new (addr_of e) ≡ true = subst (λ xs. among xs (addr_of e) ≡ true) (sym is) (subst (λ u. among (names ++ w.addr.result ∷ []) u ≡ true) w.addr.ensures (among_pushed names w.addr.result)) in
           record {
@@ -37,4 +37,4 @@ loop-entry-preserved c =
     ]
 
 pub returns-clause-named : goal.returns-clause-named
-returns-clause-named c = subst (NamesAll (among c.loop-entry.names.items)) (take_all c.loop-entry.entry-index c.args.entries.now (omega arith)) c.loop-entry.invariant.named
+returns-clause-named g c = subst (NamesAll (among c.loop-entry.names.items)) (take_all c.loop-entry.entry-index c.args.entries.now (omega arith)) c.loop-entry.invariant.named

@@ -1,0 +1,136 @@
+-- What ends a walk before its end: an operation that wasn't granted its memory, and calls with more entries than requests have numbers.
+use Rattle.std.proofs.Common.{◌≡◌, ℕ, ◌+◌, ◌≤◌, ◌^◌, pos, neg_ℤ, Bool, true, false, List, [], ◌∷◌, ◌++◌, length, drop, get_or, Option, Some, None, Result, Ok, Err, if◌then◌else◌, refl, sym, subst, ap, ◌∙◌, arith, ◌<◌}
+use Rattle.std.specs.Prelude.{IfErr, IsErrAnd}
+use Rattle.std.specs.Option.{option_and_then}
+use Rattle.std.proofs.lemmas.List.{length-append}
+use Rattle.std.specs.declared.vec.Vec.{Vec}
+use Rattle.std.specs.declared.alloc.Global.{Global}
+use Rattle.uring_entry.specs.Layout.{Sqe}
+use Rattle.uring_entry.specs.Requests.{entry_of, is_doomed, is_issuable, doomed_result, cancel_result, with_call}
+use Rattle.uring_entry.specs.Preparation.{is_cancel}
+use Rattle.uring_entry.specs.declared.errno.TheConstants.{EFBIG, ENOMEM}
+use Rattle.uring_entry.specs.declared.operation.Op.{Op}
+use Rattle.uring_entry.specs.declared.operation.Op.TheVariants as op
+use Rattle.uring_entry.specs.declared.operation.Outcome.{Outcome}
+use Rattle.uring_files.specs.Contents.{FileContents, is_too_long, read_outcome}
+use Rattle.uring_files.specs.Operations.{result_of, on_file, file_of, ended_with}
+use Rattle.uring_moves.specs.Moments.{Moment, starting, accepted, started, ended_at_once, issued, finished, is_finishable, moved, after_moves}
+use Rattle.uring_moves.specs.declared.move_of_calls.Move.{Move}
+use Rattle.uring_moves.specs.declared.move_of_calls.Move.TheVariants as move
+use Rattle.uring_dispatch.specs.declared.errors.ReserveError.{ReserveError}
+use Rattle.uring_dispatch.specs.declared.errors.ReserveError.TheVariants as refused
+use Rattle.uring_outcomes.specs.Faults.{entry_count, IsReason, fault_of}
+use Rattle.uring_outcomes.specs.declared.fault.WalkFault.{WalkFault}
+use Rattle.uring_outcomes.specs.declared.fault.WalkFault.TheVariants as fault
+use Rattle.uring_outcomes.specs.Runs.{entries_of, StandsAt}
+use Rattle.uring_outcomes.specs.declared.run.Run.{Run}
+use Rattle.uring_outcomes.proofs.Moving.{next_left}
+
+-- No operation is called for to end with ENOMEM.
+
+on_file_granted : (file : Option FileContents) (f : FileContents → Outcome)
+    → ((x : FileContents) → (f x).res ≡ neg_ℤ ENOMEM → ⊥) → (on_file file f).res ≡ neg_ℤ ENOMEM → ⊥
+on_file_granted None f other is = absurd cc
+on_file_granted (Some file) f other is = other file is
+
+write_granted : (long : Bool) (len : ℕ)
+    → (ended_with (if long then neg_ℤ EFBIG else pos len)).res ≡ neg_ℤ ENOMEM → ⊥
+write_granted true len is = cc
+write_granted false len is = cc
+
+pub called_granted : (files : List FileContents) (o : Op) → (result_of files o).res ≡ neg_ℤ ENOMEM → ⊥
+called_granted files (op.Read fd off len) is =
+    on_file_granted (file_of files fd) (read_outcome off len) (λ file e. cc) is
+called_granted files (op.Write fd off len bytes) is =
+    on_file_granted (file_of files fd) (λ file. ended_with (if is_too_long off len then neg_ℤ EFBIG else pos len)) (λ file e. write_granted (is_too_long off len) len e) is
+called_granted files (op.Fsync fd) is =
+    on_file_granted (file_of files fd) (λ file. ended_with (pos 0)) (λ file e. cc) is
+called_granted files op.Nop is = cc
+called_granted files (op.Cancel target all) is = cc
+
+-- Each move leaves the number of the entries that are accepted and of those that are left to be.
+
+abbrev all_of : Moment → ℕ
+all_of m = length m.requests.accepted + entry_count m.left
+
+accept_keeps : (m next : Moment) (left : List (List Sqe)) → m.left ≡ left → accepted m left ≡ Some next
+    → all_of next ≡ all_of m
+accept_keeps m next [] is so = absurd cc
+accept_keeps m next (call ∷ later) is so =
+    let left : entry_count m.left ≡ length call + entry_count later = ap entry_count is in
+    let new : next ≡ record m { requests = with_call m.requests call; left = later } = cc in
+    let sum : length (m.requests.accepted ++ call) + entry_count later ≡ length m.requests.accepted + entry_count m.left = omega (arith, left, length-append m.requests.accepted call) in
+    ap all_of new ∙ sum
+
+can_keep : (can : Bool) (m behind next : Moment) → all_of behind ≡ all_of m
+    → (if can then Some behind else None) ≡ Some next → all_of next ≡ all_of m
+can_keep true m behind next same so = let is : behind ≡ next = cc in ap all_of (sym is) ∙ same
+can_keep false m behind next same so = absurd cc
+
+issue_keeps : (doomed cancel : Bool) (m : Moment) (n : ℕ)
+    → all_of (if doomed then ended_at_once m n (doomed_result m.requests n) else
+    if cancel then ended_at_once m n (cancel_result m.requests n) else started m n) ≡ all_of m
+issue_keeps true cancel m n = refl
+issue_keeps false true m n = refl
+issue_keeps false false m n = refl
+
+move_keeps : (m next : Moment) (x : Move) → moved m x ≡ Some next → all_of next ≡ all_of m
+move_keeps m next move.Accept so = accept_keeps m next m.left refl so
+move_keeps m next (move.Issue n) so =
+    can_keep (is_issuable m.requests n) m (issued m n) next (issue_keeps (is_doomed m.requests n) (is_cancel (entry_of m.requests n)) m n) so
+move_keeps m next (move.Finish n) so =
+    can_keep (is_finishable m.requests n) m (finished m n) next refl so
+
+first_then : (first : Option Moment) (m last : Moment) (later : List Move)
+    → ((y : Moment) → first ≡ Some y → all_of y ≡ all_of m)
+    → ((y : Moment) → after_moves y later ≡ Some last → all_of last ≡ all_of y)
+    → option_and_then (λ y. after_moves y later) first ≡ Some last → all_of last ≡ all_of m
+first_then None m last later one rest so = absurd cc
+first_then (Some y) m last later one rest so = rest y so ∙ one y refl
+
+moves_keep : (moves : List Move) (m last : Moment) → after_moves m moves ≡ Some last
+    → all_of last ≡ all_of m
+moves_keep [] m last so = let is : m ≡ last = cc in ap all_of (sym is)
+moves_keep (x ∷ later) m last so =
+    first_then (moved m x) m last later (λ y is. move_keeps m y x is) (λ y is. moves_keep later y last is) so
+
+-- The requests accepted and the entries of the next call are among the calls' entries.
+pub next_among : (calls : List (Vec Sqe Global)) (run : Run) (m : Moment) (call : Vec Sqe Global)
+    → StandsAt (entries_of calls) run m → run.next_call < length calls
+    → call ≡ get_or calls run.next_call call
+    → length m.requests.accepted + length call.items ≤ entry_count (entries_of calls)
+next_among calls run m call at low is =
+    let all : all_of m ≡ 0 + entry_count (entries_of calls) = moves_keep at.reached.moves (starting at.reached.setup (entries_of calls)) m at.reached.leads in
+    let left : entry_count m.left ≡ length call.items + entry_count (drop (run.next_call + 1) (entries_of calls)) = ap entry_count (next_left calls m run.next_call call at.left low is) in
+    omega (arith, all, left)
+
+-- What a walk says.
+
+-- of a fault that is told, whatever is so
+pub told : {T : Type 0} (r : Result T WalkFault) (P : WalkFault → Type 0) (f : WalkFault) → IsErrAnd r (λ x. x ≡ f)
+    → P f → IfErr r P
+told (Ok x) P f is p = tt
+told (Err x) P f is p = subst P (sym is) p
+
+-- a refusal of the dispatcher has its reason
+pub refusal_reason : (grants : ℕ → Type 0) (calls : List (List Sqe)) (e : ReserveError)
+    → (e ≡ refused.Spent → 2 ^ 63 ≤ entry_count calls)
+    → (e ≡ refused.NoMemory → ((n : ℕ) → grants n) → ⊥) → IsReason grants calls (fault_of e)
+refusal_reason grants calls refused.Spent spent memory = spent refl
+refusal_reason grants calls refused.NoMemory spent memory = memory refl
+
+-- what it doesn't end by
+
+pub spent_only : {T : Type 0} (grants : ℕ → Type 0) (calls : List (List Sqe)) (r : Result T WalkFault)
+    → IfErr r (IsReason grants calls) → r ≡ Err fault.Spent → 2 ^ 63 ≤ entry_count calls
+spent_only grants calls r reason is = subst (λ x. IfErr x (IsReason grants calls)) is reason
+
+pub never_paths : {T : Type 0} (grants : ℕ → Type 0) (calls : List (List Sqe)) (r : Result T WalkFault)
+    → IfErr r (IsReason grants calls) → r ≡ Err fault.Paths → ⊥
+never_paths grants calls r reason is = subst (λ x. IfErr x (IsReason grants calls)) is reason
+
+pub spent_but_paths : {T : Type 0} (grants : ℕ → Type 0) (calls : List (List Sqe)) (r : Result T WalkFault)
+    → IfErr r (λ f. (f ≡ fault.Paths → ⊥) → IsReason grants calls f) → r ≡ Err fault.Spent
+    → 2 ^ 63 ≤ entry_count calls
+spent_but_paths grants calls r reason is =
+    subst (λ x. IfErr x (λ f. (f ≡ fault.Paths → ⊥) → IsReason grants calls f)) is reason (λ e. cc)
