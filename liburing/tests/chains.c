@@ -60,12 +60,19 @@ static int64_t lesser(int64_t one, int64_t other)
     return one < other ? one : other;
 }
 
+/* How many times as patient the test is as on a quiet machine. */
+static int patience(void)
+{
+    const char *said = getenv("PATIENCE");
+    return said && atoi(said) > 0 ? atoi(said) : 1;
+}
+
 /* A chain takes at most so many tenths of the time of one of half its length. The least of some rounds counts, since other work on
  * the machine only adds to it; and of more, while it isn't so. */
 static void expect_growth(unsigned length, int64_t tenths, struct beside beside)
 {
     int64_t half = INT64_MAX, whole = INT64_MAX;
-    for (int round = 0; round < 60; round++) {
+    for (int round = 0; round < 60 * patience(); round++) {
         half = lesser(half, time_of_chain(length / 2, beside));
         whole = lesser(whole, time_of_chain(length, beside));
         if (round >= 8 && 10 * whole <= tenths * half)
@@ -102,6 +109,6 @@ int main(int count, char **words)
         {"growth", test_growth},
         {"growth beside", test_growth_beside},
     };
-    alarm(PATIENCE);
+    alarm((unsigned)(PATIENCE * patience()));
     return run_tests(tests, sizeof tests / sizeof *tests, count > 1 ? words[1] : NULL);
 }
