@@ -32,7 +32,7 @@
  *   -12  (ENOMEM)  from `new` and `on`, from `submit` and `reap_all` of a core, from `begin_..`, `contents`, `crash`, `count_images`, `images`
  *                  and `fold` of a volume, and from `step`, `crash`, `image`, `count_images` and `images` of a crash machine: memory was refused.
  *   -27  (EFBIG)   from `begin_write`: the write would end above 2^63 - 1. From `images`: there are more than room for their lengths.
- *                  From `on`: a file is longer than 65,536 bytes. From wulgach_outcomes_new: the walk has no number left.
+ *                  From `on`: a file is longer than 65,536 bytes.
  *   -2   (ENOENT)  from a function that reads: there is no such completion, request, outcome, file or byte. From `end_..` and `fail_..`
  *                  of a volume: no write or sync of this number runs.
  *   -131 (ENOTRECOVERABLE)  from `step` and from all calls on what a crash leaves of a crash machine: memory was refused for one of its steps.
@@ -492,7 +492,7 @@ int32_t wulgach_crash_machine_free(struct wulgach_crash_machine *machine);
  * there may be more, and their number is a lower bound. UINT64_MAX walks to the end; eight loose no-ops have 40,320 outcomes.
  *
  * -22 exactly if wulgach_setup_fault isn't 0, the set-up asks for a ring that stops, or a call has more entries than the submission ring;
- * -12 if memory was refused; -27 if the walk ran out of numbers. The place then keeps what it had. */
+ * -12 if memory was refused. The place then keeps what it had. */
 int32_t wulgach_outcomes_new(struct wulgach_outcomes *outcomes, const struct wulgach_setup *setup, const struct wulgach_entry *entries, size_t total, const uint64_t *lens, size_t calls, uint64_t most, bool *is_all);
 
 /* Writes how many outcomes there are, and whether these are all. */

@@ -2,7 +2,9 @@
 use Rattle.std.proofs.Common.{◌≡◌, ◌<◌, ◌≤◌, ◌+◌, ◌-◌, ◌++◌, ◌∷◌, ℕ, zero, suc, List, [], length, map, take, drop, min, get_or, refl, sym, subst, ap, ◌∙◌, arith}
 use Rattle.std.proofs.Math.Seq.{drop-cons, drop-nil}
 use Rattle.std.proofs.lemmas.List.{take_min, drop_min, length-drop, length-take, length-map, map-append, append_assoc}
+use Rattle.uring_entry.specs.Layout.{Sqe}
 use Rattle.uring_files.specs.Contents.{max_len}
+use Rattle.uring_outcomes.specs.Faults.{entry_count}
 use Rattle.uring_c.specs.Crashing.{AreShort}
 use Rattle.uring_c.specs.Cuts.{cut}
 
@@ -63,3 +65,9 @@ pub parts_short : {Y : Type 0} (f : Y → List ℕ) (parts : List Y) (lens bytes
     → AreShort lens → (place : ℕ) → length (get_or (map f parts) place []) ≤ max_len
 parts_short f parts lens bytes is short place =
     subst (λ (ps : List (List ℕ)). length (get_or ps place []) ≤ max_len) (sym is) (cut_short lens bytes short place)
+
+-- and calls that entries are cut into have no more entries than there are
+pub cut_within : (lens : List ℕ) (entries : List Sqe) → entry_count (cut lens entries) ≤ length entries
+cut_within [] entries = omega arith
+cut_within (n ∷ more) entries =
+    omega (arith, cut_within more (drop n entries), length-take n entries, length-drop n entries)

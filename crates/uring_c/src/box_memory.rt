@@ -1,10 +1,10 @@
 //! Memory that boxes come from.
 
 use std::alloc::{AllocError, Global};
-use uring_memory::Memory;
+use uring_outcomes::MapMemory;
 
-/// A `Memory` that also grants boxes, each as a list of one element. Our own rule.
-pub trait BoxMemory: Memory {
+/// Memory that also grants boxes, each as a list of one element. Our own rule.
+pub trait BoxMemory: MapMemory {
     ghost use Rattle.std.specs.Prelude.{◌≡◌, ℕ, ◌≤◌, IfOk, IsOk};
 
     /// A box with this value. `AllocError`: out of memory.

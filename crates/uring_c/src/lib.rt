@@ -27,6 +27,7 @@ mod operation_words;
 mod outcome_list;
 mod outcomes_calls;
 mod outcomes_exports;
+mod outcomes_memory;
 mod outcomes_place;
 mod parts;
 mod set_up_exports;

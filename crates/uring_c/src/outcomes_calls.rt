@@ -1,7 +1,8 @@
 //! The calls of a list of outcomes, made on the list in a place. Each takes the list out, and puts it back; its box doesn't move.
-ghost use Rattle.std.specs.Prelude.{◌≡◌, None, IsSome, IsSomeAnd, IfOk, MatchOption, map, slice_get, length};
+ghost use Rattle.std.specs.Prelude.{◌≡◌, ℕ, ◌<◌, ◌^◌, None, IsSome, IsSomeAnd, IfOk, IsOk, MatchOption, map, slice_get, length};
 ghost use Rattle.std.specs.Option.{option_and_then};
 ghost use Rattle.uring_files.specs.Operations.{state_of, byte_of};
+ghost use Rattle.uring_outcomes.specs.Faults.{entry_count};
 ghost use Rattle.uring_c.specs.Outcomes.{AreOf, ArePosted};
 ghost use Rattle.uring_c.specs.Places.{outcomes_in};
 
@@ -9,9 +10,9 @@ use crate::completion_words::CompletionWords;
 use crate::outcome_list::OutcomeList;
 use crate::outcomes_place::OutcomesPlace;
 use crate::whole_call_memory::give_completions;
-use std::alloc::Global;
+use std::alloc::{AllocError, Global};
 use uring_machine::{FileState, Setup, Sqe};
-use uring_outcomes::{Found, WalkFault, outcomes_within};
+use uring_outcomes::{Found, MapMemory, WalkFault, outcomes_within_in};
 
 impl OutcomesPlace {
     /// How many outcomes there are.
@@ -93,17 +94,24 @@ impl OutcomesPlace {
     }
 }
 
-/// What these calls may come to, as far as so many paths show.
-pub(crate) fn found_in(
+/// What these calls may come to, as far as so many paths show, by this memory. `AllocError`: out of memory.
+pub(crate) fn found_in<M: MapMemory>(
+    memory: &M,
     alloc: Global,
     setup: &Setup,
     calls: &[Vec<Sqe>],
     most: u64,
-) -> Result<OutcomeList, WalkFault>
-    ensures { IfOk result (AreOf setup.now (map (λ call. call.items) calls.now)) }
+) -> Result<OutcomeList, AllocError>
+    requires { entry_count (map (λ call. call.items) calls.now) < 2 ^ 63 }
+    ensures found { IfOk result (AreOf setup.now (map (λ call. call.items) calls.now)) }
+    ensures granted { ((n : ℕ) → M.grants memory.now n) → IsOk result }
 {
-    let Found { endings, is_all } = outcomes_within(alloc, setup, calls, most)?;
-    Ok(OutcomeList { endings, is_all })
+    match outcomes_within_in(memory, alloc, setup, calls, most) {
+        Ok(Found { endings, is_all }) => Ok(OutcomeList { endings, is_all }),
+        Err(WalkFault::Memory) => Err(AllocError),
+        Err(WalkFault::Spent) => unreachable!(),
+        Err(WalkFault::Paths) => unreachable!(),
+    }
 }
 
 /// Gives the completions of the outcome at this place, as many as there is room for, and returns how many there are: `None` past the last.

@@ -1,32 +1,25 @@
 //! The calls of a list of outcomes that C makes: `wulgach_outcomes_..` of the header.
 //!
 //! Each returns 0, or the negative of an error number: -9 (EBADF) exactly at an empty place, but for `wulgach_outcomes_new`.
-ghost use Rattle.std.specs.Prelude.{◌≡◌, ◌↔◌, ◌≤◌, All, pos, neg_ℤ, None, IsSome, IfSome, IfOk, IsSomeAnd, IsTrue, MatchOption, map, slice_get, length};
+ghost use Rattle.std.specs.Prelude.{◌≡◌, ◌↔◌, pos, neg_ℤ, None, IsSome, IfSome, IsSomeAnd, MatchOption, map, slice_get, length};
 ghost use Rattle.std.specs.Option.{option_and_then};
-ghost use Rattle.uring_entry.specs.declared.errno.TheConstants.{EBADF, EFBIG, EINVAL, ENOENT, ENOMEM};
+ghost use Rattle.uring_entry.specs.declared.errno.TheConstants.{EBADF, EINVAL, ENOENT, ENOMEM};
 ghost use Rattle.uring_files.specs.Operations.{state_of, byte_of};
 ghost use Rattle.uring_c.specs.Cuts as spec;
-ghost use Rattle.uring_c.specs.Outcomes.{IsNoWalk, TakesWhole, AreFound, ArePosted};
+ghost use Rattle.uring_c.specs.Outcomes.{IsNoWalk, AreFound, ArePosted};
 ghost use Rattle.uring_c.specs.Places.{outcomes_in};
 ghost use Rattle.uring_c.specs.ReadingForms.{words_of_state};
-ghost use Rattle.uring_c.specs.SetUps.{IsAskedFor};
-ghost use Rattle.uring_c.specs.declared.set_up_words.SetupWords.{SetupWords};
 
 use crate::completion_words::CompletionWords;
-use crate::cuts::cut;
-use crate::outcome_list::OutcomeList;
-use crate::outcomes_calls::found_in;
+use crate::outcomes_memory::outcomes_new_in;
 use crate::outcomes_place::OutcomesPlace;
 use crate::set_up_words::SetupWords;
 use crate::state_words::{StateWords, state_words};
-use crate::whole_call_memory::{EntryWords, entries_of};
+use crate::whole_call_memory::EntryWords;
 use std::alloc::Global;
 use uring_entry::errno;
-use uring_machine::Setup;
-use uring_outcomes::WalkFault;
 
-/// Puts everything that calls may come to into a place, each once, and writes whether that is all: a walk takes at most so many paths, and what it has found by then is right. The entries of all calls are given one behind another, with the length of each call. -22 (EINVAL) exactly if the set-up is refused, asks for a ring that stops behind an entry with a fault, or a call has more entries than the submission ring; -12 (ENOMEM) if memory is refused; -27 (EFBIG) if more than 2^63 - 1 entries are given. Then the place keeps what it had.
-#[tactic(auto, using(crate::proofs::Starts::is_walk))]
+/// Puts everything that calls may come to into a place, each once, and writes whether that is all: a walk takes at most so many paths, and what it has found by then is right. The entries of all calls are given one behind another, with the length of each call. -22 (EINVAL) exactly if the set-up is refused, asks for a ring that stops behind an entry with a fault, or a call has more entries than the submission ring; -12 (ENOMEM) if memory is refused. Then the place keeps what it had.
 #[unsafe(no_mangle)]
 pub extern "C" fn wulgach_outcomes_new(
     alloc: Global,
@@ -38,68 +31,14 @@ pub extern "C" fn wulgach_outcomes_new(
     is_all: &mut bool,
 ) -> i32
     ensures refused { (result ≡ neg_ℤ EINVAL) ↔ IsNoWalk setup.now lens.now }
-    ensures results { (result ≡ pos 0 → ⊥) → (result ≡ neg_ℤ EINVAL → ⊥) → (result ≡ neg_ℤ EFBIG → ⊥)
-        → result ≡ neg_ℤ ENOMEM }
+    ensures results { (result ≡ pos 0 → ⊥) → (result ≡ neg_ℤ EINVAL → ⊥) → result ≡ neg_ℤ ENOMEM }
     ensures kept { (result ≡ pos 0 → ⊥)
         → (outcomes_in place.new ≡ outcomes_in place.old) × (is_all.new ≡ is_all.old) }
     ensures found { result ≡ pos 0 → IsSomeAnd (outcomes_in place.new)
         (λ found. AreFound setup.now (spec.cut lens.now (map (λ e. e.words) entries.now)) found
         × (is_all.new ≡ found.is_all)) }
 {
-    let Some(setup) = ring_of(setup, lens) else {
-        return -errno::EINVAL;
-    };
-    let found = match walk(alloc, &setup, entries, lens, most) {
-        Ok(found) => found,
-        Err(WalkFault::Memory) => return -errno::ENOMEM,
-        Err(_) => return -errno::EFBIG,
-    };
-    let all = found.is_all;
-    let Ok(boxed) = Box::new(alloc, found) else {
-        return -errno::ENOMEM;
-    };
-    place.put(boxed);
-    *is_all = all;
-    0
-}
-
-/// The set-up of a ring that takes calls of these lengths in whole, if it is asked for.
-#[tactic(auto, using(crate::proofs::Starts::no_walk_refused, crate::proofs::Starts::no_walk_stops))]
-fn ring_of(setup: &SetupWords, lens: &[u64]) -> Option<Setup>
-    ensures { MatchOption result (IsNoWalk setup.now lens.now)
-        (λ s. IsAskedFor setup.now s × TakesWhole s lens.now) }
-{
-    let ring = setup.set_up()?;
-    if setup.stops {
-        return None;
-    }
-    if !fit(lens, ring.sq()) {
-        return None;
-    }
-    Some(ring)
-}
-
-/// Whether a ring of this size has a slot for each entry of calls of these lengths.
-fn fit(lens: &[u64], size: u32) -> bool
-    ensures { IsTrue result ↔ All (λ len. len ≤ size) lens.now }
-{
-    lens.iter().all(|len| *len <= u64::from(size))
-}
-
-/// What these calls may come to, as far as so many paths show.
-fn walk(
-    alloc: Global,
-    setup: &Setup,
-    entries: &[EntryWords],
-    lens: &[u64],
-    most: u64,
-) -> Result<OutcomeList, WalkFault>
-    ensures { IfOk result (λ found. (w : SetupWords) → IsAskedFor w setup.now
-        → AreFound w (spec.cut lens.now (map (λ e. e.words) entries.now)) found) }
-{
-    let list = entries_of(&alloc, alloc, entries)?;
-    let calls = cut(&alloc, alloc, &list, lens)?;
-    found_in(alloc, setup, &calls, most)
+    outcomes_new_in(&alloc, alloc, place, setup, entries, lens, most, is_all)
 }
 
 /// Writes how many outcomes there are, and whether these are all: if not, there may be more.

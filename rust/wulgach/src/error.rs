@@ -20,7 +20,7 @@ pub enum Error {
     /// A write would end above 2^63 - 1.
     TooFar,
 
-    /// Each number up to 2^64 - 2 was given to a write or a sync of a volume; or a walk over outcomes has no number left.
+    /// Each number up to 2^64 - 2 was given to a write or a sync of a volume.
     NoNumber,
 
     /// More files are given than the machine has.

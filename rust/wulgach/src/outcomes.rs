@@ -107,7 +107,6 @@ impl Outcomes {
             0 => {}
             -22 if setup.fault().is_some() => return Err(Error::BadSetup),
             -22 => return Err(Error::NotTakenWhole),
-            -27 => return Err(Error::NoNumber),
             _ => return Err(Error::NoMemory),
         }
         // SAFETY: the place is full.
