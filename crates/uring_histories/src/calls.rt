@@ -10,7 +10,7 @@ ghost use Rattle.uring_laws.specs.Standing.{item_steps};
 ghost use Rattle.uring_histories.specs.Recordings.{IsRecorded, HasMade, call_steps, take_steps, steps_of_item};
 
 use crate::recording::Recording;
-use crate::stop::Stop;
+use crate::recording_fault::RecordingFault;
 use std::alloc::Global;
 use uring_core::Step;
 use uring_entry::Sqe;
@@ -24,7 +24,7 @@ pub(crate) fn submit(
     items: &[Item],
     texts: &[String],
     count: u32,
-) -> Result<(), Stop>
+) -> Result<(), RecordingFault>
     requires { length items.now ≡ count }
     ensures { (g : Setup) (h : History) → IsRecorded g recording.old h
         → OnOk result (HasMade g recording.new h (call_steps (all_published_as items.now))) }
@@ -43,14 +43,14 @@ fn put_items(
     alloc: Global,
     items: &[Item],
     texts: &[String],
-) -> Result<(), Stop>
+) -> Result<(), RecordingFault>
     requires { length items.now < 2 ^ 32 }
     ensures { (g : Setup) (h : History) → IsRecorded g recording.old h
         → OnOk result (HasMade g recording.new h (item_steps 0 (all_published_as items.now))) }
 {
     for (slot, item) in items.iter().enumerate() {
         let Some(text) = texts.get(slot) else {
-            return Err(Stop::Astray);
+            return Err(RecordingFault::Astray);
         };
         put_item(recording, alloc, slot as u32, item, text.as_str())?;
     }
@@ -64,7 +64,7 @@ fn put_item(
     slot: u32,
     item: &Item,
     text: &str,
-) -> Result<(), Stop>
+) -> Result<(), RecordingFault>
     ensures { (g : Setup) (h : History) → IsRecorded g recording.old h
         → OnOk result (HasMade g recording.new h (steps_of_item slot (published_as item.now))) }
 {
@@ -84,7 +84,7 @@ fn put_entry(
     slot: u32,
     entry: Sqe,
     text: &str,
-) -> Result<(), Stop>
+) -> Result<(), RecordingFault>
     ensures { (g : Setup) (h : History) → IsRecorded g recording.old h
         → OnOk result (HasMade g recording.new h (step.Fill slot entry ∷ step.Index slot ∷ [])) }
 {
@@ -104,7 +104,7 @@ fn fill(
     slot: u32,
     entry: Sqe,
     text: &str,
-) -> Result<(), Stop>
+) -> Result<(), RecordingFault>
     ensures { (g : Setup) (h : History) → IsRecorded g recording.old h
         → OnOk result (HasMade g recording.new h (step.Fill slot entry ∷ [])) }
 {
@@ -119,7 +119,7 @@ fn fill(
 }
 
 /// Takes so many positions of the call that is open.
-fn take_all(recording: &mut Recording, alloc: Global, count: u32) -> Result<(), Stop>
+fn take_all(recording: &mut Recording, alloc: Global, count: u32) -> Result<(), RecordingFault>
     ensures { (g : Setup) (h : History) → IsRecorded g recording.old h
         → OnOk result (HasMade g recording.new h (take_steps count)) }
 {

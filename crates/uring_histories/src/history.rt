@@ -11,10 +11,10 @@ ghost use Rattle.uring_histories.specs.Recordings.{published_in};
 ghost use Rattle.uring_histories.specs.Shown.{IsAccepted, IsHistoryOf, WritesHistory, remark_text, whole};
 
 use crate::accepted::is_accepted;
+use crate::recording_fault::RecordingFault;
 use crate::replay::replayed;
 use crate::search::moves_to;
 use crate::steps::steps_of;
-use crate::stop::Stop;
 use crate::texts::texts_of;
 use std::alloc::{AllocError, Global};
 use std::io::Write;
@@ -173,8 +173,8 @@ fn history_by(
     drop(texts);
     match shown {
         Ok(text) => Ok(Some(text)),
-        Err(Stop::Memory) => Err(PlayFault::Memory),
-        Err(Stop::Astray) => Ok(None),
+        Err(RecordingFault::Memory) => Err(PlayFault::Memory),
+        Err(RecordingFault::Astray) => Ok(None),
     }
 }
 

@@ -7,10 +7,10 @@ mod attempt;
 mod calls;
 mod history;
 mod recording;
+mod recording_fault;
 mod replay;
 mod search;
 mod steps;
-mod stop;
 mod texts;
 
 pub use history::write_history;

@@ -10,7 +10,7 @@ ghost use Rattle.uring_trace.specs.Exchanges.{answer_text};
 ghost use Rattle.uring_trace.specs.Spelling.{IsStep};
 ghost use Rattle.uring_histories.specs.Recordings.{IsRecorded, HasMade};
 
-use crate::stop::Stop;
+use crate::recording_fault::RecordingFault;
 use std::alloc::{AllocError, Global};
 use uring_core::{Answer, Step, same_answer};
 use uring_entry::{Setup, errno};
@@ -32,7 +32,7 @@ pub(crate) struct Recording {
 
 impl Recording {
     /// No step yet.
-    pub(crate) fn new(alloc: Global, setup: &Setup) -> Result<Recording, Stop>
+    pub(crate) fn new(alloc: Global, setup: &Setup) -> Result<Recording, RecordingFault>
         ensures { IfOk result (λ recording. IsRecorded setup.now recording []) }
     {
         Ok(Recording {
@@ -42,17 +42,22 @@ impl Recording {
     }
 
     /// Makes a step, which this line is to be, and records it with its answer.
-    pub(crate) fn make(&mut self, alloc: Global, line: &str, step: &Step) -> Result<(), Stop>
+    pub(crate) fn make(
+        &mut self,
+        alloc: Global,
+        line: &str,
+        step: &Step,
+    ) -> Result<(), RecordingFault>
         ensures { (g : Setup) (h : History) → IsRecorded g self.old h
             → OnOk result (HasMade g self.new h (step.now ∷ [])) }
     {
         let is_spelt = spells(alloc, line, step)?;
         if !is_spelt {
-            return Err(Stop::Astray);
+            return Err(RecordingFault::Astray);
         }
         let answer = self.machine.step(*step);
         if refuses(&answer) {
-            return Err(Stop::Memory);
+            return Err(RecordingFault::Memory);
         }
         push_exchange(alloc, &mut self.text, line, &answer)?;
         Ok(())
@@ -65,7 +70,7 @@ impl Recording {
         name: &str,
         number: u64,
         step: &Step,
-    ) -> Result<(), Stop>
+    ) -> Result<(), RecordingFault>
         ensures { (g : Setup) (h : History) → IsRecorded g self.old h
             → OnOk result (HasMade g self.new h (step.now ∷ [])) }
     {

@@ -11,7 +11,7 @@ ghost use Rattle.uring_histories.specs.Shown.{IsHistoryOf};
 use crate::arrival::{has_come, has_files};
 use crate::calls::{are_items, submit};
 use crate::recording::Recording;
-use crate::stop::Stop;
+use crate::recording_fault::RecordingFault;
 use std::alloc::Global;
 use std::cmp::min;
 use uring_core::Step;
@@ -28,19 +28,19 @@ pub(crate) fn replayed(
     texts: &[Vec<String>],
     moves: &[Move],
     ending: &Ending,
-) -> Result<String, Stop>
+) -> Result<String, RecordingFault>
     ensures { IfOk result
         (λ text. IsHistoryOf setup.now (published_in calls.now) ending.now (string_bytes text)) }
 {
     if setup.stops() {
-        return Err(Stop::Astray);
+        return Err(RecordingFault::Astray);
     }
     let mut recording = Recording::new(alloc, setup)?;
     match play(&mut recording, alloc, setup, calls, texts, moves, ending) {
         Ok(()) => Ok(text_of(recording)),
-        Err(stop) => {
+        Err(fault) => {
             drop(recording);
-            Err(stop)
+            Err(fault)
         }
     }
 }
@@ -63,7 +63,7 @@ fn play(
     texts: &[Vec<String>],
     moves: &[Move],
     ending: &Ending,
-) -> Result<(), Stop>
+) -> Result<(), RecordingFault>
     requires goes_on { setup.now.stops ≡ false }
     requires begun { IsAmid setup.now recording.old [] }
     ensures { OnOk result
@@ -79,13 +79,13 @@ fn end_with(
     alloc: Global,
     setup: &Setup,
     ending: &Ending,
-) -> Result<(), Stop>
+) -> Result<(), RecordingFault>
     ensures { (calls : List (List Published)) → IsAmid setup.now recording.old calls
         → OnOk result (IsHistoryOf setup.now calls ending.now (string_bytes recording.new.text)) }
 {
     let has_come = has_come(&recording.machine, ending.posted());
     if !has_come {
-        return Err(Stop::Astray);
+        return Err(RecordingFault::Astray);
     }
     reap_all(
         recording,
@@ -96,7 +96,7 @@ fn end_with(
     if has_files(&recording.machine, ending.files()) {
         Ok(())
     } else {
-        Err(Stop::Astray)
+        Err(RecordingFault::Astray)
     }
 }
 
@@ -108,7 +108,7 @@ fn make_moves(
     calls: &[Vec<Item>],
     texts: &[Vec<String>],
     moves: &[Move],
-) -> Result<(), Stop>
+) -> Result<(), RecordingFault>
     requires goes_on { setup.now.stops ≡ false }
     requires begun { IsAmid setup.now recording.old [] }
     ensures { OnOk result (IsAmid setup.now recording.new (published_in calls.now)) }
@@ -118,7 +118,7 @@ fn make_moves(
         make_move(recording, alloc, setup, calls, texts, &mut done, *next)?;
     }
     if done < calls.len() {
-        return Err(Stop::Astray);
+        return Err(RecordingFault::Astray);
     }
     Ok(())
 }
@@ -132,7 +132,7 @@ fn make_move(
     texts: &[Vec<String>],
     done: &mut usize,
     next: Move,
-) -> Result<(), Stop>
+) -> Result<(), RecordingFault>
     requires goes_on { setup.now.stops ≡ false }
     requires amid { IsAmid setup.now recording.old (published_in (take done.old calls.now)) }
     ensures { OnOk result
@@ -146,7 +146,7 @@ fn make_move(
 }
 
 /// Issues a request.
-fn issue(recording: &mut Recording, alloc: Global, number: u64) -> Result<(), Stop>
+fn issue(recording: &mut Recording, alloc: Global, number: u64) -> Result<(), RecordingFault>
     ensures { (g : Setup) (calls : List (List Published)) → IsAmid g recording.old calls
         → OnOk result (IsAmid g recording.new calls) }
 {
@@ -154,7 +154,7 @@ fn issue(recording: &mut Recording, alloc: Global, number: u64) -> Result<(), St
 }
 
 /// Finishes a request.
-fn finish(recording: &mut Recording, alloc: Global, number: u64) -> Result<(), Stop>
+fn finish(recording: &mut Recording, alloc: Global, number: u64) -> Result<(), RecordingFault>
     ensures { (g : Setup) (calls : List (List Published)) → IsAmid g recording.old calls
         → OnOk result (IsAmid g recording.new calls) }
 {
@@ -169,17 +169,17 @@ fn accept_next(
     calls: &[Vec<Item>],
     texts: &[Vec<String>],
     done: &mut usize,
-) -> Result<(), Stop>
+) -> Result<(), RecordingFault>
     requires goes_on { setup.now.stops ≡ false }
     requires amid { IsAmid setup.now recording.old (published_in (take done.old calls.now)) }
     ensures { OnOk result
         (IsAmid setup.now recording.new (published_in (take done.new calls.now))) }
 {
     if *done >= calls.len() {
-        return Err(Stop::Astray);
+        return Err(RecordingFault::Astray);
     }
     let Some(lines) = texts.get(*done) else {
-        return Err(Stop::Astray);
+        return Err(RecordingFault::Astray);
     };
     accept(
         recording,
@@ -199,7 +199,7 @@ fn accept(
     setup: &Setup,
     items: &[Item],
     texts: &[String],
-) -> Result<(), Stop>
+) -> Result<(), RecordingFault>
     requires goes_on { setup.now.stops ≡ false }
     ensures { (calls : List (List Published)) → IsAmid setup.now recording.old calls
         → OnOk result (IsAmid setup.now recording.new (calls ++ all_published_as items.now ∷ [])) }
@@ -207,17 +207,22 @@ fn accept(
     let size = setup.sq();
     let count = items.len();
     if count > size as usize {
-        return Err(Stop::Astray);
+        return Err(RecordingFault::Astray);
     }
     let are_fit = are_items(items, size);
     if !are_fit {
-        return Err(Stop::Astray);
+        return Err(RecordingFault::Astray);
     }
     submit(recording, alloc, items, texts, count as u32)
 }
 
 /// Reaps so many completions, at most as many at a time as the ring has entries.
-fn reap_all(recording: &mut Recording, alloc: Global, count: u64, size: u64) -> Result<(), Stop>
+fn reap_all(
+    recording: &mut Recording,
+    alloc: Global,
+    count: u64,
+    size: u64,
+) -> Result<(), RecordingFault>
     ensures { (g : Setup) (calls : List (List Published)) (posted : List Cqe)
         → IsEnded g recording.old calls posted → OnOk result (IsEnded g recording.new calls posted) }
 {
@@ -234,7 +239,7 @@ fn reap_all(recording: &mut Recording, alloc: Global, count: u64, size: u64) -> 
 }
 
 /// Reaps so many completions that the ring holds.
-fn reap_some(recording: &mut Recording, alloc: Global, count: u64) -> Result<(), Stop>
+fn reap_some(recording: &mut Recording, alloc: Global, count: u64) -> Result<(), RecordingFault>
     ensures { (g : Setup) (calls : List (List Published)) (posted : List Cqe)
         → IsEnded g recording.old calls posted → OnOk result (IsEnded g recording.new calls posted) }
 {
@@ -245,7 +250,7 @@ fn reap_some(recording: &mut Recording, alloc: Global, count: u64) -> Result<(),
 }
 
 /// Reaps so many completions.
-fn reap_each(recording: &mut Recording, alloc: Global, count: u64) -> Result<(), Stop>
+fn reap_each(recording: &mut Recording, alloc: Global, count: u64) -> Result<(), RecordingFault>
     ensures { (g : Setup) (calls : List (List Published)) (posted : List Cqe)
         → IsEnded g recording.old calls posted → OnOk result (IsEnded g recording.new calls posted) }
 {
@@ -256,7 +261,12 @@ fn reap_each(recording: &mut Recording, alloc: Global, count: u64) -> Result<(),
 }
 
 /// Makes a step that only shows completions.
-fn show(recording: &mut Recording, alloc: Global, line: &str, step: &Step) -> Result<(), Stop>
+fn show(
+    recording: &mut Recording,
+    alloc: Global,
+    line: &str,
+    step: &Step,
+) -> Result<(), RecordingFault>
     requires { ShowsOnly step.now }
     ensures { (g : Setup) (calls : List (List Published)) (posted : List Cqe)
         → IsEnded g recording.old calls posted → OnOk result (IsEnded g recording.new calls posted) }

@@ -4,7 +4,7 @@ use std::alloc::{AllocError, AllocFailed};
 
 /// Why a history isn't recorded.
 #[derive(Clone, Copy, Debug, Drop, PartialEq, Eq)]
-pub(crate) enum Stop {
+pub(crate) enum RecordingFault {
     /// Memory was refused, or the numbers of requests are spent.
     Memory,
 
@@ -12,14 +12,14 @@ pub(crate) enum Stop {
     Astray,
 }
 
-impl From<AllocError> for Stop {
-    fn from(_error: AllocError) -> Stop {
-        Stop::Memory
+impl From<AllocError> for RecordingFault {
+    fn from(_error: AllocError) -> RecordingFault {
+        RecordingFault::Memory
     }
 }
 
-impl<T: Drop> From<AllocFailed<T>> for Stop {
-    fn from(_error: AllocFailed<T>) -> Stop {
-        Stop::Memory
+impl<T: Drop> From<AllocFailed<T>> for RecordingFault {
+    fn from(_error: AllocFailed<T>) -> RecordingFault {
+        RecordingFault::Memory
     }
 }
