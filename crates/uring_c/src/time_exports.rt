@@ -11,7 +11,7 @@ ghost use Rattle.uring_c.specs.TimeForm.{limit_of, words_of_wait, words_of_woken
 
 use crate::time_words::{LimitWords, WaitWords, WokenWords, wait_words, woken_words};
 use uring_enter::{
-    WakeSources, Start, Timeout, Times, later, left_until, linked_outcome, nanoseconds_of,
+    Start, Timeout, Times, WakeSources, later, left_until, linked_outcome, nanoseconds_of,
 };
 
 /// The nanoseconds of a time in seconds and nanoseconds.

@@ -268,8 +268,7 @@ static CRASH: CommandRow = CommandRow {
     about: "Read steps as trace does, let the power fail, and write what is left of a file",
     after_help: IMAGES,
     options: &[
-        SQ, CQ, FILES, START, STOP, FILE, UNIT, AT, SEED, COUNT, LIST, LISTED, HOLDS,
-        EACH,
+        SQ, CQ, FILES, START, STOP, FILE, UNIT, AT, SEED, COUNT, LIST, LISTED, HOLDS, EACH,
     ],
 };
 
