@@ -94,7 +94,7 @@ pub(crate) fn seeded_choice(
 ) -> Result<Vec<u64>, AllocError> {
     let mut seed = seed;
     let mut choice = Vec::new(alloc);
-    for _ in 0..count_parts(log.events()?, unit).saturating_mul(4) {
+    for _ in 0..count_parts(log.events(), unit).saturating_mul(4) {
         seed = seed.wrapping_add(0x9e37_79b9_7f4a_7c15);
         choice.push(number_by(seed, log.count()))?;
     }

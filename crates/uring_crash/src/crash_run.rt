@@ -150,7 +150,7 @@ fn left_image(alloc: Global, watch: &Watch, asked: &Asked) -> Result<Vec<u8>, Al
 {
     let choice = match asked.seed {
         Some(seed) => seeded_choice(alloc, watch.log(), asked.unit, seed)?,
-        None => least_choice(alloc, watch.log().events()?, asked.unit)?,
+        None => least_choice(alloc, watch.log().events(), asked.unit)?,
     };
     watch.crash(&choice)
 }

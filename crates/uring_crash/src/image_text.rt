@@ -41,7 +41,7 @@ pub(crate) fn told_writes(
     image: &[u8],
 ) -> Result<String, AllocError> {
     let mut text = String::new(alloc);
-    for event in log.events()? {
+    for event in log.events() {
         if let Event::WriteIssued(write) = event {
             push_write(&mut text, log, write, image)?;
         }

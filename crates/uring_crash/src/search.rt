@@ -71,7 +71,7 @@ pub(crate) fn find(
         → (unit : ℕ) (setup : Setup) (fd : ℤ) (h : History) → Watches unit setup fd watch.now h
         → IsPlain (log_of unit setup fd h).volume.history off bytes.now → ⊥) }
 {
-    if is_plain(watch, off, bytes)? {
+    if is_plain(watch, off, bytes) {
         return Ok(Found::Nowhere);
     }
     match try_choices(alloc, watch, unit, off, bytes)? {
@@ -81,18 +81,17 @@ pub(crate) fn find(
 }
 
 /// Whether it is plain that each image has these bytes.
-fn is_plain(watch: &Watch, off: u64, bytes: &[u8]) -> Result<bool, AllocError>
-    ensures yes { IfOk result (λ plain. plain ≡ true → (unit : ℕ) (setup : Setup) (fd : ℤ) (h : History)
+fn is_plain(watch: &Watch, off: u64, bytes: &[u8]) -> bool
+    ensures yes { result ≡ true → (unit : ℕ) (setup : Setup) (fd : ℤ) (h : History)
         → Watches unit setup fd watch.now h
-        → IsFound off bytes.now 0 unit (log_of unit setup fd h).volume.history Found.Nowhere) }
-    ensures no { IfOk result (λ plain. plain ≡ false → off + length bytes.now < 2 ^ 64
+        → IsFound off bytes.now 0 unit (log_of unit setup fd h).volume.history Found.Nowhere }
+    ensures no { result ≡ false → off + length bytes.now < 2 ^ 64
         → (unit : ℕ) (setup : Setup) (fd : ℤ) (h : History) → Watches unit setup fd watch.now h
-        → IsPlain (log_of unit setup fd h).volume.history off bytes.now → ⊥) }
+        → IsPlain (log_of unit setup fd h).volume.history off bytes.now → ⊥ }
 {
     let log = watch.log();
     log.volume().is_sound();
-    let events = log.events()?;
-    Ok(keeps(events, off, bytes))
+    keeps(log.events(), off, bytes)
 }
 
 /// What a choice leaves, if that hasn't these bytes.
@@ -140,7 +139,7 @@ fn try_choices(
         (λ image. (unit : ℕ) (setup : Setup) (fd : ℤ) (h : History) → Watches unit setup fd watch.now h
         → IsWithout off bytes.now unit (log_of unit setup fd h).volume.history image.items)) }
 {
-    let events = watch.log().events()?;
+    let events = watch.log().events();
     let least = least_choice(alloc, events, unit)?;
     if let Some(image) = try_choice(watch, &least, off, bytes)? {
         return Ok(Some(image));

@@ -178,7 +178,7 @@ impl CrashMachine {
         };
         let outcome = self.files.apply_in(memory, &op);
         let answer = self.core.finish(number, outcome);
-        note_finish(memory, &mut self.logs, number, Some(op), &answer);
+        note_finish(&mut self.logs, number, Some(op), &answer);
         answer
     }
 

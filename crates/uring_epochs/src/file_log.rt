@@ -1,6 +1,6 @@
 //! The log of a file: its writes and syncs, as the requests that are these begin and end.
 
-ghost use Rattle.std.specs.Prelude.{◌≡◌, ℕ, ◌+◌, ◌∷◌, ◌++◌, [], ◌<◌, ◌≤◌, ℤ, pos, true, false, reverse, length, IfOk, IsOk, OnOk, IfSome};
+ghost use Rattle.std.specs.Prelude.{◌≡◌, ℕ, ◌+◌, ◌∷◌, ◌<◌, ◌≤◌, ℤ, pos, true, false, reverse, length, IfOk, IsOk, OnOk, IfSome};
 ghost use Rattle.std.specs.Ordering.{int_eq};
 ghost use Rattle.uring_files.specs.Operations.{IsForFiles};
 ghost use Rattle.uring_files.specs.Contents.{max_len};
@@ -16,7 +16,7 @@ use std::alloc::{AllocError, Global};
 use std::marker::Model;
 use uring_core::{Answer, Op};
 use uring_memory::Memory;
-use uring_volume::{Event, Piece, SyncRange, Volume};
+use uring_volume::{Event, SyncRange, Volume};
 
 /// The most bytes that a file may have.
 const MAX_LEN: u64 = 65_536;
@@ -29,9 +29,6 @@ pub struct FileLog {
     volume: Volume,
     // The oldest first: that of number 1 on the volume, and so on.
     requests: Vec<u64>,
-    // What has happened on the volume, the oldest first, and whether memory was refused for the end of a write or a sync, so that it isn't all.
-    events: Vec<Event>,
-    is_cut: bool,
 }
 
 impl Model for FileLog {
@@ -44,11 +41,10 @@ impl Model for FileLog {
 
     ghost view = { λ l. record { fd = l.fd; volume = l.volume; requests = reverse l.requests.items } };
 
-    ghost use Rattle.std.specs.Prelude.{◌≡◌, ◌+◌, length, false};
+    ghost use Rattle.std.specs.Prelude.{◌≡◌, ◌+◌, length};
 
     ghost invariant = { λ l. record {
       short : IsShort l.volume;
-      told : l.is_cut ≡ false → reverse l.events.items ≡ l.volume.history;
       numbered : l.volume.next ≡ length l.requests.items + 1;
     } };
 }
@@ -86,8 +82,6 @@ impl FileLog {
             fd,
             volume: Volume::new(alloc, unit, first),
             requests: Vec::new(alloc),
-            events: Vec::new(alloc),
-            is_cut: false,
         }
     }
 
@@ -128,18 +122,8 @@ impl FileLog {
         ensures unit { self.new.volume.unit ≡ self.old.volume.unit }
         ensures first { self.new.volume.first ≡ self.old.volume.first }
     {
-        let memory = self.alloc;
-        self.note_finish_in(&memory, n, op, answer);
-    }
-
-    /// As `note_finish`, by this memory.
-    pub fn note_finish_in<M: Memory>(&mut self, memory: &M, n: u64, op: Option<Op>, answer: &Answer)
-        ensures log { self.new ≡ finished_as n op answer.now self.old }
-        ensures unit { self.new.volume.unit ≡ self.old.volume.unit }
-        ensures first { self.new.volume.first ≡ self.old.volume.first }
-    {
         match answer {
-            Answer::Ended { res, .. } => self.end_running(memory, n, op, *res),
+            Answer::Ended { res, .. } => self.end_running(n, op, *res),
             _ => {}
         }
     }
@@ -164,13 +148,13 @@ impl FileLog {
     }
 
     /// A request ends, if it ran.
-    fn end_running<M: Memory>(&mut self, memory: &M, n: u64, op: Option<Op>, res: i32)
+    fn end_running(&mut self, n: u64, op: Option<Op>, res: i32)
         ensures log { self.new ≡ finished_of n op res self.old }
         ensures unit { self.new.volume.unit ≡ self.old.volume.unit }
         ensures first { self.new.volume.first ≡ self.old.volume.first }
     {
         match op {
-            Some(op) => self.end(memory, n, &op, res),
+            Some(op) => self.end(n, &op, res),
             None => {}
         }
     }
@@ -222,15 +206,11 @@ impl FileLog {
         ensures first { self.new.volume.first ≡ self.old.volume.first }
         ensures granted { ((k : ℕ) → M.grants memory.now k) → IsOk result }
     {
-        let shown = copied(memory, self.alloc, bytes)?;
         let written = copied(memory, self.alloc, bytes)?;
-        memory.reserve(&mut self.events, 1)?;
         memory.reserve(&mut self.requests, 1)?;
-        let Ok(number) = self.volume.begin_write_in(memory, off, written) else {
+        if self.volume.begin_write_in(memory, off, written).is_err() {
             return Err(AllocError);
-        };
-        self.events
-            .push_reserved(Event::WriteIssued(Piece::new(number, off, shown)));
+        }
         self.requests.push_reserved(n);
         Ok(())
     }
@@ -243,19 +223,20 @@ impl FileLog {
         ensures first { self.new.volume.first ≡ self.old.volume.first }
         ensures granted { ((k : ℕ) → M.grants memory.now k) → IsOk result }
     {
-        memory.reserve(&mut self.events, 1)?;
         memory.reserve(&mut self.requests, 1)?;
-        let Ok(number) = self.volume.begin_sync_in(memory, SyncRange::Whole) else {
+        if self
+            .volume
+            .begin_sync_in(memory, SyncRange::Whole)
+            .is_err()
+        {
             return Err(AllocError);
-        };
-        self.events
-            .push_reserved(Event::SyncIssued(number, SyncRange::Whole));
+        }
         self.requests.push_reserved(n);
         Ok(())
     }
 
     /// A request ends with this result.
-    fn end<M: Memory>(&mut self, memory: &M, n: u64, op: &Op, res: i32)
+    fn end(&mut self, n: u64, op: &Op, res: i32)
         ensures log { self.new ≡ finished n op.now res self.old }
         ensures unit { self.new.volume.unit ≡ self.old.volume.unit }
         ensures first { self.new.volume.first ≡ self.old.volume.first }
@@ -263,12 +244,12 @@ impl FileLog {
         match op {
             Op::Write { fd, off, len, .. } => {
                 if self.fd == *fd && has_effect(*off, *len) && i64::from(res) == i64::from(*len) {
-                    self.end_write(memory, n);
+                    self.end_write(n);
                 }
             }
             Op::Fsync { fd } => {
                 if self.fd == *fd {
-                    self.end_sync(memory, n, res);
+                    self.end_sync(n, res);
                 }
             }
             _ => {}
@@ -276,22 +257,17 @@ impl FileLog {
     }
 
     /// The write that a request is ends.
-    fn end_write<M: Memory>(&mut self, memory: &M, n: u64)
+    fn end_write(&mut self, n: u64)
         ensures log { self.new
             ≡ record self.old { volume = write_ended (spec.number_of n self.old.requests) self.old.volume } }
         ensures unit { self.new.volume.unit ≡ self.old.volume.unit }
         ensures first { self.new.volume.first ≡ self.old.volume.first }
     {
-        let number = number_of(&self.requests, n);
-        if self.volume.end_write(number)
-            && add_event(memory, &mut self.events, Event::WriteEnded(number)).is_err()
-        {
-            self.is_cut = true;
-        }
+        self.volume.end_write(number_of(&self.requests, n));
     }
 
     /// The sync that a request is ends with this result.
-    fn end_sync<M: Memory>(&mut self, memory: &M, n: u64, res: i32)
+    fn end_sync(&mut self, n: u64, res: i32)
         ensures log { self.new
             ≡ record self.old { volume = sync_with res (spec.number_of n self.old.requests) self.old.volume } }
         ensures unit { self.new.volume.unit ≡ self.old.volume.unit }
@@ -299,38 +275,30 @@ impl FileLog {
     {
         let number = number_of(&self.requests, n);
         if res == 0 {
-            self.succeed(memory, number);
+            self.succeed(number);
         } else {
-            self.fail(memory, number);
+            self.fail(number);
         }
     }
 
     /// The sync of a number on the volume ends with success.
-    fn succeed<M: Memory>(&mut self, memory: &M, number: u64)
+    fn succeed(&mut self, number: u64)
         ensures log { self.new
             ≡ record self.old { volume = sync_with (pos 0) number self.old.volume } }
         ensures unit { self.new.volume.unit ≡ self.old.volume.unit }
         ensures first { self.new.volume.first ≡ self.old.volume.first }
     {
-        if self.volume.end_sync(number)
-            && add_event(memory, &mut self.events, Event::SyncEnded(number)).is_err()
-        {
-            self.is_cut = true;
-        }
+        self.volume.end_sync(number);
     }
 
     /// The sync of a number on the volume fails.
-    fn fail<M: Memory>(&mut self, memory: &M, number: u64)
+    fn fail(&mut self, number: u64)
         ensures log { (res : ℤ) → int_eq res (pos 0) ≡ false → self.new
             ≡ record self.old { volume = sync_with res number self.old.volume } }
         ensures unit { self.new.volume.unit ≡ self.old.volume.unit }
         ensures first { self.new.volume.first ≡ self.old.volume.first }
     {
-        if self.volume.fail_sync(number)
-            && add_event(memory, &mut self.events, Event::SyncFailed(number)).is_err()
-        {
-            self.is_cut = true;
-        }
+        self.volume.fail_sync(number);
     }
 
     /// The bytes that a crash leaves of the file, by a choice.
@@ -363,14 +331,11 @@ impl FileLog {
         &self.volume
     }
 
-    /// What has happened on the volume, the oldest first: each write, from which it can be told of, and each sync. `AllocError`: memory was refused for the end of one.
-    pub fn events(&self) -> Result<&[Event], AllocError>
-        ensures { IfOk result (λ events. reverse events.now ≡ self.now.volume.history) }
+    /// What has happened on the volume, the oldest first: each write, from which it can be told of, and each sync.
+    pub fn events(&self) -> &[Event]
+        ensures { reverse result.now ≡ self.now.volume.history }
     {
-        if self.is_cut {
-            return Err(AllocError);
-        }
-        Ok(&self.events)
+        self.volume.events()
     }
 
     /// The request of a number on the volume, if it is one: the oldest has number 1.
@@ -403,15 +368,6 @@ impl FileLog {
     {
         self.volume.is_safe(number_of(&self.requests, n))
     }
-}
-
-/// Puts an event behind the others, by this memory.
-fn add_event<M: Memory>(memory: &M, events: &mut Vec<Event>, event: Event) -> Result<(), AllocError>
-    ensures { OnOk result (events.new.items ≡ events.old.items ++ event ∷ []) }
-{
-    memory.reserve(events, 1)?;
-    events.push_reserved(event);
-    Ok(())
 }
 
 /// A list of these bytes, by this memory.

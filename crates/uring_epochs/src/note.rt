@@ -29,17 +29,11 @@ pub(crate) fn note_issue<M: Memory>(
     Ok(())
 }
 
-/// Notes in each log how a Finish of a request was answered, whose operation this was if it ran, by this memory.
-pub(crate) fn note_finish<M: Memory>(
-    memory: &M,
-    logs: &mut [FileLog],
-    n: u64,
-    op: Option<Op>,
-    answer: &Answer,
-)
+/// Notes in each log how a Finish of a request was answered, whose operation this was if it ran.
+pub(crate) fn note_finish(logs: &mut [FileLog], n: u64, op: Option<Op>, answer: &Answer)
     ensures { logs.new ≡ map (λ log. finished_as n op answer.now log) logs.old }
 {
     for place in 0..logs.len() {
-        logs[place].note_finish_in(memory, n, op, answer);
+        logs[place].note_finish(n, op, answer);
     }
 }

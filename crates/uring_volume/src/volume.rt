@@ -256,6 +256,13 @@ impl Volume {
         let _bound = self.next;
     }
 
+    /// What has happened, the oldest first: each write and each sync that isn't folded.
+    pub fn events(&self) -> &[Event]
+        ensures { reverse result.now ≡ self.now.history }
+    {
+        &self.events
+    }
+
     /// Whether write `n` is safe: a sync that covers it has ended with success, and none that reaches it had failed by then. False too if no write has this number. It looks at all events, and for each end of a sync at those before it.
     pub fn is_safe(&self, n: u64) -> bool
         ensures { result ≡ has_safe self.now.history (named n (issued self.now.history)) }
