@@ -34,7 +34,7 @@ void look_again(struct ring *ring, size_t place)
 /* Where an end can change which other requests can be finished, all are looked at again. */
 static void look_again_behind(struct ring *ring)
 {
-    if (any_has_counted(ring) || ring->drains > 0 || ring->have_to_wait)
+    if (ring->is_count_reached || ring->drains > 0 || ring->have_to_wait)
         look_again(ring, 0);
 }
 
@@ -54,6 +54,7 @@ void end_of(struct ring *ring, struct request *request, int32_t res, int32_t tol
         wulgach_times_post(&ring->times, 1);
     if (is_timeout(request) || is_linked_timeout(request))
         stop_timeout(ring, request);
+    note_counts(ring);
     disarm_linked_timeout(ring, request);
     if (request->file)
         unwatch(ring, request->file->fd);

@@ -52,7 +52,8 @@ struct ring {
     uint64_t moment;                    /* counts what can make a descriptor ready: within one, each is looked at once */
     struct requests running;            /* those of them that were started */
     size_t drains;                      /* how many are draining, */
-    size_t counting;                    /* and how many are timeouts with a count that have started */
+    size_t counting;                    /* and how many are timeouts with a count that have started, */
+    bool is_count_reached;              /* of which one, maybe, has counted enough */
     size_t passed;                      /* at moment `passed_at` none of so many first running ones can be finished */
     uint64_t passed_at;
     bool have_to_wait;                  /* one of them may be remembered as having to wait */

@@ -98,13 +98,13 @@ int32_t end_timeout(struct ring *ring, const struct request *timeout)
 
 bool has_counted(const struct ring *ring, const struct request *timeout)
 {
-    return has_count(timeout) && wulgach_times_outcome(&ring->times, ring->timeouts, ring->timeouts_room, timeout->number) == 0;
+    return ring->is_count_reached && has_count(timeout) && wulgach_times_outcome(&ring->times, ring->timeouts, ring->timeouts_room, timeout->number) == 0;
 }
 
-bool any_has_counted(const struct ring *ring)
+void note_counts(struct ring *ring)
 {
     struct wulgach_timeout timeout;
-    return ring->counting > 0 && wulgach_times_reached(&ring->times, ring->timeouts, ring->timeouts_room, &timeout) == 0;
+    ring->is_count_reached = ring->counting > 0 && wulgach_times_reached(&ring->times, ring->timeouts, ring->timeouts_room, &timeout) == 0;
 }
 
 struct request *timeout_behind(const struct ring *ring, const struct request *request)

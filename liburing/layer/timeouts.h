@@ -37,9 +37,11 @@ void arm_linked_timeout(struct ring *ring, struct request *request);
 /* A request ends: no time runs any more for a timeout that is linked behind it. */
 void disarm_linked_timeout(struct ring *ring, const struct request *request);
 
-/* Whether as many completions were posted as a timeout counts, or as any does that runs. */
+/* Whether as many completions were posted as a timeout counts. */
 bool has_counted(const struct ring *ring, const struct request *timeout);
-bool any_has_counted(const struct ring *ring);
+
+/* A completion was posted, or a timeout runs no more: notes whether any that runs has counted enough, so that each needn't be asked. */
+void note_counts(struct ring *ring);
 
 /* The time of a linked timeout is over: the request that it limits is cancelled. */
 void fire_linked_timeout(struct ring *ring, const struct wulgach_timeout *timeout);
