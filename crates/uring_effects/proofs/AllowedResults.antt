@@ -1,18 +1,17 @@
 -- What operations give on any files has a result that may_end allows.
-use Rattle.std.proofs.Common.{◌≡◌, ◌==◌, ◌||◌, ◌&&◌, ◌-◌, ◌^◌, ◌≤◌, ℕ, ℤ, pos, negsuc, min, length, Bool, true, false, List, Option, Some, None, if◌then◌else◌, refl, sym, ap, subst, ◌∙◌, inl, inr, rules, arith}
+use Rattle.std.proofs.Common.{◌≡◌, ◌==◌, ◌||◌, ◌&&◌, ◌-◌, ◌^◌, ◌≤◌, ℕ, ℤ, pos, negsuc, min, length, Bool, true, false, List, Option, Some, None, if◌then◌else◌, refl, sym, subst, inl, inr, arith}
 use Rattle.std.specs.Prelude.{int_le, not}
 use Rattle.std.proofs.Math.Dec.{leb-zero}
 use Rattle.std.proofs.Math.Nat.{le-min, min-le_left}
 use Rattle.std.proofs.lemmas.Bool.{le-leb}
 use Rattle.uring_entry.specs.Layout.{Sqe, opcode_of, fd_of, off_of, len_of, addr_of, payload_of}
 use Rattle.uring_entry.specs.Preparation.{fault_of, has_fault_of, operation_of, is_cancel, is_cancel_all}
-use Rattle.uring_entry.specs.declared.fault.Fault.TheVariants.{Flags, Opcode, Ioprio, OpFlags, Reserved, Len}
+use Rattle.uring_entry.specs.declared.fault.Fault.TheVariants.{Flags, Opcode}
 use Rattle.uring_entry.specs.declared.opcode.TheConstants.{NOP, FSYNC, READ, WRITE}
-use Rattle.uring_entry.specs.declared.operation.Op.{Op}
 use Rattle.uring_entry.specs.declared.operation.Op.TheVariants.{Nop, Read, Write, Fsync, Cancel}
 use Rattle.uring_entry.specs.declared.operation.Outcome.{Outcome}
 use Rattle.uring_files.specs.Contents.{FileContents, is_too_long, read_outcome}
-use Rattle.uring_files.specs.Operations.{IsForFiles, IsOutcome, ended_with, file_of, is_lengthening, on_file, result_of}
+use Rattle.uring_files.specs.Operations.{IsForFiles, IsOutcome, ended_with, file_of, on_file}
 use Rattle.uring_results.specs.Results.{is_own_error, may_end}
 
 -- what may_end says of an entry that is a transfer of this length, or a sync, or neither

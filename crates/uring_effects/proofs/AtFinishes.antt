@@ -1,11 +1,11 @@
 -- The timeline in which each operation takes effect just before its finish: its effects are the operations that the history carried out.
-use Rattle.std.proofs.Common.{◌≡◌, ◌==◌, ◌++◌, ◌||◌, ℕ, Bool, true, false, not, List, [], ◌∷◌, Option, Some, None, refl, sym, ap, subst, ◌∙◌}
+use Rattle.std.proofs.Common.{◌≡◌, ◌==◌, ◌++◌, ℕ, Bool, true, false, List, [], ◌∷◌, Option, Some, None, refl, sym, ap, subst, ◌∙◌}
 use Rattle.std.specs.Prelude.{if◌then◌else◌}
 use Rattle.std.specs.List.{list_any}
 use Rattle.std.proofs.lemmas.Bool.{and_parts, or_parts, not-true, eq-eqb}
 use Rattle.uring_entry.specs.Setup.{Setup}
 use Rattle.uring_entry.specs.Preparation.{operation_of}
-use Rattle.uring_entry.specs.Requests.{Ending, Requests, entry_of, has_ended, has_started, is_running}
+use Rattle.uring_entry.specs.Requests.{Ending, Requests, entry_of, has_ended, is_running}
 use Rattle.uring_entry.specs.declared.operation.Outcome.{Outcome}
 use Rattle.uring_entry.proofs.RequestLemmas.{list_any-push}
 use Rattle.uring_files.specs.Contents.{FileContents}
@@ -14,9 +14,7 @@ use Rattle.uring_files.specs.Operations.{IsOutcome}
 use Rattle.uring_core.specs.CalledFor.{CalledFor, EndsOn, IsLawful, files_of}
 use Rattle.uring_core.specs.Events.{end_told_by}
 use Rattle.uring_core.specs.Histories.{Event, History, world, IsLawfulApart}
-use Rattle.uring_core.specs.declared.step.Step.{Step}
 use Rattle.uring_core.specs.declared.step.Step.TheVariants as step
-use Rattle.uring_core.specs.declared.answer.Answer.{Answer}
 use Rattle.uring_core.specs.declared.answer.Answer.TheVariants as answer
 use Rattle.uring_laws.specs.Direct.{told, with_told}
 use Rattle.uring_laws.specs.Finishes.{done_by, done_in, first_files}

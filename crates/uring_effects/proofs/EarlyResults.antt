@@ -1,25 +1,23 @@
 -- Results of early effects are allowed: an effect's was when it was taken, and its request's entry stays.
-use Rattle.std.proofs.Common.{◌≡◌, ◌==◌, ◌<◌, ◌≤◌, ℕ, Bool, true, false, List, [], ◌∷◌, length, Option, Some, None, if◌then◌else◌, refl, sym, ap, subst, ◌∙◌, arith}
+use Rattle.std.proofs.Common.{◌≡◌, ◌==◌, ◌<◌, ℕ, Bool, true, false, [], ◌∷◌, length, Some, if◌then◌else◌, refl, sym, subst, arith}
 use Rattle.std.proofs.lemmas.Bool.{and_parts, both_ways, eqb-true, false_from_ne_true}
 use Rattle.std.proofs.lemmas.Option.{same_Some}
 use Rattle.uring_entry.specs.Layout.{Sqe}
-use Rattle.uring_entry.specs.Preparation.{fault_of, is_cancel, is_faulty, operation_of}
-use Rattle.uring_entry.specs.Requests.{Requests, entry_of, has_started, is_running}
+use Rattle.uring_entry.specs.Preparation.{fault_of, is_faulty}
+use Rattle.uring_entry.specs.Requests.{Requests, entry_of, has_started}
 use Rattle.uring_entry.specs.Setup.{Setup}
 use Rattle.uring_entry.specs.declared.operation.Outcome.{Outcome}
 use Rattle.uring_entry.proofs.RequestLemmas.{is_doomed-own_fault}
 use Rattle.uring_results.specs.Results.{may_end}
-use Rattle.uring_core.specs.Histories.{Event, History, world, IsLawfulApart}
-use Rattle.uring_core.specs.declared.step.Step.{Step}
+use Rattle.uring_core.specs.Histories.{Event, History, IsLawfulApart}
 use Rattle.uring_core.specs.declared.step.Step.TheVariants as step
-use Rattle.uring_core.specs.declared.answer.Answer.{Answer}
 use Rattle.uring_core.specs.declared.answer.Answer.TheVariants as answer
 use Rattle.uring_core.proofs.Changes.{not_some}
 use Rattle.uring_core.proofs.Running.{no_cancel, running_asks}
 use Rattle.uring_core.proofs.Sound.{sound_of}
 use Rattle.uring_core.proofs.SoundRequests.{IsSoundRequests}
 use Rattle.uring_laws.proofs.Growth.{Grows, event_grows}
-use Rattle.uring_effects.specs.Effects.{Happening, Makes, Takes, Timeline, made_in, requests_in, files_at, effect_of, TakesEffect, EndsAsTaken, IsTimely, IsLawfulEarly}
+use Rattle.uring_effects.specs.Effects.{Makes, Takes, Timeline, made_in, requests_in, files_at, effect_of, TakesEffect, EndsAsTaken, IsTimely, IsLawfulEarly}
 use Rattle.uring_effects.specs.Laws.{GivesAllowed, GiveAllowed}
 use Rattle.uring_effects.proofs.AllowedResults.{outcome_allowed}
 

@@ -1,18 +1,16 @@
 -- Effects can wait: a step that ends no running request changes places with the effects right before it, since their requests still run behind it, and those that happened last are left out.
-use Rattle.std.proofs.Common.{◌≡◌, ◌==◌, ◌++◌, ◌||◌, ◌&&◌, ◌<◌, ℕ, ℤ, Bool, true, false, not, List, [], ◌∷◌, length, Option, Some, None, if◌then◌else◌, refl, sym, ap, subst, ◌∙◌}
-use Rattle.std.specs.List.{list_any}
+use Rattle.std.proofs.Common.{◌≡◌, ◌==◌, ◌++◌, ◌||◌, ◌&&◌, ◌<◌, ℕ, ℤ, Bool, true, false, not, List, [], ◌∷◌, length, Option, Some, if◌then◌else◌, refl, sym, ap, subst, ◌∙◌}
 use Rattle.std.proofs.lemmas.Bool.{and_parts, both_ways, eqb-true, false_from_ne_true}
 use Rattle.uring_entry.specs.Preparation.{operation_of}
-use Rattle.uring_entry.specs.Layout.{Sqe}
-use Rattle.uring_entry.specs.Requests.{Ending, Requests, entry_of, has_ended, has_started, is_running, no_bytes, chosen_by, cancel_result, doomed_result, with_cancelled, with_started, with_ended}
+use Rattle.uring_entry.specs.Requests.{Ending, Requests, entry_of, has_ended, is_running, no_bytes, chosen_by, cancel_result, doomed_result, with_cancelled, with_started, with_ended}
 use Rattle.uring_entry.specs.Setup.{Setup}
 use Rattle.uring_entry.specs.declared.operation.Op.{Op}
 use Rattle.uring_entry.specs.declared.operation.Outcome.{Outcome}
 use Rattle.uring_entry.proofs.RequestLemmas.{list_any-push}
-use Rattle.uring_files.specs.Contents.{FileContents, empty_files}
+use Rattle.uring_files.specs.Contents.{empty_files}
 use Rattle.uring_files.specs.Done.{Done, files_left}
 use Rattle.uring_files.specs.Operations.{IsOutcome}
-use Rattle.uring_core.specs.Histories.{Event, History, world, IsLawfulApart}
+use Rattle.uring_core.specs.Histories.{History, world, IsLawfulApart}
 use Rattle.uring_core.specs.World.{World, happens, taking_of, taking_entry_of, ending_of}
 use Rattle.uring_core.specs.declared.step.Step.{Step}
 use Rattle.uring_core.specs.declared.step.Step.TheVariants as step
@@ -21,7 +19,7 @@ use Rattle.uring_core.specs.declared.answer.Answer.TheVariants as answer
 use Rattle.uring_core.proofs.Changes.{Change, refuses, takes, drops, closes, runs, dooms, cancels, finishes, change_of}
 use Rattle.uring_core.proofs.Sound.{sound_of}
 use Rattle.uring_laws.proofs.Growth.{event_grows}
-use Rattle.uring_effects.specs.Effects.{Happening, Makes, Takes, Timeline, made_in, requests_in, operation_at, effects_in, files_at, effect_of, TakesEffect, EndsAsTaken, IsTimely, IsLawfulEarly, ends_running, ends_in_effect, EffectsWait}
+use Rattle.uring_effects.specs.Effects.{Makes, Takes, Timeline, made_in, requests_in, operation_at, effects_in, files_at, effect_of, TakesEffect, EndsAsTaken, IsTimely, IsLawfulEarly, ends_running, ends_in_effect, EffectsWait}
 use Rattle.uring_effects.specs.Laws.{IsLawfulLate}
 
 -- ---- what runs goes on
