@@ -137,13 +137,14 @@ static void judge_flags(struct model *model)
         wrong(model, "a completion stays outside, and there is room");
 }
 
-/* Whether a request can certainly go on without waiting. Beside a read that waits for its pipe, time is real. */
+/* Whether a request can certainly go on without waiting. Beside a read that waits for its pipe, time is real; whether one that is linked
+ * behind a skipped success has begun isn't known. */
 static bool can_go_on(const struct model *model, const struct request *request)
 {
     if (request->is_ended || request->action->flags & IOSQE_CQE_SKIP_SUCCESS || !can_start(model, request))
         return false;
     bool is_timeout = request->action->code == IORING_OP_TIMEOUT;
-    return !is_blocked(model, request) && !(is_timeout && has_pipe_reads(model, true));
+    return !is_blocked(model, request) && !(is_timeout && has_pipe_reads(model, false));
 }
 
 /* A descriptor that polls is readable while completions wait or something can go on, and else isn't. */
