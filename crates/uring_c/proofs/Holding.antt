@@ -1,7 +1,7 @@
 -- What a slot holds that has something of a kind in it.
 use denote.Signature.{Slot, plain}
 use mathlib.Core.Logic.{inl, inr}
-use Rattle.std.proofs.Common.{◌≡◌, Option, Some, None, false, refl}
+use Rattle.std.proofs.Common.{◌≡◌, Option, Some, false, refl}
 use Rattle.std.proofs.lemmas.Bool.{both_ways}
 use Rattle.std.specs.Prelude.{IsSome}
 use Rattle.uring_c.specs.Slots.{Held, core_row, machine_row, volume_row, crash_machine_row, outcomes_row, a_core, a_machine, a_volume, a_crash_machine, some_outcomes, core_of, machine_of, volume_of, crash_machine_of, outcomes_of}

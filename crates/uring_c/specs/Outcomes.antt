@@ -1,5 +1,5 @@
 -- What a walk has found of all that calls may come to, for C.
-use Rattle.std.specs.Prelude.{◌≡◌, ◌≤◌, ℕ, Bool, true, false, List, length, map, take, drop, min, All, ◌⊎◌}
+use Rattle.std.specs.Prelude.{◌≡◌, ◌≤◌, ℕ, true, false, List, length, map, take, drop, min, All}
 use Rattle.uring_entry.specs.Setup.{Setup}
 use Rattle.uring_entry.specs.Layout.{Sqe, Cqe}
 use Rattle.uring_outcomes.specs.Outcomes.{AreEndings, AreAllEndings, AreOnce}

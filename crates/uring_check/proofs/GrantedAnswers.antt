@@ -19,7 +19,7 @@ use Rattle.uring_core.specs.declared.step.Step.{Step}
 use Rattle.uring_core.specs.declared.step.Step.TheVariants as step
 use Rattle.uring_core.specs.declared.wanted.Wanted.TheVariants.{AnyEnd, EndOrNoMemory}
 use Rattle.uring_check.specs.Checking.{HasOneAnswer, IsWanted, rules_of}
-use Rattle.uring_check.specs.Rules.{AllowedBy, CalledBy, CalledIn, MayGive, entry_in, is_apart}
+use Rattle.uring_check.specs.Rules.{AllowedBy, CalledIn, MayGive, entry_in, is_apart}
 use Rattle.uring_check.specs.declared.ends.Ends.{Ends}
 use Rattle.uring_check.specs.declared.ends.Ends.TheVariants as ends
 use Rattle.uring_check.specs.declared.follower.Follower.{Follower}

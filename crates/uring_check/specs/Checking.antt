@@ -26,7 +26,7 @@ use Rattle.uring_trace.specs.Reasons.{found_text}
 use Rattle.uring_check.specs.Cancels.{found_asked}
 use Rattle.uring_check.specs.Posters.{next_poster, posters}
 use Rattle.uring_check.specs.Reports.{missed_text, report, told_of, told_of_all, counted_with, steps_of, wanted_text, completion_wanted, whom_told, whose_told, why_asked, why_told}
-use Rattle.uring_check.specs.Rules.{AreJudgedBy, Rules, AllowedBy, CalledBy, IsPlain, MayGive, entry_asked, is_apart}
+use Rattle.uring_check.specs.Rules.{AreJudgedBy, Rules, AllowedBy, CalledBy, IsPlain, entry_asked, is_apart}
 use Rattle.uring_check.specs.declared.ends.Ends.TheVariants as ends
 use Rattle.uring_check.specs.declared.checker.Checker.{Checker}
 use Rattle.uring_check.specs.declared.follower.Follower.{Follower}

@@ -1,6 +1,5 @@
 -- The history that shows an outcome, as it is written. Our own rule.
 use Rattle.std.specs.Prelude.{◌≡◌, ℕ, true, false, List, ◌++◌, map, Option, Ok, codes}
-use Rattle.std.specs.Fmt.{decimal}
 use Rattle.std.specs.List.{AllByRecursion}
 use Rattle.std.specs.Io.KnownBytes.{Appends}
 use Rattle.uring_entry.specs.Setup.{Setup}

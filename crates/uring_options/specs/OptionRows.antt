@@ -11,7 +11,7 @@ use Rattle.uring_options.specs.declared.answers.Options.{Options}
 use Rattle.uring_options.specs.declared.answers.OptionsFault.{OptionsFault}
 use Rattle.uring_options.specs.declared.answers.OptionsFault.TheVariants.{Small}
 use Rattle.uring_options.specs.declared.commands.CommandRow.{CommandRow}
-use Rattle.uring_options.specs.declared.commands.OptionRow.{OptionRow}
+use Rattle.uring_options.specs.declared.option_rows.OptionRow.{OptionRow}
 
 -- the rule of an option that takes a number of a range, or no value
 abbrev pub rule_over : Text → Option (ℤ × ℤ) → Rule

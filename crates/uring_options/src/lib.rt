@@ -5,6 +5,7 @@ mod answers;
 mod command_line;
 mod commands;
 mod helps;
+mod option_rows;
 
 pub use answers::{Options, OptionsFault};
 pub use command_line::{not_text, options};

@@ -1,9 +1,8 @@
 -- What a line shows, by what was made of it.
-use Rattle.std.proofs.Common.{◌≡◌, ℕ, List, ◌∷◌, true, false, sym, subst}
+use Rattle.std.proofs.Common.{ℕ, List, ◌∷◌, sym, subst}
 use Rattle.uring_core.specs.Core.{Core, FitsApart}
 use Rattle.uring_core.specs.Histories.{History}
 use Rattle.uring_core.specs.declared.step.Step.{Step}
-use Rattle.uring_core.specs.declared.answer.Answer.{Answer}
 use Rattle.uring_trace.specs.Text.{text_of}
 use Rattle.uring_check.specs.Records.{IsRecord, IsNoRecord}
 use Rattle.uring_seen.specs.Seen.{Shows}

@@ -1,5 +1,5 @@
 -- What lines show, one after the other: they are all that a lawful history shows of which they are the lines.
-use Rattle.std.proofs.Common.{◌≡◌, ◌++◌, ℕ, ◌+◌, ◌<◌, ◌≤◌, Bool, true, false, List, [], ◌∷◌, length, take, drop, get_or, map, if◌then◌else◌, refl, sym, ap, subst, ◌∙◌, ◌⊎◌, inl, inr, arith, append_assoc, Option, Some}
+use Rattle.std.proofs.Common.{◌≡◌, ◌++◌, ℕ, ◌+◌, ◌<◌, ◌≤◌, Bool, true, false, List, [], ◌∷◌, length, take, drop, get_or, map, if◌then◌else◌, refl, sym, ap, subst, ◌∙◌, inl, inr, Some}
 use mathlib.Core.List.{head-eq_of_cons-eq, tail-eq_of_cons-eq}
 use Rattle.std.specs.Prelude.{reverse, slice_get, option_map}
 use Rattle.std.proofs.lemmas.List.{length-map, reverse-append, take-append-drop, take_all, take_more}
@@ -11,7 +11,7 @@ use Rattle.uring_core.specs.Histories.{Event, History, world, history_of, IsLawf
 use Rattle.uring_core.specs.declared.step.Step.{Step}
 use Rattle.uring_core.specs.declared.answer.Answer.{Answer}
 use Rattle.uring_trace.specs.Text.{text_of}
-use Rattle.uring_check.specs.Records.{IsRecord, IsNoRecord, IsPassed}
+use Rattle.uring_check.specs.Records.{IsRecord, IsPassed}
 use Rattle.uring_check.proofs.Splitting.{record_once}
 use Rattle.uring_fill.specs.Filling.{is_hidden, seen_in}
 use Rattle.uring_seen.specs.Seen.{visible, IsBare, Shows, AreShown}

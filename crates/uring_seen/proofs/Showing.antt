@@ -1,5 +1,5 @@
 -- What a step with the text of an answer shows.
-use Rattle.std.proofs.Common.{◌≡◌, ℕ, Bool, true, false, List, [], ◌∷◌, Option, Some, None, drop, ◌<◌, ◌^◌, is_some, if◌then◌else◌, get_or, refl, sym, ap, subst, ◌∙◌, inl, inr, rules, arith}
+use Rattle.std.proofs.Common.{◌≡◌, ℕ, Bool, true, false, List, ◌∷◌, Option, Some, None, drop, ◌<◌, ◌^◌, is_some, if◌then◌else◌, get_or, refl, sym, ap, subst, ◌∙◌, inl, inr, arith}
 use Rattle.uring_entry.specs.Setup.{Setup}
 use Rattle.uring_entry.specs.Layout.{Cqe}
 use Rattle.uring_entry.specs.Completions.{next_to_reap}
@@ -8,7 +8,7 @@ use Rattle.uring_entry.specs.Submission.{call_length}
 use Rattle.uring_core.specs.World.{World}
 use Rattle.uring_core.specs.Core.{Core, FitsApart, IsNoFinish}
 use Rattle.uring_core.specs.StepAnswers.{CalledForApart, OrAgain, begin_answer, is_spent, reap_answer_of, next_answer_of}
-use Rattle.uring_core.specs.Histories.{Event, History, world, IsLawfulApart}
+use Rattle.uring_core.specs.Histories.{History, world}
 use Rattle.uring_core.specs.declared.step.Step.{Step}
 use Rattle.uring_core.specs.declared.step.Step.TheVariants as step
 use Rattle.uring_core.specs.declared.answer.Answer.{Answer}
@@ -17,7 +17,7 @@ use Rattle.uring_trace.specs.Text.{text_of}
 use Rattle.uring_check.proofs.SameTexts.{begin_once}
 use Rattle.uring_fill.specs.Filling.{is_hidden}
 use Rattle.uring_seen.specs.Seen.{IsBare}
-use Rattle.uring_seen.specs.Sights.{is_submitting, submitted, MayShow, IsSure, IsGuess, IsGuessed, IsOnly, HasNoAnswer, IsSeenAs}
+use Rattle.uring_seen.specs.Sights.{is_submitting, submitted, IsSure, IsGuess, IsGuessed, IsOnly, HasNoAnswer, IsSeenAs}
 use Rattle.uring_seen.specs.declared.sight.Sight.TheVariants as sight
 use Rattle.uring_seen.proofs.Sides.{may_submitted}
 use Rattle.uring_seen.proofs.Texts.{number_once, completion_once}

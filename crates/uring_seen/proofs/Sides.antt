@@ -7,7 +7,7 @@ use Rattle.uring_entry.specs.Requests.{Requests}
 use Rattle.uring_entry.specs.Completions.{Completions}
 use Rattle.uring_core.specs.World.{World, happens, filling, staging, beginning, taking, taking_of, taking_entry_of, ending, ending_of, issuing, finishing, reaping, closing}
 use Rattle.uring_core.specs.StepAnswers.{CalledForApart}
-use Rattle.uring_core.specs.Histories.{Event, History, world, IsLawfulApart}
+use Rattle.uring_core.specs.Histories.{History, world}
 use Rattle.uring_core.specs.declared.step.Step.{Step}
 use Rattle.uring_core.specs.declared.step.Step.TheVariants as step
 use Rattle.uring_core.specs.declared.answer.Answer.{Answer}

@@ -1,7 +1,7 @@
 -- The texts of completions and numbers, each of one alone.
-use Rattle.std.proofs.Common.{◌≡◌, ◌≢◌, ℕ, ℤ, ◌+◌, ◌<◌, ◌≤◌, ◌^◌, ◌&&◌, Bool, true, false, List, [], ◌∷◌, ◌++◌, length, take, drop, get_or, Option, Some, None, refl, sym, ap, subst, ◌∙◌, append_assoc, inl, inr, arith}
+use Rattle.std.proofs.Common.{◌≡◌, ◌≢◌, ℕ, ℤ, ◌+◌, ◌<◌, ◌≤◌, ◌^◌, true, false, List, [], ◌∷◌, ◌++◌, length, take, drop, get_or, Some, refl, sym, ap, subst, ◌∙◌, append_assoc, inl, inr, arith}
 use mathlib.Core.List.{head-eq_of_cons-eq, tail-eq_of_cons-eq}
-use Rattle.std.specs.Prelude.{codes, pos, negsuc, decimal}
+use Rattle.std.specs.Prelude.{codes, decimal}
 use Rattle.std.specs.Char.{is_ascii_digit}
 use Rattle.std.specs.Fmt.{signed_decimal}
 use Rattle.std.specs.List.{AllByRecursion, list_all}
@@ -12,10 +12,9 @@ use Rattle.uring_entry.specs.Layout.{Cqe}
 use Rattle.uring_entry.specs.Requests.{no_bytes}
 use Rattle.uring_core.specs.declared.answer.Answer.TheVariants as answer
 use Rattle.uring_core.specs.declared.step.Step.TheVariants as step
-use Rattle.uring_text.specs.Completions.{completion_text, trimmed}
+use Rattle.uring_text.specs.Completions.{completion_text}
 use Rattle.uring_text.specs.Reading.{number_of, file_of}
 use Rattle.uring_text.specs.Spelling.{IsFile, SpellsNumber, IsNoNumber}
-use Rattle.uring_text.specs.Tokens.{hex_or_dash}
 use Rattle.uring_text.proofs.NumberLaws.{number_again, file_again}
 use Rattle.uring_text.proofs.Numbers.{own}
 use Rattle.uring_trace.specs.Text.{text_of}

@@ -5,7 +5,7 @@ use Rattle.uring_entry.specs.Setup.{Setup}
 use Rattle.uring_core.specs.Histories.{Event, History, IsLawfulApart}
 use Rattle.uring_core.specs.declared.step.Step.{Step}
 use Rattle.uring_core.specs.declared.step.Step.TheVariants as step
-use Rattle.uring_text.specs.Lines.{ended, joined}
+use Rattle.uring_text.specs.Lines.{joined}
 use Rattle.uring_trace.specs.Text.{text_of}
 use Rattle.uring_check.specs.SetupLines.{IsSaid, setup_text}
 use Rattle.uring_check.specs.declared.setup_line.Said.{Said}

@@ -1,4 +1,4 @@
-use Rattle.std.proofs.Common.{◌≡◌, [], Some, refl, sym, ◌∙◌}
+use Rattle.std.proofs.Common.{[], refl, sym, ◌∙◌}
 use Rattle.uring_c.proofs.EnterBack.{begun_after, first_command}
 use Rattle.uring_c.proofs.enter_exports.wulgach_enter_begin.Goals as goal
 

@@ -1,4 +1,3 @@
-use Rattle.std.proofs.Common.{◌++◌, ap, ◌∙◌}
 use Rattle.uring_seen.proofs.Answered.{tells_far}
 use Rattle.uring_seen.proofs.filling.far_text.Goals as goal
 
