@@ -1,6 +1,6 @@
 -- The dispatcher's ties stay through the parts of a turn, and their tallies add up.
 use Rattle.std.proofs.Common.{◌≡◌, ℕ, List, [], ◌++◌, sum, refl, sym, subst, ap, ap₂, ◌∙◌, arith}
-use Rattle.std.specs.Prelude.{◌⊎◌, ◌+◌, ◌-◌, ◌^◌, length, nat_lt, None, Result, IfOk}
+use Rattle.std.specs.Prelude.{◌⊎◌, ◌+◌, ◌-◌, ◌^◌, length, nat_lt, None, Result, Ok, Err, IfOk, OnOk}
 use Rattle.uring_entry.specs.Requests.{Requests, next_of}
 use Rattle.uring_entry.specs.Setup.{Setup}
 use Rattle.uring_entry.specs.Layout.{Cqe, Sqe}
@@ -13,11 +13,13 @@ use Rattle.uring_workers.specs.WorkLanes.{AreSameLanes, OnlyReceives, SomeIsFull
 use Rattle.uring_core.specs.World.{World}
 use Rattle.uring_threads.specs.Kept.{Kept, now, IsUnmoved}
 use Rattle.uring_threads.specs.Kernel.{Kernel, IsKernel}
+use Rattle.uring_threads.specs.Served.{HasServed}
 use Rattle.uring_threads.specs.Taking.{TakesIn}
 use Rattle.uring_threads.specs.Tallies.{Tally, Appends, both, none_counted, issues_counted, finishes_counted, reaps_counted}
 use Rattle.uring_threads.specs.Turns.{AreTies, Counts, IsDelivered, IsGivenUpAsSpent, Tied, ClosesOnce, waiting_in}
 use Rattle.uring_threads.specs.declared.intake.Intake.{Intake}
 use Rattle.uring_threads.specs.declared.intake.Intake.TheVariants as intake
+use Rattle.uring_threads.specs.declared.turns.Turn.{Turn}
 use Rattle.uring_workers.specs.declared.work_lanes.WorkLanes.{WorkLanes}
 use Rattle.uring_threads.proofs.Carrying.{quiet_stays, carried_stays}
 use Rattle.uring_threads.proofs.Closing.{once_stays, once_unmoved}
@@ -175,9 +177,23 @@ lanes_then a b c p q =
           ((y.0.0 ∙ x.0.0, y.0.1 ∙ x.0.1, y.0.2 ∙ x.0.2, y.0.3 ∙ x.0.3), y.1 ∙ x.1);
     }
 
--- what a turn leaves to issue, of the same lanes
-pub left_same : {X E : Type 0} (r : Result X E) (k : Kept) (lanes same : List WorkLanes)
-    → IfOk r (λ turn. (next_of (now k).requests ≡ None) ⊎ SomeIsFull lanes) → same ≡ lanes
-    → IfOk r (λ turn. (next_of (now k).requests ≡ None) ⊎ SomeIsFull same)
-left_same r k lanes same left e =
-    subst (λ ls. IfOk r (λ turn. (next_of (now k).requests ≡ None) ⊎ SomeIsFull ls)) (sym e) left
+-- what a turn did, of an end whose lanes were lent to it and came back
+pub served_with : (old new : Kernel) (turn : Turn) (lent back : List WorkLanes) → back ≡ new.lanes
+    → HasServed (record old { lanes = lent }) new turn → HasServed old (record new { lanes = back }) turn
+served_with old new turn lent back same s =
+    record {
+      counts = s.counts;
+      begun = s.begun;
+      pulls = s.pulls;
+      none_left = subst (λ ls. (next_of (now new.kept).requests ≡ None) ⊎ SomeIsFull ls) (sym same) s.none_left;
+      all = s.all;
+      most = s.most;
+      looked = s.looked;
+      stored = s.stored;
+    }
+
+-- what follows of a turn that returned Ok from three facts of it
+pub with_ok : {X E : Type 0} (r : Result X E) (P Q : X → Type 0) (A B : Type 0)
+    → ((x : X) → P x → A → B → Q x) → IfOk r P → OnOk r A → OnOk r B → IfOk r Q
+with_ok (Ok x) P Q A B follows p a b = follows x p a b
+with_ok (Err e) P Q A B follows p a b = tt

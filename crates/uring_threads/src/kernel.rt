@@ -1,20 +1,17 @@
 //! The dispatcher's end.
-ghost use Rattle.std.specs.Prelude.{◌≡◌, ℕ, ◌↔◌, ◌+◌, ◌*◌, ◌<◌, ◌≤◌, ◌⊎◌, [], length, count_by, false, None, IsTrue, IsOk, IfOk, IfErr, OnErr, OnOk, vec_capacity};
+ghost use Rattle.std.specs.Prelude.{◌≡◌, ℕ, ◌↔◌, ◌+◌, ◌*◌, ◌<◌, ◌≤◌, [], length, count_by, false, None, IsTrue, IsOk, IfOk, IfErr, OnErr, OnOk, vec_capacity};
 ghost use Rattle.uring_entry.specs.Completions.{unreaped};
 ghost use Rattle.uring_entry.specs.Requests.{next_of};
 ghost use Rattle.uring_entry.specs.Setup.{IsWithinLimits};
-ghost use Rattle.uring_entry.specs.Submission.{dropped};
 ghost use Rattle.uring_core.specs.Histories.{IsLawfulApart, history_of};
-ghost use Rattle.uring_ports.specs.Dropped.{with_word, WereStored};
+ghost use Rattle.uring_ports.specs.Dropped.{WereStored};
 ghost use Rattle.uring_ports.specs.Items.{AreItems};
 ghost use Rattle.uring_ports.specs.Ports.{nothing_put, sizes_of, items_of_calls, LeavesItems, LeavesCompletions};
-ghost use Rattle.uring_ports.specs.Seen.{HasLooked};
-ghost use Rattle.uring_workers.specs.WorkLanes.{AreSameLanes, HaveCarriedNone, HoldJobs, HoldResults, SomeIsFull, numbers_of_lanes};
+ghost use Rattle.uring_workers.specs.WorkLanes.{AreSameLanes, HaveCarriedNone, HoldJobs, HoldResults, numbers_of_lanes};
 ghost use Rattle.uring_threads.specs.EventRows.{RecordsTurn};
 ghost use Rattle.uring_threads.specs.Kept.{now};
-ghost use Rattle.uring_threads.specs.Served.{DeliversMost, PullsMost};
+ghost use Rattle.uring_threads.specs.Served.{HasServed};
 ghost use Rattle.uring_threads.specs.Tallies.{Tally, Appends, TakesFewResults, starts_request};
-ghost use Rattle.uring_threads.specs.Turns.{Counts, awaits_memory};
 ghost use Rattle.uring_threads.specs.declared.intake.Intake.TheVariants.{Ready};
 
 use crate::intake::Intake;
@@ -87,36 +84,12 @@ impl<P: KernelPort> Kernel<P> {
     ///
     /// `AllocError`: the system is out of memory, for the trace or for a call, which then waits. All events made until then are recorded, nothing that was pulled or received is lost, and a later turn goes on.
     pub fn turn(&mut self) -> Result<Turn, AllocError>
-        ensures counts { IfOk result (λ turn. Counts self.old.kept self.new.kept turn) }
-
-        // No call waits for memory.
-        ensures begun { OnOk result (awaits_memory self.new.intake ≡ false) }
-
-        // It pulls what waits: if the intake is ready and no item was pulled, the port has looked, and shows no whole call and no close mark.
-        ensures pulls { IfOk result
-            (λ turn. PullsMost self.new.intake turn.popped self.old.saw_calls self.new.saw_calls) }
-
-        // No request is left that can be issued, unless some worker's lane shows no room.
-        ensures none_left { IfOk result
-            (λ turn. (next_of (now self.new.kept).requests ≡ None) ⊎ SomeIsFull self.new.lanes) }
+        ensures served { IfOk result (HasServed self.old self.new) }
 
         // As long as fewer than 64 requests were started, none is left that can be issued.
         ensures next { IfOk result
             (λ turn. count_by starts_request self.new.kept.trace < 64
             → next_of (now self.new.kept).requests ≡ None) }
-
-        // As long as no more was posted than the completion ring holds, all of it is reaped.
-        ensures all { IfOk result
-            (λ turn. length (now self.new.kept).completions.posted ≤ self.old.kept.setup.cq
-            → length self.new.reaped ≡ length (now self.new.kept).completions.posted) }
-
-        // And else as many as the port showed room for, or as the ring holds.
-        ensures most { IfOk result
-            (λ turn. DeliversMost (now self.new.kept).completions self.new.free
-            self.old.kept.setup.cq turn.delivered) }
-
-        // It has looked how much room there is.
-        ensures looked { OnOk result (HasLooked self.old.room_looks self.new.room_looks) }
         ensures err { OnErr result ((t : Tally) × Appends self.old.kept self.new.kept t) }
 
         // Its events are rows of steps, one behind the other, also if memory was refused.
@@ -126,10 +99,7 @@ impl<P: KernelPort> Kernel<P> {
         // Of each worker at most 64 results are taken in, also if memory was refused.
         ensures few_results { TakesFewResults (length self.old.lanes) self.old.kept self.new.kept }
 
-        // The last dropped word is the trace's. A turn that returned an error stored none.
-        ensures stored { OnOk result
-            (self.new.dropped
-            ≡ with_word self.old.dropped (dropped (now self.new.kept).submission)) }
+        // A turn that returned an error stored no dropped word.
         ensures not_stored { OnErr result (self.new.dropped ≡ self.old.dropped) }
 
         // Nothing else changes.
@@ -145,29 +115,14 @@ impl<P: KernelPort> Kernel<P> {
 
     /// As `turn`, by this memory. If it grants whatever is asked for, there is no error.
     pub fn turn_in<M: Memory>(&mut self, memory: &M) -> Result<Turn, AllocError>
-        ensures counts { IfOk result (λ turn. Counts self.old.kept self.new.kept turn) }
-        ensures begun { OnOk result (awaits_memory self.new.intake ≡ false) }
-        ensures pulls { IfOk result
-            (λ turn. PullsMost self.new.intake turn.popped self.old.saw_calls self.new.saw_calls) }
-        ensures none_left { IfOk result
-            (λ turn. (next_of (now self.new.kept).requests ≡ None) ⊎ SomeIsFull self.new.lanes) }
+        ensures served { IfOk result (HasServed self.old self.new) }
         ensures next { IfOk result
             (λ turn. count_by starts_request self.new.kept.trace < 64
             → next_of (now self.new.kept).requests ≡ None) }
-        ensures all { IfOk result
-            (λ turn. length (now self.new.kept).completions.posted ≤ self.old.kept.setup.cq
-            → length self.new.reaped ≡ length (now self.new.kept).completions.posted) }
-        ensures most { IfOk result
-            (λ turn. DeliversMost (now self.new.kept).completions self.new.free
-            self.old.kept.setup.cq turn.delivered) }
-        ensures looked { OnOk result (HasLooked self.old.room_looks self.new.room_looks) }
         ensures err { OnErr result ((t : Tally) × Appends self.old.kept self.new.kept t) }
         ensures rows { RecordsTurn self.old.kept self.new.kept self.old.intake self.old.pulled
             self.new.pulled result }
         ensures few_results { TakesFewResults (length self.old.lanes) self.old.kept self.new.kept }
-        ensures stored { OnOk result
-            (self.new.dropped
-            ≡ with_word self.old.dropped (dropped (now self.new.kept).submission)) }
         ensures not_stored { OnErr result (self.new.dropped ≡ self.old.dropped) }
         ensures setup { self.new.kept.setup ≡ self.old.kept.setup }
         ensures lanes { AreSameLanes self.old.lanes self.new.lanes }

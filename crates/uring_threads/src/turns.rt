@@ -1,15 +1,13 @@
 //! A turn of the dispatcher.
-ghost use Rattle.std.specs.Prelude.{◌≡◌, ℕ, ◌<◌, ◌≤◌, ◌⊎◌, length, false, None, IsOk, IfOk, OnOk, OnErr, vec_capacity};
-ghost use Rattle.uring_entry.specs.Requests.{next_of};
+ghost use Rattle.std.specs.Prelude.{◌≡◌, ℕ, ◌<◌, ◌≤◌, length, false, IsOk, IfOk, OnOk, OnErr, vec_capacity};
 ghost use Rattle.uring_entry.specs.Submission.{dropped};
 ghost use Rattle.uring_ports.specs.Dropped.{with_word};
-ghost use Rattle.uring_ports.specs.Seen.{HasLooked};
-ghost use Rattle.uring_workers.specs.WorkLanes.{AreSameLanes, SomeIsFull};
+ghost use Rattle.uring_workers.specs.WorkLanes.{AreSameLanes};
 ghost use Rattle.uring_threads.specs.EventRows.{RecordsTurn};
 ghost use Rattle.uring_threads.specs.Kept.{now};
-ghost use Rattle.uring_threads.specs.Served.{DeliversMost, PullsMost};
+ghost use Rattle.uring_threads.specs.Served.{HasServed};
 ghost use Rattle.uring_threads.specs.Tallies.{Tally, Appends, TakesFewResults};
-ghost use Rattle.uring_threads.specs.Turns.{AreTies, Counts, awaits_memory};
+ghost use Rattle.uring_threads.specs.Turns.{AreTies, awaits_memory};
 
 use crate::collect::collect_all;
 use crate::deliveries::deliver;
@@ -57,29 +55,11 @@ pub fn make_turn<M: Memory, P: KernelPort>(
         (P.delivered port.old) intake.old lanes.old }
     ensures ties { AreTies kept.new (P.pulled port.new)
         (P.delivered port.new) intake.new lanes.new }
-    ensures counts { IfOk result (λ turn. Counts kept.old kept.new turn) }
-    ensures begun { OnOk result (awaits_memory intake.new ≡ false) }
 
-    // It pulls what waits: if the intake is ready and no item was pulled, the port has looked, and shows no whole call and no close mark.
-    ensures pulls { IfOk result
-        (λ turn. PullsMost intake.new turn.popped (P.saw_calls port.old) (P.saw_calls port.new)) }
-
-    // No request is left that can be issued, unless some worker's lane shows no room.
-    ensures none_left { IfOk result
-        (λ turn. (next_of (now kept.new).requests ≡ None) ⊎ SomeIsFull lanes.new) }
-
-    // As long as no more was posted than the completion ring holds, all of it is reaped.
-    ensures all { IfOk result
-        (λ turn. length (now kept.new).completions.posted ≤ kept.old.setup.cq
-        → length (P.delivered port.new) ≡ length (now kept.new).completions.posted) }
-
-    // And else as many as the port showed room for, or as the ring holds.
-    ensures most { IfOk result
-        (λ turn. DeliversMost (now kept.new).completions (P.free port.new)
-        kept.old.setup.cq turn.delivered) }
-
-    // It has looked how much room there is.
-    ensures looked { OnOk result (HasLooked (P.room_looks port.old) (P.room_looks port.new)) }
+    // What it does, said of the dispatcher's end that these are of.
+    ensures served { IfOk result (λ turn. HasServed
+        (record { kept = kept.old; intake = intake.old; lanes = lanes.old; pairing = P.pairing port.old; sizes = P.sizes port.old; pulled = P.pulled port.old; saw_calls = P.saw_calls port.old; reaped = P.delivered port.old; free = P.free port.old; room_looks = P.room_looks port.old; dropped = P.dropped port.old })
+        (record { kept = kept.new; intake = intake.new; lanes = lanes.new; pairing = P.pairing port.new; sizes = P.sizes port.new; pulled = P.pulled port.new; saw_calls = P.saw_calls port.new; reaped = P.delivered port.new; free = P.free port.new; room_looks = P.room_looks port.new; dropped = P.dropped port.new }) turn) }
     ensures err { OnErr result ((t : Tally) × Appends kept.old kept.new t) }
 
     // Its events are rows of steps, one behind the other, also if memory was refused.
@@ -89,9 +69,7 @@ pub fn make_turn<M: Memory, P: KernelPort>(
     // Of each worker at most 64 results are taken in, also if memory was refused.
     ensures few_results { TakesFewResults (length lanes.old) kept.old kept.new }
 
-    // The dropped word is stored, of the trace as it is then, exactly if the turn returns Ok.
-    ensures stored { OnOk result
-        (P.dropped port.new ≡ with_word (P.dropped port.old) (dropped (now kept.new).submission)) }
+    // A turn that returned an error stored no dropped word.
     ensures not_stored { OnErr result (P.dropped port.new ≡ P.dropped port.old) }
 
     // Nothing else changes.

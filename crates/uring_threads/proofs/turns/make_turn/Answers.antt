@@ -7,7 +7,7 @@ use Rattle.uring_entry.specs.Submission.{dropped}
 use Rattle.uring_ports.specs.Dropped.{with_word}
 use Rattle.uring_ports.specs.Ports.{Sizes}
 use Rattle.uring_ports.specs.Seen.{HasLooked}
-use Rattle.uring_threads.specs.Served.{DeliversMost, PullsMost}
+use Rattle.uring_threads.specs.Served.{DeliversMost, HasServed, PullsMost}
 use Rattle.uring_threads.specs.EventRows.{AreOfTurn, RecordsTurn}
 use Rattle.uring_threads.specs.Kept.{now}
 use Rattle.uring_threads.specs.Tallies.{TakesFewResults, finishes_counted, issues_counted, reaps_counted}
@@ -18,7 +18,7 @@ use Rattle.uring_threads.proofs.Collecting.{on_err, on_ok}
 use Rattle.uring_threads.proofs.FewResults.{few_of_none, few_behind, few_before}
 use Rattle.uring_threads.proofs.Recording.{finishes_many, issues_many, records_none, records_nothing, turn_recorded}
 use Rattle.uring_threads.proofs.TraceSteps.{appends_none}
-use Rattle.uring_threads.proofs.Turning.{ties_taken, ties_posted, ties_worked, ties_unmoved, ties_delivered, counts_all, some_then, lanes_then}
+use Rattle.uring_threads.proofs.Turning.{ties_taken, ties_posted, ties_worked, ties_unmoved, ties_delivered, counts_all, some_then, lanes_then, with_ok}
 use Rattle.uring_workers.specs.WorkLanes.{SomeIsFull}
 use Rattle.uring_threads.proofs.turns.make_turn.Goals as goal
 
@@ -71,37 +71,38 @@ returns-clause-ties g c =
     (subst (λ d. AreTies c.deliver.new.kept (g.P.KernelPort.pulled c.take_in.new.port) d c.take_in.new.intake c.issue_all.new.lanes) (sym c.tell_dropped.ensures.delivered)
     (ties_delivered c.issue_all.new.kept c.deliver.new.kept (g.P.KernelPort.pulled c.take_in.new.port) (g.P.KernelPort.delivered c.take_in.new.port) (g.P.KernelPort.delivered c.deliver.new.port) c.take_in.new.intake c.issue_all.new.lanes (reaps_counted c.in_ok-delivered.delivered) t c.in_ok-delivered.ensures.tally refl refl refl c.deliver.ensures.keeps c.deliver.ensures.delivered))
 
-pub returns-clause-counts : goal.returns-clause-counts
-returns-clause-counts g c =
-    let counted = counts_all c.args.kept.now c.take_in.new.kept c.collect_all.new.kept c.issue_all.new.kept c.deliver.new.kept c.in_ok-popped.popped c.in_ok-finished.finished c.in_ok-issued.issued c.in_ok-delivered.delivered
-    c.in_ok-popped.ensures.taken c.in_ok-finished.ensures.tally c.in_ok-finished.ensures.idle c.in_ok-issued.ensures.tally c.in_ok-issued.ensures.idle c.in_ok-delivered.ensures.tally c.in_ok-delivered.ensures.idle
-    in
-    IfOk-weaker c.tell_dropped.result _ _ (λ made same. subst (λ t. Counts c.args.kept.now c.deliver.new.kept t) (sym same) counted) c.tell_dropped.ensures.turn
-
-pub returns-in_err-popped-clause-most : goal.returns-in_err-popped-clause-most
-returns-in_err-popped-clause-most g c =
-    IfOk-from_err c.from_residual.result _ c.from_residual.ensures.0
-
-pub returns-in_err-finished-clause-most : goal.returns-in_err-finished-clause-most
-returns-in_err-finished-clause-most g c =
-    IfOk-from_err c.from_residual-in_err-finished.result _ c.from_residual-in_err-finished.ensures.0
-
-pub returns-in_err-issued-clause-most : goal.returns-in_err-issued-clause-most
-returns-in_err-issued-clause-most g c =
-    IfOk-from_err c.from_residual-in_err-issued.result _ c.from_residual-in_err-issued.ensures.0
-
-pub returns-in_err-delivered-clause-most : goal.returns-in_err-delivered-clause-most
-returns-in_err-delivered-clause-most g c =
-    IfOk-from_err c.from_residual-in_err-delivered.result _ c.from_residual-in_err-delivered.ensures.0
-
-pub returns-clause-most : goal.returns-clause-most
-returns-clause-most g c =
+pub returns-clause-served : goal.returns-clause-served
+returns-clause-served g c =
     let setup = c.in_ok-issued.ensures.tally.setup ∙ c.in_ok-finished.ensures.tally.setup ∙ c.in_ok-popped.ensures.taken.appends.setup in
-    let delivered = c.in_ok-delivered.delivered in
-    let most : DeliversMost (now c.deliver.new.kept).completions (g.P.KernelPort.free c.tell_dropped.new.port) c.args.kept.now.setup.cq delivered =
-    subst (λ (s : Setup). DeliversMost (now c.deliver.new.kept).completions (g.P.KernelPort.free c.tell_dropped.new.port) s.cq delivered) setup
-    (subst (λ f. DeliversMost (now c.deliver.new.kept).completions f c.issue_all.new.kept.setup.cq delivered) (sym c.tell_dropped.ensures.free) c.in_ok-delivered.ensures.most) in
-    IfOk-weaker c.tell_dropped.result _ _ (λ made same. subst (λ (t : Turn). DeliversMost (now c.deliver.new.kept).completions (g.P.KernelPort.free c.tell_dropped.new.port) c.args.kept.now.setup.cq t.delivered) (sym same) most) c.tell_dropped.ensures.turn
+    let cq = ap (λ (s : Setup). s.cq) setup in
+    let posted = ap length c.deliver.ensures.keeps.posted in
+    let told = c.tell_dropped.ensures in
+    with_ok c.tell_dropped.result _ _ _ _
+    (λ made same begun stored. subst (HasServed _ _) (sym same) (record {
+      counts = counts_all c.args.kept.now c.take_in.new.kept c.collect_all.new.kept c.issue_all.new.kept c.deliver.new.kept c.in_ok-popped.popped c.in_ok-finished.finished c.in_ok-issued.issued c.in_ok-delivered.delivered
+          c.in_ok-popped.ensures.taken c.in_ok-finished.ensures.tally c.in_ok-finished.ensures.idle c.in_ok-issued.ensures.tally c.in_ok-issued.ensures.idle c.in_ok-delivered.ensures.tally c.in_ok-delivered.ensures.idle;
+      begun = begun;
+      pulls = subst (PullsMost c.take_in.new.intake c.in_ok-popped.popped (g.P.KernelPort.saw_calls c.args.port.now)) (sym (told.calls ∙ c.deliver.ensures.calls)) c.in_ok-popped.ensures.most;
+      none_left = subst (λ r. (next_of r ≡ None) ⊎ SomeIsFull c.issue_all.new.lanes) (sym c.deliver.ensures.keeps.requests) c.in_ok-issued.ensures.none_left;
+      all = λ few. ap length told.delivered ∙ c.in_ok-delivered.ensures.all (omega (arith, few, posted, cq)) ∙ sym posted;
+      most = subst (λ q. DeliversMost (now c.deliver.new.kept).completions (g.P.KernelPort.free c.tell_dropped.new.port) q c.in_ok-delivered.delivered) cq
+          (subst (λ f. DeliversMost (now c.deliver.new.kept).completions f c.issue_all.new.kept.setup.cq c.in_ok-delivered.delivered) (sym told.free) c.in_ok-delivered.ensures.most);
+      looked = subst (λ a. HasLooked (g.P.KernelPort.room_looks c.args.port.now) a) (sym told.room_looks) (subst (λ b. HasLooked b (g.P.KernelPort.room_looks c.deliver.new.port)) c.take_in.ensures.room_looks c.deliver.ensures.looked);
+      stored = stored ∙ ap (λ d. with_word d (dropped (now c.deliver.new.kept).submission)) (c.deliver.ensures.dropped ∙ c.take_in.ensures.dropped);
+    }))
+    told.turn told.begun told.stored
+
+pub returns-in_err-popped-clause-served : goal.returns-in_err-popped-clause-served
+returns-in_err-popped-clause-served g c = IfOk-from_err c.from_residual.result _ c.from_residual.ensures.0
+
+pub returns-in_err-finished-clause-served : goal.returns-in_err-finished-clause-served
+returns-in_err-finished-clause-served g c = IfOk-from_err c.from_residual-in_err-finished.result _ c.from_residual-in_err-finished.ensures.0
+
+pub returns-in_err-issued-clause-served : goal.returns-in_err-issued-clause-served
+returns-in_err-issued-clause-served g c = IfOk-from_err c.from_residual-in_err-issued.result _ c.from_residual-in_err-issued.ensures.0
+
+pub returns-in_err-delivered-clause-served : goal.returns-in_err-delivered-clause-served
+returns-in_err-delivered-clause-served g c = IfOk-from_err c.from_residual-in_err-delivered.result _ c.from_residual-in_err-delivered.ensures.0
 
 pub returns-clause-err : goal.returns-clause-err
 returns-clause-err g c =
@@ -150,18 +151,6 @@ returns-clause-few_results g c =
     let issued : TakesFewResults (length c.args.lanes.now) c.args.kept.now c.issue_all.new.kept = few_before (length c.args.lanes.now) c.args.kept.now c.collect_all.new.kept c.issue_all.new.kept _ taken c.in_ok-issued.ensures.tally refl in
     few_before (length c.args.lanes.now) c.args.kept.now c.issue_all.new.kept c.deliver.new.kept _ issued c.in_ok-delivered.ensures.tally refl
 
-pub returns-in_err-popped-clause-counts : goal.returns-in_err-popped-clause-counts
-returns-in_err-popped-clause-counts g c =
-    IfOk-from_err c.from_residual.result _ c.from_residual.ensures.0
-
-pub returns-in_err-popped-clause-begun : goal.returns-in_err-popped-clause-begun
-returns-in_err-popped-clause-begun g c =
-    IfOk-from_err c.from_residual.result _ c.from_residual.ensures.0
-
-pub returns-in_err-popped-clause-stored : goal.returns-in_err-popped-clause-stored
-returns-in_err-popped-clause-stored g c =
-    IfOk-from_err c.from_residual.result _ c.from_residual.ensures.0
-
 pub returns-in_err-popped-clause-not_stored : goal.returns-in_err-popped-clause-not_stored
 returns-in_err-popped-clause-not_stored g c =
     on_err c.from_residual.result c.take_in.ensures.dropped
@@ -174,18 +163,6 @@ returns-in_err-popped-clause-pairing g c = c.take_in.ensures.pairing
 
 pub returns-in_err-popped-clause-sizes : goal.returns-in_err-popped-clause-sizes
 returns-in_err-popped-clause-sizes g c = c.take_in.ensures.sizes
-
-pub returns-in_err-finished-clause-counts : goal.returns-in_err-finished-clause-counts
-returns-in_err-finished-clause-counts g c =
-    IfOk-from_err c.from_residual-in_err-finished.result _ c.from_residual-in_err-finished.ensures.0
-
-pub returns-in_err-finished-clause-begun : goal.returns-in_err-finished-clause-begun
-returns-in_err-finished-clause-begun g c =
-    IfOk-from_err c.from_residual-in_err-finished.result _ c.from_residual-in_err-finished.ensures.0
-
-pub returns-in_err-finished-clause-stored : goal.returns-in_err-finished-clause-stored
-returns-in_err-finished-clause-stored g c =
-    IfOk-from_err c.from_residual-in_err-finished.result _ c.from_residual-in_err-finished.ensures.0
 
 pub returns-in_err-finished-clause-not_stored : goal.returns-in_err-finished-clause-not_stored
 returns-in_err-finished-clause-not_stored g c =
@@ -200,18 +177,6 @@ returns-in_err-finished-clause-pairing g c = c.take_in.ensures.pairing
 pub returns-in_err-finished-clause-sizes : goal.returns-in_err-finished-clause-sizes
 returns-in_err-finished-clause-sizes g c = c.take_in.ensures.sizes
 
-pub returns-in_err-issued-clause-counts : goal.returns-in_err-issued-clause-counts
-returns-in_err-issued-clause-counts g c =
-    IfOk-from_err c.from_residual-in_err-issued.result _ c.from_residual-in_err-issued.ensures.0
-
-pub returns-in_err-issued-clause-begun : goal.returns-in_err-issued-clause-begun
-returns-in_err-issued-clause-begun g c =
-    IfOk-from_err c.from_residual-in_err-issued.result _ c.from_residual-in_err-issued.ensures.0
-
-pub returns-in_err-issued-clause-stored : goal.returns-in_err-issued-clause-stored
-returns-in_err-issued-clause-stored g c =
-    IfOk-from_err c.from_residual-in_err-issued.result _ c.from_residual-in_err-issued.ensures.0
-
 pub returns-in_err-issued-clause-not_stored : goal.returns-in_err-issued-clause-not_stored
 returns-in_err-issued-clause-not_stored g c =
     on_err c.from_residual-in_err-issued.result c.take_in.ensures.dropped
@@ -224,15 +189,6 @@ returns-in_err-issued-clause-pairing g c = c.take_in.ensures.pairing
 
 pub returns-in_err-issued-clause-sizes : goal.returns-in_err-issued-clause-sizes
 returns-in_err-issued-clause-sizes g c = c.take_in.ensures.sizes
-
-pub returns-in_err-delivered-clause-counts : goal.returns-in_err-delivered-clause-counts
-returns-in_err-delivered-clause-counts g c = IfOk-from_err c.from_residual-in_err-delivered.result _ c.from_residual-in_err-delivered.ensures.0
-
-pub returns-in_err-delivered-clause-begun : goal.returns-in_err-delivered-clause-begun
-returns-in_err-delivered-clause-begun g c = IfOk-from_err c.from_residual-in_err-delivered.result _ c.from_residual-in_err-delivered.ensures.0
-
-pub returns-in_err-delivered-clause-stored : goal.returns-in_err-delivered-clause-stored
-returns-in_err-delivered-clause-stored g c = IfOk-from_err c.from_residual-in_err-delivered.result _ c.from_residual-in_err-delivered.ensures.0
 
 pub returns-in_err-delivered-clause-not_stored : goal.returns-in_err-delivered-clause-not_stored
 returns-in_err-delivered-clause-not_stored g c = on_err c.from_residual-in_err-delivered.result (c.deliver.ensures.dropped ∙ c.take_in.ensures.dropped)
@@ -252,13 +208,6 @@ returns-in_err-popped-clause-err g c =
 
 pub returns-in_err-finished-clause-lanes : goal.returns-in_err-finished-clause-lanes
 returns-in_err-finished-clause-lanes g c = c.collect_all.ensures.lanes
-
-pub returns-clause-begun : goal.returns-clause-begun
-returns-clause-begun g c = c.tell_dropped.ensures.begun
-
-pub returns-clause-stored : goal.returns-clause-stored
-returns-clause-stored g c =
-    subst (λ d. OnOk c.tell_dropped.result (g.P.KernelPort.dropped c.tell_dropped.new.port ≡ with_word d (dropped (now c.deliver.new.kept).submission))) (c.deliver.ensures.dropped ∙ c.take_in.ensures.dropped) c.tell_dropped.ensures.stored
 
 pub returns-clause-not_stored : goal.returns-clause-not_stored
 returns-clause-not_stored g c =
@@ -350,51 +299,6 @@ returns-clause-rows g c =
     (turn_recorded c.args.kept.now c.take_in.new.kept c.collect_all.new.kept c.issue_all.new.kept c.deliver.new.kept c.args.intake.now (g.P.KernelPort.pulled c.args.port.now) (g.P.KernelPort.pulled c.take_in.new.port) c.in_ok-delivered.delivered c.tell_dropped.result c.take_in.ensures.row f s c.in_ok-delivered.ensures.row
     (IfOk-weaker c.tell_dropped.result _ _ (λ made same. subst (λ t. AreOfTurn t f.0 s.0 c.in_ok-delivered.delivered) (sym same) told) c.tell_dropped.ensures.turn))
 
-pub returns-in_err-popped-clause-pulls : goal.returns-in_err-popped-clause-pulls
-returns-in_err-popped-clause-pulls g c =
-    IfOk-from_err c.from_residual.result _ c.from_residual.ensures.0
-
-pub returns-in_err-popped-clause-looked : goal.returns-in_err-popped-clause-looked
-returns-in_err-popped-clause-looked g c =
-    IfOk-from_err c.from_residual.result _ c.from_residual.ensures.0
-
-pub returns-in_err-finished-clause-pulls : goal.returns-in_err-finished-clause-pulls
-returns-in_err-finished-clause-pulls g c =
-    IfOk-from_err c.from_residual-in_err-finished.result _ c.from_residual-in_err-finished.ensures.0
-
-pub returns-in_err-finished-clause-looked : goal.returns-in_err-finished-clause-looked
-returns-in_err-finished-clause-looked g c =
-    IfOk-from_err c.from_residual-in_err-finished.result _ c.from_residual-in_err-finished.ensures.0
-
-pub returns-in_err-issued-clause-pulls : goal.returns-in_err-issued-clause-pulls
-returns-in_err-issued-clause-pulls g c =
-    IfOk-from_err c.from_residual-in_err-issued.result _ c.from_residual-in_err-issued.ensures.0
-
-pub returns-in_err-issued-clause-looked : goal.returns-in_err-issued-clause-looked
-returns-in_err-issued-clause-looked g c =
-    IfOk-from_err c.from_residual-in_err-issued.result _ c.from_residual-in_err-issued.ensures.0
-
-pub returns-in_err-delivered-clause-pulls : goal.returns-in_err-delivered-clause-pulls
-returns-in_err-delivered-clause-pulls g c =
-    IfOk-from_err c.from_residual-in_err-delivered.result _ c.from_residual-in_err-delivered.ensures.0
-
-pub returns-in_err-delivered-clause-looked : goal.returns-in_err-delivered-clause-looked
-returns-in_err-delivered-clause-looked g c =
-    IfOk-from_err c.from_residual-in_err-delivered.result _ c.from_residual-in_err-delivered.ensures.0
-
-pub returns-clause-pulls : goal.returns-clause-pulls
-returns-clause-pulls g c =
-    let before = g.P.KernelPort.saw_calls c.args.port.now in
-    let after = g.P.KernelPort.saw_calls c.tell_dropped.new.port in
-    let popped = c.in_ok-popped.popped in
-    let most : PullsMost c.take_in.new.intake popped before after = subst (λ s. PullsMost c.take_in.new.intake popped before s) (sym (c.tell_dropped.ensures.calls ∙ c.deliver.ensures.calls)) c.in_ok-popped.ensures.most in
-    IfOk-weaker c.tell_dropped.result _ _ (λ made same. subst (λ (t : Turn). PullsMost c.take_in.new.intake t.popped before after) (sym same) most) c.tell_dropped.ensures.turn
-
-pub returns-clause-looked : goal.returns-clause-looked
-returns-clause-looked g c =
-    let looks = subst (λ b. HasLooked b (g.P.KernelPort.room_looks c.deliver.new.port)) c.take_in.ensures.room_looks c.deliver.ensures.looked in
-    on_ok c.tell_dropped.result (subst (λ a. HasLooked (g.P.KernelPort.room_looks c.args.port.now) a) (sym c.tell_dropped.ensures.room_looks) looks)
-
 pub returns-in_err-popped-clause-granted : goal.returns-in_err-popped-clause-granted
 returns-in_err-popped-clause-granted g c = λ all. absurd (false≢true (c.in_err-popped.ensures.granted all))
 
@@ -409,40 +313,3 @@ returns-in_err-delivered-clause-granted g c = λ all. absurd (false≢true (c.in
 
 pub returns-clause-granted : goal.returns-clause-granted
 returns-clause-granted g c = λ all. c.tell_dropped.ensures.ok (c.take_in.ensures.begun all)
-
-pub returns-in_err-popped-clause-none_left : goal.returns-in_err-popped-clause-none_left
-returns-in_err-popped-clause-none_left g c = IfOk-from_err c.from_residual.result _ c.from_residual.ensures.0
-
-pub returns-in_err-popped-clause-all : goal.returns-in_err-popped-clause-all
-returns-in_err-popped-clause-all g c = IfOk-from_err c.from_residual.result _ c.from_residual.ensures.0
-
-pub returns-in_err-finished-clause-none_left : goal.returns-in_err-finished-clause-none_left
-returns-in_err-finished-clause-none_left g c = IfOk-from_err c.from_residual-in_err-finished.result _ c.from_residual-in_err-finished.ensures.0
-
-pub returns-in_err-finished-clause-all : goal.returns-in_err-finished-clause-all
-returns-in_err-finished-clause-all g c = IfOk-from_err c.from_residual-in_err-finished.result _ c.from_residual-in_err-finished.ensures.0
-
-pub returns-in_err-issued-clause-none_left : goal.returns-in_err-issued-clause-none_left
-returns-in_err-issued-clause-none_left g c = IfOk-from_err c.from_residual-in_err-issued.result _ c.from_residual-in_err-issued.ensures.0
-
-pub returns-in_err-issued-clause-all : goal.returns-in_err-issued-clause-all
-returns-in_err-issued-clause-all g c = IfOk-from_err c.from_residual-in_err-issued.result _ c.from_residual-in_err-issued.ensures.0
-
-pub returns-in_err-delivered-clause-none_left : goal.returns-in_err-delivered-clause-none_left
-returns-in_err-delivered-clause-none_left g c = IfOk-from_err c.from_residual-in_err-delivered.result _ c.from_residual-in_err-delivered.ensures.0
-
-pub returns-in_err-delivered-clause-all : goal.returns-in_err-delivered-clause-all
-returns-in_err-delivered-clause-all g c = IfOk-from_err c.from_residual-in_err-delivered.result _ c.from_residual-in_err-delivered.ensures.0
-
-pub returns-clause-none_left : goal.returns-clause-none_left
-returns-clause-none_left g c =
-    let left = subst (λ r. (next_of r ≡ None) ⊎ SomeIsFull c.issue_all.new.lanes) (sym c.deliver.ensures.keeps.requests) c.in_ok-issued.ensures.none_left in
-    IfOk-weaker c.tell_dropped.result _ _ (λ made same. left) c.tell_dropped.ensures.turn
-
-pub returns-clause-all : goal.returns-clause-all
-returns-clause-all g c =
-    let setup = c.in_ok-issued.ensures.tally.setup ∙ c.in_ok-finished.ensures.tally.setup ∙ c.in_ok-popped.ensures.taken.appends.setup in
-    let posted = c.deliver.ensures.keeps.posted in
-    IfOk-weaker c.tell_dropped.result _ _
-    (λ made same few. ap length c.tell_dropped.ensures.delivered ∙ c.in_ok-delivered.ensures.all (omega (arith, few, ap length posted, ap (λ (s : Setup). s.cq) setup)) ∙ ap length (sym posted))
-    c.tell_dropped.ensures.turn

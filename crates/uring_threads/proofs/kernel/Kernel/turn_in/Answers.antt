@@ -1,39 +1,42 @@
-use Rattle.std.proofs.Common.{◌≡◌, ◌<◌, ◌≤◌, length, arith, subst, sym, ap, ◌∙◌}
+use Rattle.std.proofs.Common.{◌≡◌, ◌<◌, ◌≤◌, ◌++◌, length, take, drop, arith, subst, sym, ap, ◌∙◌}
 use Rattle.std.specs.Prelude.{IfOk, OnOk, OnErr}
-use Rattle.uring_entry.specs.Submission.{dropped}
-use Rattle.uring_ports.specs.Dropped.{with_word}
 use Rattle.uring_ports.specs.Ports.{Sizes}
-use Rattle.uring_ports.specs.Seen.{HasLooked}
-use Rattle.uring_threads.specs.Served.{DeliversMost, PullsMost}
+use Rattle.uring_threads.specs.Served.{HasServed}
 use Rattle.uring_threads.specs.EventRows.{RecordsTurn}
-use Rattle.uring_threads.specs.Kept.{now}
+use Rattle.std.proofs.lemmas.Result.{IfOk-weaker}
 use Rattle.uring_threads.specs.Tallies.{Tally, Appends}
 use Rattle.uring_workers.specs.WorkLanes.{HoldJobs, HoldResults, numbers_of_lanes}
 use Rattle.uring_entry.specs.Setup.{Setup}
 use Rattle.uring_threads.specs.Kernel.{Kernel}
-use Rattle.uring_threads.specs.Turns.{AreTies, Counts}
+use Rattle.uring_threads.specs.Turns.{AreTies}
 use Rattle.uring_threads.proofs.FewResults.{few_same}
 use Rattle.uring_threads.proofs.FullLanes.{hold_stays, short_stays, next_is_none, setup_stays}
 use Rattle.uring_threads.proofs.Reporting.{lanes_back}
 use Rattle.uring_threads.proofs.SameEnds.{same_numbers}
-use Rattle.uring_threads.proofs.Turning.{left_same}
+use Rattle.uring_threads.proofs.Turning.{served_with}
 use Rattle.uring_threads.proofs.kernel.Kernel.turn_in.Goals as goal
 
 pub make_turn-requires-clause-ties : goal.make_turn-requires-clause-ties
 make_turn-requires-clause-ties g c =
     subst (AreTies c.self.inside.kept (g.P.KernelPort.pulled c.self.inside.port) (g.P.KernelPort.delivered c.self.inside.port) c.self.inside.intake) (sym c.deref_mut.ensures.value) c.self.invariant.1.ties
 
-pub returns-clause-none_left : goal.returns-clause-none_left
-returns-clause-none_left g c = left_same c.make_turn.result c.make_turn.new.kept c.make_turn.new.lanes _ c.make_turn.ensures.none_left
-    (lanes_back c.self.inside.lanes.len c.self.inside.lanes.items c.deref_mut.result.now c.make_turn.new.lanes c.deref_mut.ensures.value c.make_turn.ensures.lanes (omega (arith, c.self.inside.lanes.ok.0)))
+pub returns-clause-served : goal.returns-clause-served
+returns-clause-served g c =
+    let old : Kernel = record { kept = c.self.inside.kept; intake = c.self.inside.intake; lanes = c.self.inside.lanes.items; pairing = g.P.KernelPort.pairing c.self.inside.port; sizes = g.P.KernelPort.sizes c.self.inside.port; pulled = g.P.KernelPort.pulled c.self.inside.port; saw_calls = g.P.KernelPort.saw_calls c.self.inside.port; reaped = g.P.KernelPort.delivered c.self.inside.port; free = g.P.KernelPort.free c.self.inside.port; room_looks = g.P.KernelPort.room_looks c.self.inside.port; dropped = g.P.KernelPort.dropped c.self.inside.port } in
+    let new : Kernel = record { kept = c.make_turn.new.kept; intake = c.make_turn.new.intake; lanes = c.make_turn.new.lanes; pairing = g.P.KernelPort.pairing c.make_turn.new.port; sizes = g.P.KernelPort.sizes c.make_turn.new.port; pulled = g.P.KernelPort.pulled c.make_turn.new.port; saw_calls = g.P.KernelPort.saw_calls c.make_turn.new.port; reaped = g.P.KernelPort.delivered c.make_turn.new.port; free = g.P.KernelPort.free c.make_turn.new.port; room_looks = g.P.KernelPort.room_looks c.make_turn.new.port; dropped = g.P.KernelPort.dropped c.make_turn.new.port } in
+    let back = lanes_back c.self.inside.lanes.len c.self.inside.lanes.items c.deref_mut.result.now c.make_turn.new.lanes c.deref_mut.ensures.value c.make_turn.ensures.lanes (omega (arith, c.self.inside.lanes.ok.0)) in
+    let lanes = take c.self.inside.lanes.len (c.make_turn.new.lanes ++ drop (length c.make_turn.new.lanes) c.self.inside.lanes.items) in
+    subst (λ (k : Kernel). IfOk c.make_turn.result (HasServed k (record new { lanes = lanes }))) c.self.view_is
+    (IfOk-weaker c.make_turn.result (HasServed (record old { lanes = c.deref_mut.result.now }) new) (HasServed old (record new { lanes = lanes }))
+    (λ turn served. served_with old new turn c.deref_mut.result.now lanes back served) c.make_turn.ensures.served)
 
 pub returns-clause-next : goal.returns-clause-next
 returns-clause-next g c =
     let hold = hold_stays c.deref_mut.result.now c.make_turn.new.lanes c.make_turn.ensures.lanes (subst HoldJobs (sym c.deref_mut.ensures.value) c.self.invariant.1.hold) in
-    next_is_none c.make_turn.result c.make_turn.new.kept c.make_turn.new.lanes c.make_turn.ensures.none_left c.make_turn.ensures.ties.carried hold
+    next_is_none c.make_turn.result c.make_turn.new.kept c.make_turn.new.lanes (IfOk-weaker c.make_turn.result _ _ (λ turn served. served.none_left) c.make_turn.ensures.served) c.make_turn.ensures.ties.carried hold
 
 pub returns-clause-setup : goal.returns-clause-setup
-returns-clause-setup g c = setup_stays c.make_turn.result c.self.inside.kept c.make_turn.new.kept c.make_turn.ensures.counts c.make_turn.ensures.err ∙ ap (λ (k : Kernel). k.kept.setup) c.self.view_is
+returns-clause-setup g c = setup_stays c.make_turn.result c.self.inside.kept c.make_turn.new.kept (IfOk-weaker c.make_turn.result _ _ (λ turn served. served.counts) c.make_turn.ensures.served) c.make_turn.ensures.err ∙ ap (λ (k : Kernel). k.kept.setup) c.self.view_is
 
 pub returns-clause-numbers : goal.returns-clause-numbers
 returns-clause-numbers g c =
@@ -49,7 +52,7 @@ pub invariant_of-self : goal.invariant_of-self
 invariant_of-self g c =
     let made = c.make_turn.ensures in
     let is = c.self.invariant.1 in
-    let setup = setup_stays c.make_turn.result c.self.inside.kept c.make_turn.new.kept made.counts made.err in
+    let setup = setup_stays c.make_turn.result c.self.inside.kept c.make_turn.new.kept (IfOk-weaker c.make_turn.result _ _ (λ turn served. served.counts) made.served) made.err in
     let lanes = c.deref_mut.ensures.value in
     rw (lanes_back c.self.inside.lanes.len c.self.inside.lanes.items c.deref_mut.result.now c.make_turn.new.lanes c.deref_mut.ensures.value c.make_turn.ensures.lanes (omega (arith, c.self.inside.lanes.ok.0))) (
       omega (arith, ap (λ (s : Setup). s.sq) setup, c.self.invariant.0, made.items),
@@ -64,22 +67,8 @@ invariant_of-self g c =
       },
     )
 
-pub returns-clause-counts : goal.returns-clause-counts
-returns-clause-counts g c = subst (λ (k : Kernel). IfOk c.make_turn.result (λ turn. Counts k.kept c.make_turn.new.kept turn)) c.self.view_is c.make_turn.ensures.counts
-
-pub returns-clause-begun : goal.returns-clause-begun
-returns-clause-begun g c = c.make_turn.ensures.begun
-
-pub returns-clause-all : goal.returns-clause-all
-returns-clause-all g c =
-    subst (λ (k : Kernel). IfOk c.make_turn.result (λ turn. length (now c.make_turn.new.kept).completions.posted ≤ k.kept.setup.cq → length (g.P.KernelPort.delivered c.make_turn.new.port) ≡ length (now c.make_turn.new.kept).completions.posted)) c.self.view_is c.make_turn.ensures.all
-
 pub returns-clause-err : goal.returns-clause-err
 returns-clause-err g c = subst (λ (k : Kernel). OnErr c.make_turn.result ((t : Tally) × Appends k.kept c.make_turn.new.kept t)) c.self.view_is c.make_turn.ensures.err
-
-pub returns-clause-stored : goal.returns-clause-stored
-returns-clause-stored g c =
-    subst (λ (k : Kernel). OnOk c.make_turn.result (g.P.KernelPort.dropped c.make_turn.new.port ≡ with_word k.dropped (dropped (now c.make_turn.new.kept).submission))) c.self.view_is c.make_turn.ensures.stored
 
 pub returns-clause-not_stored : goal.returns-clause-not_stored
 returns-clause-not_stored g c = subst (λ (k : Kernel). OnErr c.make_turn.result (g.P.KernelPort.dropped c.make_turn.new.port ≡ k.dropped)) c.self.view_is c.make_turn.ensures.not_stored
@@ -111,18 +100,6 @@ make_turn-requires-clause-few g c =
 pub returns-clause-rows : goal.returns-clause-rows
 returns-clause-rows g c =
     subst (λ (k : Kernel). RecordsTurn k.kept c.make_turn.new.kept k.intake k.pulled (g.P.KernelPort.pulled c.make_turn.new.port) c.make_turn.result) c.self.view_is c.make_turn.ensures.rows
-
-pub returns-clause-most : goal.returns-clause-most
-returns-clause-most g c =
-    subst (λ (k : Kernel). IfOk c.make_turn.result (λ turn. DeliversMost (now c.make_turn.new.kept).completions (g.P.KernelPort.free c.make_turn.new.port) k.kept.setup.cq turn.delivered)) c.self.view_is c.make_turn.ensures.most
-
-pub returns-clause-pulls : goal.returns-clause-pulls
-returns-clause-pulls g c =
-    subst (λ (k : Kernel). IfOk c.make_turn.result (λ turn. PullsMost c.make_turn.new.intake turn.popped k.saw_calls (g.P.KernelPort.saw_calls c.make_turn.new.port))) c.self.view_is c.make_turn.ensures.pulls
-
-pub returns-clause-looked : goal.returns-clause-looked
-returns-clause-looked g c =
-    subst (λ (k : Kernel). OnOk c.make_turn.result (HasLooked k.room_looks (g.P.KernelPort.room_looks c.make_turn.new.port))) c.self.view_is c.make_turn.ensures.looked
 
 pub returns-clause-granted : goal.returns-clause-granted
 returns-clause-granted g c = c.make_turn.ensures.granted
