@@ -8,3 +8,4 @@ mod TimeoutRuns
 mod TimesKept
 mod ShowingRuns
 mod CancelRuns
+mod CourseRuns

@@ -10,3 +10,5 @@ pub mod Showing
 pub mod ShowingLaws
 pub mod Cancels
 pub mod CancelLaws
+pub mod Courses
+pub mod CourseLaws

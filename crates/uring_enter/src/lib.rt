@@ -1,10 +1,13 @@
 //! One call of io_uring_enter(2), as decisions: what it does next, when it may sleep and what it returns; the time of a ring with its timeouts; what its application is shown; and what a cancel finds. Whoever carries it out replies with what became of each thing that it wants, and has no choice left but that of what goes on.
 #![tactic(auto)]
 
+mod act;
 mod asked;
 mod cancel;
 mod cancel_laws;
 mod command;
+mod course;
+mod course_laws;
 mod enter;
 mod laws;
 mod reply;
@@ -16,12 +19,17 @@ mod timeout_rows;
 mod times;
 mod wait;
 
+pub use act::{Act, Fact};
 pub use asked::{Asked, Policy};
 pub use cancel::{Cancel, Outstanding, Sought};
 pub use cancel_laws::{
     asks_what_matters, cancels_all_that_fit, cancels_the_oldest, cancels_what_fits,
 };
 pub use command::Command;
+pub use course::Course;
+pub use course_laws::{
+    carries_out_once, carries_out_what_runs, ends_for_good, ends_with_its_result, tries_once,
+};
 pub use enter::{Before, Enter, WrongReply};
 pub use laws::{ends_for_a_reason, gives_up_in_vain, sleeps_in_vain, submits_once};
 pub use reply::{Reply, Sight};
