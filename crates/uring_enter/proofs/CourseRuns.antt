@@ -37,7 +37,7 @@ rests_by goes cancelled None known is = absurd (false≢true known)
 stays_known : (newer earlier : List Fact) (res : ℤ) → is_known (result (newer ++ Done res ∷ earlier)) ≡ true
 stays_known [] earlier res = refl
 stays_known (Started ∷ newer) earlier res = stays_known newer earlier res
-stays_known (Dropped ∷ newer) earlier res = stays_known newer earlier res
+stays_known (Dropped other ∷ newer) earlier res = refl
 stays_known (Cancelled ∷ newer) earlier res = stays_known newer earlier res
 stays_known (Tried ∷ newer) earlier res = stays_known newer earlier res
 stays_known (Waits ∷ newer) earlier res = stays_known newer earlier res
@@ -114,8 +114,8 @@ came_to_its_end : (tried known : Bool) (n m : ℕ) → IsCounted tried known n m
 came_to_its_end tried known n m before =
     record { busy = λ is. absurd (false≢true is); idle = λ is other. absurd (true≢false other); most = before.most }
 
-is_notified : (tried known : Bool) (n m : ℕ) → IsCounted tried known n m → IsCounted tried true n m
-is_notified tried known n m before =
+its_result_is_set : (tried known : Bool) (n m : ℕ) → IsCounted tried known n m → IsCounted tried true n m
+its_result_is_set tried known n m before =
     record { busy = before.busy; idle = λ is other. absurd (true≢false other); most = before.most }
 
 counted_of : (log : List Fact) → is_run log ≡ true
@@ -123,7 +123,6 @@ counted_of : (log : List Fact) → is_run log ≡ true
 counted_of [] run =
     record { busy = λ is. absurd (false≢true is); idle = λ is other. refl; most = omega arith }
 counted_of (Started ∷ earlier) run = counted_of earlier (both_right (fits earlier Started) (is_run earlier) run)
-counted_of (Dropped ∷ earlier) run = counted_of earlier (both_right (fits earlier Dropped) (is_run earlier) run)
 counted_of (Cancelled ∷ earlier) run = counted_of earlier (both_right (fits earlier Cancelled) (is_run earlier) run)
 counted_of (Ended ∷ earlier) run = counted_of earlier (both_right (fits earlier Ended) (is_run earlier) run)
 counted_of (Tried ∷ earlier) run =
@@ -145,8 +144,11 @@ counted_of (WentOn ∷ earlier) run =
 counted_of (Done res ∷ earlier) run =
     came_to_its_end (is_tried earlier) (is_known (result earlier)) (tries earlier) (returns earlier)
     (counted_of earlier (both_right (fits earlier (Done res)) (is_run earlier) run))
+counted_of (Dropped res ∷ earlier) run =
+    its_result_is_set (is_tried earlier) (is_known (result earlier)) (tries earlier) (returns earlier)
+    (counted_of earlier (both_right (fits earlier (Dropped res)) (is_run earlier) run))
 counted_of (Notified res ∷ earlier) run =
-    is_notified (is_tried earlier) (is_known (result earlier)) (tries earlier) (returns earlier)
+    its_result_is_set (is_tried earlier) (is_known (result earlier)) (tries earlier) (returns earlier)
     (counted_of earlier (both_right (fits earlier (Notified res)) (is_run earlier) run))
 
 pub tries_once : TriesOnce

@@ -16,7 +16,7 @@ has_started (_ ∷ earlier) = has_started earlier
 -- it has ended: without having started, or with a result
 abbrev pub has_ended : List Fact → Bool
 has_ended [] = false
-has_ended (Dropped ∷ earlier) = true
+has_ended (Dropped _ ∷ earlier) = true
 has_ended (Ended ∷ earlier) = true
 has_ended (_ ∷ earlier) = has_ended earlier
 
@@ -35,9 +35,10 @@ is_tried (WentOn ∷ earlier) = false
 is_tried (Done _ ∷ earlier) = false
 is_tried (_ ∷ earlier) = is_tried earlier
 
--- the result of its operation; or what it ends with where that has a completion of its own. io_uring_enter(2), IORING_OP_SEND_ZC
+-- the result of its operation; or what it ends with where that has a completion of its own, or where it hasn't started. io_uring_enter(2), IORING_OP_SEND_ZC
 abbrev pub result : List Fact → Option ℤ
 result [] = None
+result (Dropped res ∷ earlier) = Some res
 result (Done res ∷ earlier) = Some res
 result (Notified res ∷ earlier) = Some res
 result (_ ∷ earlier) = result earlier
@@ -49,6 +50,10 @@ end_by None cancelled = if cancelled then Some (error 125) else None
 -- what it ends with, once it may: its result, or -125 (ECANCELED) if a cancel found it before. io_uring_enter(2), IORING_OP_ASYNC_CANCEL
 abbrev pub ending : List Fact → Option ℤ
 ending log = end_by (result log) (is_cancelled log)
+
+-- what the completion of its end shows; none before
+abbrev pub shown : List Fact → Option ℤ
+shown log = if has_ended log then ending log else None
 
 -- it has started, hasn't ended, and isn't being carried out
 abbrev pub may_go_on : List Fact → Bool
@@ -78,7 +83,7 @@ is_ending _ = false
 -- whether this can have happened to one that hasn't ended
 abbrev pub can_be : List Fact → Fact → Bool
 can_be log Started = not (has_started log)
-can_be log Dropped = not (has_started log)
+can_be log (Dropped _) = not (has_started log)
 can_be log Cancelled = true
 can_be log Tried = is_carrying_out (act log)
 can_be log Waits = is_tried log

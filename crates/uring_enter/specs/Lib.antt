@@ -12,3 +12,5 @@ pub mod Cancels
 pub mod CancelLaws
 pub mod Courses
 pub mod CourseLaws
+pub mod Outcomes
+pub mod Postings

@@ -6,8 +6,8 @@ pub enum Fact {
     /// The core let it start.
     Started,
 
-    /// The core has ended it without letting it start.
-    Dropped,
+    /// The core has ended it without letting it start, and this is shown of it.
+    Dropped(i32),
 
     /// A cancel has found it.
     Cancelled,

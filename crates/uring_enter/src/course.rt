@@ -2,7 +2,7 @@
 
 ghost use Rattle.std.specs.Prelude.{◌≡◌, List, [], ◌∷◌, true, false};
 ghost use Rattle.uring_enter.specs.declared.act.Fact.{Fact};
-ghost use Rattle.uring_enter.specs.Courses.{KeepsCourse, act, act_by, behind_act, end_by, fits, is_ending, is_carrying_out, option_of};
+ghost use Rattle.uring_enter.specs.Courses.{KeepsCourse, act, act_by, behind_act, end_by, fits, is_ending, is_carrying_out, option_of, shown};
 
 use crate::act::{Act, Fact};
 
@@ -74,6 +74,17 @@ impl Course {
         }
     }
 
+    /// What the completion of the request's end shows. `None`: it hasn't ended.
+    pub fn shown(&self) -> Option<i32>
+        ensures { (log : List Fact) → KeepsCourse log self.now → result ≡ shown log }
+    {
+        if self.has_ended {
+            end_by(self.result(), self.is_cancelled)
+        } else {
+            None
+        }
+    }
+
     /// Notes what has happened. False: it can't have, so far. Then nothing changes.
     pub fn note(&mut self, fact: Fact) -> bool
         ensures fits { (log : List Fact) → KeepsCourse log self.old → result ≡ fits log fact }
@@ -93,7 +104,7 @@ impl Course {
         ensures { (log : List Fact) → KeepsCourse log self.now → result ≡ fits log fact }
     {
         let is_new = match fact {
-            Fact::Started | Fact::Dropped => !self.has_started,
+            Fact::Started | Fact::Dropped(_) => !self.has_started,
             Fact::Cancelled => true,
             Fact::Tried => is_carrying_out(self.due()),
             Fact::Waits | Fact::WentOn | Fact::Done(_) => self.is_tried,
@@ -121,7 +132,12 @@ impl Course {
                 self.has_result = true;
                 self.res = res;
             }
-            Fact::Dropped | Fact::Ended => self.has_ended = true,
+            Fact::Dropped(res) => {
+                self.has_ended = true;
+                self.has_result = true;
+                self.res = res;
+            }
+            Fact::Ended => self.has_ended = true,
         }
     }
 }

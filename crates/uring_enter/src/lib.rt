@@ -10,6 +10,8 @@ mod course;
 mod course_laws;
 mod enter;
 mod laws;
+mod outcome;
+mod posted;
 mod reply;
 mod showing;
 mod showing_laws;
@@ -30,8 +32,10 @@ pub use course::Course;
 pub use course_laws::{
     carries_out_once, carries_out_what_runs, ends_for_good, ends_with_its_result, tries_once,
 };
+pub use outcome::{EndedEarly, Success, is_success, looks_for_running, shown_of};
 pub use enter::{Before, Enter, WrongReply};
 pub use laws::{ends_for_a_reason, gives_up_in_vain, sleeps_in_vain, submits_once};
+pub use posted::{Completion, Posted, WrongEnd};
 pub use reply::{Reply, Sight};
 pub use showing::{Shown, Store};
 pub use showing_laws::{shows_what_was_posted, stands_apart};
