@@ -9,3 +9,4 @@ mod TimesKept
 mod ShowingRuns
 mod CancelRuns
 mod CourseRuns
+mod PostingRuns

@@ -14,3 +14,4 @@ pub mod Courses
 pub mod CourseLaws
 pub mod Outcomes
 pub mod Postings
+pub mod PostingLaws
