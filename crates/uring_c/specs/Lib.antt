@@ -16,3 +16,4 @@ pub mod Crashing
 pub mod Outcomes
 pub mod TimeForm
 pub mod ShownForm
+pub mod CourseForm

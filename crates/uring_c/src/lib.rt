@@ -10,6 +10,8 @@ mod core_exports;
 mod core_memory;
 mod core_place;
 mod count_words;
+mod course_exports;
+mod course_words;
 mod crash_image_calls;
 mod crash_image_exports;
 mod crash_machine_calls;

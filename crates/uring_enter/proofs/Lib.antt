@@ -10,3 +10,4 @@ mod ShowingRuns
 mod CancelRuns
 mod CourseRuns
 mod PostingRuns
+mod ChainRuns

@@ -15,3 +15,6 @@ pub mod CourseLaws
 pub mod Outcomes
 pub mod Postings
 pub mod PostingLaws
+pub mod Chains
+pub mod ChainLaws
+pub mod Clocks

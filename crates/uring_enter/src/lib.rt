@@ -5,11 +5,13 @@ mod act;
 mod asked;
 mod cancel;
 mod cancel_laws;
+mod chain_laws;
 mod command;
 mod course;
 mod course_laws;
 mod enter;
 mod laws;
+mod member;
 mod outcome;
 mod posted;
 mod posting_laws;
@@ -28,11 +30,13 @@ pub use cancel::{Cancel, Outstanding, Sought};
 pub use cancel_laws::{
     asks_what_matters, cancels_all_that_fit, cancels_the_oldest, cancels_what_fits,
 };
+pub use chain_laws::{chains_end, chains_hold, limits_one_at_most, limits_the_one_before};
 pub use command::Command;
 pub use course::Course;
 pub use course_laws::{
     carries_out_once, carries_out_what_runs, ends_for_good, ends_with_its_result, tries_once,
 };
+pub use member::{Entry, Member, has_its_place};
 pub use outcome::{EndedEarly, Success, is_success, looks_for_running, shown_of};
 pub use enter::{Before, Enter, WrongReply};
 pub use laws::{ends_for_a_reason, gives_up_in_vain, sleeps_in_vain, submits_once};
@@ -44,6 +48,9 @@ pub use showing_laws::{shows_what_was_posted, stands_apart};
 pub use time_laws::{
     ends_alone, ends_in_time, ends_once, never_goes_back, passes_none_over, runs_apart,
 };
-pub use timeout::{Start, Timeout, later, left_until, linked_outcome, nanoseconds_of};
+pub use timeout::{
+    Clock, Start, Timeout, are_timeout_flags, clock_of, lasts, later, left_until, linked_outcome,
+    nanoseconds_of,
+};
 pub use times::{NoRoom, Times};
 pub use wait::{Wait, WakeSources, Woken};
