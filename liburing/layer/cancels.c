@@ -52,7 +52,7 @@ bool is_cancellable(const struct request *request)
 /* One that was passed over is looked at again. */
 static void look_again_at(struct ring *ring, const struct request *request)
 {
-    if (request->state == RUNS)
+    if (request->course.has_started)
         look_again(ring, place_of(&ring->running, request->number));
 }
 
@@ -61,7 +61,7 @@ void cancel_request(struct ring *ring, struct request *request)
     look_again_at(ring, request);
     if (is_timeout(request))
         stop_timeout(ring, request);
-    request->is_cancelled = true;
+    note_fact(request, WULGACH_FACT_CANCELLED, 0);
     request->has_to_wait = false;
 }
 
@@ -74,8 +74,8 @@ static struct wulgach_outstanding seen_of(const struct request *request)
         .fd = (uint32_t)request->entry.fd,
         .is_registered = request->entry.flags & IOSQE_FIXED_FILE,
         .is_assigned = request->is_assigned,
-        .is_free = request->mapping == TOKEN && !request->is_cancelled,
-        .runs = request->state == RUNS,
+        .is_free = request->mapping == TOKEN && !request->course.is_cancelled,
+        .runs = request->course.has_started,
         .is_waiting = is_cancellable(request),
     };
 }
@@ -147,7 +147,7 @@ static int32_t change_poll(struct ring *ring, struct request *poll, const struct
         poll->entry.user_data = change->off;
     poll->has_to_wait = false;
     poll->looked_at = UINT64_MAX;
-    return poll->state == RUNS ? start_poll(poll) : 0;
+    return poll->course.has_started ? start_poll(poll) : 0;
 }
 
 static int32_t remove_poll(struct ring *ring, const struct io_uring_sqe *removal)

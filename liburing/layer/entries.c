@@ -148,8 +148,8 @@ static bool is_well_formed(const struct io_uring_sqe *entry)
 /* A linked timeout wants a request before it that it limits: the kernel looks for one once it has read the time. */
 static bool has_its_place(const struct io_uring_sqe *entry, const struct request *before)
 {
-    bool is_behind = before && before->entry.flags & (IOSQE_IO_LINK | IOSQE_IO_HARDLINK) && before->entry.opcode != IORING_OP_LINK_TIMEOUT;
-    return entry->opcode != IORING_OP_LINK_TIMEOUT || is_behind;
+    struct wulgach_link link = link_of(entry), last = before ? link_of(&before->entry) : (struct wulgach_link){.links = false};
+    return wulgach_has_its_place(&link, &last, before);
 }
 
 enum mapping mapping_of(const struct io_uring_sqe *entry)

@@ -20,6 +20,16 @@ struct request *make_request(struct requests *requests)
     return request;
 }
 
+void note_fact(struct request *request, enum wulgach_fact fact, int32_t res)
+{
+    demand(wulgach_course_note(&request->course, fact, res), "something happens to a request that can't");
+}
+
+struct wulgach_link link_of(const struct io_uring_sqe *entry)
+{
+    return (struct wulgach_link){.links = entry->flags & (IOSQE_IO_LINK | IOSQE_IO_HARDLINK), .is_linked_timeout = entry->opcode == IORING_OP_LINK_TIMEOUT};
+}
+
 bool reserve_requests(struct requests *requests, size_t more)
 {
     size_t need = requests->count + more, gone = (size_t)(requests->rows - requests->at);

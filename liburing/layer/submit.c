@@ -92,9 +92,12 @@ static void accept_one(struct ring *ring, struct request *request, const struct 
 {
     if (!request)
         return;
-    request->number = ring->accepted++;
-    request->is_linked = before && before->entry.flags & (IOSQE_IO_LINK | IOSQE_IO_HARDLINK);
-    request->chain = request->is_linked ? before->chain : request->number;
+    struct wulgach_link link = link_of(&request->entry);
+    if (before)
+        wulgach_member_next(&request->member, &before->member, ring->accepted++, &link);
+    else
+        wulgach_member_first(&request->member, ring->accepted++, &link);
+    wulgach_course_begin(&request->course);
     add_request(&ring->requests, request);
 }
 
@@ -114,7 +117,7 @@ static void note_chains(struct ring *ring, size_t first)
 {
     struct request **rows = ring->requests.rows;
     for (size_t end; first < ring->requests.count; first = end) {
-        for (end = first + 1; end < ring->requests.count && rows[end]->chain == rows[first]->chain;)
+        for (end = first + 1; end < ring->requests.count && rows[end]->member.chain == rows[first]->member.chain;)
             end++;
         mark_draining(ring, first, end);
         if (ring->drains == 0)
