@@ -43,6 +43,7 @@ void post_extra(struct ring *ring, uint64_t user_data, int32_t res, uint32_t fla
     trace_note(ring, "request %llu: a completion of the layer's own", (unsigned long long)request->number);
     demand(issue(ring, request->number, &ended) == WULGACH_RUN, "the core doesn't start a no-op");
     note_fact(request, WULGACH_FACT_STARTED, 0);
+    insert_request(&ring->running, request);
     demand(wulgach_course_act(&request->course, &ended) == WULGACH_ACT_CARRY_OUT, "a no-op isn't carried out");
     note_fact(request, WULGACH_FACT_DONE, res);
     finish(ring, request->number, 0);
