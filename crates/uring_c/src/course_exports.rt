@@ -2,7 +2,8 @@
 ghost use Rattle.std.specs.Prelude.{◌≡◌, ◌+◌, ◌<◌, ◌-◌, ◌^◌, ℕ, length, List, [], ◌∷◌, Some, true, false, negsuc, if◌then◌else◌};
 ghost use Rattle.uring_enter.specs.declared.act.Fact.{Fact};
 ghost use Rattle.uring_enter.specs.declared.member.Entry.{Entry};
-ghost use Rattle.uring_enter.specs.Courses.{KeepsCourse, act, behind_act, fits, shown};
+ghost use Rattle.uring_enter.specs.Courses.{KeepsCourse, act, behind_act, fits};
+ghost use Rattle.uring_enter.specs.Courses.{shown as shown_by};
 ghost use Rattle.uring_enter.specs.Outcomes.{is_success, looks_for_running, shown_of};
 ghost use Rattle.uring_enter.specs.Chains.{member_of, limits, has_its_place};
 ghost use Rattle.uring_enter.specs.Showing.{Change, KeepsShown};
@@ -65,10 +66,10 @@ pub extern "C" fn wulgach_shown_end(
     has_core: bool,
 ) -> i32
     ensures ends { (facts : List Fact) → KeepsCourse facts course.now
-        → result ≡ word_of_end (is_taken (shown facts) end.now (last_of core.now has_core) shown.old.posted (length rows.old)) (posts (last_of core.now has_core)) }
+        → result ≡ word_of_end (is_taken (shown_by facts) end.now (last_of core.now has_core) shown.old.posted (length rows.old)) (posts (last_of core.now has_core)) }
     ensures rows { (facts : List Fact) (log : List Posting) → KeepsCourse facts course.now
         → KeepsPosted log shown.old.posted rows.old → is_refused result ≡ false
-        → KeepsPosted (Ended (with_res (shown facts) end.now) (last_of core.now has_core) ∷ log) shown.new.posted rows.new }
+        → KeepsPosted (Ended (with_res (shown_by facts) end.now) (last_of core.now has_core) ∷ log) shown.new.posted rows.new }
     ensures shown { (log : List Change) → KeepsShown log shown.old → shown.old.posted < 2 ^ 64 - 1
         → is_refused result ≡ false
         → KeepsShown (if posts (last_of core.now has_core) then WasPosted ∷ log else log) shown.new }

@@ -51,8 +51,7 @@ impl Shown {
         end: Posted,
         last: Option<Completion>,
     ) -> Result<bool, WrongEnd>
-        ensures posts { (facts : List Fact) → KeepsCourse facts course.now
-            → IfOk result (λ is. is ≡ posts last) }
+        ensures posts { IfOk result (λ is. is ≡ posts last) }
         ensures rows { (facts : List Fact) (log : List Posting) → KeepsCourse facts course.now
             → KeepsPosted log self.old.posted rows.old
             → IfOk result (λ _. KeepsPosted (Ended (with_res (shown facts) end) last ∷ log) self.new.posted rows.new) }
