@@ -16,34 +16,6 @@
 #include <errno.h>
 #include <fcntl.h>
 
-enum {
-    BY_FD = IORING_ASYNC_CANCEL_FD | IORING_ASYNC_CANCEL_FD_FIXED,
-    SERVED_CANCEL = IORING_ASYNC_CANCEL_ALL | IORING_ASYNC_CANCEL_ANY | BY_FD
-};
-
-bool is_well_formed_cancel(const struct io_uring_sqe *entry)
-{
-    uint32_t flags = entry->cancel_flags;
-    if (entry->ioprio || entry->off || entry->len || entry->splice_fd_in || flags & ~(uint32_t)SERVED_CANCEL)
-        return false;
-    return !(flags & IORING_ASYNC_CANCEL_FD && flags & IORING_ASYNC_CANCEL_ANY);
-}
-
-bool is_plain_cancel(const struct io_uring_sqe *entry)
-{
-    bool is_relied_on = entry->flags & (IOSQE_IO_LINK | IOSQE_IO_HARDLINK | IOSQE_CQE_SKIP_SUCCESS);
-    return entry->opcode == IORING_OP_ASYNC_CANCEL && !entry->cancel_flags && !is_relied_on;
-}
-
-bool is_well_formed_timeout_removal(const struct io_uring_sqe *entry)
-{
-    enum { UPDATES = IORING_TIMEOUT_UPDATE | IORING_LINK_TIMEOUT_UPDATE };
-    uint32_t flags = entry->timeout_flags;
-    if (entry->ioprio || entry->buf_index || entry->len || entry->splice_fd_in)
-        return false;
-    return flags & UPDATES ? !(flags & ~(uint32_t)(UPDATES | IORING_TIMEOUT_ABS | IORING_TIMEOUT_CLOCK_MASK)) : flags == 0;
-}
-
 bool is_cancellable(const struct request *request)
 {
     return request->is_stream || request->entry.opcode == IORING_OP_TIMEOUT;

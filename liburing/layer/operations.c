@@ -87,21 +87,6 @@ bool goes_on(const struct request *request)
     }
 }
 
-bool goes_on_behind(const struct request *request, int32_t res)
-{
-    if (!goes_on(request))
-        return false;
-    switch (request->entry.opcode) {
-    case IORING_OP_ACCEPT:
-        return res >= 0;
-    case IORING_OP_RECVMSG:
-        /* The result counts what stands in front of the bytes too. */
-        return res > 0 && request->done > 0;
-    default:
-        return res > 0;
-    }
-}
-
 /* Whether it takes a provided buffer when it is carried out. */
 static bool is_selecting(const struct request *request)
 {

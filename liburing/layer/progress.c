@@ -49,6 +49,18 @@ static bool can_make_ready(const struct request *request)
     }
 }
 
+/* Whether a request that goes on does so behind this result. */
+static bool goes_on_behind(const struct ring *ring, const struct request *request, int32_t res)
+{
+    struct wulgach_shot shot = {
+        .is_multishot = true,
+        .is_accept = request->entry.opcode == IORING_OP_ACCEPT,
+        .is_of_messages = request->entry.opcode == IORING_OP_RECVMSG,
+        .has_bytes = request->done > 0,
+    };
+    return wulgach_goes_on(&ring->completions.at, &shot, res, ring->memory.cq_entries);
+}
+
 /* Carries an operation out. False: it goes on running, since it would have to wait, or brought something and goes on. */
 static bool try_operation(struct ring *ring, struct request *request, int32_t *res)
 {
@@ -66,8 +78,7 @@ static bool try_operation(struct ring *ring, struct request *request, int32_t *r
         note_wait(ring, request);
         return false;
     }
-    /* One whose completion finds the ring full ends with it. */
-    if (goes_on_behind(request, *res) && ring->completions.at.posted < ring->memory.cq_entries) {
+    if (goes_on(request) && goes_on_behind(ring, request, *res)) {
         note_fact(request, WULGACH_FACT_WENT_ON, 0);
         post_extra(ring, request->entry.user_data, *res, request->flags | IORING_CQE_F_MORE);
         return false;

@@ -25,6 +25,14 @@ void note_fact(struct request *request, enum wulgach_fact fact, int32_t res)
     demand(wulgach_course_note(&request->course, fact, res), "something happens to a request that can't");
 }
 
+enum mapping form_of(const struct io_uring_sqe *entry, int32_t refusal, bool is_allowed, int32_t *fault)
+{
+    struct wulgach_submission submission;
+    _Static_assert(sizeof submission <= sizeof *entry, "an entry has the library's fields");
+    memcpy(&submission, entry, sizeof submission);
+    return (enum mapping)wulgach_form_of(&submission, refusal, is_allowed, fault);
+}
+
 struct wulgach_link link_of(const struct io_uring_sqe *entry)
 {
     return (struct wulgach_link){.links = entry->flags & (IOSQE_IO_LINK | IOSQE_IO_HARDLINK), .is_linked_timeout = entry->opcode == IORING_OP_LINK_TIMEOUT};

@@ -2,7 +2,7 @@
 #ifndef REQUESTS_H
 #define REQUESTS_H
 
-#include "wulgach_course.h"
+#include "wulgach_form.h"
 
 #include <linux/io_uring.h>
 #include <stdbool.h>
@@ -10,7 +10,8 @@
 #include <stdint.h>
 #include <sys/uio.h>
 
-enum mapping { TOKEN, CANCEL, REFUSED };
+/* What an entry is to the core, numbered as the library does. */
+enum mapping { TOKEN = WULGACH_FORM_TOKEN, CANCEL = WULGACH_FORM_CANCEL, REFUSED = WULGACH_FORM_REFUSED };
 
 struct request {
     union {
@@ -92,6 +93,10 @@ void drop_requests(struct requests *requests, size_t count);
 
 /* Notes what has happened to a request. It can have. */
 void note_fact(struct request *request, enum wulgach_fact fact, int32_t res);
+
+/* What an entry is to the core, and its fault, or 0, where a strict ring refuses it with an error or not, and restrictions allow it or
+ * not. */
+enum mapping form_of(const struct io_uring_sqe *entry, int32_t refusal, bool is_allowed, int32_t *fault);
 
 /* What an entry says of its chain. */
 struct wulgach_link link_of(const struct io_uring_sqe *entry);

@@ -16,12 +16,6 @@
 #include <errno.h>
 #include <stdlib.h>
 
-static void refuse_entry(struct request *request, int32_t fault)
-{
-    request->mapping = REFUSED;
-    request->fault = fault;
-}
-
 /* Reads the entry of a slot. NULL if memory was refused. */
 static struct request *read_entry(struct ring *ring, uint32_t slot)
 {
@@ -31,14 +25,7 @@ static struct request *read_entry(struct ring *ring, uint32_t slot)
     request->entry = *entry_at(&ring->memory, slot);
     request->token = request->entry.user_data;
     request->call = ring->call_number;
-    request->mapping = mapping_of(&request->entry);
-    int32_t fault = strict_fault(ring, &request->entry);
-    if (fault < 0)
-        refuse_entry(request, fault);
-    else if (!allows_entry(ring, &request->entry))
-        refuse_entry(request, -EACCES);
-    else if (request->entry.flags & IOSQE_BUFFER_SELECT && is_served_code(request->entry.opcode) && !can_select(&request->entry))
-        refuse_entry(request, -EOPNOTSUPP);
+    request->mapping = form_of(&request->entry, strict_fault(ring, &request->entry), allows_entry(ring, &request->entry), &request->fault);
     const struct request *before = ring->staged.count > 0 ? ring->staged.rows[ring->staged.count - 1] : NULL;
     if (request->fault < 0 || copy_behind(request, before) == 0)
         return request;

@@ -26,15 +26,6 @@ bool is_linked_timeout(const struct request *request)
     return request->entry.opcode == IORING_OP_LINK_TIMEOUT;
 }
 
-bool is_well_formed_timeout(const struct io_uring_sqe *entry)
-{
-    enum { SERVED = IORING_TIMEOUT_ABS | IORING_TIMEOUT_CLOCK_MASK | IORING_TIMEOUT_ETIME_SUCCESS };
-    uint32_t flags = entry->timeout_flags;
-    if (entry->ioprio || entry->buf_index || entry->len != 1 || entry->splice_fd_in || flags & ~(uint32_t)SERVED)
-        return false;
-    return (flags & IORING_TIMEOUT_CLOCK_MASK) != IORING_TIMEOUT_CLOCK_MASK && !(entry->opcode == IORING_OP_LINK_TIMEOUT && entry->off);
-}
-
 bool has_count(const struct request *request)
 {
     return is_timeout(request) && request->entry.off > 0;

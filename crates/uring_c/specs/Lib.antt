@@ -17,3 +17,4 @@ pub mod Outcomes
 pub mod TimeForm
 pub mod ShownForm
 pub mod CourseForm
+pub mod EntryForm

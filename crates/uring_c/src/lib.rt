@@ -21,6 +21,7 @@ mod crash_machine_place;
 mod cuts;
 mod enter_exports;
 mod enter_words;
+mod form_exports;
 mod machine_calls;
 mod machine_exports;
 mod machine_memory;

@@ -18,3 +18,5 @@ pub mod PostingLaws
 pub mod Chains
 pub mod ChainLaws
 pub mod Clocks
+pub mod Forms
+pub mod Shots

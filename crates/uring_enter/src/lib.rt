@@ -10,14 +10,17 @@ mod command;
 mod course;
 mod course_laws;
 mod enter;
+mod form;
 mod laws;
 mod member;
 mod outcome;
 mod posted;
 mod posting_laws;
 mod reply;
+mod shot;
 mod showing;
 mod showing_laws;
+mod submission;
 mod time_laws;
 mod timeout;
 mod timeout_rows;
@@ -39,12 +42,15 @@ pub use course_laws::{
 pub use member::{Entry, Member, has_its_place};
 pub use outcome::{EndedEarly, Success, is_success, looks_for_running, shown_of};
 pub use enter::{Before, Enter, WrongReply};
+pub use form::{Form, Rule, form_of, rule_of};
 pub use laws::{ends_for_a_reason, gives_up_in_vain, sleeps_in_vain, submits_once};
 pub use posted::{Completion, Posted, WrongEnd};
 pub use posting_laws::{shows_each_once, shows_the_cores};
 pub use reply::{Reply, Sight};
+pub use shot::Shot;
 pub use showing::{Shown, Store};
 pub use showing_laws::{shows_what_was_posted, stands_apart};
+pub use submission::Submission;
 pub use time_laws::{
     ends_alone, ends_in_time, ends_once, never_goes_back, passes_none_over, runs_apart,
 };
