@@ -27,10 +27,8 @@ void note_fact(struct request *request, enum wulgach_fact fact, int32_t res)
 
 enum mapping form_of(const struct io_uring_sqe *entry, int32_t refusal, bool is_allowed, int32_t *fault)
 {
-    struct wulgach_submission submission;
-    _Static_assert(sizeof submission <= sizeof *entry, "an entry has the library's fields");
-    memcpy(&submission, entry, sizeof submission);
-    return (enum mapping)wulgach_form_of(&submission, refusal, is_allowed, fault);
+    _Static_assert(sizeof(struct wulgach_submission) == sizeof *entry, "an entry has the library's fields");
+    return (enum mapping)wulgach_form_of((const void *)entry, refusal, is_allowed, fault);
 }
 
 struct wulgach_link link_of(const struct io_uring_sqe *entry)

@@ -10,9 +10,7 @@ ghost use Rattle.uring_enter.specs.Waits.{IsWait, IsWoken, IsPassing};
 ghost use Rattle.uring_enter.specs.Clocks.{clock_of, lasts};
 ghost use Rattle.uring_c.specs.TimeForm.{limit_of, word_of_clock, words_of_wait, words_of_woken};
 
-use crate::time_words::{
-    LimitWords, WaitWords, WokenWords, clock_word, wait_words, woken_words,
-};
+use crate::time_words::{LimitWords, WaitWords, WokenWords, clock_word, wait_words, woken_words};
 use uring_enter::{
     Start, Timeout, Times, WakeSources, clock_of, lasts, later, left_until, linked_outcome,
     nanoseconds_of,
