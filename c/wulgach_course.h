@@ -56,6 +56,11 @@ uint32_t wulgach_course_act(struct wulgach_course *course, int32_t *res);
  * Nothing happens behind an end, and what becomes of an operation only while it is tried. */
 bool wulgach_course_note(struct wulgach_course *course, uint32_t fact, int32_t res);
 
+/* The same of a start, of an operation that is done, and of an end. */
+bool wulgach_course_start(struct wulgach_course *course);
+bool wulgach_course_done(struct wulgach_course *course, int32_t res);
+bool wulgach_course_end(struct wulgach_course *course);
+
 /* ---- what is shown of an end ---- */
 
 /* A completion that was posted and isn't reaped. The rows that a call is given are the caller's memory: the first are those that stand

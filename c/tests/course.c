@@ -46,6 +46,18 @@ static void cancel_one(void)
     demand(wulgach_course_act(&course, &res) == WULGACH_ACT_END && res == -125, "one that was cancelled");
 }
 
+/* The three that each request has. */
+static void go_plainly(void)
+{
+    struct wulgach_course course;
+    int32_t res;
+    wulgach_course_begin(&course);
+    demand(!wulgach_course_done(&course, 1) && !wulgach_course_end(&course), "before it starts");
+    demand(wulgach_course_start(&course) && !wulgach_course_start(&course) && !wulgach_course_end(&course), "a start");
+    demand(wulgach_course_act(&course, &res) == WULGACH_ACT_CARRY_OUT && wulgach_course_done(&course, -9) && !wulgach_course_done(&course, 0), "an operation");
+    demand(wulgach_course_act(&course, &res) == WULGACH_ACT_END && res == -9 && wulgach_course_end(&course) && !wulgach_course_end(&course), "an end");
+}
+
 static void notify(void)
 {
     struct wulgach_course course = started();
@@ -108,6 +120,7 @@ static void link_requests(void)
 int main(void)
 {
     cancel_one();
+    go_plainly();
     notify();
     show_ends();
     judge_results();

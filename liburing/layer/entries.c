@@ -162,7 +162,7 @@ int copy_behind(struct request *request, const struct request *before)
     int result = copy_wanted(request, copy_of_token(request));
     if (result == -ENOMEM)
         return result;
-    if (result == 0 && !has_its_place(&request->entry, before))
+    if (result == 0 && is_linked_timeout(request) && !has_its_place(&request->entry, before))
         result = -EINVAL;
     if (result < 0)
         request->mapping = REFUSED;

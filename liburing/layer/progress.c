@@ -83,7 +83,7 @@ static bool try_operation(struct ring *ring, struct request *request, int32_t *r
         post_extra(ring, request->entry.user_data, *res, request->flags | IORING_CQE_F_MORE);
         return false;
     }
-    note_fact(request, WULGACH_FACT_DONE, *res);
+    demand(wulgach_course_done(&request->course, *res), "an operation is done that wasn't begun");
     return true;
 }
 
@@ -107,14 +107,14 @@ static void finish_running(struct ring *ring, struct request *request)
         note_fact(request, WULGACH_FACT_NOTIFIED, res);
     }
     finish(ring, request->number, told);
-    note_fact(request, WULGACH_FACT_ENDED, 0);
+    demand(wulgach_course_end(&request->course), "a request ends that isn't to end");
     end_of(ring, request, res, told);
 }
 
 /* The core let a request start. */
 static void start(struct ring *ring, struct request *request)
 {
-    note_fact(request, WULGACH_FACT_STARTED, 0);
+    demand(wulgach_course_start(&request->course), "a request starts twice");
     look_again(ring, insert_request(&ring->running, request));
     if (!request->is_assigned)
         assign(ring, request);

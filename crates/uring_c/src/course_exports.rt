@@ -1,6 +1,8 @@
 //! The course of a request for C, what is shown of its end, and its chain: the functions of `c/wulgach_course.h`.
 ghost use Rattle.std.specs.Prelude.{◌≡◌, ◌+◌, ◌<◌, ◌-◌, ◌^◌, ℕ, length, List, [], ◌∷◌, Some, true, false, negsuc, if◌then◌else◌};
 ghost use Rattle.uring_enter.specs.declared.act.Fact.{Fact};
+ghost use Rattle.uring_enter.specs.declared.act.Fact.TheVariants.{Started, Done};
+ghost use Rattle.uring_enter.specs.declared.act.Fact.TheVariants.{Ended as HasEnded};
 ghost use Rattle.uring_enter.specs.declared.member.Entry.{Entry};
 ghost use Rattle.uring_enter.specs.Courses.{KeepsCourse, act, behind_act, fits};
 ghost use Rattle.uring_enter.specs.Courses.{shown as shown_by};
@@ -14,7 +16,7 @@ ghost use Rattle.uring_c.specs.CourseForm.{fact_of, word_of_act, res_of_act, las
 use crate::completion_words::CompletionWords;
 use crate::course_words::{act_res, act_word, entry_if, fact, last};
 use uring_enter::{
-    Course, EndedEarly, Entry, Member, Posted, Shown, Success, has_its_place, is_success,
+    Course, EndedEarly, Entry, Fact, Member, Posted, Shown, Success, has_its_place, is_success,
     looks_for_running, shown_of,
 };
 
@@ -53,6 +55,39 @@ pub extern "C" fn wulgach_course_note(course: &mut Course, kind: u32, res: i32) 
         Some(fact) => course.note(fact),
         None => false,
     }
+}
+
+/// Notes that the core let the request start. False: it has started or ended before. Then nothing changes.
+#[unsafe(no_mangle)]
+pub extern "C" fn wulgach_course_start(course: &mut Course) -> bool
+    ensures fits { (log : List Fact) → KeepsCourse log course.old → result ≡ fits log Started }
+    ensures after { (log : List Fact) → KeepsCourse log course.old → result ≡ true
+        → KeepsCourse (Started ∷ log) course.new }
+    ensures kept { result ≡ false → course.new ≡ course.old }
+{
+    course.note(Fact::Started)
+}
+
+/// Notes that the operation of the request is done, with this result. False: it isn't tried. Then nothing changes.
+#[unsafe(no_mangle)]
+pub extern "C" fn wulgach_course_done(course: &mut Course, res: i32) -> bool
+    ensures fits { (log : List Fact) → KeepsCourse log course.old → result ≡ fits log (Done res) }
+    ensures after { (log : List Fact) → KeepsCourse log course.old → result ≡ true
+        → KeepsCourse (Done res ∷ log) course.new }
+    ensures kept { result ≡ false → course.new ≡ course.old }
+{
+    course.note(Fact::Done(res))
+}
+
+/// Notes that the request has ended with its result. False: it isn't to end. Then nothing changes.
+#[unsafe(no_mangle)]
+pub extern "C" fn wulgach_course_end(course: &mut Course) -> bool
+    ensures fits { (log : List Fact) → KeepsCourse log course.old → result ≡ fits log HasEnded }
+    ensures after { (log : List Fact) → KeepsCourse log course.old → result ≡ true
+        → KeepsCourse (HasEnded ∷ log) course.new }
+    ensures kept { result ≡ false → course.new ≡ course.old }
+{
+    course.note(Fact::Ended)
 }
 
 /// A request has ended: writes the row of its completion, if the core has posted it, and says whether it did. -22 exactly if the request hasn't ended, the core's completion isn't its, or there is no row; then nothing changes.

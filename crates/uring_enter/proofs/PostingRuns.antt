@@ -40,13 +40,13 @@ in_order (Ended end (Some c) ∷ earlier) run =
     let longer : length (all earlier ++ end ∷ []) ≡ length (all earlier) + 1 = length-append (all earlier) (end ∷ []) in
     record {
       rest = ap (λ l. l ++ end ∷ []) before.rest
-        ∙ sym (drop-append-le (gone earlier) (all earlier) (end ∷ []) before.within);
+          ∙ sym (drop-append-le (gone earlier) (all earlier) (end ∷ []) before.within);
       within = omega (arith, before.within, longer);
     }
 in_order (Reaped count ∷ earlier) run =
     let before = in_order earlier run.0 in
     let left : length (unreaped earlier) ≡ length (all earlier) - gone earlier =
-      ap (λ l. length l) before.rest ∙ length-drop (gone earlier) (all earlier) in
+    ap (λ l. length l) before.rest ∙ length-drop (gone earlier) (all earlier) in
     record {
       rest = ap (λ l. drop count l) before.rest ∙ drop-drop count (gone earlier) (all earlier);
       within = omega (arith, before.within, left, run.1);

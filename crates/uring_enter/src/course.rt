@@ -148,13 +148,7 @@ fn end_by(known: Option<i32>, is_cancelled: bool) -> Option<i32>
 {
     match known {
         Some(res) => Some(res),
-        None => {
-            if is_cancelled {
-                Some(-125)
-            } else {
-                None
-            }
-        }
+        None => { if is_cancelled { Some(-125) } else { None } }
     }
 }
 

@@ -152,18 +152,22 @@ fn has_no_buffer(entry: &Submission) -> bool
 fn is_timeout(entry: &Submission) -> bool
     ensures { result ≡ spec.is_timeout entry.now }
 {
-    has_no_buffer(entry) && entry.len == 1 && entry.file_index == 0 && are_timeout_flags(entry.op_flags)
+    has_no_buffer(entry)
+        && entry.len == 1
+        && entry.file_index == 0
+        && are_timeout_flags(entry.op_flags)
 }
 
 fn is_timeout_removal(entry: &Submission) -> bool
     ensures { result ≡ spec.is_timeout_removal entry.now }
 {
     let is_bare = has_no_buffer(entry) && entry.len == 0 && entry.file_index == 0;
-    is_bare && if entry.op_flags & 18 != 0 {
-        entry.op_flags & !31 == 0
-    } else {
-        entry.op_flags == 0
-    }
+    is_bare
+        && if entry.op_flags & 18 != 0 {
+            entry.op_flags & !31 == 0
+        } else {
+            entry.op_flags == 0
+        }
 }
 
 fn is_cancel(entry: &Submission) -> bool
@@ -194,11 +198,7 @@ fn is_poll_removal(entry: &Submission) -> bool
 fn is_count(fd: i32) -> bool
     ensures { result ≡ spec.is_count fd }
 {
-    if fd < 0 {
-        false
-    } else {
-        0 < fd && fd <= 65536
-    }
+    if fd < 0 { false } else { 0 < fd && fd <= 65536 }
 }
 
 fn has_count_alone(entry: &Submission) -> bool

@@ -39,11 +39,11 @@ pub use course::Course;
 pub use course_laws::{
     carries_out_once, carries_out_what_runs, ends_for_good, ends_with_its_result, tries_once,
 };
-pub use member::{Entry, Member, has_its_place};
-pub use outcome::{EndedEarly, Success, is_success, looks_for_running, shown_of};
 pub use enter::{Before, Enter, WrongReply};
 pub use form::{Form, Rule, form_of, rule_of};
 pub use laws::{ends_for_a_reason, gives_up_in_vain, sleeps_in_vain, submits_once};
+pub use member::{Entry, Member, has_its_place};
+pub use outcome::{EndedEarly, Success, is_success, looks_for_running, shown_of};
 pub use posted::{Completion, Posted, WrongEnd};
 pub use posting_laws::{shows_each_once, shows_the_cores};
 pub use reply::{Reply, Sight};

@@ -62,11 +62,7 @@ impl Member {
     fn chain_behind(&self, number: u64) -> u64
         ensures { result ≡ chain_behind self.now.entry.links self.now.chain number }
     {
-        if self.entry.links {
-            self.chain
-        } else {
-            number
-        }
+        if self.entry.links { self.chain } else { number }
     }
 
     /// Whether this one is a linked timeout that limits the request `before`.
