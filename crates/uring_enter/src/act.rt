@@ -1,7 +1,7 @@
 //! What happens to a request that was accepted, and what is to be done with it.
 
 /// What has happened to a request.
-#[derive(Clone, Copy, Debug, PartialEq, Eq)]
+#[derive(Clone, Copy)]
 pub enum Fact {
     /// The core let it start.
     Started,
@@ -32,7 +32,7 @@ pub enum Fact {
 }
 
 /// What is to be done with a request that goes on.
-#[derive(Clone, Copy, Debug, PartialEq, Eq)]
+#[derive(Clone, Copy)]
 pub enum Act {
     /// Nothing.
     Nothing,

@@ -8,7 +8,7 @@ use crate::act::{Act, Fact};
 
 /// What has become of a request so far. A value for each, from its acceptance to its end.
 #[repr(C)]
-#[derive(Clone, Copy, Debug, PartialEq, Eq, Drop)]
+#[derive(Clone, Copy, Drop)]
 pub struct Course {
     /// The core let it start.
     pub has_started: bool,

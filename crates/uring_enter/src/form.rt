@@ -7,7 +7,7 @@ use crate::submission::Submission;
 use crate::timeout::are_timeout_flags;
 
 /// What the fields of an operation may be.
-#[derive(Clone, Copy, Debug, PartialEq, Eq)]
+#[derive(Clone, Copy)]
 pub enum Rule {
     /// No priority.
     Plain,
@@ -65,7 +65,7 @@ pub enum Rule {
 }
 
 /// What an entry is to the core.
-#[derive(Clone, Copy, Debug, PartialEq, Eq)]
+#[derive(Clone, Copy)]
 pub enum Form {
     /// A request that is carried out outside of it.
     Token,

@@ -6,7 +6,7 @@ ghost use Rattle.uring_enter.specs.Chains.{member_of, chain_behind, limits, has_
 
 /// What an entry says of its chain.
 #[repr(C)]
-#[derive(Clone, Copy, Debug, PartialEq, Eq, Drop)]
+#[derive(Clone, Copy, Drop)]
 pub struct Entry {
     /// IOSQE_IO_LINK or IOSQE_IO_HARDLINK: the next entry of the call is linked behind it.
     pub links: bool,
@@ -17,7 +17,7 @@ pub struct Entry {
 
 /// A request that was accepted, as a member of its chain.
 #[repr(C)]
-#[derive(Clone, Copy, Debug, PartialEq, Eq, Drop)]
+#[derive(Clone, Copy, Drop)]
 pub struct Member {
     /// Its number, in the order in which requests are accepted.
     pub number: u64,

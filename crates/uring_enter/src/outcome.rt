@@ -7,7 +7,7 @@ use crate::timeout::linked_outcome;
 
 /// What success is of an operation.
 #[repr(C)]
-#[derive(Clone, Copy, Debug, PartialEq, Eq, Drop)]
+#[derive(Clone, Copy, Drop)]
 pub struct Success {
     /// How much a transfer is asked to move.
     pub length: u64,
@@ -54,7 +54,7 @@ fn is_whole(asked: Success, res: i32) -> bool
 
 /// A request that the core has ended by itself.
 #[repr(C)]
-#[derive(Clone, Copy, Debug, PartialEq, Eq, Drop)]
+#[derive(Clone, Copy, Drop)]
 pub struct EndedEarly {
     /// The error of its entry, if that has a fault.
     pub fault: i32,

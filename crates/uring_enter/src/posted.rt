@@ -11,7 +11,7 @@ use crate::course::Course;
 use crate::showing::Shown;
 
 /// A completion of the core's, as far as the application is to see it.
-#[derive(Clone, Copy, Debug, PartialEq, Eq, Drop)]
+#[derive(Clone, Copy, Drop)]
 pub struct Completion {
     pub user_data: u64,
     pub res: i32,
@@ -19,7 +19,7 @@ pub struct Completion {
 
 /// A completion as the application sees it, beside what the core knows of it.
 #[repr(C)]
-#[derive(Clone, Copy, Debug, PartialEq, Eq, Drop)]
+#[derive(Clone, Copy, Drop)]
 pub struct Posted {
     pub user_data: u64,
 

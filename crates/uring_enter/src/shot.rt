@@ -9,7 +9,7 @@ use crate::showing::Shown;
 
 /// What a request that goes on is.
 #[repr(C)]
-#[derive(Clone, Copy, Debug, PartialEq, Eq, Drop)]
+#[derive(Clone, Copy, Drop)]
 pub struct Shot {
     /// It goes on at all.
     pub is_multishot: bool,

@@ -2,7 +2,7 @@
 
 /// The fields of an entry, each under the name of its first use.
 #[repr(C)]
-#[derive(Clone, Copy, Debug, PartialEq, Eq, Drop)]
+#[derive(Clone, Copy, Drop)]
 pub struct Submission {
     pub opcode: u8,
 

@@ -116,7 +116,7 @@ pub(crate) fn with_expiry(timeout: Timeout, number: u64, expiry: u64) -> Timeout
 }
 
 /// The clock by which a timeout's time is meant. IORING_TIMEOUT_BOOTTIME, IORING_TIMEOUT_REALTIME; else CLOCK_MONOTONIC.
-#[derive(Clone, Copy, Debug, PartialEq, Eq)]
+#[derive(Clone, Copy)]
 pub enum Clock {
     Monotonic,
     Boottime,
