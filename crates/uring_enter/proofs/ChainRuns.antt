@@ -1,8 +1,7 @@
 -- The laws of chains.
-use Rattle.std.proofs.Common.{◌≡◌, ℕ, ◌+◌, Bool, true, false, not, ◌&&◌, ◌==◌, length, List, [], ◌∷◌, ◌++◌, refl, sym, ap, ◌∙◌, arith, if◌then◌else◌}
+use Rattle.std.proofs.Common.{◌≡◌, ℕ, ◌+◌, Bool, true, false, ◌&&◌, ◌==◌, length, [], ◌∷◌, ◌++◌, refl, ◌∙◌, arith}
 use Rattle.std.proofs.lemmas.Bool.{false≢true, true≢false}
 use Rattle.std.proofs.lemmas.Bool.Decides.{Decides-eqb}
-use Rattle.uring_enter.specs.declared.member.Entry.{Entry}
 use Rattle.uring_enter.specs.declared.member.Member.{Member}
 use Rattle.uring_enter.specs.Chains.{chain_behind, chain_of, limits}
 use Rattle.uring_enter.specs.ChainLaws.{LimitsTheOneBefore, LimitsOneAtMost, all_link, ChainsHold, ChainsEnd}

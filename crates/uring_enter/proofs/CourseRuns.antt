@@ -1,12 +1,12 @@
 -- The laws of courses.
-use Rattle.std.proofs.Common.{◌≡◌, ℕ, ℤ, ◌+◌, ◌≤◌, Bool, true, false, not, ◌&&◌, Option, Some, None, List, [], ◌∷◌, ◌++◌, ◌⊎◌, inl, inr, refl, sym, ap, ◌∙◌, arith, if◌then◌else◌}
+use Rattle.std.proofs.Common.{◌≡◌, ℕ, ℤ, ◌+◌, ◌≤◌, Bool, true, false, not, ◌&&◌, Option, Some, None, List, [], ◌∷◌, ◌++◌, ◌⊎◌, inl, inr, refl, sym, ap, arith}
 use Rattle.std.proofs.lemmas.Bool.{false≢true, true≢false}
 use Rattle.uring_enter.specs.declared.act.Fact.{Fact}
 use Rattle.uring_enter.specs.declared.act.Fact.TheVariants.{Started, Dropped, Cancelled, Tried, Waits, WentOn, Done, Notified, Ended}
 use Rattle.uring_enter.specs.declared.act.Act.{Act}
 use Rattle.uring_enter.specs.declared.act.Act.TheVariants.{Nothing, CarryOut, End}
 use Rattle.uring_enter.specs.Replies.{error}
-use Rattle.uring_enter.specs.Courses.{has_started, has_ended, is_cancelled, is_tried, result, ending, end_by, may_go_on, act_by, act, is_carrying_out, is_ending, is_known, can_be, fits, is_run}
+use Rattle.uring_enter.specs.Courses.{has_started, has_ended, is_cancelled, is_tried, result, end_by, may_go_on, act_by, is_carrying_out, is_ending, is_known, can_be, fits, is_run}
 use Rattle.uring_enter.specs.CourseLaws.{CarriesOutWhatRuns, CarriesOutOnce, tries, returns, TriesOnce, EndsForGood, EndsWithItsResult}
 use Rattle.uring_enter.proofs.Running.{both_left, both_right}
 

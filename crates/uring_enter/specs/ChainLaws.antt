@@ -1,5 +1,5 @@
 -- What holds of the chains of every call. io_uring_enter(2), IOSQE_IO_LINK and IORING_OP_LINK_TIMEOUT.
-use Rattle.std.specs.Prelude.{◌≡◌, ℕ, ◌+◌, ◌≤◌, Bool, true, false, ◌&&◌, length, List, [], ◌∷◌, ◌++◌}
+use Rattle.std.specs.Prelude.{◌≡◌, ℕ, ◌+◌, Bool, true, false, ◌&&◌, length, List, [], ◌∷◌, ◌++◌}
 use Rattle.uring_enter.specs.declared.member.Entry.{Entry}
 use Rattle.uring_enter.specs.declared.member.Member.{Member}
 use Rattle.uring_enter.specs.Chains.{chain_of, member_of, limits}

@@ -1,7 +1,7 @@
 -- What holds of the course of every request, whatever happens. io_uring(7), but where our own rule is named.
-use Rattle.std.specs.Prelude.{◌≡◌, ℕ, ℤ, ◌+◌, ◌≤◌, Bool, true, false, Some, None, ◌⊎◌, List, [], ◌∷◌, ◌++◌}
+use Rattle.std.specs.Prelude.{◌≡◌, ℕ, ℤ, ◌+◌, ◌≤◌, true, false, Some, None, ◌⊎◌, List, [], ◌∷◌, ◌++◌}
 use Rattle.uring_enter.specs.declared.act.Fact.{Fact}
-use Rattle.uring_enter.specs.declared.act.Fact.TheVariants.{Started, Dropped, Cancelled, Tried, Waits, WentOn, Done, Notified, Ended}
+use Rattle.uring_enter.specs.declared.act.Fact.TheVariants.{Tried, Waits, WentOn, Done}
 use Rattle.uring_enter.specs.declared.act.Act.TheVariants.{Nothing, CarryOut, End}
 use Rattle.uring_enter.specs.Replies.{error}
 use Rattle.uring_enter.specs.Courses.{has_started, has_ended, is_cancelled, result, act, fits, is_run}

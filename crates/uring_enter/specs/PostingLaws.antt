@@ -1,5 +1,5 @@
 -- What holds of the completions of every ring, whatever happens. io_uring(7), Reading completion events.
-use Rattle.std.specs.Prelude.{◌≡◌, ℕ, ◌+◌, ◌≤◌, true, length, map, drop, IfSome, Option, Some, None, List, [], ◌∷◌, ◌++◌}
+use Rattle.std.specs.Prelude.{◌≡◌, ℕ, ◌+◌, ◌≤◌, true, length, map, drop, Some, None, List, [], ◌∷◌, ◌++◌}
 use Rattle.uring_enter.specs.declared.posted.Posted.{Posted}
 use Rattle.uring_enter.specs.declared.posted.Completion.{Completion}
 use Rattle.uring_enter.specs.Postings.{Posting, Ended, Reaped, is_of, unreaped}

@@ -1,5 +1,5 @@
 -- Which completions were posted and aren't reaped, with the results that the application sees, by what has happened so far, the newest first. io_uring(7), Reading completion events, but where our own rule is named.
-use Rattle.std.specs.Prelude.{◌≡◌, ℕ, ℤ, ◌≤◌, Bool, true, false, ◌&&◌, ◌==◌, nat_lt, nat_le, length, take, drop, map, Option, Some, None, List, [], ◌∷◌, ◌++◌}
+use Rattle.std.specs.Prelude.{◌≡◌, ℕ, ℤ, ◌≤◌, Bool, true, false, ◌&&◌, ◌==◌, nat_lt, length, take, drop, Option, Some, None, List, [], ◌∷◌, ◌++◌}
 use Rattle.std.specs.Ordering.{int_eq}
 use Rattle.uring_enter.specs.declared.posted.Posted.{Posted}
 use Rattle.uring_enter.specs.declared.posted.Completion.{Completion}
