@@ -308,6 +308,13 @@ int32_t wulgach_core_reap_all(struct wulgach_core *core, struct wulgach_completi
  * anything else gave 0; any other result is a failure, which breaks a link. */
 int32_t wulgach_core_finish(struct wulgach_core *core, uint64_t number, int32_t res, const struct wulgach_bytes *bytes, struct wulgach_answer *answer);
 
+/* Has the core let the request of this number start, or end it, as the step ISSUE does, and writes the kind of the answer, and its
+ * result, or 0. -9 (EBADF) exactly at an empty place; then nothing is written. */
+int32_t wulgach_core_issue(struct wulgach_core *core, uint64_t number, uint32_t *kind, int32_t *res);
+
+/* The same as wulgach_core_finish of an outcome without bytes, and writes the kind of the answer, and its result, or 0. */
+int32_t wulgach_core_end(struct wulgach_core *core, uint64_t number, int32_t told, uint32_t *kind, int32_t *res);
+
 /* Writes how far the core has come. */
 int32_t wulgach_core_counts(struct wulgach_core *core, struct wulgach_counts *counts);
 

@@ -43,7 +43,7 @@ void wulgach_shown_store(struct wulgach_shown *shown, uint32_t tail, struct wulg
  * is past the tail; then nothing is written. */
 int32_t wulgach_shown_heard(const struct wulgach_shown *shown, uint32_t head, uint32_t *count);
 
-/* So many were reaped. */
+/* So many were reaped. Of the rows of wulgach_course.h these are the first. */
 void wulgach_shown_reap(struct wulgach_shown *shown, uint32_t count);
 
 /* Whether some were posted that don't stand in the ring. */

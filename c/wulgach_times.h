@@ -87,6 +87,13 @@ uint64_t wulgach_time_later(uint64_t time, uint64_t more);
 /* How much is left until a time of a clock that says `now`: 0 if it is over. */
 uint64_t wulgach_time_left(uint64_t time, uint64_t now);
 
+/* The number of the clock, of clock_gettime(2), that says how much is left of the time that a timeout with these flags gives; -2
+ * (ENOENT): none, its time is how long it runs. */
+int32_t wulgach_timeout_clock(uint32_t flags);
+
+/* How long a timeout runs that has this time, whose clock says that it is `now`, if it has one. */
+uint64_t wulgach_timeout_lasts(uint64_t time, uint64_t now, bool has_clock);
+
 /* A ring's time begins, and no timeout runs. */
 void wulgach_times_begin(struct wulgach_times *times);
 

@@ -16,34 +16,6 @@
 #include <errno.h>
 #include <fcntl.h>
 
-enum {
-    BY_FD = IORING_ASYNC_CANCEL_FD | IORING_ASYNC_CANCEL_FD_FIXED,
-    SERVED_CANCEL = IORING_ASYNC_CANCEL_ALL | IORING_ASYNC_CANCEL_ANY | BY_FD
-};
-
-bool is_well_formed_cancel(const struct io_uring_sqe *entry)
-{
-    uint32_t flags = entry->cancel_flags;
-    if (entry->ioprio || entry->off || entry->len || entry->splice_fd_in || flags & ~(uint32_t)SERVED_CANCEL)
-        return false;
-    return !(flags & IORING_ASYNC_CANCEL_FD && flags & IORING_ASYNC_CANCEL_ANY);
-}
-
-bool is_plain_cancel(const struct io_uring_sqe *entry)
-{
-    bool is_relied_on = entry->flags & (IOSQE_IO_LINK | IOSQE_IO_HARDLINK | IOSQE_CQE_SKIP_SUCCESS);
-    return entry->opcode == IORING_OP_ASYNC_CANCEL && !entry->cancel_flags && !is_relied_on;
-}
-
-bool is_well_formed_timeout_removal(const struct io_uring_sqe *entry)
-{
-    enum { UPDATES = IORING_TIMEOUT_UPDATE | IORING_LINK_TIMEOUT_UPDATE };
-    uint32_t flags = entry->timeout_flags;
-    if (entry->ioprio || entry->buf_index || entry->len || entry->splice_fd_in)
-        return false;
-    return flags & UPDATES ? !(flags & ~(uint32_t)(UPDATES | IORING_TIMEOUT_ABS | IORING_TIMEOUT_CLOCK_MASK)) : flags == 0;
-}
-
 bool is_cancellable(const struct request *request)
 {
     return request->is_stream || request->entry.opcode == IORING_OP_TIMEOUT;
@@ -52,7 +24,7 @@ bool is_cancellable(const struct request *request)
 /* One that was passed over is looked at again. */
 static void look_again_at(struct ring *ring, const struct request *request)
 {
-    if (request->state == RUNS)
+    if (request->course.has_started)
         look_again(ring, place_of(&ring->running, request->number));
 }
 
@@ -61,7 +33,7 @@ void cancel_request(struct ring *ring, struct request *request)
     look_again_at(ring, request);
     if (is_timeout(request))
         stop_timeout(ring, request);
-    request->is_cancelled = true;
+    note_fact(request, WULGACH_FACT_CANCELLED, 0);
     request->has_to_wait = false;
 }
 
@@ -74,8 +46,8 @@ static struct wulgach_outstanding seen_of(const struct request *request)
         .fd = (uint32_t)request->entry.fd,
         .is_registered = request->entry.flags & IOSQE_FIXED_FILE,
         .is_assigned = request->is_assigned,
-        .is_free = request->mapping == TOKEN && !request->is_cancelled,
-        .runs = request->state == RUNS,
+        .is_free = request->mapping == TOKEN && !request->course.is_cancelled,
+        .runs = request->course.has_started,
         .is_waiting = is_cancellable(request),
     };
 }
@@ -147,7 +119,7 @@ static int32_t change_poll(struct ring *ring, struct request *poll, const struct
         poll->entry.user_data = change->off;
     poll->has_to_wait = false;
     poll->looked_at = UINT64_MAX;
-    return poll->state == RUNS ? start_poll(poll) : 0;
+    return poll->course.has_started ? start_poll(poll) : 0;
 }
 
 static int32_t remove_poll(struct ring *ring, const struct io_uring_sqe *removal)

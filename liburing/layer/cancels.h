@@ -6,13 +6,6 @@
 
 struct ring;
 
-/* Whether an entry is one that the kernel takes. */
-bool is_well_formed_cancel(const struct io_uring_sqe *entry);
-bool is_well_formed_timeout_removal(const struct io_uring_sqe *entry);
-
-/* The core's own cancel: it has no flags, and nothing stands on its success. */
-bool is_plain_cancel(const struct io_uring_sqe *entry);
-
 /* Whether a running request ends if it is cancelled: else it doesn't wait for anything. */
 bool is_cancellable(const struct request *request);
 

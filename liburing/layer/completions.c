@@ -1,7 +1,7 @@
 /* The completion side of the mirror. The layer is the application's hand on the core's ring: it reaps there what the
  * application has reaped in ring memory, and shows in ring memory exactly what the core's tail shows. Which
- * completions there are, in which order, and which overflow, is the core's decision; the layer only puts the real
- * result in the place of the token's.
+ * completions there are, in which order, and which overflow, is the core's decision; that the real
+ * result stands in the place of the token's is the library's too.
  */
 #include "completions.h"
 #include "account.h"
@@ -23,7 +23,7 @@ bool reserve_completions(struct completions *completions, size_t more)
     size_t need = completions->first + completions->at.posted + more;
     if (need <= completions->room)
         return true;
-    struct posted *queue = realloc(completions->queue, 2 * need * sizeof *queue);
+    struct wulgach_posted *queue = realloc(completions->queue, 2 * need * sizeof *queue);
     if (!queue)
         return false;
     completions->queue = queue;
@@ -31,32 +31,30 @@ bool reserve_completions(struct completions *completions, size_t more)
     return true;
 }
 
-static struct posted *posted_at(struct completions *completions, size_t index)
+static struct wulgach_posted *posted_at(struct completions *completions, size_t index)
 {
     return &completions->queue[completions->first + index];
 }
 
-bool note_end(struct ring *ring, const struct request *request, int32_t res, int32_t told)
+bool note_end(struct ring *ring, const struct request *request, int32_t told)
 {
     struct completions *completions = &ring->completions;
-    struct wulgach_completion last;
-    if (wulgach_core_rest(&ring->core, completions->at.posted, &last) != 0)
-        return false;
-    demand(last.user_data == request->token && last.res == told, "the core posted something else");
-    *posted_at(completions, completions->at.posted) = (struct posted){
+    struct wulgach_completion core;
+    bool has_core = wulgach_core_rest(&ring->core, completions->at.posted, &core) == 0;
+    struct wulgach_posted end = {
         .user_data = request->entry.user_data,
-        .res = res,
         .flags = request->flags,
         .token = request->token,
         .told = told,
         .is_async = request->call != ring->call_number,
     };
-    wulgach_shown_post(&completions->at);
-    return true;
+    int32_t posted = wulgach_shown_end(&completions->at, posted_at(completions, 0), completions->room - completions->first, &request->course, &end, &core, has_core);
+    demand(posted >= 0, "the core posted something else");
+    return posted > 0;
 }
 
 /* Stores a completion into the cell of its position. */
-static void store_completion(struct memory *memory, const struct posted *posted, uint32_t position)
+static void store_completion(struct memory *memory, const struct wulgach_posted *posted, uint32_t position)
 {
     struct io_uring_cqe *cell = completion_at(memory, position);
     cell->user_data = posted->user_data;
@@ -78,9 +76,9 @@ static bool store_shown(struct ring *ring)
         wulgach_shown_store(&completions->at, tail, &store);
         if (!store.is_cell)
             break;
-        const struct posted *posted = posted_at(completions, store.place);
+        const struct wulgach_posted *posted = posted_at(completions, store.place);
         store_completion(&ring->memory, posted, store.position);
-        is_told |= posted->is_async || !ring->is_eventfd_async;
+        is_told |= wulgach_tells(posted, ring->is_eventfd_async);
     }
     store_word(&ring->memory.cq->tail, store.position);
     return is_told;

@@ -4,23 +4,14 @@
 #ifndef COMPLETIONS_H
 #define COMPLETIONS_H
 
-#include "wulgach_shown.h"
+#include "wulgach_course.h"
 
 #include <stdbool.h>
 #include <stddef.h>
 #include <stdint.h>
 
-struct posted {
-    uint64_t user_data;     /* for the application, */
-    int32_t res;            /* with the real result */
-    uint32_t flags;
-    uint64_t token;         /* the core's user data, */
-    int32_t told;           /* and its result: 0 or an error number */
-    bool is_async;          /* it ended behind the call that submitted it */
-};
-
 struct completions {
-    struct posted *queue;   /* the oldest first, from `first` on */
+    struct wulgach_posted *queue;   /* the oldest first, from `first` on */
     size_t first, room;
     struct wulgach_shown at;    /* how many there are, and stand in ring memory; the others have overflowed, or are to be shown */
     bool is_behind;         /* some ended since ring memory was last brought up to date */
@@ -33,8 +24,8 @@ bool reserve_completions(struct completions *completions, size_t more);
 
 struct request;
 
-/* A request ended: queues its completion if the core posted one, and says whether it did. */
-bool note_end(struct ring *ring, const struct request *request, int32_t res, int32_t told);
+/* A request has ended, as the core was told: keeps its completion if the core posted one, and says whether it did. */
+bool note_end(struct ring *ring, const struct request *request, int32_t told);
 
 /* Shows the application what the core's tail says. */
 void show(struct ring *ring);

@@ -9,7 +9,6 @@
 #include "timeouts.h"
 #include "trace.h"
 
-#include <errno.h>
 
 void note_wait(struct ring *ring, struct request *request)
 {
@@ -50,7 +49,7 @@ void end_of(struct ring *ring, struct request *request, int32_t res, int32_t tol
     note_outcome(request, told);
     if (told >= 0 && request->entry.flags & IOSQE_CQE_SKIP_SUCCESS)
         record_silent_end(ring, request);
-    if (note_end(ring, request, res, told) && !is_timeout(request))
+    if (note_end(ring, request, told) && !is_timeout(request))
         wulgach_times_post(&ring->times, 1);
     if (is_timeout(request) || is_linked_timeout(request))
         stop_timeout(ring, request);
@@ -60,10 +59,10 @@ void end_of(struct ring *ring, struct request *request, int32_t res, int32_t tol
         unwatch(ring, request->file->fd);
     ring->has_changed = true;
     look_again_behind(ring);
-    if (request->state == RUNS)
+    if (request->course.has_started)
         stop_running(ring, request);
     ring->drains -= request->is_draining;
-    ring->counting -= request->state == RUNS && has_count(request);
+    ring->counting -= request->course.has_started && has_count(request);
     end_request(&ring->requests, request);
     forget_waits(ring);
     ring->completions.is_behind = true;
@@ -77,26 +76,24 @@ static bool cancel_running(struct ring *ring, uint64_t target)
         if (request->entry.user_data == target) {
             if (is_cancellable(request))
                 cancel_request(ring, request);
-            return request->is_cancelled;
+            return request->course.is_cancelled;
         }
     }
     return false;
 }
 
-/* What the application sees of a cancel that found its request running and waiting: a success, as the kernel's. The core
- * calls it a failure. */
-static int32_t shown_of_cancel(struct ring *ring, const struct request *cancel, int32_t res)
-{
-    return res == -EALREADY && cancel_running(ring, cancel->entry.addr) ? 0 : res;
-}
-
 int32_t shown_of(struct ring *ring, const struct request *request, int32_t res)
 {
-    if (request->mapping == CANCEL)
-        return shown_of_cancel(ring, request, res);
-    if (request->mapping == REFUSED && res == -EINVAL)
-        return request->fault;
-    return is_linked_timeout(request) && res == -ECANCELED ? wulgach_timeout_linked_outcome(request->has_fired) : res;
+    bool is_cancel = request->mapping == CANCEL;
+    struct wulgach_ended_early ended = {
+        .fault = request->fault,
+        .is_faulty = request->mapping == REFUSED,
+        .is_cancel = is_cancel,
+        .has_cancelled = wulgach_looks_for_running(is_cancel, res) && cancel_running(ring, request->entry.addr),
+        .is_linked_timeout = is_linked_timeout(request),
+        .has_fired = request->has_fired,
+    };
+    return wulgach_shown_of(&ended, res);
 }
 
 void end_extra(struct ring *ring, struct request *request, int32_t res)

@@ -1,4 +1,4 @@
-/* What an entry becomes: which are served, what the core is told of them, and what is copied when they are submitted. */
+/* What is copied of an entry when it is submitted. What it is to the core, and which fault its form has, is the library's decision. */
 #define _GNU_SOURCE
 #include "operations.h"
 #include "cancels.h"
@@ -17,146 +17,11 @@
 #include <sys/epoll.h>
 #include <sys/socket.h>
 
-/* The flag that has no name. */
-enum { REFUSED_FLAGS = 128 };
-
-enum { MOST_VECTORS = 1024, HIGHEST_PRIORITY_CLASS = 3, PRIORITY_CLASS_SHIFT = 13 };
-
-bool is_served_code(uint8_t code)
-{
-    switch (code) {
-    case IORING_OP_NOP:
-    case IORING_OP_READV:
-    case IORING_OP_WRITEV:
-    case IORING_OP_FSYNC:
-    case IORING_OP_SYNC_FILE_RANGE:
-    case IORING_OP_TIMEOUT:
-    case IORING_OP_ASYNC_CANCEL:
-    case IORING_OP_FALLOCATE:
-    case IORING_OP_OPENAT:
-    case IORING_OP_CLOSE:
-    case IORING_OP_STATX:
-    case IORING_OP_READ:
-    case IORING_OP_WRITE:
-    case IORING_OP_FADVISE:
-    case IORING_OP_MADVISE:
-    case IORING_OP_OPENAT2:
-    case IORING_OP_REMOVE_BUFFERS:
-    case IORING_OP_RENAMEAT:
-    case IORING_OP_UNLINKAT:
-    case IORING_OP_MKDIRAT:
-    case IORING_OP_SYMLINKAT:
-    case IORING_OP_LINKAT:
-    case IORING_OP_PROVIDE_BUFFERS:
-    case IORING_OP_MSG_RING:
-    case IORING_OP_READ_FIXED:
-    case IORING_OP_WRITE_FIXED:
-    case IORING_OP_POLL_ADD:
-    case IORING_OP_POLL_REMOVE:
-    case IORING_OP_SENDMSG:
-    case IORING_OP_RECVMSG:
-    case IORING_OP_TIMEOUT_REMOVE:
-    case IORING_OP_ACCEPT:
-    case IORING_OP_LINK_TIMEOUT:
-    case IORING_OP_CONNECT:
-    case IORING_OP_FILES_UPDATE:
-    case IORING_OP_SEND:
-    case IORING_OP_RECV:
-    case IORING_OP_EPOLL_CTL:
-    case IORING_OP_SPLICE:
-    case IORING_OP_TEE:
-    case IORING_OP_SHUTDOWN:
-    case IORING_OP_SOCKET:
-    case IORING_OP_FSETXATTR:
-    case IORING_OP_SETXATTR:
-    case IORING_OP_FGETXATTR:
-    case IORING_OP_GETXATTR:
-    case IORING_OP_SEND_ZC:
-    case IORING_OP_SENDMSG_ZC:
-        return true;
-    default:
-        return false;
-    }
-}
-
-/* Without a flag of its own, a tee has no offsets. */
-static bool is_well_formed_splice(const struct io_uring_sqe *entry)
-{
-    enum { SERVED = SPLICE_F_MOVE | SPLICE_F_NONBLOCK | SPLICE_F_MORE | SPLICE_F_GIFT };
-    return !(entry->splice_flags & ~(SERVED | SPLICE_F_FD_IN_FIXED)) && !(entry->opcode == IORING_OP_TEE && (entry->splice_off_in || entry->off));
-}
-
-/* Faults of single operations that the kernel finds when the entry is submitted. */
-static bool is_well_formed(const struct io_uring_sqe *entry)
-{
-    switch (entry->opcode) {
-    case IORING_OP_READ:
-    case IORING_OP_READ_FIXED:
-    case IORING_OP_WRITE:
-    case IORING_OP_WRITE_FIXED:
-        return entry->ioprio >> PRIORITY_CLASS_SHIFT <= HIGHEST_PRIORITY_CLASS;
-    case IORING_OP_READV:
-    case IORING_OP_WRITEV:
-        return entry->ioprio >> PRIORITY_CLASS_SHIFT <= HIGHEST_PRIORITY_CLASS && entry->len <= MOST_VECTORS;
-    case IORING_OP_FSYNC:
-        return !entry->addr && !entry->ioprio && !(entry->fsync_flags & ~IORING_FSYNC_DATASYNC);
-    case IORING_OP_TIMEOUT:
-    case IORING_OP_LINK_TIMEOUT:
-        return is_well_formed_timeout(entry);
-    case IORING_OP_TIMEOUT_REMOVE:
-        return is_well_formed_timeout_removal(entry);
-    case IORING_OP_ASYNC_CANCEL:
-        return is_well_formed_cancel(entry);
-    case IORING_OP_POLL_ADD:
-        return is_well_formed_poll(entry);
-    case IORING_OP_POLL_REMOVE:
-        return is_well_formed_removal(entry);
-    case IORING_OP_OPENAT:
-        return !entry->ioprio && !entry->buf_index && !(entry->file_index && entry->open_flags & O_CLOEXEC);
-    case IORING_OP_OPENAT2:
-        return !entry->ioprio && !entry->buf_index;
-    case IORING_OP_CLOSE:
-        return !entry->ioprio && !entry->off && !entry->addr && !entry->len && !entry->rw_flags && !entry->buf_index && !(entry->file_index && entry->fd);
-    case IORING_OP_FILES_UPDATE:
-        return !entry->ioprio && !entry->rw_flags && !entry->splice_fd_in && entry->len && !(entry->flags & IOSQE_FIXED_FILE);
-    case IORING_OP_PROVIDE_BUFFERS:
-    case IORING_OP_REMOVE_BUFFERS:
-        return is_well_formed_provision(entry);
-    case IORING_OP_MSG_RING:
-        return !entry->ioprio && !entry->buf_index && !(entry->msg_ring_flags & ~(uint32_t)IORING_MSG_RING_CQE_SKIP);
-    case IORING_OP_SHUTDOWN:
-        return !entry->ioprio && !entry->off && !entry->addr && !entry->rw_flags && !entry->buf_index && !entry->splice_fd_in;
-    case IORING_OP_SOCKET:
-        return !entry->ioprio && !entry->addr && !entry->rw_flags && !entry->buf_index && !(entry->file_index && entry->off & SOCK_CLOEXEC);
-    case IORING_OP_SPLICE:
-    case IORING_OP_TEE:
-        return is_well_formed_splice(entry);
-    case IORING_OP_SEND:
-    case IORING_OP_RECV:
-    case IORING_OP_SENDMSG:
-    case IORING_OP_RECVMSG:
-    case IORING_OP_ACCEPT:
-    case IORING_OP_SEND_ZC:
-    case IORING_OP_SENDMSG_ZC:
-        /* Their priority has flags, which are looked at with what they point to. */
-        return true;
-    default:
-        return !entry->ioprio;
-    }
-}
-
 /* A linked timeout wants a request before it that it limits: the kernel looks for one once it has read the time. */
 static bool has_its_place(const struct io_uring_sqe *entry, const struct request *before)
 {
-    bool is_behind = before && before->entry.flags & (IOSQE_IO_LINK | IOSQE_IO_HARDLINK) && before->entry.opcode != IORING_OP_LINK_TIMEOUT;
-    return entry->opcode != IORING_OP_LINK_TIMEOUT || is_behind;
-}
-
-enum mapping mapping_of(const struct io_uring_sqe *entry)
-{
-    if (entry->flags & REFUSED_FLAGS || entry->personality || !is_served_code(entry->opcode) || !is_well_formed(entry))
-        return REFUSED;
-    return is_plain_cancel(entry) ? CANCEL : TOKEN;
+    struct wulgach_link link = link_of(entry), last = before ? link_of(&before->entry) : (struct wulgach_link){.links = false};
+    return wulgach_has_its_place(&link, &last, before);
 }
 
 /* Copies what stands at an address into memory of its own. */
@@ -228,11 +93,6 @@ static int copy_attribute(struct request *request)
     return result == 0 && is_set ? copy_value(request, entry->addr2, entry->len, XATTR_SIZE_MAX) : result;
 }
 
-bool can_select(const struct io_uring_sqe *entry)
-{
-    return entry->opcode == IORING_OP_READ || entry->opcode == IORING_OP_READV || entry->opcode == IORING_OP_RECV || entry->opcode == IORING_OP_RECVMSG;
-}
-
 /* One that takes a provided buffer has a single vector, whose length is at most what it wants. */
 static int copy_wanted(struct request *request, int result)
 {
@@ -299,10 +159,10 @@ int copy_behind(struct request *request, const struct request *before)
 {
     if (request->mapping == CANCEL)
         return 0;
-    int result = request->mapping == REFUSED ? -EINVAL : copy_wanted(request, copy_of_token(request));
+    int result = copy_wanted(request, copy_of_token(request));
     if (result == -ENOMEM)
         return result;
-    if (result == 0 && !has_its_place(&request->entry, before))
+    if (result == 0 && is_linked_timeout(request) && !has_its_place(&request->entry, before))
         result = -EINVAL;
     if (result < 0)
         request->mapping = REFUSED;

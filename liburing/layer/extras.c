@@ -37,11 +37,17 @@ void post_extra(struct ring *ring, uint64_t user_data, int32_t res, uint32_t fla
     demand(take_position(ring), "the core drops a no-op");
     end_call(ring);
     ring->own_positions++;
-    request->number = request->chain = ring->accepted++;
+    wulgach_member_first(&request->member, ring->accepted++, &(struct wulgach_link){.links = false});
+    wulgach_course_begin(&request->course);
     add_request(&ring->requests, request);
     trace_note(ring, "request %llu: a completion of the layer's own", (unsigned long long)request->number);
     demand(issue(ring, request->number, &ended) == WULGACH_RUN, "the core doesn't start a no-op");
+    demand(wulgach_course_start(&request->course), "a request starts twice");
+    insert_request(&ring->running, request);
+    demand(wulgach_course_act(&request->course, &ended) == WULGACH_ACT_CARRY_OUT, "a no-op isn't carried out");
+    demand(wulgach_course_done(&request->course, res), "an operation is done that wasn't begun");
     finish(ring, request->number, 0);
+    demand(wulgach_course_end(&request->course), "a request ends that isn't to end");
     end_extra(ring, request, res);
 }
 

@@ -54,14 +54,6 @@ void free_groups(struct ring *ring)
         drop_group(ring, ring->groups);
 }
 
-bool is_well_formed_provision(const struct io_uring_sqe *entry)
-{
-    bool is_removal = entry->opcode == IORING_OP_REMOVE_BUFFERS;
-    if (entry->ioprio || entry->rw_flags || entry->splice_fd_in || entry->fd <= 0 || entry->fd > MOST_PROVIDED)
-        return false;
-    return is_removal ? !entry->addr && !entry->len && !entry->off : entry->len > 0 && entry->off <= UINT16_MAX;
-}
-
 static bool make_room(struct group *group, uint32_t more)
 {
     if (group->count + more <= group->room)

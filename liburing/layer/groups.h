@@ -18,7 +18,6 @@ struct provided {
 };
 
 /* The operations. Each returns its result. */
-bool is_well_formed_provision(const struct io_uring_sqe *entry);
 int32_t provide_buffers(struct ring *ring, const struct io_uring_sqe *entry);
 int32_t remove_buffers(struct ring *ring, const struct io_uring_sqe *entry);
 

@@ -87,21 +87,6 @@ bool goes_on(const struct request *request)
     }
 }
 
-bool goes_on_behind(const struct request *request, int32_t res)
-{
-    if (!goes_on(request))
-        return false;
-    switch (request->entry.opcode) {
-    case IORING_OP_ACCEPT:
-        return res >= 0;
-    case IORING_OP_RECVMSG:
-        /* The result counts what stands in front of the bytes too. */
-        return res > 0 && request->done > 0;
-    default:
-        return res > 0;
-    }
-}
-
 /* Whether it takes a provided buffer when it is carried out. */
 static bool is_selecting(const struct request *request)
 {
@@ -351,14 +336,14 @@ int32_t carry_out(struct ring *ring, struct request *request, enum injection fau
 
 bool is_success(const struct request *request, int32_t res)
 {
-    /* The chain goes on behind a linked timeout, also if that has fired. */
-    if (is_linked_timeout(request))
-        return !request->is_cancelled;
-    if (res == -ETIME)
-        return request->entry.opcode == IORING_OP_TIMEOUT && request->entry.timeout_flags & IORING_TIMEOUT_ETIME_SUCCESS;
-    if (is_of_sockets(request->entry.opcode))
-        return is_socket_success(request, res);
-    if (is_splice(request))
-        return res >= 0 && (uint32_t)res == request->entry.len;
-    return res >= 0 && (!is_transfer(request) || (uint64_t)res == request->length);
+    bool is_of_socket = is_of_sockets(request->entry.opcode);
+    struct wulgach_success asked = {
+        .length = is_splice(request) ? request->entry.len : request->length,
+        .is_whole = is_of_socket ? wants_whole(request) : is_splice(request) || is_transfer(request),
+        .is_cut = is_of_socket && is_cut(request),
+        .takes_time = is_timeout(request) && request->entry.timeout_flags & IORING_TIMEOUT_ETIME_SUCCESS,
+        .is_linked_timeout = is_linked_timeout(request),
+        .is_cancelled = request->course.is_cancelled,
+    };
+    return wulgach_is_success(&asked, res);
 }

@@ -11,15 +11,6 @@
 /* The result of an operation that would have to wait. */
 enum { WOULD_WAIT = -512 };
 
-/* Whether an operation is served at all, as a probe asks. */
-bool is_served_code(uint8_t code);
-
-/* What the core is to be told of an entry. */
-enum mapping mapping_of(const struct io_uring_sqe *entry);
-
-/* Whether an operation may take a provided buffer. */
-bool can_select(const struct io_uring_sqe *entry);
-
 /* Copies what the entry points to; `before` is the request before it in its call, or NULL. An entry that points to what can't
  * be read is refused. Returns 0 or -ENOMEM. */
 int copy_behind(struct request *request, const struct request *before);
@@ -35,10 +26,8 @@ bool is_splice(const struct request *request);
  * a poll, a splice, or a call of sockets. */
 bool is_stream(const struct request *request);
 
-/* Whether a request can end with more than one completion: a poll, an accept or a receive that goes on; and whether it does
- * behind this result. */
+/* Whether a request can end with more than one completion: a poll, an accept or a receive that goes on. */
 bool goes_on(const struct request *request);
-bool goes_on_behind(const struct request *request, int32_t res);
 
 /* Whether it doesn't wait whatever its descriptor is: it is asked not to, or for nothing. */
 bool is_impatient(const struct request *request);

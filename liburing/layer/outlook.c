@@ -60,7 +60,7 @@ void record_silent_end(const struct ring *ring, const struct request *request)
 static char letter_of(struct ring *ring, const struct request *way)
 {
     struct wulgach_why why;
-    if (way->state == RUNS)
+    if (way->course.has_started)
         return 'f';
     bool is_doomed = wulgach_core_why(&ring->core, way->number, &why) == 0 && why.kind == WULGACH_DOOMED;
     if (is_doomed || way->mapping != TOKEN)

@@ -39,7 +39,7 @@ bool is_poll_of_pipe(const struct request *request)
 
 static bool is_watching(const struct request *request)
 {
-    return is_poll(request) && request->is_of_pipe && !request->is_cancelled;
+    return is_poll(request) && request->is_of_pipe && !request->course.is_cancelled;
 }
 
 static int make_inotify(void)

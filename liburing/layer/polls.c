@@ -15,21 +15,6 @@ bool is_poll(const struct request *request)
     return request->entry.opcode == IORING_OP_POLL_ADD;
 }
 
-bool is_well_formed_poll(const struct io_uring_sqe *entry)
-{
-    return !entry->ioprio && !entry->buf_index && !entry->off && !entry->addr && !(entry->len & ~IORING_POLL_ADD_MULTI) &&
-           !(entry->len & IORING_POLL_ADD_MULTI && entry->flags & IOSQE_CQE_SKIP_SUCCESS);
-}
-
-bool is_well_formed_removal(const struct io_uring_sqe *entry)
-{
-    enum { UPDATES = IORING_POLL_UPDATE_EVENTS | IORING_POLL_UPDATE_USER_DATA };
-    uint32_t asked = entry->len;
-    if (entry->ioprio || entry->buf_index || entry->splice_fd_in || asked & ~(uint32_t)(UPDATES | IORING_POLL_ADD_MULTI) || asked == IORING_POLL_ADD_MULTI)
-        return false;
-    return (asked & IORING_POLL_UPDATE_USER_DATA || !entry->off) && (asked & IORING_POLL_UPDATE_EVENTS || !entry->poll32_events);
-}
-
 static short events_of(const struct request *request)
 {
     return (short)request->entry.poll32_events;

@@ -10,10 +10,6 @@ struct ring;
 
 bool is_poll(const struct request *request);
 
-/* Whether its entry is one that the kernel takes; of a removal too. */
-bool is_well_formed_poll(const struct io_uring_sqe *entry);
-bool is_well_formed_removal(const struct io_uring_sqe *entry);
-
 /* A poll has started. Returns 0 or the negative of an error number. */
 int start_poll(struct request *request);
 

@@ -23,7 +23,7 @@ bool can_finish(struct ring *ring, struct request *request)
 {
     if (request->has_to_wait)
         return false;
-    if (request->is_cancelled)
+    if (request->course.is_cancelled)
         return true;
     if (is_timeout(request))
         return has_counted(ring, request);
@@ -49,48 +49,72 @@ static bool can_make_ready(const struct request *request)
     }
 }
 
-/* Finishes a running request. It goes on running if it would have to wait. */
+/* Whether a request that goes on does so behind this result. */
+static bool goes_on_behind(const struct ring *ring, const struct request *request, int32_t res)
+{
+    struct wulgach_shot shot = {
+        .is_multishot = true,
+        .is_accept = request->entry.opcode == IORING_OP_ACCEPT,
+        .is_of_messages = request->entry.opcode == IORING_OP_RECVMSG,
+        .has_bytes = request->done > 0,
+    };
+    return wulgach_goes_on(&ring->completions.at, &shot, res, ring->memory.cq_entries);
+}
+
+/* Carries an operation out. False: it goes on running, since it would have to wait, or brought something and goes on. */
+static bool try_operation(struct ring *ring, struct request *request, int32_t *res)
+{
+    /* Other threads are to see what has ended, however long this one takes. */
+    if (request->entry.opcode != IORING_OP_NOP)
+        show_ends(ring);
+    hear(ring, false);
+    log_carrying(ring, request);
+    *res = carry_out(ring, request, injected(ring, request));
+    log_carried(ring, request, *res);
+    if (can_make_ready(request))
+        ring->moment++;
+    if (*res == WOULD_WAIT) {
+        note_fact(request, WULGACH_FACT_WAITS, 0);
+        note_wait(ring, request);
+        return false;
+    }
+    if (goes_on(request) && goes_on_behind(ring, request, *res)) {
+        note_fact(request, WULGACH_FACT_WENT_ON, 0);
+        post_extra(ring, request->entry.user_data, *res, request->flags | IORING_CQE_F_MORE);
+        return false;
+    }
+    demand(wulgach_course_done(&request->course, *res), "an operation is done that wasn't begun");
+    return true;
+}
+
+/* Goes on with a running request: whether its operation is carried out, or it ends at once, is the library's decision. */
 static void finish_running(struct ring *ring, struct request *request)
 {
-    int32_t res = -ECANCELED;
-    if (request->is_cancelled) {
+    int32_t res;
+    if (wulgach_course_act(&request->course, &res) == WULGACH_ACT_CARRY_OUT) {
+        if (!try_operation(ring, request, &res))
+            return;
+    } else {
         /* (one that goes on has those of its last event) */
         request->flags = 0;
-    } else {
-        /* Other threads are to see what has ended, however long this one takes. */
-        if (request->entry.opcode != IORING_OP_NOP)
-            show_ends(ring);
-        hear(ring, false);
-        log_carrying(ring, request);
-        res = carry_out(ring, request, injected(ring, request));
-        log_carried(ring, request, res);
-        if (can_make_ready(request))
-            ring->moment++;
-        if (res == WOULD_WAIT) {
-            note_wait(ring, request);
-            return;
-        }
-        /* One whose completion finds the ring full ends with it. */
-        if (goes_on_behind(request, res) && ring->completions.at.posted < ring->memory.cq_entries) {
-            post_extra(ring, request->entry.user_data, res, request->flags | IORING_CQE_F_MORE);
-            return;
-        }
     }
     int32_t told = is_success(request, res) ? TOLD_SUCCESS : TOLD_FAILURE;
-    if (is_zero_copy(request) && !request->is_cancelled && can_post_extra(ring)) {
+    if (is_zero_copy(request) && !request->course.is_cancelled && can_post_extra(ring)) {
         /* The request's own end is the second completion: its memory may be used again. */
         post_extra(ring, request->entry.user_data, res, IORING_CQE_F_MORE);
         request->flags = IORING_CQE_F_NOTIF;
         res = request->entry.ioprio & IORING_SEND_ZC_REPORT_USAGE ? (int32_t)IORING_NOTIF_USAGE_ZC_COPIED : 0;
+        note_fact(request, WULGACH_FACT_NOTIFIED, res);
     }
     finish(ring, request->number, told);
+    demand(wulgach_course_end(&request->course), "a request ends that isn't to end");
     end_of(ring, request, res, told);
 }
 
 /* The core let a request start. */
 static void start(struct ring *ring, struct request *request)
 {
-    request->state = RUNS;
+    demand(wulgach_course_start(&request->course), "a request starts twice");
     look_again(ring, insert_request(&ring->running, request));
     if (!request->is_assigned)
         assign(ring, request);
@@ -112,7 +136,9 @@ static bool issue_waiting(struct ring *ring, struct request *request)
     note_standing(ring, request);
     uint32_t kind = issue(ring, request->number, &res);
     if (kind == WULGACH_ENDED) {
-        end_of(ring, request, shown_of(ring, request, res), res);
+        int32_t shown = shown_of(ring, request, res);
+        note_fact(request, WULGACH_FACT_DROPPED, shown);
+        end_of(ring, request, shown, res);
         return false;
     }
     demand(kind == WULGACH_RUN, "the core doesn't issue a request");
@@ -123,7 +149,7 @@ static bool issue_waiting(struct ring *ring, struct request *request)
 void go_on_with(struct ring *ring, struct request *request)
 {
     bool is_one_choice = policy() == IN_ORDER || policy() == LAZY || !is_choosing_events();
-    if (request->state == RUNS)
+    if (request->course.has_started)
         finish_running(ring, request);
     else if (issue_waiting(ring, request) && is_one_choice && can_finish(ring, request))
         finish_running(ring, request);
@@ -150,7 +176,7 @@ static struct request *first_in_order(struct ring *ring)
     if (running)
         return running;
     /* The least outstanding one runs or can be issued, so of one that waits the core needn't be asked. */
-    if (requests->count > 0 && requests->rows[0]->state == WAITS)
+    if (requests->count > 0 && !requests->rows[0]->course.has_started)
         return requests->rows[0];
     uint64_t number;
     return requests->count > 0 && find_next(ring, &number) ? request_of(requests, number) : NULL;
@@ -177,7 +203,7 @@ void end_cancelled(struct ring *ring)
 {
     for (size_t i = 0; i < ring->running.count;) {
         struct request *request = ring->running.rows[i];
-        if (!request->is_cancelled) {
+        if (!request->course.is_cancelled) {
             i++;
             continue;
         }

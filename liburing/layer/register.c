@@ -37,7 +37,7 @@ static int probe(uint64_t at, uint32_t count)
     copy.probe.ops_len = (uint8_t)count;
     for (uint32_t code = 0; code < count; code++) {
         copy.probe.ops[code].op = (uint8_t)code;
-        copy.probe.ops[code].flags = is_served_code((uint8_t)code) ? IO_URING_OP_SUPPORTED : 0;
+        copy.probe.ops[code].flags = wulgach_is_served((uint8_t)code) ? IO_URING_OP_SUPPORTED : 0;
     }
     return copy_out(at, &copy, size);
 }
@@ -90,7 +90,7 @@ static int cancel_at_once(struct ring *ring, uint64_t at, uint32_t count)
     if (copy_in(&asked, at, sizeof asked) < 0)
         return -EFAULT;
     struct request cancel = {.entry = {.opcode = IORING_OP_ASYNC_CANCEL, .addr = asked.addr, .fd = asked.fd, .cancel_flags = asked.flags}};
-    if (asked.pad[0] || asked.pad[1] || asked.pad[2] || asked.pad[3] || !is_well_formed_cancel(&cancel.entry))
+    if (asked.pad[0] || asked.pad[1] || asked.pad[2] || asked.pad[3] || form_of(&cancel.entry, 0, true, &cancel.fault) == REFUSED)
         return -EINVAL;
     int result = act_on_others(ring, &cancel);
     end_cancelled(ring);

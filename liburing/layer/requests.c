@@ -20,6 +20,22 @@ struct request *make_request(struct requests *requests)
     return request;
 }
 
+void note_fact(struct request *request, enum wulgach_fact fact, int32_t res)
+{
+    demand(wulgach_course_note(&request->course, fact, res), "something happens to a request that can't");
+}
+
+enum mapping form_of(const struct io_uring_sqe *entry, int32_t refusal, bool is_allowed, int32_t *fault)
+{
+    _Static_assert(sizeof(struct wulgach_submission) == sizeof *entry, "an entry has the library's fields");
+    return (enum mapping)wulgach_form_of((const void *)entry, refusal, is_allowed, fault);
+}
+
+struct wulgach_link link_of(const struct io_uring_sqe *entry)
+{
+    return (struct wulgach_link){.links = entry->flags & (IOSQE_IO_LINK | IOSQE_IO_HARDLINK), .is_linked_timeout = entry->opcode == IORING_OP_LINK_TIMEOUT};
+}
+
 bool reserve_requests(struct requests *requests, size_t more)
 {
     size_t need = requests->count + more, gone = (size_t)(requests->rows - requests->at);

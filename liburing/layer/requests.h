@@ -2,27 +2,29 @@
 #ifndef REQUESTS_H
 #define REQUESTS_H
 
+#include "wulgach_form.h"
+
 #include <linux/io_uring.h>
 #include <stdbool.h>
 #include <stddef.h>
 #include <stdint.h>
 #include <sys/uio.h>
 
-enum mapping { TOKEN, CANCEL, REFUSED };
-
-enum state { WAITS, RUNS };
+/* What an entry is to the core, numbered as the library does. */
+enum mapping { TOKEN = WULGACH_FORM_TOKEN, CANCEL = WULGACH_FORM_CANCEL, REFUSED = WULGACH_FORM_REFUSED };
 
 struct request {
-    uint64_t number;                /* in the order of acceptance, from 0 */
+    union {
+        uint64_t number;                /* in the order of acceptance, from 0, */
+        struct wulgach_member member;   /* and as a member of its chain */
+    };
+    struct wulgach_course course;   /* what has become of it: it has started, was cancelled, was carried out, has ended */
     struct io_uring_sqe entry;      /* as the application wrote it */
     enum mapping mapping;           /* what the core was told of it */
-    enum state state;
     uint64_t looked_at;             /* of one that may have to wait: the moment at which its descriptor was last looked at, */
     bool is_found_ready;            /* and whether it was ready */
     bool has_to_wait;               /* it was carried out and would have waited, and nothing has ended since */
     int32_t fault;                  /* of a refused entry: what it ends with */
-    bool is_linked;                 /* a link puts it behind the one before it */
-    uint64_t chain;                 /* the number of its chain's first member: its own, if it is loose */
     bool is_draining;               /* a member of its chain drains, or it does: those behind wait until all of them have ended */
     struct file *file;              /* the registered file that it is carried out on, if it is one */
     int fd;                         /* the descriptor that it is carried out on */
@@ -37,7 +39,6 @@ struct request {
     uint32_t flags;                 /* those of its completion */
     uint64_t token;                 /* the user data that the core has */
     uint64_t call;                  /* the number of the call that submitted it */
-    bool is_cancelled;              /* a cancel found it running */
     bool has_fired;                 /* a linked timeout: the request before it was cancelled by it */
     int epoll;                      /* what tells of the events of a poll that goes on; or negative */
     bool is_of_pipe;                /* a poll for what a pipe has to be read: */
@@ -89,6 +90,16 @@ size_t place_of(const struct requests *requests, uint64_t number);
 
 /* Takes the first ones out, and frees nothing. */
 void drop_requests(struct requests *requests, size_t count);
+
+/* Notes what has happened to a request. It can have. */
+void note_fact(struct request *request, enum wulgach_fact fact, int32_t res);
+
+/* What an entry is to the core, and its fault, or 0, where a strict ring refuses it with an error or not, and restrictions allow it or
+ * not. */
+enum mapping form_of(const struct io_uring_sqe *entry, int32_t refusal, bool is_allowed, int32_t *fault);
+
+/* What an entry says of its chain. */
+struct wulgach_link link_of(const struct io_uring_sqe *entry);
 
 /* Takes a request out, and keeps its memory. */
 void end_request(struct requests *requests, struct request *request);

@@ -337,10 +337,13 @@ int32_t call_socket(struct ring *ring, struct request *request)
     }
 }
 
-bool is_socket_success(const struct request *request, int32_t res)
+bool wants_whole(const struct request *request)
 {
-    bool is_whole = request->entry.msg_flags & MSG_WAITALL && request->value && request->entry.opcode != IORING_OP_CONNECT;
+    return request->entry.msg_flags & MSG_WAITALL && request->value && request->entry.opcode != IORING_OP_CONNECT;
+}
+
+bool is_cut(const struct request *request)
+{
     const struct msghdr *message = request->value;
-    bool is_cut = request->entry.opcode == IORING_OP_RECVMSG && res >= 0 && message->msg_flags & (MSG_TRUNC | MSG_CTRUNC);
-    return res >= 0 && (!is_whole || ((uint64_t)res == request->length && !is_cut));
+    return request->entry.opcode == IORING_OP_RECVMSG && message && message->msg_flags & (MSG_TRUNC | MSG_CTRUNC);
 }

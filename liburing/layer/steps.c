@@ -142,28 +142,29 @@ bool find_next(struct ring *ring, uint64_t *number)
     return answer.kind == WULGACH_NEXT_IS;
 }
 
+/* Traces a step that moves a request. */
+static void trace_request_step(struct ring *ring, uint32_t step, uint64_t number, uint32_t kind, int32_t res)
+{
+    trace_step(ring, &(struct wulgach_step){.kind = step, .number = number}, &(struct wulgach_answer){.kind = kind, .res = res});
+}
+
 uint32_t issue(struct ring *ring, uint64_t number, int32_t *res)
 {
-    struct wulgach_step step;
-    struct wulgach_answer answer;
-    step.kind = WULGACH_ISSUE;
-    step.number = number;
-    make(ring, &step, &answer);
-    *res = answer.res;
-    return answer.kind;
+    uint32_t kind;
+    demand(wulgach_core_issue(&ring->core, number, &kind, res) == 0, "the core refuses an issue");
+    if (is_traced(ring))
+        trace_request_step(ring, WULGACH_ISSUE, number, kind, *res);
+    return kind;
 }
 
 void finish(struct ring *ring, uint64_t number, int32_t told)
 {
-    static const struct wulgach_bytes none = {{0}};
-    struct wulgach_step step;
-    struct wulgach_answer answer;
-    step.kind = WULGACH_FINISH;
-    step.number = number;
-    demand(wulgach_core_finish(&ring->core, number, told, &none, &answer) == 0, "the core refuses a finish");
-    if (ring->trace)
-        trace_step(ring, &step, &answer);
-    demand(answer.kind == WULGACH_ENDED && answer.res == told, "the core doesn't end a running request");
+    uint32_t kind;
+    int32_t res;
+    demand(wulgach_core_end(&ring->core, number, told, &kind, &res) == 0, "the core refuses a finish");
+    if (is_traced(ring))
+        trace_request_step(ring, WULGACH_FINISH, number, kind, res);
+    demand(kind == WULGACH_ENDED && res == told, "the core doesn't end a running request");
 }
 
 uint32_t count_issuable(struct ring *ring)

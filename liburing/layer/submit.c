@@ -16,12 +16,6 @@
 #include <errno.h>
 #include <stdlib.h>
 
-static void refuse_entry(struct request *request, int32_t fault)
-{
-    request->mapping = REFUSED;
-    request->fault = fault;
-}
-
 /* Reads the entry of a slot. NULL if memory was refused. */
 static struct request *read_entry(struct ring *ring, uint32_t slot)
 {
@@ -31,14 +25,7 @@ static struct request *read_entry(struct ring *ring, uint32_t slot)
     request->entry = *entry_at(&ring->memory, slot);
     request->token = request->entry.user_data;
     request->call = ring->call_number;
-    request->mapping = mapping_of(&request->entry);
-    int32_t fault = strict_fault(ring, &request->entry);
-    if (fault < 0)
-        refuse_entry(request, fault);
-    else if (!allows_entry(ring, &request->entry))
-        refuse_entry(request, -EACCES);
-    else if (request->entry.flags & IOSQE_BUFFER_SELECT && is_served_code(request->entry.opcode) && !can_select(&request->entry))
-        refuse_entry(request, -EOPNOTSUPP);
+    request->mapping = form_of(&request->entry, strict_fault(ring, &request->entry), allows_entry(ring, &request->entry), &request->fault);
     const struct request *before = ring->staged.count > 0 ? ring->staged.rows[ring->staged.count - 1] : NULL;
     if (request->fault < 0 || copy_behind(request, before) == 0)
         return request;
@@ -92,9 +79,12 @@ static void accept_one(struct ring *ring, struct request *request, const struct 
 {
     if (!request)
         return;
-    request->number = ring->accepted++;
-    request->is_linked = before && before->entry.flags & (IOSQE_IO_LINK | IOSQE_IO_HARDLINK);
-    request->chain = request->is_linked ? before->chain : request->number;
+    struct wulgach_link link = link_of(&request->entry);
+    if (before)
+        wulgach_member_next(&request->member, &before->member, ring->accepted++, &link);
+    else
+        wulgach_member_first(&request->member, ring->accepted++, &link);
+    wulgach_course_begin(&request->course);
     add_request(&ring->requests, request);
 }
 
@@ -114,7 +104,7 @@ static void note_chains(struct ring *ring, size_t first)
 {
     struct request **rows = ring->requests.rows;
     for (size_t end; first < ring->requests.count; first = end) {
-        for (end = first + 1; end < ring->requests.count && rows[end]->chain == rows[first]->chain;)
+        for (end = first + 1; end < ring->requests.count && rows[end]->member.chain == rows[first]->member.chain;)
             end++;
         mark_draining(ring, first, end);
         if (ring->drains == 0)

@@ -26,33 +26,24 @@ bool is_linked_timeout(const struct request *request)
     return request->entry.opcode == IORING_OP_LINK_TIMEOUT;
 }
 
-bool is_well_formed_timeout(const struct io_uring_sqe *entry)
-{
-    enum { SERVED = IORING_TIMEOUT_ABS | IORING_TIMEOUT_CLOCK_MASK | IORING_TIMEOUT_ETIME_SUCCESS };
-    uint32_t flags = entry->timeout_flags;
-    if (entry->ioprio || entry->buf_index || entry->len != 1 || entry->splice_fd_in || flags & ~(uint32_t)SERVED)
-        return false;
-    return (flags & IORING_TIMEOUT_CLOCK_MASK) != IORING_TIMEOUT_CLOCK_MASK && !(entry->opcode == IORING_OP_LINK_TIMEOUT && entry->off);
-}
-
 bool has_count(const struct request *request)
 {
     return is_timeout(request) && request->entry.off > 0;
 }
 
-static uint64_t time_of_clock(uint32_t flags)
+static uint64_t time_of_clock(clockid_t clock)
 {
     struct timespec now;
-    clock_gettime(flags & IORING_TIMEOUT_BOOTTIME ? CLOCK_BOOTTIME : flags & IORING_TIMEOUT_REALTIME ? CLOCK_REALTIME : CLOCK_MONOTONIC, &now);
+    clock_gettime(clock, &now);
     return wulgach_time_of(now.tv_sec, now.tv_nsec);
 }
 
 /* How much later than now the time is over that an entry gives. */
 static uint64_t time_left(const struct request *timeout)
 {
-    uint32_t flags = timeout->entry.timeout_flags;
+    int32_t clock = wulgach_timeout_clock(timeout->entry.timeout_flags);
     uint64_t time = wulgach_time_of(timeout->time->tv_sec, timeout->time->tv_nsec);
-    return flags & IORING_TIMEOUT_ABS ? wulgach_time_left(time, time_of_clock(flags)) : time;
+    return wulgach_timeout_lasts(time, clock < 0 ? 0 : time_of_clock(clock), clock >= 0);
 }
 
 bool reserve_timeouts(struct ring *ring, size_t count)
@@ -80,7 +71,7 @@ static void run(struct ring *ring, const struct request *timeout)
 
 void start_timeout(struct ring *ring, const struct request *timeout)
 {
-    if (!timeout->is_cancelled)
+    if (!timeout->course.is_cancelled)
         run(ring, timeout);
 }
 
@@ -109,9 +100,8 @@ void note_counts(struct ring *ring)
 
 struct request *timeout_behind(const struct ring *ring, const struct request *request)
 {
-    bool has_link = request->entry.flags & (IOSQE_IO_LINK | IOSQE_IO_HARDLINK);
-    struct request *next = has_link ? request_or_none(&ring->requests, request->number + 1) : NULL;
-    return next && next->is_linked && is_linked_timeout(next) ? next : NULL;
+    struct request *next = request->member.entry.links ? request_or_none(&ring->requests, request->number + 1) : NULL;
+    return next && wulgach_member_limits(&next->member, &request->member) ? next : NULL;
 }
 
 void arm_linked_timeout(struct ring *ring, struct request *request)
@@ -146,7 +136,7 @@ int32_t change_timeout(struct ring *ring, struct request *timeout, const struct 
     *timeout->time = *change->time;
     timeout->entry.timeout_flags &= ~(uint32_t)(IORING_TIMEOUT_ABS | IORING_TIMEOUT_CLOCK_MASK);
     timeout->entry.timeout_flags |= change->entry.timeout_flags & (IORING_TIMEOUT_ABS | IORING_TIMEOUT_CLOCK_MASK);
-    ring->counting -= timeout->state == RUNS && has_count(timeout);
+    ring->counting -= timeout->course.has_started && has_count(timeout);
     timeout->entry.off = 0;
     wulgach_times_change(&ring->times, ring->timeouts, ring->timeouts_room, timeout->number, time_left(timeout));
     return 0;

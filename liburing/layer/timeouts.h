@@ -11,8 +11,6 @@ struct ring;
 bool is_timeout(const struct request *request);
 bool is_linked_timeout(const struct request *request);
 
-bool is_well_formed_timeout(const struct io_uring_sqe *entry);
-
 /* Whether a timeout has a count. */
 bool has_count(const struct request *request);
 

@@ -65,7 +65,7 @@ static uint32_t place_of_issuable(struct ring *ring, const struct ways *ways, ui
 /* Says what going on with a request means: before it is done, since it may free the request. */
 static void describe(char *text, size_t size, const struct request *request)
 {
-    snprintf(text, size, "%s request %" PRIu64 " (%s)", request->state == RUNS ? "finish" : "issue", request->number, operation_name(request->entry.opcode));
+    snprintf(text, size, "%s request %" PRIu64 " (%s)", request->course.has_started ? "finish" : "issue", request->number, operation_name(request->entry.opcode));
 }
 
 static void take_way(struct ring *ring, const struct ways *ways, uint64_t at, uint32_t chosen)
@@ -97,7 +97,7 @@ struct highest {
 
 static struct player player_of(const struct ring *ring, const struct request *way)
 {
-    return way ? (struct player){.ring = ring->index, .chain = way->chain} : (struct player){.is_application = true};
+    return way ? (struct player){.ring = ring->index, .chain = way->member.chain} : (struct player){.is_application = true};
 }
 
 /* Looks at a way, and asks whether it can go on only if it would be the highest. */
@@ -116,7 +116,7 @@ static struct request *highest_way(struct ring *ring, const struct ways *ways)
     for (uint32_t place = 0; place < ways->listed; place++)
         look_at_way(&highest, ring, ring->ways[place], true);
     for (size_t i = 0; ways->listed < ways->count && i < ring->requests.count; i++)
-        if (ring->requests.rows[i]->state == WAITS)
+        if (!ring->requests.rows[i]->course.has_started)
             look_at_way(&highest, ring, ring->requests.rows[i], false);
     return highest.way;
 }
@@ -127,7 +127,7 @@ static uint32_t place_of_way(struct ring *ring, const struct ways *ways, const s
     uint32_t place = 0;
     if (!way)
         return ways->count;
-    if (way->state == WAITS)
+    if (!way->course.has_started)
         return place_of_issuable(ring, ways, way->number);
     while (ring->ways[place] != way)
         place++;

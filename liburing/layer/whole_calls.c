@@ -117,7 +117,7 @@ bool submit_staged(struct ring *ring, uint32_t given, struct wulgach_answer *ans
 /* So many are reaped by one call at most. */
 enum { MOST_REAPED = 32 };
 
-static void trace_reaped(struct ring *ring, const struct posted *posted, uint32_t count, uint32_t tail, uint32_t head)
+static void trace_reaped(struct ring *ring, const struct wulgach_posted *posted, uint32_t count, uint32_t tail, uint32_t head)
 {
     const struct wulgach_step reap = {.kind = WULGACH_REAP};
     trace_made(ring, WULGACH_LOAD_CQ_TAIL, 0, WULGACH_TAIL, tail);
@@ -126,7 +126,7 @@ static void trace_reaped(struct ring *ring, const struct posted *posted, uint32_
     trace_made(ring, WULGACH_STORE_CQ_HEAD, 0, WULGACH_HEAD, head);
 }
 
-static void reap_by_steps(struct ring *ring, const struct posted *posted, uint32_t count, uint32_t tail, uint32_t head)
+static void reap_by_steps(struct ring *ring, const struct wulgach_posted *posted, uint32_t count, uint32_t tail, uint32_t head)
 {
     demand(load_cq_tail(ring) == tail, "the core's completion tail isn't the one that was shown");
     for (uint32_t i = 0; i < count; i++)
@@ -135,7 +135,7 @@ static void reap_by_steps(struct ring *ring, const struct posted *posted, uint32
 }
 
 /* Reaps so many; `tail` is what is shown, and `head` where the core's head is to be then. */
-static void reap_some(struct ring *ring, const struct posted *posted, uint32_t count, uint32_t tail, uint32_t head)
+static void reap_some(struct ring *ring, const struct wulgach_posted *posted, uint32_t count, uint32_t tail, uint32_t head)
 {
     struct wulgach_completion reaped[MOST_REAPED];
     uint64_t found;
@@ -154,7 +154,7 @@ static void reap_some(struct ring *ring, const struct posted *posted, uint32_t c
 void reap_oldest(struct ring *ring, uint32_t count)
 {
     const struct completions *completions = &ring->completions;
-    const struct posted *oldest = completions->queue + completions->first;
+    const struct wulgach_posted *oldest = completions->queue + completions->first;
     uint32_t tail = completions->at.head + completions->at.shown;
     for (uint32_t from = 0, some; from < count; from += some) {
         some = count - from < MOST_REAPED ? count - from : MOST_REAPED;

@@ -16,3 +16,5 @@ pub mod Crashing
 pub mod Outcomes
 pub mod TimeForm
 pub mod ShownForm
+pub mod CourseForm
+pub mod EntryForm

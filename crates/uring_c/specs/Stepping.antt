@@ -1,5 +1,5 @@
 -- What a call makes of what a place holds.
-use Rattle.std.specs.Prelude.{◌≡◌, ℕ, ◌∷◌, Option, IsSomeAnd}
+use Rattle.std.specs.Prelude.{◌≡◌, ℕ, ℤ, ◌∷◌, Option, IsSomeAnd, replicate}
 use Rattle.uring_entry.specs.declared.operation.Outcome.{Outcome}
 use Rattle.uring_entry.specs.Setup.{Setup}
 use Rattle.uring_core.specs.CalledFor.{CalledFor, files_of}
@@ -11,7 +11,7 @@ use Rattle.uring_core.specs.declared.answer.Answer.{Answer}
 use Rattle.uring_core.specs.declared.answer.Answer.TheVariants as answer
 use Rattle.uring_core.specs.declared.step.Step.{Step}
 use Rattle.uring_core.specs.declared.step.Step.TheVariants as step
-use Rattle.uring_c.specs.AnswerForm.{words_of, IsAgain}
+use Rattle.uring_c.specs.AnswerForm.{words_of, kind_of, res_of, IsAgain}
 use Rattle.uring_c.specs.declared.answer_words.AnswerWords.{AnswerWords}
 
 -- A core has made this step, and answered so: it fits every history that it did, followed by both.
@@ -56,6 +56,24 @@ pub record TellsStepApart (s : Step) (old new : Option Core) (words : AnswerWord
 pub record TellsFinish (number : ℕ) (outcome : Outcome) (old new : Option Core) (words : AnswerWords) : Type 0 where
   pub given : Answer
   pub told : words ≡ words_of given
+  pub made : IsSomeAnd old (λ before. IsSomeAnd new (FinishedApart number outcome given before))
+
+-- The core of a place has made this step, and this is the kind of its answer, with its result, or 0.
+pub record TellsKind (s : Step) (old new : Option Core) (kind : ℕ) (res : ℤ) : Type 0 where
+  pub given : Answer
+  pub kind_is : kind ≡ kind_of given
+  pub res_is : res ≡ res_of given
+  pub made : IsSomeAnd old (λ before. IsSomeAnd new (SteppedApart s given before))
+
+-- an operation ended with this result, and has given no bytes
+abbrev pub no_bytes : ℤ → Outcome
+no_bytes res = record { res = res; bytes = replicate 64 0 }
+
+-- The core of a place was told how this request ended, and this is the kind of its answer, with its result, or 0.
+pub record TellsEnd (number : ℕ) (outcome : Outcome) (old new : Option Core) (kind : ℕ) (res : ℤ) : Type 0 where
+  pub given : Answer
+  pub kind_is : kind ≡ kind_of given
+  pub res_is : res ≡ res_of given
   pub made : IsSomeAnd old (λ before. IsSomeAnd new (FinishedApart number outcome given before))
 
 -- The machine of a place has made this step, and these words tell its answer.

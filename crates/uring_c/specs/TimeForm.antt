@@ -1,6 +1,8 @@
 -- Times and waits in words that C can read.
-use Rattle.std.specs.Prelude.{ℕ, true, false, Option, Some, None, if◌then◌else◌}
+use Rattle.std.specs.Prelude.{ℕ, ℤ, pos, negsuc, true, false, Option, Some, None, if◌then◌else◌}
 use Rattle.uring_enter.specs.declared.timeout.Timeout.{Timeout}
+use Rattle.uring_enter.specs.declared.timeout.Clock.{Clock}
+use Rattle.uring_enter.specs.declared.timeout.Clock.TheVariants.{Realtime, Monotonic, Boottime}
 use Rattle.uring_enter.specs.declared.wait.Wait.{Wait}
 use Rattle.uring_enter.specs.declared.wait.Wait.TheVariants.{Sleep, MoveTo, Never}
 use Rattle.uring_enter.specs.declared.wait.Woken.{Woken}
@@ -31,3 +33,10 @@ abbrev pub words_of_woken : Woken → WokenWords
 words_of_woken (Over timeout) = record { timeout = timeout; kind = 0 }
 words_of_woken TimedOut = record { timeout = no_timeout; kind = 1 }
 words_of_woken Other = record { timeout = no_timeout; kind = 2 }
+
+-- the number of a clock of clock_gettime(2): CLOCK_REALTIME is 0, CLOCK_MONOTONIC 1 and CLOCK_BOOTTIME 7. -2 (ENOENT): there is none
+abbrev pub word_of_clock : Option Clock → ℤ
+word_of_clock (Some Realtime) = pos 0
+word_of_clock (Some Monotonic) = pos 1
+word_of_clock (Some Boottime) = pos 7
+word_of_clock None = negsuc 1

@@ -50,7 +50,7 @@ pub(crate) fn answer_words(answer: &Answer) -> AnswerWords
 }
 
 /// The kind of an answer.
-fn kind(answer: &Answer) -> u32
+pub(crate) fn kind(answer: &Answer) -> u32
     ensures { result ≡ spec.kind_of answer.now }
 {
     match *answer {
@@ -139,7 +139,7 @@ fn entry(answer: &Answer) -> [u64; 16]
 }
 
 /// The result of an answer: 0 if it has none.
-fn res(answer: &Answer) -> i32
+pub(crate) fn res(answer: &Answer) -> i32
     ensures { result ≡ spec.res_of answer.now }
 {
     match *answer {

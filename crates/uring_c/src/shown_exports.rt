@@ -1,6 +1,8 @@
 //! What the application is shown, for C: the functions of `c/wulgach_shown.h`.
-ghost use Rattle.std.specs.Prelude.{◌≡◌, ◌+◌, ◌-◌, ◌^◌, ◌<◌, ◌≤◌, ℕ, pos, negsuc, MatchOption, List, [], ◌∷◌, nat_le};
+ghost use Rattle.std.specs.Prelude.{◌≡◌, ◌+◌, ◌-◌, ◌^◌, ◌<◌, ◌≤◌, ℕ, pos, negsuc, drop, MatchOption, List, [], ◌∷◌, nat_le};
 ghost use Rattle.uring_enter.specs.Showing.{Change, Posted, Reaped, KeepsShown, IsTold, posted, written, reaped, store_of, behind_store, heard_of, overflows, loads_head, flags_of};
+ghost use Rattle.uring_enter.specs.declared.posted.Posted.{Posted as Row};
+ghost use Rattle.uring_enter.specs.Postings.{Posting, Reaped as RowsReaped, KeepsPosted};
 ghost use Rattle.uring_c.specs.ShownForm.{words_of_store};
 
 use uring_enter::{Shown, Store};
@@ -82,10 +84,13 @@ pub extern "C" fn wulgach_shown_heard(shown: &Shown, head: u32, count: &mut u32)
     0
 }
 
-/// So many were reaped.
+/// So many were reaped. Their rows are the first.
 #[unsafe(no_mangle)]
 pub extern "C" fn wulgach_shown_reap(shown: &mut Shown, count: u32)
-    ensures { (log : List Change) → KeepsShown log shown.old → reaped log + count ≤ written log
+    ensures rows { (log : List Posting) (rows : List Row) → KeepsPosted log shown.old.posted rows
+        → count ≤ shown.old.posted
+        → KeepsPosted (RowsReaped count ∷ log) shown.new.posted (drop count rows) }
+    ensures counts { (log : List Change) → KeepsShown log shown.old → reaped log + count ≤ written log
         → KeepsShown (Reaped count ∷ log) shown.new }
 {
     shown.reap(count);

@@ -1,5 +1,5 @@
 //! The time of a ring and its timeouts for C: the functions of `c/wulgach_times.h`. Rows are the caller's memory.
-ghost use Rattle.std.specs.Prelude.{◌≡◌, ◌↔◌, ◌⊎◌, ◌≤◌, ◌-◌, pos, negsuc, length, true, false, MatchOption, List, [], ◌∷◌, None, Some};
+ghost use Rattle.std.specs.Prelude.{◌≡◌, ◌↔◌, ◌⊎◌, ◌≤◌, ◌-◌, pos, negsuc, length, true, false, MatchOption, List, [], ◌∷◌, None, Some, if◌then◌else◌};
 ghost use Rattle.uring_enter.specs.declared.wait.Wait.{Wait};
 ghost use Rattle.uring_enter.specs.declared.wait.Woken.{Woken};
 ghost use Rattle.uring_enter.specs.Timeouts.{Event, Started, Posted, Changed, Stopped, Clock, Slept, Passed, Ended};
@@ -7,11 +7,13 @@ ghost use Rattle.uring_enter.specs.Timeouts.{later, nanoseconds_of, running, out
 ghost use Rattle.uring_enter.specs.Timeouts.{posted, NoneIsOver, IsNext, IsReachedOf, AreApart, HasNone, IsRow, EndsNone, EndsWith};
 ghost use Rattle.uring_enter.specs.Kept.{KeepsTime};
 ghost use Rattle.uring_enter.specs.Waits.{IsWait, IsWoken, IsPassing};
-ghost use Rattle.uring_c.specs.TimeForm.{limit_of, words_of_wait, words_of_woken};
+ghost use Rattle.uring_enter.specs.Clocks.{clock_of, lasts};
+ghost use Rattle.uring_c.specs.TimeForm.{limit_of, word_of_clock, words_of_wait, words_of_woken};
 
-use crate::time_words::{LimitWords, WaitWords, WokenWords, wait_words, woken_words};
+use crate::time_words::{LimitWords, WaitWords, WokenWords, clock_word, wait_words, woken_words};
 use uring_enter::{
-    Start, Timeout, Times, WakeSources, later, left_until, linked_outcome, nanoseconds_of,
+    Start, Timeout, Times, WakeSources, clock_of, lasts, later, left_until, linked_outcome,
+    nanoseconds_of,
 };
 
 /// The nanoseconds of a time in seconds and nanoseconds.
@@ -36,6 +38,22 @@ pub extern "C" fn wulgach_time_left(time: u64, now: u64) -> u64
     ensures { result ≡ time - now }
 {
     left_until(time, now)
+}
+
+/// The number of the clock that says how much is left of the time that a timeout with these flags gives, or -2 if its time is how long it runs.
+#[unsafe(no_mangle)]
+pub extern "C" fn wulgach_timeout_clock(flags: u32) -> i32
+    ensures { result ≡ word_of_clock (clock_of flags) }
+{
+    clock_word(clock_of(flags))
+}
+
+/// How long a timeout runs that has this time, whose clock says that it is `now`, if it has one.
+#[unsafe(no_mangle)]
+pub extern "C" fn wulgach_timeout_lasts(time: u64, now: u64, has_clock: bool) -> u64
+    ensures { result ≡ lasts time (if has_clock then Some now else None) }
+{
+    lasts(time, if has_clock { Some(now) } else { None })
 }
 
 /// A ring's time begins, and no timeout runs.

@@ -2,7 +2,7 @@
 ghost use Rattle.std.specs.Prelude.{◌≡◌};
 ghost use Rattle.uring_c.specs.TimeForm as spec;
 
-use uring_enter::{Timeout, Wait, Woken};
+use uring_enter::{Clock, Timeout, Wait, Woken};
 
 /// A limit: `struct wulgach_limit` of the header.
 #[repr(C)]
@@ -94,5 +94,17 @@ fn no_timeout() -> Timeout
         expiry: 0,
         enough: 0,
         is_linked: false,
+    }
+}
+
+/// The number of a clock, or -2.
+pub(crate) fn clock_word(clock: Option<Clock>) -> i32
+    ensures { result ≡ spec.word_of_clock clock }
+{
+    match clock {
+        Some(Clock::Realtime) => 0,
+        Some(Clock::Monotonic) => 1,
+        Some(Clock::Boottime) => 7,
+        None => -2,
     }
 }

@@ -8,3 +8,6 @@ mod TimeoutRuns
 mod TimesKept
 mod ShowingRuns
 mod CancelRuns
+mod CourseRuns
+mod PostingRuns
+mod ChainRuns

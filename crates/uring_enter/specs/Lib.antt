@@ -10,3 +10,13 @@ pub mod Showing
 pub mod ShowingLaws
 pub mod Cancels
 pub mod CancelLaws
+pub mod Courses
+pub mod CourseLaws
+pub mod Outcomes
+pub mod Postings
+pub mod PostingLaws
+pub mod Chains
+pub mod ChainLaws
+pub mod Clocks
+pub mod Forms
+pub mod Shots

@@ -1,7 +1,9 @@
 //! Which completions the application is shown in ring memory, and what it has reaped.
 
-ghost use Rattle.std.specs.Prelude.{◌≡◌, ◌+◌, ◌<◌, ◌≤◌, ◌%◌, ◌^◌, ◌-◌, ℕ, List, [], ◌∷◌, nat_le};
+ghost use Rattle.std.specs.Prelude.{◌≡◌, ◌+◌, ◌<◌, ◌≤◌, ◌%◌, ◌^◌, ◌-◌, ℕ, drop, List, [], ◌∷◌, nat_le};
 ghost use Rattle.uring_enter.specs.Showing.{Change, Posted, Reaped, KeepsShown, IsTold, posted, written, reaped, store_of, behind_store, heard_of, overflows, loads_head, flags_of};
+ghost use Rattle.uring_enter.specs.declared.posted.Posted.{Posted as Row};
+ghost use Rattle.uring_enter.specs.Postings.{Posting, Reaped as RowsReaped, KeepsPosted};
 
 /// What is to be stored into ring memory next.
 #[derive(Clone, Copy, Debug, PartialEq, Eq, Drop)]
@@ -84,10 +86,12 @@ impl Shown {
         }
     }
 
-    /// The core's application has reaped so many.
+    /// The core's application has reaped so many. Their rows are the first.
     pub fn reap(&mut self, count: u32)
-        ensures { (log : List Change) → KeepsShown log self.old → reaped log + count ≤ written log
+        ensures counts { (log : List Change) → KeepsShown log self.old → reaped log + count ≤ written log
             → KeepsShown (Reaped count ∷ log) self.new }
+        ensures rows { (log : List Posting) (rows : List Row) → KeepsPosted log self.old.posted rows
+            → count ≤ self.old.posted → KeepsPosted (RowsReaped count ∷ log) self.new.posted (drop count rows) }
     {
         self.head = after(self.head, count);
         self.shown = self.shown.saturating_sub(count);

@@ -2,6 +2,7 @@
 
 ghost use Rattle.std.specs.Prelude.{◌≡◌, ◌-◌};
 ghost use Rattle.uring_enter.specs.Timeouts.{later, nanoseconds_of, ends_before, is_reached_by, with_expiry, cancelled_by, linked_outcome};
+ghost use Rattle.uring_enter.specs.Clocks.{clock_of, lasts, are_timeout_flags};
 
 /// A timeout that starts. io_uring_enter(2), IORING_OP_TIMEOUT and IORING_OP_LINK_TIMEOUT.
 #[repr(C)]
@@ -112,4 +113,44 @@ pub(crate) fn with_expiry(timeout: Timeout, number: u64, expiry: u64) -> Timeout
         enough: 0,
         ..timeout
     }
+}
+
+/// The clock by which a timeout's time is meant. IORING_TIMEOUT_BOOTTIME, IORING_TIMEOUT_REALTIME; else CLOCK_MONOTONIC.
+#[derive(Clone, Copy)]
+pub enum Clock {
+    Monotonic,
+    Boottime,
+    Realtime,
+}
+
+/// The clock that says how much is left of the time that a timeout with these flags gives. `None`: its time is how long it runs.
+pub fn clock_of(flags: u32) -> Option<Clock>
+    ensures { result ≡ clock_of flags }
+{
+    if flags & 1 == 0 {
+        None
+    } else if flags & 4 != 0 {
+        Some(Clock::Boottime)
+    } else if flags & 8 != 0 {
+        Some(Clock::Realtime)
+    } else {
+        Some(Clock::Monotonic)
+    }
+}
+
+/// How long a timeout runs that has this time, whose clock says that it is `now`, if it has one.
+pub fn lasts(time: u64, now: Option<u64>) -> u64
+    ensures { result ≡ lasts time now }
+{
+    match now {
+        None => time,
+        Some(now) => left_until(time, now),
+    }
+}
+
+/// Whether these flags of a timeout are served: ABS, BOOTTIME or REALTIME, and ETIME_SUCCESS.
+pub fn are_timeout_flags(flags: u32) -> bool
+    ensures { result ≡ are_timeout_flags flags }
+{
+    flags & !0x2d == 0 && flags & 0xc != 0xc
 }

@@ -1,0 +1,130 @@
+/* The course of a request, what is shown of its end, and its chain: each call once, with what the manual page calls for, written by hand. */
+#include "wulgach_course.h"
+#include "wulgach_times.h"
+
+#include <stdio.h>
+#include <stdlib.h>
+
+static void demand(bool holds, const char *what)
+{
+    if (!holds) {
+        printf("FAILED: %s\n", what);
+        exit(1);
+    }
+}
+
+static struct wulgach_course started(void)
+{
+    struct wulgach_course course;
+    int32_t res = 7;
+    wulgach_course_begin(&course);
+    demand(wulgach_course_act(&course, &res) == WULGACH_ACT_NOTHING && res == 7, "one that the core didn't let start");
+    demand(!wulgach_course_note(&course, WULGACH_FACT_DONE, 5) && !wulgach_course_note(&course, 99, 0), "what can't be");
+    demand(wulgach_course_note(&course, WULGACH_FACT_STARTED, 0) && !wulgach_course_note(&course, WULGACH_FACT_STARTED, 0), "a start");
+    return course;
+}
+
+/* Ends with what its operation gave. */
+static struct wulgach_course carried_out(void)
+{
+    struct wulgach_course course = started();
+    int32_t res = 7;
+    demand(wulgach_course_act(&course, &res) == WULGACH_ACT_CARRY_OUT && res == 7, "it is to be carried out");
+    demand(wulgach_course_act(&course, &res) == WULGACH_ACT_NOTHING, "while it is");
+    demand(wulgach_course_note(&course, WULGACH_FACT_WAITS, 0) && wulgach_course_act(&course, &res) == WULGACH_ACT_CARRY_OUT, "one that waited");
+    demand(wulgach_course_note(&course, WULGACH_FACT_WENT_ON, 0) && wulgach_course_act(&course, &res) == WULGACH_ACT_CARRY_OUT, "one that goes on");
+    demand(wulgach_course_note(&course, WULGACH_FACT_DONE, 512) && wulgach_course_act(&course, &res) == WULGACH_ACT_END && res == 512, "it is done");
+    demand(wulgach_course_note(&course, WULGACH_FACT_ENDED, 0) && !wulgach_course_note(&course, WULGACH_FACT_CANCELLED, 0), "it has ended");
+    return course;
+}
+
+static void cancel_one(void)
+{
+    struct wulgach_course course = started();
+    int32_t res;
+    demand(wulgach_course_note(&course, WULGACH_FACT_CANCELLED, 0), "a cancel");
+    demand(wulgach_course_act(&course, &res) == WULGACH_ACT_END && res == -125, "one that was cancelled");
+}
+
+/* The three that each request has. */
+static void go_plainly(void)
+{
+    struct wulgach_course course;
+    int32_t res;
+    wulgach_course_begin(&course);
+    demand(!wulgach_course_done(&course, 1) && !wulgach_course_end(&course), "before it starts");
+    demand(wulgach_course_start(&course) && !wulgach_course_start(&course) && !wulgach_course_end(&course), "a start");
+    demand(wulgach_course_act(&course, &res) == WULGACH_ACT_CARRY_OUT && wulgach_course_done(&course, -9) && !wulgach_course_done(&course, 0), "an operation");
+    demand(wulgach_course_act(&course, &res) == WULGACH_ACT_END && res == -9 && wulgach_course_end(&course) && !wulgach_course_end(&course), "an end");
+}
+
+static void notify(void)
+{
+    struct wulgach_course course = started();
+    int32_t res;
+    demand(!wulgach_course_note(&course, WULGACH_FACT_NOTIFIED, 0) && wulgach_course_act(&course, &res) == WULGACH_ACT_CARRY_OUT, "a send");
+    demand(wulgach_course_note(&course, WULGACH_FACT_DONE, 9) && wulgach_course_note(&course, WULGACH_FACT_NOTIFIED, 0), "its result has a completion of its own");
+    demand(wulgach_course_act(&course, &res) == WULGACH_ACT_END && res == 0, "it ends with another");
+}
+
+/* Two ends with a completion, one that is skipped, and one too many. */
+static void show_ends(void)
+{
+    struct wulgach_posted rows[2];
+    struct wulgach_shown shown;
+    struct wulgach_course course = carried_out(), dropped, fresh = started();
+    struct wulgach_posted end = {.user_data = 11, .res = 99, .token = 1, .told = 0};
+    struct wulgach_completion core = {.user_data = 1, .res = 0}, other = {.user_data = 1, .res = -9};
+    wulgach_course_begin(&dropped);
+    demand(wulgach_course_note(&dropped, WULGACH_FACT_DROPPED, -125), "the core ends one");
+    wulgach_shown_begin(&shown);
+    demand(wulgach_shown_end(&shown, rows, 2, &fresh, &end, &core, true) == -22, "one that hasn't ended");
+    demand(wulgach_shown_end(&shown, rows, 2, &course, &end, &other, true) == -22 && shown.posted == 0, "another completion");
+    demand(wulgach_shown_end(&shown, rows, 2, &course, &end, &core, true) == 1 && shown.posted == 1 && rows[0].res == 512 && rows[0].user_data == 11, "its result");
+    demand(wulgach_shown_end(&shown, rows, 2, &course, &end, &core, false) == 0 && shown.posted == 1, "a success that is skipped");
+    demand(wulgach_shown_end(&shown, rows, 2, &dropped, &end, &core, true) == 1 && rows[1].res == -125, "one that never started");
+    demand(wulgach_shown_end(&shown, rows, 2, &course, &end, &core, true) == -22 && shown.posted == 2, "no row is left");
+}
+
+static void judge_results(void)
+{
+    struct wulgach_success plain = {.is_whole = false}, whole = {.length = 512, .is_whole = true}, cut = {.length = 512, .is_whole = true, .is_cut = true};
+    struct wulgach_success time = {.takes_time = true}, linked = {.is_linked_timeout = true}, gone = {.is_linked_timeout = true, .is_cancelled = true};
+    demand(wulgach_is_success(&plain, 3) && !wulgach_is_success(&plain, -5) && !wulgach_is_success(&plain, -62), "a plain one");
+    demand(wulgach_is_success(&whole, 512) && !wulgach_is_success(&whole, 511) && !wulgach_is_success(&cut, 512), "a transfer");
+    demand(wulgach_is_success(&time, -62) && !wulgach_is_success(&time, -125), "a timeout");
+    demand(wulgach_is_success(&linked, -62) && !wulgach_is_success(&gone, -125), "a linked timeout");
+    struct wulgach_ended_early faulty = {.is_faulty = true, .fault = -14}, cancel = {.is_cancel = true, .has_cancelled = true}, late = {.is_cancel = true};
+    struct wulgach_ended_early fired = {.is_linked_timeout = true, .has_fired = true}, idle = {.is_linked_timeout = true};
+    demand(wulgach_shown_of(&faulty, -22) == -14 && wulgach_shown_of(&faulty, -125) == -125, "an entry with a fault");
+    demand(wulgach_looks_for_running(true, -114) && !wulgach_looks_for_running(true, -2) && !wulgach_looks_for_running(false, -114), "what a cancel looks for");
+    demand(wulgach_shown_of(&cancel, -114) == 0 && wulgach_shown_of(&late, -114) == -114 && wulgach_shown_of(&cancel, -2) == -2, "a cancel");
+    demand(wulgach_shown_of(&fired, -125) == -62 && wulgach_shown_of(&idle, -125) == -125 && wulgach_shown_of(&idle, -22) == -22, "a linked timeout's end");
+}
+
+static void link_requests(void)
+{
+    struct wulgach_link links = {.links = true}, plain = {.links = false}, timeout = {.is_linked_timeout = true};
+    struct wulgach_member first, second, third;
+    wulgach_member_first(&first, 6, &links);
+    wulgach_member_next(&second, &first, 7, &timeout);
+    wulgach_member_next(&third, &second, 8, &timeout);
+    demand(first.chain == 6 && !first.is_linked && second.chain == 6 && second.is_linked && third.chain == 8 && !third.is_linked, "chains");
+    demand(wulgach_member_limits(&second, &first) && !wulgach_member_limits(&third, &second) && !wulgach_member_limits(&third, &first), "whom a timeout limits");
+    demand(wulgach_has_its_place(&timeout, &links, true) && !wulgach_has_its_place(&timeout, &plain, true) && !wulgach_has_its_place(&timeout, &links, false), "where it may stand");
+    demand(wulgach_has_its_place(&plain, &plain, false), "where another may");
+    demand(wulgach_timeout_clock(0) == -2 && wulgach_timeout_clock(1) == 1 && wulgach_timeout_clock(5) == 7 && wulgach_timeout_clock(9) == 0, "clocks");
+    demand(wulgach_timeout_lasts(50, 20, false) == 50 && wulgach_timeout_lasts(50, 20, true) == 30 && wulgach_timeout_lasts(50, 60, true) == 0, "how long it lasts");
+}
+
+int main(void)
+{
+    cancel_one();
+    go_plainly();
+    notify();
+    show_ends();
+    judge_results();
+    link_requests();
+    printf("course: as called for\n");
+    return 0;
+}

@@ -1,0 +1,84 @@
+/* What an entry is to the core, and which requests go on: with what the manual page calls for, written by hand. */
+#include "wulgach_form.h"
+
+#include <stdio.h>
+#include <stdlib.h>
+
+static void demand(bool holds, const char *what)
+{
+    if (!holds) {
+        printf("FAILED: %s\n", what);
+        exit(1);
+    }
+}
+
+/* The fault of an entry, or 0: it is a token; or 1: a cancel. */
+static int32_t form(struct wulgach_submission entry)
+{
+    int32_t fault;
+    uint32_t form = wulgach_form_of(&entry, 0, true, &fault);
+    demand((form == WULGACH_FORM_REFUSED) == (fault < 0), "a fault");
+    return form == WULGACH_FORM_CANCEL ? 1 : fault;
+}
+
+#define FORM(...) form((struct wulgach_submission){__VA_ARGS__})
+
+static void look_at_fields(void)
+{
+    enum { NOP, READV, WRITEV, FSYNC, READ_FIXED, POLL_ADD = 6, POLL_REMOVE, TIMEOUT = 11, TIMEOUT_REMOVE, ACCEPT, CANCEL, LINK_TIMEOUT };
+    demand(FORM(.opcode = NOP) == 0 && FORM(.opcode = NOP, .ioprio = 1) == -22, "a no-op");
+    demand(FORM(.opcode = 46) == -22 && FORM(.opcode = 49) == -22 && FORM(.opcode = 48, .ioprio = 9) == 0, "what is served");
+    demand(FORM(.opcode = NOP, .flags = 128) == -22 && FORM(.opcode = NOP, .personality = 1) == -22 && FORM(.opcode = NOP, .flags = 127 - 32) == 0, "flags");
+    demand(FORM(.opcode = READV, .len = 1024) == 0 && FORM(.opcode = WRITEV, .len = 1025) == -22 && FORM(.opcode = READ_FIXED, .ioprio = 32767) == 0 && FORM(.opcode = READ_FIXED, .ioprio = 32768) == -22, "transfers");
+    demand(FORM(.opcode = FSYNC, .op_flags = 1) == 0 && FORM(.opcode = FSYNC, .op_flags = 2) == -22 && FORM(.opcode = FSYNC, .addr = 1) == -22, "an fsync");
+    demand(FORM(.opcode = POLL_ADD, .len = 1) == 0 && FORM(.opcode = POLL_ADD, .len = 1, .flags = 64) == -22 && FORM(.opcode = POLL_ADD, .len = 2) == -22, "a poll");
+    demand(FORM(.opcode = POLL_REMOVE) == 0 && FORM(.opcode = POLL_REMOVE, .len = 1) == -22 && FORM(.opcode = POLL_REMOVE, .len = 4, .off = 9) == 0 && FORM(.opcode = POLL_REMOVE, .len = 2, .off = 9) == -22, "its removal");
+    demand(FORM(.opcode = TIMEOUT, .len = 1, .off = 3, .op_flags = 37) == 0 && FORM(.opcode = TIMEOUT, .len = 1, .op_flags = 12) == -22 && FORM(.opcode = TIMEOUT) == -22, "a timeout");
+    demand(FORM(.opcode = LINK_TIMEOUT, .len = 1) == 0 && FORM(.opcode = LINK_TIMEOUT, .len = 1, .off = 1) == -22, "a linked timeout");
+    demand(FORM(.opcode = TIMEOUT_REMOVE) == 0 && FORM(.opcode = TIMEOUT_REMOVE, .op_flags = 1) == -22 && FORM(.opcode = TIMEOUT_REMOVE, .op_flags = 3) == 0 && FORM(.opcode = TIMEOUT_REMOVE, .op_flags = 34) == -22, "its removal");
+    demand(FORM(.opcode = CANCEL) == 1 && FORM(.opcode = CANCEL, .flags = 4) == 0 && FORM(.opcode = CANCEL, .op_flags = 1) == 0 && FORM(.opcode = CANCEL, .op_flags = 6) == -22 && FORM(.opcode = CANCEL, .op_flags = 16) == -22, "a cancel");
+}
+
+static void look_at_more_fields(void)
+{
+    demand(FORM(.opcode = 18, .file_index = 1) == 0 && FORM(.opcode = 18, .file_index = 1, .op_flags = 0x80000) == -22 && FORM(.opcode = 28, .buf_index = 1) == -22, "opens");
+    demand(FORM(.opcode = 19, .fd = 3) == 0 && FORM(.opcode = 19, .file_index = 1) == 0 && FORM(.opcode = 19, .fd = 3, .file_index = 1) == -22, "a close");
+    demand(FORM(.opcode = 20, .len = 1) == 0 && FORM(.opcode = 20) == -22 && FORM(.opcode = 20, .len = 1, .flags = 1) == -22, "an update of files");
+    demand(FORM(.opcode = 31, .fd = 65536, .len = 1, .off = 65535) == 0 && FORM(.opcode = 31, .fd = 65537, .len = 1) == -22 && FORM(.opcode = 31, .fd = -1, .len = 1) == -22 && FORM(.opcode = 31, .fd = 1, .len = 1, .off = 65536) == -22, "provided buffers");
+    demand(FORM(.opcode = 32, .fd = 1) == 0 && FORM(.opcode = 32, .fd = 0) == -22 && FORM(.opcode = 32, .fd = 1, .len = 1) == -22, "their removal");
+    demand(FORM(.opcode = 40, .op_flags = 1) == 0 && FORM(.opcode = 40, .op_flags = 2) == -22 && FORM(.opcode = 34, .len = 2) == 0 && FORM(.opcode = 34, .off = 1) == -22, "a message, a shutdown");
+    demand(FORM(.opcode = 45, .off = 0x80000) == 0 && FORM(.opcode = 45, .off = 0x80000, .file_index = 1) == -22, "a socket");
+    demand(FORM(.opcode = 30, .off = 5, .op_flags = 0x8000000f) == 0 && FORM(.opcode = 30, .op_flags = 16) == -22 && FORM(.opcode = 33, .off = 5) == -22, "a splice, a tee");
+}
+
+static void look_at_order(void)
+{
+    int32_t fault;
+    struct wulgach_submission selects = {.opcode = 2, .flags = 32, .personality = 1}, unknown = {.opcode = 99, .flags = 32};
+    demand(wulgach_form_of(&selects, -22, false, &fault) == WULGACH_FORM_REFUSED && fault == -22, "a strict ring");
+    demand(wulgach_form_of(&selects, 0, false, &fault) == WULGACH_FORM_REFUSED && fault == -13, "restrictions");
+    demand(wulgach_form_of(&selects, 0, true, &fault) == WULGACH_FORM_REFUSED && fault == -95, "a buffer");
+    demand(wulgach_form_of(&unknown, 0, true, &fault) == WULGACH_FORM_REFUSED && fault == -22, "an operation that isn't served");
+    demand(FORM(.opcode = 22, .flags = 32) == 0 && FORM(.opcode = 27, .flags = 32) == 0, "one that may select");
+    demand(wulgach_is_served(0) && !wulgach_is_served(46) && !wulgach_is_served(200), "what a probe tells");
+}
+
+static void go_on(void)
+{
+    struct wulgach_shown shown = {.posted = 3};
+    struct wulgach_shot poll = {.is_multishot = true}, accept = {.is_multishot = true, .is_accept = true}, empty = {.is_multishot = true, .is_of_messages = true}, once = {.is_accept = true};
+    struct wulgach_posted late = {.is_async = true}, early = {.is_async = false};
+    demand(wulgach_goes_on(&shown, &poll, 1, 4) && !wulgach_goes_on(&shown, &poll, 0, 4) && !wulgach_goes_on(&shown, &poll, -9, 4) && !wulgach_goes_on(&shown, &poll, 1, 3), "a poll");
+    demand(wulgach_goes_on(&shown, &accept, 0, 4) && !wulgach_goes_on(&shown, &empty, 16, 4) && !wulgach_goes_on(&shown, &once, 5, 4), "an accept, a message");
+    demand(wulgach_tells(&late, true) && wulgach_tells(&early, false) && !wulgach_tells(&early, true), "an eventfd");
+}
+
+int main(void)
+{
+    look_at_fields();
+    look_at_more_fields();
+    look_at_order();
+    go_on();
+    printf("form: as called for\n");
+    return 0;
+}

@@ -1,0 +1,145 @@
+/* Wulgach: what becomes of a request that was accepted, as decisions, for whoever keeps a ring as the kernel does: when its operation
+ * is carried out, what is shown of its end, what of a result is a success to the links behind it, and which request a linked timeout
+ * limits. The functions are in the library of wulgach.h, and proved as those are. The layer under liburing calls them.
+ */
+#ifndef WULGACH_COURSE_H
+#define WULGACH_COURSE_H
+
+#include "wulgach.h"
+#include "wulgach_shown.h"
+
+#ifdef __cplusplus
+extern "C" {
+#endif
+
+/* ---- the course of a request ---- */
+
+/* What has become of a request so far: a value for each, from its acceptance to its end. The fields may be read. */
+struct wulgach_course {
+    bool has_started;   /* the core let it start */
+    bool is_cancelled;  /* a cancel has found it */
+    bool is_tried;      /* its operation is being carried out */
+    bool has_result;    /* its result is known: */
+    bool has_ended;
+    int32_t res;        /* this, else 0 */
+};
+
+/* What has happened to a request. */
+enum wulgach_fact {
+    WULGACH_FACT_STARTED = 0,    /* the core let it start */
+    WULGACH_FACT_DROPPED = 1,    /* the core has ended it without letting it start, and this result is shown of it */
+    WULGACH_FACT_CANCELLED = 2,  /* a cancel has found it */
+    WULGACH_FACT_WAITS = 3,      /* its operation would have to wait: nothing was done */
+    WULGACH_FACT_WENT_ON = 4, /* it brought something, which has a completion of its own, and goes on */
+    WULGACH_FACT_DONE = 5,       /* it is done, with this result */
+    WULGACH_FACT_NOTIFIED = 6,   /* the result has a completion of its own, and the request ends with this one */
+    WULGACH_FACT_ENDED = 7   /* it has ended with its result */
+};
+
+/* What is to be done with a request that goes on. */
+enum wulgach_act {
+    WULGACH_ACT_NOTHING = 0,       /* nothing */
+    WULGACH_ACT_CARRY_OUT = 1,  /* its operation is to be carried out */
+    WULGACH_ACT_END = 2    /* it is to end with this result */
+};
+
+/* A request that was accepted just now. */
+void wulgach_course_begin(struct wulgach_course *course);
+
+/* Returns what is to be done when the request goes on (enum wulgach_act), and writes its result, if it is to end. An operation is to
+ * be carried out only if the core let its request start, which hasn't ended and which no cancel has found, and only once, but where it
+ * waited or went on; it then counts as tried, until it is noted what became of it. A request ends with its result, or with -125
+ * (ECANCELED) if a cancel has found it before. */
+uint32_t wulgach_course_act(struct wulgach_course *course, int32_t *res);
+
+/* Notes what has happened (enum wulgach_fact), with its result, if it has one. False: it can't have, so far; then nothing changes.
+ * Nothing happens behind an end, and what becomes of an operation only while it is tried. */
+bool wulgach_course_note(struct wulgach_course *course, uint32_t fact, int32_t res);
+
+/* The same of a start, of an operation that is done, and of an end. */
+bool wulgach_course_start(struct wulgach_course *course);
+bool wulgach_course_done(struct wulgach_course *course, int32_t res);
+bool wulgach_course_end(struct wulgach_course *course);
+
+/* ---- what is shown of an end ---- */
+
+/* A completion that was posted and isn't reaped. The rows that a call is given are the caller's memory: the first are those that stand
+ * in `posted` of the ring's `wulgach_shown`, the oldest first; so the caller moves on by as many as are reaped. */
+struct wulgach_posted {
+    uint64_t user_data;     /* for the application, */
+    int32_t res;            /* with the request's own result */
+    uint32_t flags;
+    uint64_t token;         /* the core's user data, */
+    int32_t told;           /* and its result */
+    bool is_async;          /* it ended behind the call that submitted it */
+};
+
+/* A request has ended, and `core` is the completion that the core has posted of it, if it has posted one. Writes it into its row, with
+ * the result of the request's course, whatever `end` has for that, and returns 1; returns 0 if there is none. -22 (EINVAL) exactly if
+ * the request hasn't ended, the core's completion isn't its (token and told are the same), or there is no row; then nothing changes. */
+int32_t wulgach_shown_end(struct wulgach_shown *shown, struct wulgach_posted *rows, size_t room, const struct wulgach_course *course, const struct wulgach_posted *end, const struct wulgach_completion *core, bool has_core);
+
+/* What success is of an operation. */
+struct wulgach_success {
+    uint64_t length;        /* how much a transfer is asked to move; */
+    bool is_whole;          /* it is a success only if it moves all of that, */
+    bool is_cut;            /* and nothing that it has received was cut */
+    bool takes_time;        /* a timeout with IORING_TIMEOUT_ETIME_SUCCESS */
+    bool is_linked_timeout;
+    bool is_cancelled;      /* a cancel has found it */
+};
+
+/* Whether a result is a success to the links behind the request. A chain goes on behind a linked timeout, unless that was cancelled. */
+bool wulgach_is_success(const struct wulgach_success *asked, int32_t res);
+
+/* A request that the core has ended by itself. */
+struct wulgach_ended_early {
+    int32_t fault;          /* the error of its entry, */
+    bool is_faulty;         /* if that has a fault */
+    bool is_cancel;
+    bool has_cancelled;     /* which has found a request that runs, and that it could cancel */
+    bool is_linked_timeout;
+    bool has_fired;         /* which has cancelled the request before it */
+};
+
+/* Whether a cancel that the core has ended so has found a request that runs. */
+bool wulgach_looks_for_running(bool is_cancel, int32_t res);
+
+/* What is shown of a request that the core has ended with this result: 0 of a cancel that has cancelled a request which runs, an
+ * entry's own error in the place of -22 (EINVAL), of a linked timeout what it ends with behind its request; else the same. */
+int32_t wulgach_shown_of(const struct wulgach_ended_early *request, int32_t res);
+
+/* ---- chains ---- */
+
+/* What an entry says of its chain. */
+struct wulgach_link {
+    bool links;             /* IOSQE_IO_LINK or IOSQE_IO_HARDLINK */
+    bool is_linked_timeout;
+};
+
+/* A request as a member of its chain. The fields may be read. */
+struct wulgach_member {
+    uint64_t number;        /* in the order in which requests are accepted */
+    uint64_t chain;         /* the number of its chain's first member */
+    bool is_linked;         /* the one before it links it */
+    struct wulgach_link entry;
+};
+
+/* Writes the request of a call's first entry, which has this number. */
+void wulgach_member_first(struct wulgach_member *member, uint64_t number, const struct wulgach_link *entry);
+
+/* Writes the request of the entry behind that of `before` in its call, which has this number, the next. */
+void wulgach_member_next(struct wulgach_member *member, const struct wulgach_member *before, uint64_t number, const struct wulgach_link *entry);
+
+/* Whether a request is a linked timeout that limits the request `before`: the one right before it, if that links it. */
+bool wulgach_member_limits(const struct wulgach_member *timeout, const struct wulgach_member *before);
+
+/* Whether an entry may stand behind this one, or, if there is none, first in its call: a linked timeout stands behind one that links
+ * it, and that is none itself. */
+bool wulgach_has_its_place(const struct wulgach_link *entry, const struct wulgach_link *before, bool has_before);
+
+#ifdef __cplusplus
+}
+#endif
+
+#endif

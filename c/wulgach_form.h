@@ -1,0 +1,69 @@
+/* Wulgach: what an entry of the submission ring is to the core and which fault it has, and which requests go on, as decisions, for
+ * whoever keeps a ring as the kernel does. The functions are in the library of wulgach.h, and proved as those are. The layer under
+ * liburing calls them.
+ */
+#ifndef WULGACH_FORM_H
+#define WULGACH_FORM_H
+
+#include "wulgach_course.h"
+
+#ifdef __cplusplus
+extern "C" {
+#endif
+
+/* An entry: `struct io_uring_sqe` of <linux/io_uring.h>, each field under the name of its first use. */
+struct wulgach_submission {
+    uint8_t opcode;
+    uint8_t flags;
+    uint16_t ioprio;
+    int32_t fd;
+    uint64_t off;
+    uint64_t addr;
+    uint32_t len;
+    uint32_t op_flags;
+    uint64_t user_data;
+    uint16_t buf_index;
+    uint16_t personality;
+    uint32_t file_index;
+    uint64_t addr3;
+    uint64_t pad;
+};
+
+/* What an entry is to the core. */
+enum wulgach_form {
+    WULGACH_FORM_TOKEN = 0,     /* a request that is carried out outside of it */
+    WULGACH_FORM_CANCEL = 1,    /* a cancel of its own: by user data, with no flags, no link and no skipped success */
+    WULGACH_FORM_REFUSED = 2    /* it has a fault, and ends with that */
+};
+
+/* Returns what an entry is to the core (enum wulgach_form), and writes its fault, or 0. The first of these counts: `refusal`, with which
+ * a strict ring refuses it, if that is negative; -13 (EACCES) where restrictions don't allow it; -95 (EOPNOTSUPP) if it asks for a
+ * provided buffer that its operation can't have; -22 (EINVAL) for a flag that there isn't, a personality, an operation that isn't
+ * served, or fields that its operation may not have. What the entry points to isn't looked at, nor the flags of an operation of
+ * sockets. */
+uint32_t wulgach_form_of(const struct wulgach_submission *entry, int32_t refusal, bool is_allowed, int32_t *fault);
+
+/* Whether an operation is served. */
+bool wulgach_is_served(uint8_t code);
+
+/* What a request that goes on is. */
+struct wulgach_shot {
+    bool is_multishot;      /* it goes on at all */
+    bool is_accept;         /* its results are descriptors */
+    bool is_of_messages;    /* its results count what stands in front of the bytes, */
+    bool has_bytes;         /* and there were bytes */
+};
+
+/* Whether a request goes on behind this result, which then has a completion of its own; else it ends with it: with an error, with
+ * nothing more to come, or if its completion finds the ring of so many entries full. */
+bool wulgach_goes_on(const struct wulgach_shown *shown, const struct wulgach_shot *shot, int32_t res, uint32_t entries);
+
+/* Whether an eventfd is told of a completion, where it is registered for all, or only for what ends behind the call that submitted
+ * it. */
+bool wulgach_tells(const struct wulgach_posted *posted, bool is_async_alone);
+
+#ifdef __cplusplus
+}
+#endif
+
+#endif

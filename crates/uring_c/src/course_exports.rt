@@ -1,0 +1,181 @@
+//! The course of a request for C, what is shown of its end, and its chain: the functions of `c/wulgach_course.h`.
+ghost use Rattle.std.specs.Prelude.{◌≡◌, ◌+◌, ◌<◌, ◌-◌, ◌^◌, ℕ, length, List, [], ◌∷◌, Some, true, false, negsuc, if◌then◌else◌};
+ghost use Rattle.uring_enter.specs.declared.act.Fact.{Fact};
+ghost use Rattle.uring_enter.specs.declared.act.Fact.TheVariants.{Started, Done};
+ghost use Rattle.uring_enter.specs.declared.act.Fact.TheVariants.{Ended as HasEnded};
+ghost use Rattle.uring_enter.specs.declared.member.Entry.{Entry};
+ghost use Rattle.uring_enter.specs.Courses.{KeepsCourse, act, behind_act, fits};
+ghost use Rattle.uring_enter.specs.Courses.{shown as shown_by};
+ghost use Rattle.uring_enter.specs.Outcomes.{is_success, looks_for_running, shown_of};
+ghost use Rattle.uring_enter.specs.Chains.{member_of, limits, has_its_place};
+ghost use Rattle.uring_enter.specs.Showing.{Change, KeepsShown};
+ghost use Rattle.uring_enter.specs.Showing.{Posted as WasPosted};
+ghost use Rattle.uring_enter.specs.Postings.{Posting, Ended, KeepsPosted, is_taken, with_res, posts};
+ghost use Rattle.uring_c.specs.CourseForm.{fact_of, word_of_act, res_of_act, last_of, word_of_end, is_refused, entry_of};
+
+use crate::completion_words::CompletionWords;
+use crate::course_words::{act_res, act_word, entry_if, fact, last};
+use uring_enter::{
+    Course, EndedEarly, Entry, Fact, Member, Posted, Shown, Success, has_its_place, is_success,
+    looks_for_running, shown_of,
+};
+
+/// A request that was accepted just now.
+#[unsafe(no_mangle)]
+pub extern "C" fn wulgach_course_begin(course: &mut Course)
+    ensures { KeepsCourse [] course.new }
+{
+    *course = Course::begin();
+}
+
+/// Returns what is to be done when the request goes on, and writes its result, if it is to end. If its operation is to be carried out, it then counts as tried.
+#[unsafe(no_mangle)]
+pub extern "C" fn wulgach_course_act(course: &mut Course, res: &mut i32) -> u32
+    ensures act { (log : List Fact) → KeepsCourse log course.old → result ≡ word_of_act (act log) }
+    ensures res { (log : List Fact) → KeepsCourse log course.old
+        → res.new ≡ res_of_act (act log) res.old }
+    ensures after { (log : List Fact) → KeepsCourse log course.old
+        → KeepsCourse (behind_act log) course.new }
+{
+    let act = course.act();
+    *res = act_res(act, *res);
+    act_word(act)
+}
+
+/// Notes what has happened to the request. False: it can't have, so far, or there is no such kind. Then nothing changes.
+#[unsafe(no_mangle)]
+pub extern "C" fn wulgach_course_note(course: &mut Course, kind: u32, res: i32) -> bool
+    ensures fits { (log : List Fact) (f : Fact) → KeepsCourse log course.old
+        → fact_of kind res ≡ Some f → result ≡ fits log f }
+    ensures after { (log : List Fact) (f : Fact) → KeepsCourse log course.old
+        → fact_of kind res ≡ Some f → result ≡ true → KeepsCourse (f ∷ log) course.new }
+    ensures kept { result ≡ false → course.new ≡ course.old }
+{
+    match fact(kind, res) {
+        Some(fact) => course.note(fact),
+        None => false,
+    }
+}
+
+/// Notes that the core let the request start. False: it has started or ended before. Then nothing changes.
+#[unsafe(no_mangle)]
+pub extern "C" fn wulgach_course_start(course: &mut Course) -> bool
+    ensures fits { (log : List Fact) → KeepsCourse log course.old → result ≡ fits log Started }
+    ensures after { (log : List Fact) → KeepsCourse log course.old → result ≡ true
+        → KeepsCourse (Started ∷ log) course.new }
+    ensures kept { result ≡ false → course.new ≡ course.old }
+{
+    course.note(Fact::Started)
+}
+
+/// Notes that the operation of the request is done, with this result. False: it isn't tried. Then nothing changes.
+#[unsafe(no_mangle)]
+pub extern "C" fn wulgach_course_done(course: &mut Course, res: i32) -> bool
+    ensures fits { (log : List Fact) → KeepsCourse log course.old → result ≡ fits log (Done res) }
+    ensures after { (log : List Fact) → KeepsCourse log course.old → result ≡ true
+        → KeepsCourse (Done res ∷ log) course.new }
+    ensures kept { result ≡ false → course.new ≡ course.old }
+{
+    course.note(Fact::Done(res))
+}
+
+/// Notes that the request has ended with its result. False: it isn't to end. Then nothing changes.
+#[unsafe(no_mangle)]
+pub extern "C" fn wulgach_course_end(course: &mut Course) -> bool
+    ensures fits { (log : List Fact) → KeepsCourse log course.old → result ≡ fits log HasEnded }
+    ensures after { (log : List Fact) → KeepsCourse log course.old → result ≡ true
+        → KeepsCourse (HasEnded ∷ log) course.new }
+    ensures kept { result ≡ false → course.new ≡ course.old }
+{
+    course.note(Fact::Ended)
+}
+
+/// A request has ended: writes the row of its completion, if the core has posted it, and says whether it did. -22 exactly if the request hasn't ended, the core's completion isn't its, or there is no row; then nothing changes.
+#[unsafe(no_mangle)]
+pub extern "C" fn wulgach_shown_end(
+    shown: &mut Shown,
+    rows: &mut [Posted],
+    course: &Course,
+    end: &Posted,
+    core: &CompletionWords,
+    has_core: bool,
+) -> i32
+    ensures ends { (facts : List Fact) → KeepsCourse facts course.now
+        → result ≡ word_of_end (is_taken (shown_by facts) end.now (last_of core.now has_core) shown.old.posted (length rows.old)) (posts (last_of core.now has_core)) }
+    ensures rows { (facts : List Fact) (log : List Posting) → KeepsCourse facts course.now
+        → KeepsPosted log shown.old.posted rows.old → is_refused result ≡ false
+        → KeepsPosted (Ended (with_res (shown_by facts) end.now) (last_of core.now has_core) ∷ log) shown.new.posted rows.new }
+    ensures shown { (log : List Change) → KeepsShown log shown.old → shown.old.posted < 2 ^ 64 - 1
+        → is_refused result ≡ false
+        → KeepsShown (if posts (last_of core.now has_core) then WasPosted ∷ log else log) shown.new }
+    ensures kept { is_refused result ≡ true → (shown.new ≡ shown.old) × (rows.new ≡ rows.old) }
+{
+    match shown.end(rows, course, *end, last(core, has_core)) {
+        Ok(true) => 1,
+        Ok(false) => 0,
+        Err(_) => -22,
+    }
+}
+
+/// Whether a result is a success to the links behind the request.
+#[unsafe(no_mangle)]
+pub extern "C" fn wulgach_is_success(asked: &Success, res: i32) -> bool
+    ensures { result ≡ is_success asked.now res }
+{
+    is_success(*asked, res)
+}
+
+/// Whether a cancel that the core has ended so has found a request that runs.
+#[unsafe(no_mangle)]
+pub extern "C" fn wulgach_looks_for_running(is_cancel: bool, res: i32) -> bool
+    ensures { result ≡ looks_for_running is_cancel res }
+{
+    looks_for_running(is_cancel, res)
+}
+
+/// What is shown of a request that the core has ended with this result.
+#[unsafe(no_mangle)]
+pub extern "C" fn wulgach_shown_of(request: &EndedEarly, res: i32) -> i32
+    ensures { result ≡ shown_of request.now res }
+{
+    shown_of(*request, res)
+}
+
+/// Writes the request of a call's first entry, which has this number.
+#[unsafe(no_mangle)]
+pub extern "C" fn wulgach_member_first(member: &mut Member, number: u64, entry: &Entry)
+    ensures { member.new ≡ member_of number entry.now [] }
+{
+    *member = Member::first(number, *entry);
+}
+
+/// Writes the request of the entry behind that of `before` in its call, which has this number.
+#[unsafe(no_mangle)]
+pub extern "C" fn wulgach_member_next(
+    member: &mut Member,
+    before: &Member,
+    number: u64,
+    entry: &Entry,
+)
+    ensures { (first : ℕ) (last : Entry) (earlier : List Entry)
+        → before.now ≡ member_of first last earlier → number ≡ first + length (last ∷ earlier)
+        → member.new ≡ member_of first entry.now (last ∷ earlier) }
+{
+    *member = before.next(number, *entry);
+}
+
+/// Whether a request is a linked timeout that limits the request `before`.
+#[unsafe(no_mangle)]
+pub extern "C" fn wulgach_member_limits(timeout: &Member, before: &Member) -> bool
+    ensures { result ≡ limits timeout.now before.now }
+{
+    timeout.limits(before)
+}
+
+/// Whether an entry may stand behind this one, or, if there is none, first in its call.
+#[unsafe(no_mangle)]
+pub extern "C" fn wulgach_has_its_place(entry: &Entry, before: &Entry, has_before: bool) -> bool
+    ensures { result ≡ has_its_place entry.now (entry_of before.now has_before) }
+{
+    has_its_place(*entry, entry_if(*before, has_before))
+}

@@ -1,0 +1,68 @@
+//! What an entry is to the core, and which requests go on, for C: the functions of `c/wulgach_form.h`.
+ghost use Rattle.std.specs.Prelude.{◌≡◌, List};
+ghost use Rattle.uring_enter.specs.Forms.{form_of, rule_of, is_rule};
+ghost use Rattle.uring_enter.specs.Showing.{Change, KeepsShown};
+ghost use Rattle.uring_enter.specs.Shots.{goes_on, has_room, tells};
+ghost use Rattle.uring_c.specs.EntryForm.{word_of_form, fault_of_form};
+
+use uring_enter::{Form, Posted, Shot, Shown, Submission, form_of, rule_of};
+
+/// Returns what an entry is to the core, and writes its fault, or 0. `refusal` is the error with which a strict ring refuses it, or 0.
+#[unsafe(no_mangle)]
+pub extern "C" fn wulgach_form_of(
+    entry: &Submission,
+    refusal: i32,
+    is_allowed: bool,
+    fault: &mut i32,
+) -> u32
+    ensures form { result ≡ word_of_form (form_of entry.now refusal is_allowed) }
+    ensures fault { fault.new ≡ fault_of_form (form_of entry.now refusal is_allowed) }
+{
+    let form = form_of(entry, refusal, is_allowed);
+    *fault = form_fault(form);
+    form_word(form)
+}
+
+fn form_word(form: Form) -> u32
+    ensures { result ≡ word_of_form form }
+{
+    match form {
+        Form::Token => 0,
+        Form::Cancel => 1,
+        Form::Refused(_) => 2,
+    }
+}
+
+fn form_fault(form: Form) -> i32
+    ensures { result ≡ fault_of_form form }
+{
+    match form {
+        Form::Refused(fault) => fault,
+        _ => 0,
+    }
+}
+
+/// Whether an operation is served.
+#[unsafe(no_mangle)]
+pub extern "C" fn wulgach_is_served(code: u8) -> bool
+    ensures { result ≡ is_rule (rule_of code) }
+{
+    rule_of(code).is_some()
+}
+
+/// Whether a request goes on behind this result, in a ring of so many entries; else it ends with it.
+#[unsafe(no_mangle)]
+pub extern "C" fn wulgach_goes_on(shown: &Shown, shot: &Shot, res: i32, entries: u32) -> bool
+    ensures { (log : List Change) → KeepsShown log shown.now
+        → result ≡ goes_on shot.now res (has_room log entries) }
+{
+    shown.goes_on(*shot, res, entries)
+}
+
+/// Whether an eventfd is told of a completion.
+#[unsafe(no_mangle)]
+pub extern "C" fn wulgach_tells(posted: &Posted, is_async_alone: bool) -> bool
+    ensures { result ≡ tells posted.now is_async_alone }
+{
+    posted.tells(is_async_alone)
+}

@@ -1,0 +1,56 @@
+-- The laws of completions that were posted.
+use Rattle.std.proofs.Common.{◌≡◌, ◌+◌, ◌-◌, ◌≤◌, true, ◌==◌, length, drop, Some, None, List, [], ◌∷◌, ◌++◌, refl, sym, ap, ◌∙◌, arith}
+use Rattle.std.specs.Ordering.{int_eq}
+use Rattle.std.proofs.lemmas.Bool.Decides.{Decides-eqb, Decides-int_eq}
+use Rattle.std.proofs.lemmas.List.{map-append, length-append, length-drop, drop-map, drop-drop, drop-append-le}
+use Rattle.uring_enter.specs.declared.posted.Posted.{Posted}
+use Rattle.uring_enter.specs.declared.posted.Completion.{Completion}
+use Rattle.uring_enter.specs.Postings.{Posting, Ended, Reaped, is_of, unreaped}
+use Rattle.uring_enter.specs.PostingLaws.{IsPosting, cores, core_of, ShowsTheCores, all, gone, ShowsEachOnce}
+use Rattle.uring_enter.proofs.Running.{both_left, both_right}
+
+-- the core's completion of an end is what the core knows of it
+core_is : (end : Posted) (c : Completion) → is_of end c ≡ true → core_of end ≡ c
+core_is end c is i = record {
+  user_data = sym ((Decides-eqb c.user_data end.token).0 (both_left (c.user_data == end.token) (int_eq c.res end.told) is)) i;
+  res = sym ((Decides-int_eq c.res end.told).0 (both_right (c.user_data == end.token) (int_eq c.res end.told) is)) i;
+}
+
+pub shows_the_cores : ShowsTheCores
+shows_the_cores [] run = refl
+shows_the_cores (Ended end None ∷ earlier) run = shows_the_cores earlier run
+shows_the_cores (Ended end (Some c) ∷ earlier) run =
+    map-append core_of (unreaped earlier) (end ∷ [])
+    ∙ ap (λ l. l ++ core_of end ∷ []) (shows_the_cores earlier run.0)
+    ∙ ap (λ v. cores earlier ++ v ∷ []) (core_is end c run.1)
+shows_the_cores (Reaped count ∷ earlier) run =
+    sym (drop-map core_of count (unreaped earlier)) ∙ ap (λ l. drop count l) (shows_the_cores earlier run.0)
+
+record IsInOrder (log : List Posting) : Type 0 where
+  pub rest : unreaped log ≡ drop (gone log) (all log)
+  pub within : gone log ≤ length (all log)
+
+in_order : (log : List Posting) → IsPosting log → IsInOrder log
+in_order [] run = record { rest = refl; within = omega arith }
+in_order (Ended end None ∷ earlier) run =
+    let before = in_order earlier run in
+    record { rest = before.rest; within = before.within }
+in_order (Ended end (Some c) ∷ earlier) run =
+    let before = in_order earlier run.0 in
+    let longer : length (all earlier ++ end ∷ []) ≡ length (all earlier) + 1 = length-append (all earlier) (end ∷ []) in
+    record {
+      rest = ap (λ l. l ++ end ∷ []) before.rest
+          ∙ sym (drop-append-le (gone earlier) (all earlier) (end ∷ []) before.within);
+      within = omega (arith, before.within, longer);
+    }
+in_order (Reaped count ∷ earlier) run =
+    let before = in_order earlier run.0 in
+    let left : length (unreaped earlier) ≡ length (all earlier) - gone earlier =
+    ap (λ l. length l) before.rest ∙ length-drop (gone earlier) (all earlier) in
+    record {
+      rest = ap (λ l. drop count l) before.rest ∙ drop-drop count (gone earlier) (all earlier);
+      within = omega (arith, before.within, left, run.1);
+    }
+
+pub shows_each_once : ShowsEachOnce
+shows_each_once log run = (in_order log run).rest

@@ -1,0 +1,24 @@
+-- The time that a timeout gives. io_uring_enter(2), IORING_OP_TIMEOUT: IORING_TIMEOUT_ABS is 1, IORING_TIMEOUT_BOOTTIME 4, IORING_TIMEOUT_REALTIME 8 and IORING_TIMEOUT_ETIME_SUCCESS 32.
+use Rattle.std.specs.Prelude.{ℕ, ◌-◌, Bool, not, ◌&&◌, ◌==◌, Option, Some, None, if◌then◌else◌}
+use Rattle.std.specs.Int.RustNames.{bit_and}
+use Rattle.uring_enter.specs.declared.timeout.Clock.{Clock}
+use Rattle.uring_enter.specs.declared.timeout.Clock.TheVariants.{Monotonic, Boottime, Realtime}
+
+abbrev pub has_some : ℕ → ℕ → Bool
+has_some flags bits = not (bit_and flags bits == 0)
+
+-- the clock of an absolute time: that of the flag, else CLOCK_MONOTONIC. A relative one has none: it lasts so long
+abbrev pub clock_of : ℕ → Option Clock
+clock_of flags =
+    if not (has_some flags 1) then None else
+    if has_some flags 4 then Some Boottime else
+    if has_some flags 8 then Some Realtime else Some Monotonic
+
+-- how long a timeout lasts: an absolute time for what is left of it by its clock now, a relative one as long as it says
+abbrev pub lasts : ℕ → Option ℕ → ℕ
+lasts time None = time
+lasts time (Some now) = time - now
+
+-- ABS, BOOTTIME, REALTIME and ETIME_SUCCESS are served, which is all but 4294967250 of 32 bits, and no two clocks at once
+abbrev pub are_timeout_flags : ℕ → Bool
+are_timeout_flags flags = bit_and flags 4294967250 == 0 && not (bit_and flags 12 == 12)

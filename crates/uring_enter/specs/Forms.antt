@@ -1,0 +1,199 @@
+-- What an entry is to the core, and which fault it has. io_uring_enter(2), DESCRIPTION and CQE ERRORS; which fields an operation leaves free is what the kernel does.
+use Rattle.std.specs.Prelude.{ℕ, ℤ, Bool, true, false, not, ◌&&◌, ◌||◌, ◌==◌, nat_lt, nat_le, pos, negsuc, Option, Some, None, if◌then◌else◌}
+use Rattle.std.specs.Ordering.{int_eq}
+use Rattle.std.specs.Int.RustNames.{bit_and}
+use Rattle.uring_enter.specs.declared.submission.Submission.{Submission}
+use Rattle.uring_enter.specs.declared.form.Rule.{Rule}
+use Rattle.uring_enter.specs.declared.form.Rule.TheVariants.{Plain, Transfer, Vectors, Fsync, Timeout, LinkedTimeout, TimeoutRemoval, Cancel, Poll, PollRemoval, Open, OpenHow, Close, FilesUpdate, Provision, ProvisionRemoval, Message, Shutdown, Socket, Splice, Tee, OnSocket}
+use Rattle.uring_enter.specs.declared.form.Form.{Form}
+use Rattle.uring_enter.specs.declared.form.Form.TheVariants as form
+use Rattle.uring_enter.specs.Clocks.{has_some, are_timeout_flags}
+use Rattle.uring_enter.specs.Replies.{error}
+
+-- the operations that are served, each with the rule of its fields; the numbers are those of <linux/io_uring.h>
+abbrev pub rule_of : ℕ → Option Rule
+rule_of code =
+    -- READV and WRITEV
+    if code == 1 || code == 2 then Some Vectors else
+    -- FSYNC
+    if code == 3 then Some Fsync else
+    -- READ_FIXED, WRITE_FIXED, READ and WRITE
+    if code == 4 || code == 5 || code == 22 || code == 23 then Some Transfer else
+    -- POLL_ADD and POLL_REMOVE
+    if code == 6 then Some Poll else
+    if code == 7 then Some PollRemoval else
+    -- SENDMSG, RECVMSG, ACCEPT, SEND, RECV, SEND_ZC and SENDMSG_ZC
+    if code == 9 || code == 10 || code == 13 || code == 26 || code == 27 || code == 47 || code == 48 then Some OnSocket else
+    -- TIMEOUT, TIMEOUT_REMOVE, ASYNC_CANCEL and LINK_TIMEOUT
+    if code == 11 then Some Timeout else
+    if code == 12 then Some TimeoutRemoval else
+    if code == 14 then Some Cancel else
+    if code == 15 then Some LinkedTimeout else
+    -- OPENAT, CLOSE, FILES_UPDATE and OPENAT2
+    if code == 18 then Some Open else
+    if code == 19 then Some Close else
+    if code == 20 then Some FilesUpdate else
+    if code == 28 then Some OpenHow else
+    -- SPLICE, PROVIDE_BUFFERS, REMOVE_BUFFERS, TEE and SHUTDOWN
+    if code == 30 then Some Splice else
+    if code == 31 then Some Provision else
+    if code == 32 then Some ProvisionRemoval else
+    if code == 33 then Some Tee else
+    if code == 34 then Some Shutdown else
+    -- MSG_RING and SOCKET
+    if code == 40 then Some Message else
+    if code == 45 then Some Socket else
+    -- URING_CMD isn't served; all others up to SENDMSG_ZC are
+    if code == 46 then None else
+    if nat_le code 48 then Some Plain else None
+
+-- it has no priority and names no registered buffer
+abbrev pub has_no_buffer : Submission → Bool
+has_no_buffer e = e.ioprio == 0 && e.buf_index == 0
+
+-- one time, and flags that are served
+abbrev pub is_timeout : Submission → Bool
+is_timeout e =
+    has_no_buffer e && e.len == 1 && e.file_index == 0 && are_timeout_flags e.op_flags
+
+-- a removal has no flags; an update (2, of a linked one 16) may have those of a time
+abbrev pub is_timeout_removal : Submission → Bool
+is_timeout_removal e =
+    has_no_buffer e && e.len == 0 && e.file_index == 0
+    && (if has_some e.op_flags 18 then bit_and e.op_flags 4294967264 == 0 else e.op_flags == 0)
+
+-- IORING_ASYNC_CANCEL_ALL is 1, FD 2, ANY 4 and FD_FIXED 8; by a descriptor or any, and not both
+abbrev pub is_cancel : Submission → Bool
+is_cancel e =
+    e.ioprio == 0 && e.off == 0 && e.len == 0 && e.file_index == 0
+    && bit_and e.op_flags 4294967280 == 0 && not (bit_and e.op_flags 6 == 6)
+
+-- IORING_POLL_ADD_MULTI is 1; one that goes on may not skip its success (64)
+abbrev pub is_poll : Submission → Bool
+is_poll e =
+    has_no_buffer e && e.off == 0 && e.addr == 0
+    && nat_le e.len 1 && not (e.len == 1 && has_some e.flags 64)
+
+-- IORING_POLL_UPDATE_EVENTS is 2 and UPDATE_USER_DATA 4: what isn't updated isn't given
+abbrev pub is_poll_removal : Submission → Bool
+is_poll_removal e =
+    has_no_buffer e && e.file_index == 0 && (nat_le e.len 7 && not (e.len == 1))
+    && (has_some e.len 4 || e.off == 0) && (has_some e.len 2 || e.op_flags == 0)
+
+-- 1 to 65,536 of them
+abbrev pub is_count : ℤ → Bool
+is_count (pos n) = nat_lt 0 n && nat_le n 65536
+is_count (negsuc _) = false
+
+abbrev pub has_count_alone : Submission → Bool
+has_count_alone e = e.ioprio == 0 && e.op_flags == 0 && e.file_index == 0 && is_count e.fd
+
+-- so many buffers, of some bytes each, and up to the last number
+abbrev pub is_provision : Submission → Bool
+is_provision e = has_count_alone e && not (e.len == 0) && nat_le e.off 65535
+
+-- and their removal, which says no more
+abbrev pub is_provision_removal : Submission → Bool
+is_provision_removal e = has_count_alone e && e.addr == 0 && e.len == 0 && e.off == 0
+
+-- the four flags of splice(2), and SPLICE_F_FD_IN_FIXED (2^31)
+abbrev pub is_splice : Submission → Bool
+is_splice e = bit_and e.op_flags 2147483632 == 0
+
+-- a tee has no offsets
+abbrev pub is_tee : Submission → Bool
+is_tee e = is_splice e && e.addr == 0 && e.off == 0
+
+abbrev pub is_fsync : Submission → Bool
+is_fsync e = e.addr == 0 && e.ioprio == 0 && bit_and e.op_flags 4294967294 == 0
+
+-- a direct descriptor isn't closed by exec: O_CLOEXEC is 2^19
+abbrev pub is_open : Submission → Bool
+is_open e = has_no_buffer e && not (not (e.file_index == 0) && has_some e.op_flags 524288)
+
+-- a close is of a descriptor or of a slot
+abbrev pub is_close : Submission → Bool
+is_close e =
+    has_no_buffer e && e.off == 0 && e.addr == 0 && e.len == 0 && e.op_flags == 0
+    && not (not (e.file_index == 0) && not (int_eq e.fd (pos 0)))
+
+abbrev pub is_files_update : Submission → Bool
+is_files_update e =
+    e.ioprio == 0 && e.op_flags == 0 && e.file_index == 0 && not (e.len == 0) && not (has_some e.flags 1)
+
+-- IORING_MSG_RING_CQE_SKIP is 1
+abbrev pub is_message : Submission → Bool
+is_message e = has_no_buffer e && bit_and e.op_flags 4294967294 == 0
+
+abbrev pub is_shutdown : Submission → Bool
+is_shutdown e =
+    has_no_buffer e && e.off == 0 && e.addr == 0 && e.op_flags == 0 && e.file_index == 0
+
+-- SOCK_CLOEXEC is 2^19
+abbrev pub is_socket : Submission → Bool
+is_socket e =
+    has_no_buffer e && e.addr == 0 && e.op_flags == 0
+    && not (not (e.file_index == 0) && has_some e.off 524288)
+
+-- whether the fields of an entry are what its operation may have. A class of priority is at most 3, in the three highest bits
+abbrev pub meets : Rule → Submission → Bool
+meets Plain e = e.ioprio == 0
+meets Transfer e = nat_lt e.ioprio 32768
+meets Vectors e = nat_lt e.ioprio 32768 && nat_le e.len 1024
+meets Fsync e = is_fsync e
+meets Timeout e = is_timeout e
+meets LinkedTimeout e = is_timeout e && e.off == 0
+meets TimeoutRemoval e = is_timeout_removal e
+meets Cancel e = is_cancel e
+meets Poll e = is_poll e
+meets PollRemoval e = is_poll_removal e
+meets Open e = is_open e
+meets OpenHow e = has_no_buffer e
+meets Close e = is_close e
+meets FilesUpdate e = is_files_update e
+meets Provision e = is_provision e
+meets ProvisionRemoval e = is_provision_removal e
+meets Message e = is_message e
+meets Shutdown e = is_shutdown e
+meets Socket e = is_socket e
+meets Splice e = is_splice e
+meets Tee e = is_tee e
+-- its flags are looked at with what it points to
+meets OnSocket e = true
+
+-- READV, RECVMSG, READ and RECV may take a provided buffer. IOSQE_BUFFER_SELECT
+abbrev pub can_select : ℕ → Bool
+can_select code = code == 1 || code == 10 || code == 22 || code == 27
+
+abbrev pub is_rule : Option Rule → Bool
+is_rule (Some _) = true
+is_rule None = false
+
+-- another that is served asks for one: IOSQE_BUFFER_SELECT is 32
+abbrev pub selects_in_vain : Submission → Bool
+selects_in_vain e = has_some e.flags 32 && is_rule (rule_of e.opcode) && not (can_select e.opcode)
+
+abbrev pub breaks : Option Rule → Submission → Bool
+breaks (Some rule) e = not (meets rule e)
+breaks None e = true
+
+-- a flag that there isn't (128), a personality, an operation that isn't served, or fields that it may not have
+abbrev pub is_malformed : Submission → Bool
+is_malformed e = has_some e.flags 128 || not (e.personality == 0) || breaks (rule_of e.opcode) e
+
+-- a cancel by user data, on whose success nothing rests: no link (4, 8) and no skipped success (64)
+abbrev pub is_plain_cancel : Submission → Bool
+is_plain_cancel e = e.opcode == 14 && e.op_flags == 0 && not (has_some e.flags 76)
+
+abbrev pub is_below : ℤ → Bool
+is_below (pos _) = false
+is_below (negsuc _) = true
+
+-- the first of these faults that it has: what a strict ring says, -13 (EACCES) of a restriction, -95 (EOPNOTSUPP) of a buffer that can't be selected, -22 (EINVAL) of its form. Else it is a cancel of the core's, or a token of it. Our own rule
+abbrev pub form_of : Submission → ℤ → Bool → Form
+form_of e refusal allowed =
+    if is_below refusal then form.Refused refusal else
+    if not allowed then form.Refused (error 13) else
+    if selects_in_vain e then form.Refused (error 95) else
+    if is_malformed e then form.Refused (error 22) else
+    if is_plain_cancel e then form.Cancel else form.Token

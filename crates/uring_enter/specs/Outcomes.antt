@@ -1,0 +1,36 @@
+-- What of a request's result is a success to the links behind it, and what is shown of one that the core ends by itself. io_uring_enter(2), IOSQE_IO_LINK, but where another section or our own rule is named.
+use Rattle.std.specs.Prelude.{ℤ, pos, negsuc, Bool, false, not, ◌&&◌, ◌||◌, ◌==◌, if◌then◌else◌}
+use Rattle.std.specs.Ordering.{int_eq}
+use Rattle.uring_enter.specs.declared.outcome.Success.{Success}
+use Rattle.uring_enter.specs.declared.outcome.EndedEarly.{EndedEarly}
+use Rattle.uring_enter.specs.Replies.{error}
+use Rattle.uring_enter.specs.Timeouts.{linked_outcome}
+
+-- a transfer has moved all that it was asked to, and nothing was cut: a short one breaks a link
+abbrev pub is_whole : Success → ℤ → Bool
+is_whole a (pos count) = count == a.length && not a.is_cut
+is_whole a (negsuc _) = false
+
+-- -62 (ETIME) of a timeout that takes it so. IORING_TIMEOUT_ETIME_SUCCESS
+abbrev pub is_time : Success → ℤ → Bool
+is_time a res = a.takes_time && int_eq res (error 62)
+
+abbrev pub success_of : Success → ℤ → Bool
+success_of a (negsuc below) = is_time a (negsuc below)
+success_of a (pos count) = not a.is_whole || is_whole a (pos count)
+
+-- whether it is a success: no error, and of a transfer that wants all of its length no less. A chain goes on behind a linked timeout whatever that ends with, unless it was cancelled itself
+abbrev pub is_success : Success → ℤ → Bool
+is_success a res =
+    if a.is_linked_timeout then not a.is_cancelled else success_of a res
+
+-- a cancel has found a request that runs: -114 (EALREADY). IORING_OP_ASYNC_CANCEL
+abbrev pub looks_for_running : Bool → ℤ → Bool
+looks_for_running is_cancel res = is_cancel && int_eq res (error 114)
+
+-- what is shown in the place of a result of the core's: 0 of a cancel that found a request which waits, as the kernel does; of an entry with a fault its own error in the place of -22 (EINVAL); of a linked timeout -62 (ETIME) in the place of -125 (ECANCELED), if it has cancelled the request before it. Our own rule, since the core knows no more of either
+abbrev pub shown_of : EndedEarly → ℤ → ℤ
+shown_of r res =
+    if looks_for_running r.is_cancel res && r.has_cancelled then pos 0 else
+    if r.is_faulty && int_eq res (error 22) then r.fault else
+    if r.is_linked_timeout && int_eq res (error 125) then linked_outcome r.has_fired else res

@@ -1,0 +1,313 @@
+//! What an entry is to the core, and which fault it has. io_uring_enter(2), DESCRIPTION and CQE ERRORS.
+
+ghost use Rattle.std.specs.Prelude.{◌≡◌};
+ghost use Rattle.uring_enter.specs.Forms as spec;
+
+use crate::submission::Submission;
+use crate::timeout::are_timeout_flags;
+
+/// What the fields of an operation may be.
+#[derive(Clone, Copy)]
+pub enum Rule {
+    /// No priority.
+    Plain,
+
+    /// A transfer of one buffer: a class of priority that there is.
+    Transfer,
+
+    /// A transfer of vectors: the same, and 1,024 of them at most.
+    Vectors,
+
+    Fsync,
+
+    /// A timeout, or one that is linked.
+    Timeout,
+
+    LinkedTimeout,
+
+    /// What removes or updates a timeout.
+    TimeoutRemoval,
+
+    Cancel,
+
+    Poll,
+
+    /// What removes or updates a poll.
+    PollRemoval,
+
+    Open,
+
+    /// An open by a structure.
+    OpenHow,
+
+    Close,
+
+    FilesUpdate,
+
+    /// Buffers that are provided.
+    Provision,
+
+    /// Provided buffers that are removed.
+    ProvisionRemoval,
+
+    Message,
+
+    Shutdown,
+
+    Socket,
+
+    Splice,
+
+    Tee,
+
+    /// An operation of sockets: its flags are looked at with what it points to.
+    OnSocket,
+}
+
+/// What an entry is to the core.
+#[derive(Clone, Copy)]
+pub enum Form {
+    /// A request that is carried out outside of it.
+    Token,
+
+    /// A cancel of its own.
+    Cancel,
+
+    /// An entry with a fault, which ends with this error.
+    Refused(i32),
+}
+
+/// The rule of an operation. `None`: it isn't served.
+pub fn rule_of(code: u8) -> Option<Rule>
+    ensures { result ≡ spec.rule_of code }
+{
+    match code {
+        1 | 2 => Some(Rule::Vectors),
+        3 => Some(Rule::Fsync),
+        4 | 5 | 22 | 23 => Some(Rule::Transfer),
+        6 => Some(Rule::Poll),
+        7 => Some(Rule::PollRemoval),
+        9 | 10 | 13 | 26 | 27 | 47 | 48 => Some(Rule::OnSocket),
+        11 => Some(Rule::Timeout),
+        12 => Some(Rule::TimeoutRemoval),
+        14 => Some(Rule::Cancel),
+        15 => Some(Rule::LinkedTimeout),
+        18 => Some(Rule::Open),
+        19 => Some(Rule::Close),
+        20 => Some(Rule::FilesUpdate),
+        28 => Some(Rule::OpenHow),
+        30 => Some(Rule::Splice),
+        31 => Some(Rule::Provision),
+        32 => Some(Rule::ProvisionRemoval),
+        33 => Some(Rule::Tee),
+        34 => Some(Rule::Shutdown),
+        40 => Some(Rule::Message),
+        45 => Some(Rule::Socket),
+        46 => None,
+        0..=48 => Some(Rule::Plain),
+        _ => None,
+    }
+}
+
+/// Whether the fields of an entry are what its operation may have.
+fn meets(rule: Rule, entry: &Submission) -> bool
+    ensures { result ≡ spec.meets rule entry.now }
+{
+    match rule {
+        Rule::Plain => entry.ioprio == 0,
+        Rule::Transfer => entry.ioprio < 32768,
+        Rule::Vectors => entry.ioprio < 32768 && entry.len <= 1024,
+        Rule::Fsync => is_fsync(entry),
+        Rule::Timeout => is_timeout(entry),
+        Rule::LinkedTimeout => is_timeout(entry) && entry.off == 0,
+        Rule::TimeoutRemoval => is_timeout_removal(entry),
+        Rule::Cancel => is_cancel(entry),
+        Rule::Poll => is_poll(entry),
+        Rule::PollRemoval => is_poll_removal(entry),
+        Rule::Open => is_open(entry),
+        Rule::OpenHow => has_no_buffer(entry),
+        Rule::Close => is_close(entry),
+        Rule::FilesUpdate => is_files_update(entry),
+        Rule::Provision => has_count_alone(entry) && entry.len != 0 && entry.off <= 65535,
+        Rule::ProvisionRemoval => is_provision_removal(entry),
+        Rule::Message => has_no_buffer(entry) && entry.op_flags & !1 == 0,
+        Rule::Shutdown => is_shutdown(entry),
+        Rule::Socket => is_socket(entry),
+        Rule::Splice => is_splice(entry),
+        Rule::Tee => is_splice(entry) && entry.addr == 0 && entry.off == 0,
+        Rule::OnSocket => true,
+    }
+}
+
+/// `O_CLOEXEC`, and `SOCK_CLOEXEC`.
+const CLOEXEC: u32 = 0x80000;
+
+/// It has no priority and names no registered buffer.
+fn has_no_buffer(entry: &Submission) -> bool
+    ensures { result ≡ spec.has_no_buffer entry.now }
+{
+    entry.ioprio == 0 && entry.buf_index == 0
+}
+
+fn is_timeout(entry: &Submission) -> bool
+    ensures { result ≡ spec.is_timeout entry.now }
+{
+    has_no_buffer(entry)
+        && entry.len == 1
+        && entry.file_index == 0
+        && are_timeout_flags(entry.op_flags)
+}
+
+fn is_timeout_removal(entry: &Submission) -> bool
+    ensures { result ≡ spec.is_timeout_removal entry.now }
+{
+    let is_bare = has_no_buffer(entry) && entry.len == 0 && entry.file_index == 0;
+    is_bare
+        && if entry.op_flags & 18 != 0 {
+            entry.op_flags & !31 == 0
+        } else {
+            entry.op_flags == 0
+        }
+}
+
+fn is_cancel(entry: &Submission) -> bool
+    ensures { result ≡ spec.is_cancel entry.now }
+{
+    let is_bare = entry.ioprio == 0 && entry.off == 0 && entry.len == 0 && entry.file_index == 0;
+    is_bare && entry.op_flags & !15 == 0 && entry.op_flags & 6 != 6
+}
+
+fn is_poll(entry: &Submission) -> bool
+    ensures { result ≡ spec.is_poll entry.now }
+{
+    let is_bare = has_no_buffer(entry) && entry.off == 0 && entry.addr == 0;
+    is_bare && entry.len <= 1 && !(entry.len == 1 && entry.flags & 64 != 0)
+}
+
+fn is_poll_removal(entry: &Submission) -> bool
+    ensures { result ≡ spec.is_poll_removal entry.now }
+{
+    let is_bare = has_no_buffer(entry) && entry.file_index == 0;
+    let is_asked = entry.len <= 7 && entry.len != 1;
+    let gives_data = entry.len & 4 != 0 || entry.off == 0;
+    let gives_events = entry.len & 2 != 0 || entry.op_flags == 0;
+    is_bare && is_asked && gives_data && gives_events
+}
+
+/// Whether a count of buffers is one from 1 to 65,536.
+fn is_count(fd: i32) -> bool
+    ensures { result ≡ spec.is_count fd }
+{
+    if fd < 0 { false } else { 0 < fd && fd <= 65536 }
+}
+
+fn has_count_alone(entry: &Submission) -> bool
+    ensures { result ≡ spec.has_count_alone entry.now }
+{
+    entry.ioprio == 0 && entry.op_flags == 0 && entry.file_index == 0 && is_count(entry.fd)
+}
+
+fn is_provision_removal(entry: &Submission) -> bool
+    ensures { result ≡ spec.is_provision_removal entry.now }
+{
+    has_count_alone(entry) && entry.addr == 0 && entry.len == 0 && entry.off == 0
+}
+
+fn is_splice(entry: &Submission) -> bool
+    ensures { result ≡ spec.is_splice entry.now }
+{
+    entry.op_flags & 0x7fff_fff0 == 0
+}
+
+fn is_fsync(entry: &Submission) -> bool
+    ensures { result ≡ spec.is_fsync entry.now }
+{
+    entry.addr == 0 && entry.ioprio == 0 && entry.op_flags & !1 == 0
+}
+
+fn is_open(entry: &Submission) -> bool
+    ensures { result ≡ spec.is_open entry.now }
+{
+    has_no_buffer(entry) && !(entry.file_index != 0 && entry.op_flags & CLOEXEC != 0)
+}
+
+fn is_close(entry: &Submission) -> bool
+    ensures { result ≡ spec.is_close entry.now }
+{
+    let is_bare = has_no_buffer(entry) && entry.off == 0 && entry.addr == 0 && entry.len == 0;
+    is_bare && entry.op_flags == 0 && !(entry.file_index != 0 && entry.fd != 0)
+}
+
+fn is_files_update(entry: &Submission) -> bool
+    ensures { result ≡ spec.is_files_update entry.now }
+{
+    let is_bare = entry.ioprio == 0 && entry.op_flags == 0 && entry.file_index == 0;
+    is_bare && entry.len != 0 && entry.flags & 1 == 0
+}
+
+fn is_shutdown(entry: &Submission) -> bool
+    ensures { result ≡ spec.is_shutdown entry.now }
+{
+    let is_bare = has_no_buffer(entry) && entry.off == 0 && entry.addr == 0;
+    is_bare && entry.op_flags == 0 && entry.file_index == 0
+}
+
+fn is_socket(entry: &Submission) -> bool
+    ensures { result ≡ spec.is_socket entry.now }
+{
+    let is_bare = has_no_buffer(entry) && entry.addr == 0 && entry.op_flags == 0;
+    is_bare && !(entry.file_index != 0 && entry.off & 0x80000 != 0)
+}
+
+/// Whether the entry of an operation that is served may ask for a provided buffer.
+fn can_select(code: u8) -> bool
+    ensures { result ≡ spec.can_select code }
+{
+    matches!(code, 1 | 10 | 22 | 27)
+}
+
+/// Whether it asks for one and can't have it.
+fn selects_in_vain(entry: &Submission) -> bool
+    ensures { result ≡ spec.selects_in_vain entry.now }
+{
+    entry.flags & 32 != 0 && rule_of(entry.opcode).is_some() && !can_select(entry.opcode)
+}
+
+/// Whether the core can cancel by this entry itself: by user data, and nothing rests on its success.
+fn is_plain_cancel(entry: &Submission) -> bool
+    ensures { result ≡ spec.is_plain_cancel entry.now }
+{
+    entry.opcode == 14 && entry.op_flags == 0 && entry.flags & 76 == 0
+}
+
+/// Whether its form has a fault.
+fn is_malformed(entry: &Submission) -> bool
+    ensures { result ≡ spec.is_malformed entry.now }
+{
+    if entry.flags & 128 != 0 || entry.personality != 0 {
+        return true;
+    }
+    match rule_of(entry.opcode) {
+        Some(rule) => !meets(rule, entry),
+        None => true,
+    }
+}
+
+/// What an entry is to the core, where `refusal` is an error by which a strict ring refuses it, or 0, and restrictions allow it or not.
+pub fn form_of(entry: &Submission, refusal: i32, is_allowed: bool) -> Form
+    ensures { result ≡ spec.form_of entry.now refusal is_allowed }
+{
+    if refusal < 0 {
+        Form::Refused(refusal)
+    } else if !is_allowed {
+        Form::Refused(-13)
+    } else if selects_in_vain(entry) {
+        Form::Refused(-95)
+    } else if is_malformed(entry) {
+        Form::Refused(-22)
+    } else if is_plain_cancel(entry) {
+        Form::Cancel
+    } else {
+        Form::Token
+    }
+}
