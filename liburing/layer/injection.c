@@ -82,6 +82,11 @@ void read_injection(void)
     pthread_once(&once, read_environment);
 }
 
+bool has_listed_faults(void)
+{
+    return item_count > 0;
+}
+
 /* A choice of 3 * rate ways of which 3 are faults: 1, 2 and 3. The others are no fault. */
 static enum injection roll_fault(struct ring *ring)
 {

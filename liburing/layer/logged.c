@@ -15,10 +15,11 @@ static bool is_write(const struct request *request)
     return code == IORING_OP_WRITE || code == IORING_OP_WRITEV || code == IORING_OP_WRITE_FIXED;
 }
 
-static bool is_logged(const struct request *request, char path[PATH_ROOM], uint64_t *file)
+/* Most requests aren't, and are passed over at once. */
+static bool may_be_logged(const struct request *request)
 {
     bool is_of_file = (is_write(request) && !request->is_stream) || request->entry.opcode == IORING_OP_FSYNC;
-    return is_logging() && request->mapping == TOKEN && is_of_file && is_on_disk(request->fd, path, file);
+    return is_of_file && request->mapping == TOKEN && is_logging();
 }
 
 /* A number that no other request of the process has. */
@@ -32,7 +33,7 @@ void log_start(const struct ring *ring, const struct request *request)
     char path[PATH_ROOM];
     uint64_t file;
     const struct io_uring_sqe *entry = &request->entry;
-    if (!is_logged(request, path, &file))
+    if (!may_be_logged(request) || !is_on_disk(request->fd, path, &file))
         return;
     struct event event = {.operation = operation_of(ring, request), .file = file};
     if (!is_write(request)) {
@@ -53,7 +54,7 @@ static void log_part(const struct ring *ring, const struct request *request, uin
 {
     char path[PATH_ROOM];
     uint64_t file;
-    if (!is_logged(request, path, &file))
+    if (!may_be_logged(request) || !is_on_disk(request->fd, path, &file))
         return;
     struct event event = {.kind = kind, .operation = operation_of(ring, request), .file = file, .result = result};
     log_event(&event, NULL, NULL, NULL, 0);

@@ -31,6 +31,9 @@ struct request {
     struct buffer *buffer;          /* the registered buffer that it uses, or NULL */
     bool is_assigned;               /* these are known: when it is accepted, or, behind a link or beside a drain, when it starts */
     bool is_stream;                 /* it may have to wait for a descriptor: a transfer on what has no offset or on a device, a poll, a call of sockets */
+    bool is_tried;                  /* that isn't known: it is tried first, */
+    bool is_tried_at_once;          /* and nothing was asked of its descriptor, */
+    bool was_tried;                 /* or it was */
     uint64_t wanted;                /* of one that takes a provided buffer: how many bytes at most, or 0 */
     uint64_t done;                  /* the bytes that a transfer of sockets has moved so far */
     int32_t started;                /* what its start found out: an error number that it ends with, or 0 */

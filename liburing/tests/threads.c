@@ -6,6 +6,7 @@
 
 #include <pthread.h>
 #include <signal.h>
+#include <sys/eventfd.h>
 #include <time.h>
 
 /* A thread with a ring of its own: chains of three, one after the other. */
@@ -156,6 +157,28 @@ static void test_woken(void)
     close_ring(&ring);
 }
 
+/* A signal ends a call that sleeps for a read of an empty eventfd: the read goes on waiting, and ends with what comes. */
+static void test_interrupted(void)
+{
+    struct sigaction action = {.sa_handler = ignore_signal};
+    struct ring ring;
+    struct sleep sleep = {.ring = &ring};
+    uint64_t count;
+    int fd = eventfd(0, 0);
+    check(fd >= 0 && sigaction(SIGUSR1, &action, NULL) == 0);
+    make_ring(&ring, 4, 0, 0);
+    put_transfer(&ring, IORING_OP_READ, 0, 0, fd, &count, sizeof count, 0);
+    check(enter(&ring, 1, 0, 0) == 1);
+    pthread_t thread = start_sleeper(&sleep);
+    check(pthread_kill(thread, SIGUSR1) == 0);
+    check(pthread_join(thread, NULL) == 0);
+    check(sleep.result == -EINTR && count_ready(&ring) == 0);
+    check(eventfd_write(fd, 3) == 0);
+    check(wait_for_one(&ring) == 8 && count == 3);
+    close(fd);
+    close_ring(&ring);
+}
+
 static void *stay(void *ends)
 {
     char byte;
@@ -240,6 +263,7 @@ int main(int count, char **words)
         {"closed while reading", test_closed_while_reading},
         {"closed while idle", test_closed_while_idle},
         {"woken", test_woken},
+        {"interrupted", test_interrupted},
         {"limit beside threads", test_limit_beside_threads},
         {"not all submitted", test_not_all_submitted},
         {"cells before tail", test_cells_before_tail},
