@@ -28,12 +28,13 @@ static uint64_t operation_of(const struct ring *ring, const struct request *requ
     return ((uint64_t)ring->index << 40) + request->number + 1;
 }
 
-void log_start(const struct ring *ring, const struct request *request)
+/* (a path's room is made only where it may be wanted) */
+__attribute__((noinline)) static void log_start_of(const struct ring *ring, const struct request *request)
 {
     char path[PATH_ROOM];
     uint64_t file;
     const struct io_uring_sqe *entry = &request->entry;
-    if (!may_be_logged(request) || !is_on_disk(request->fd, path, &file))
+    if (!is_on_disk(request->fd, path, &file))
         return;
     struct event event = {.operation = operation_of(ring, request), .file = file};
     if (!is_write(request)) {
@@ -50,11 +51,17 @@ void log_start(const struct ring *ring, const struct request *request)
     log_event(&event, path, NULL, request->vectors, request->vector_count <= MOST_VECTORS ? request->vector_count : 0);
 }
 
-static void log_part(const struct ring *ring, const struct request *request, uint16_t kind, int64_t result)
+void log_start(const struct ring *ring, const struct request *request)
+{
+    if (may_be_logged(request))
+        log_start_of(ring, request);
+}
+
+__attribute__((noinline)) static void log_part(const struct ring *ring, const struct request *request, uint16_t kind, int64_t result)
 {
     char path[PATH_ROOM];
     uint64_t file;
-    if (!may_be_logged(request) || !is_on_disk(request->fd, path, &file))
+    if (!is_on_disk(request->fd, path, &file))
         return;
     struct event event = {.kind = kind, .operation = operation_of(ring, request), .file = file, .result = result};
     log_event(&event, NULL, NULL, NULL, 0);
@@ -62,10 +69,12 @@ static void log_part(const struct ring *ring, const struct request *request, uin
 
 void log_carrying(const struct ring *ring, const struct request *request)
 {
-    log_part(ring, request, EVENT_CARRY, 0);
+    if (may_be_logged(request))
+        log_part(ring, request, EVENT_CARRY, 0);
 }
 
 void log_carried(const struct ring *ring, const struct request *request, int32_t res)
 {
-    log_part(ring, request, EVENT_END, res);
+    if (may_be_logged(request))
+        log_part(ring, request, EVENT_END, res);
 }

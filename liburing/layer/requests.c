@@ -90,7 +90,8 @@ size_t insert_request(struct requests *requests, struct request *request)
     size_t count = requests->count, place = count;
     if (count > 0 && requests->rows[count - 1]->number > request->number)
         place = count_before(requests, request->number);
-    memmove(requests->rows + place + 1, requests->rows + place, (count - place) * sizeof *requests->rows);
+    if (place < count)
+        memmove(requests->rows + place + 1, requests->rows + place, (count - place) * sizeof *requests->rows);
     requests->rows[place] = request;
     requests->count++;
     return place;
@@ -128,7 +129,8 @@ void take_request(struct requests *requests, const struct request *request)
 {
     size_t at = place_of(requests, request->number), behind = requests->count - at - 1;
     if (at <= behind) {
-        memmove(requests->rows + 1, requests->rows, at * sizeof *requests->rows);
+        if (at > 0)
+            memmove(requests->rows + 1, requests->rows, at * sizeof *requests->rows);
         drop_requests(requests, 1);
     } else {
         memmove(requests->rows + at, requests->rows + at + 1, behind * sizeof *requests->rows);
