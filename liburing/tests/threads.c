@@ -179,6 +179,40 @@ static void test_interrupted(void)
     close_ring(&ring);
 }
 
+/* Reads until it is cancelled, which is asked for behind each call alone. */
+static void *read_until_cancelled(void *of)
+{
+    struct ring *ring = of;
+    char bytes[4096];
+    int file = make_file();
+    check(write(file, bytes, sizeof bytes) == sizeof bytes);
+    for (bool is_on = true; is_on;) {
+        put_transfer(ring, IORING_OP_READ, 0, IOSQE_IO_LINK, file, bytes, sizeof bytes, 0);
+        put(ring, IORING_OP_FSYNC, 1, 0)->fd = file;
+        check(enter(ring, 2, 2, IORING_ENTER_GETEVENTS) == 2);
+        check(reap(ring).res == sizeof bytes && reap(ring).res == 0);
+        pthread_testcancel();
+    }
+    return NULL;
+}
+
+/* A call isn't ended by a cancellation of its thread, and so the ring isn't left in the middle of one. */
+static void test_cancelled(void)
+{
+    for (int i = 0; i < 20; i++) {
+        struct ring ring;
+        pthread_t thread;
+        void *result;
+        make_ring(&ring, 4, 0, 0);
+        check(pthread_create(&thread, NULL, read_until_cancelled, &ring) == 0);
+        usleep(2000);
+        check(pthread_cancel(thread) == 0 && pthread_join(thread, &result) == 0 && result == PTHREAD_CANCELED);
+        submit_nop(&ring, 2);
+        check(wait_for_one(&ring) == 0 && is_at_rest(&ring));
+        close_ring(&ring);
+    }
+}
+
 static void *stay(void *ends)
 {
     char byte;
@@ -264,6 +298,7 @@ int main(int count, char **words)
         {"closed while idle", test_closed_while_idle},
         {"woken", test_woken},
         {"interrupted", test_interrupted},
+        {"cancelled", test_cancelled},
         {"limit beside threads", test_limit_beside_threads},
         {"not all submitted", test_not_all_submitted},
         {"cells before tail", test_cells_before_tail},
