@@ -180,12 +180,17 @@ static void test_interrupted(void)
 }
 
 /* Reads until it is cancelled, which is asked for behind each call alone. */
-static void *read_until_cancelled(void *of)
+struct reader {
+    struct ring *ring;
+    int file;
+};
+
+static void *read_until_cancelled(void *reader)
 {
-    struct ring *ring = of;
-    char bytes[4096];
-    int file = make_file();
-    check(write(file, bytes, sizeof bytes) == sizeof bytes);
+    struct ring *ring = ((struct reader *)reader)->ring;
+    int file = ((struct reader *)reader)->file;
+    char bytes[4096] = "";
+    check(pwrite(file, bytes, sizeof bytes, 0) == sizeof bytes);
     for (bool is_on = true; is_on;) {
         put_transfer(ring, IORING_OP_READ, 0, IOSQE_IO_LINK, file, bytes, sizeof bytes, 0);
         put(ring, IORING_OP_FSYNC, 1, 0)->fd = file;
@@ -201,14 +206,16 @@ static void test_cancelled(void)
 {
     for (int i = 0; i < 20; i++) {
         struct ring ring;
+        struct reader reader = {&ring, make_file()};
         pthread_t thread;
         void *result;
         make_ring(&ring, 4, 0, 0);
-        check(pthread_create(&thread, NULL, read_until_cancelled, &ring) == 0);
+        check(pthread_create(&thread, NULL, read_until_cancelled, &reader) == 0);
         usleep(2000);
         check(pthread_cancel(thread) == 0 && pthread_join(thread, &result) == 0 && result == PTHREAD_CANCELED);
         submit_nop(&ring, 2);
         check(wait_for_one(&ring) == 0 && is_at_rest(&ring));
+        close(reader.file);
         close_ring(&ring);
     }
 }
