@@ -183,19 +183,20 @@ static void test_interrupted(void)
 struct reader {
     struct ring *ring;
     int file;
+    char bytes[4096];
 };
 
 static void *read_until_cancelled(void *reader)
 {
     struct ring *ring = ((struct reader *)reader)->ring;
+    char *bytes = ((struct reader *)reader)->bytes;
     int file = ((struct reader *)reader)->file;
-    char bytes[4096] = "";
-    check(pwrite(file, bytes, sizeof bytes, 0) == sizeof bytes);
+    check(pwrite(file, bytes, 4096, 0) == 4096);
     for (bool is_on = true; is_on;) {
-        put_transfer(ring, IORING_OP_READ, 0, IOSQE_IO_LINK, file, bytes, sizeof bytes, 0);
+        put_transfer(ring, IORING_OP_READ, 0, IOSQE_IO_LINK, file, bytes, 4096, 0);
         put(ring, IORING_OP_FSYNC, 1, 0)->fd = file;
         check(enter(ring, 2, 2, IORING_ENTER_GETEVENTS) == 2);
-        check(reap(ring).res == sizeof bytes && reap(ring).res == 0);
+        check(reap(ring).res == 4096 && reap(ring).res == 0);
         pthread_testcancel();
     }
     return NULL;
@@ -206,7 +207,7 @@ static void test_cancelled(void)
 {
     for (int i = 0; i < 20; i++) {
         struct ring ring;
-        struct reader reader = {&ring, make_file()};
+        struct reader reader = {&ring, make_file(), ""};
         pthread_t thread;
         void *result;
         make_ring(&ring, 4, 0, 0);
