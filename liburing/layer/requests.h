@@ -78,8 +78,8 @@ void add_request(struct requests *requests, struct request *request);
 /* Puts a request where its number belongs, and returns its place. Room was reserved. */
 size_t insert_request(struct requests *requests, struct request *request);
 
-/* Takes a request out. */
-void take_request(struct requests *requests, const struct request *request);
+/* Takes a request out, and returns the place that it had. */
+size_t take_request(struct requests *requests, const struct request *request);
 
 /* The request of a number, or NULL: it isn't there. */
 struct request *request_or_none(const struct requests *requests, uint64_t number);
