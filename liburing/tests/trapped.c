@@ -216,13 +216,13 @@ static void registers(void)
     struct ring ring = set_up(0);
     bool is_whole = __builtin_cpu_supports("avx");
     const uint64_t arguments[6] = {(uint64_t)ring.fd, 1, 1, IORING_ENTER_GETEVENTS, 0, 8};
-    static const uint64_t others[] = {105, 112, 113, 114, 115, 116, 117, 1, 1};
+    static const uint64_t others[] = {112, 113, 114, 115, 116, 117, 1, 1};
     memcpy(seen.arguments, arguments, sizeof arguments);
     for (unsigned i = 0; i < 64; i++)
         seen.vectors[i / 4][i % 4] = is_whole || i % 4 < 2 ? 0x9e3779b97f4a7c15u * (i + 1) : 0;
     publish(&ring, (struct io_uring_sqe){.opcode = IORING_OP_NOP, .user_data = 77});
     call_with_registers(is_whole);
-    WANT(memcmp(seen.behind, arguments, sizeof arguments) == 0 && memcmp(seen.behind + 6, others, sizeof others) == 0);
+    WANT(memcmp(seen.behind, arguments, sizeof arguments) == 0 && seen.behind[6] == seen.frame && memcmp(seen.behind + 7, others, sizeof others) == 0);
     WANT(memcmp(seen.vectors, seen.vectors_behind, sizeof seen.vectors) == 0);
 }
 
