@@ -62,6 +62,11 @@ struct account *account(void)
     return shared;
 }
 
+bool has_account(void)
+{
+    return shared;
+}
+
 void note_made_ring(void)
 {
     if (account())
@@ -90,7 +95,7 @@ void note_choice(const char *what)
 
 void note_rules(enum rule rule, uint64_t count)
 {
-    if (account())
+    if (has_account())
         shared->rules[rule].count += count;
 }
 

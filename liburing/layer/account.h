@@ -37,6 +37,9 @@ struct account {
 /* The account, mapped when it is first asked for; or NULL: none is wanted. */
 struct account *account(void);
 
+/* Whether there is one. A ring was made. */
+bool has_account(void);
+
 /* Notes a ring, a choice in words, a rule. */
 void note_made_ring(void);
 void note_choice(const char *what);

@@ -6,6 +6,7 @@
 #include "operations.h"
 #include "polls.h"
 #include "ring.h"
+#include "trying.h"
 
 #include <errno.h>
 #include <fcntl.h>
@@ -66,6 +67,15 @@ static int find_fd(struct ring *ring, int fd, bool is_registered, struct file **
     return *file ? (*file)->fd : -1;
 }
 
+void find_kind(struct request *request)
+{
+    request->is_stream = is_stream(request);
+    if (request->is_stream && is_transfer(request) && !is_open_for(request)) {
+        request->started = -EBADF;
+        request->is_stream = false;
+    }
+}
+
 void assign(struct ring *ring, struct request *request)
 {
     const struct io_uring_sqe *entry = &request->entry;
@@ -80,9 +90,9 @@ void assign(struct ring *ring, struct request *request)
         request->started = -EBADF;
     else if (uses_buffer(entry))
         request->started = use_buffer(ring, entry->buf_index, request->vectors, &request->buffer);
-    request->is_stream = request->started == 0 && is_stream(request);
-    if (request->is_stream && is_transfer(request) && !is_open_for(request)) {
-        request->started = -EBADF;
-        request->is_stream = false;
-    }
+    if (request->started < 0)
+        return;
+    request->is_tried = request->is_tried_at_once = is_tried_at_once(request);
+    if (!request->is_tried)
+        find_kind(request);
 }

@@ -9,6 +9,7 @@
 #include "enter.h"
 
 #include <errno.h>
+#include <pthread.h>
 #include <signal.h>
 #include <stdarg.h>
 #include <sys/syscall.h>
@@ -20,6 +21,20 @@ SEEN long wulgach_polled_syscall(long call, ...);
 SEEN long wulgach_blocked_enter(const long words[6], const sigset_t *signals);
 SEEN void *wulgach_mmap(void *at, size_t size, int protection, int flags, int fd, off_t offset);
 SEEN int wulgach_close(int fd);
+
+/* A thread isn't cancelled in the middle of a call, as it isn't in the kernel's: the layer's own calls of the C library would end there,
+ * with its locks held. */
+static int forbid_cancellation(void)
+{
+    int before;
+    pthread_setcancelstate(PTHREAD_CANCEL_DISABLE, &before);
+    return before;
+}
+
+static void allow_cancellation(int before)
+{
+    pthread_setcancelstate(before, NULL);
+}
 
 /* The way in which syscall() returns. */
 static long returned(long result)
@@ -62,18 +77,26 @@ static long hand_on(long call, va_list arguments)
     return syscall(call, words[0], words[1], words[2], words[3], words[4], words[5]);
 }
 
-static long call_any(long call, va_list arguments, bool is_polled)
+static long call_layer(long call, va_list arguments, bool is_polled)
 {
     switch (call) {
     case SYS_io_uring_setup:
-        return returned(call_setup(arguments, is_polled));
+        return call_setup(arguments, is_polled);
     case SYS_io_uring_enter:
-        return returned(call_enter(arguments));
-    case SYS_io_uring_register:
-        return returned(call_register(arguments));
+        return call_enter(arguments);
     default:
-        return hand_on(call, arguments);
+        return call_register(arguments);
     }
+}
+
+static long call_any(long call, va_list arguments, bool is_polled)
+{
+    if (call != SYS_io_uring_setup && call != SYS_io_uring_enter && call != SYS_io_uring_register)
+        return hand_on(call, arguments);
+    int before = forbid_cancellation();
+    long result = call_layer(call, arguments, is_polled);
+    allow_cancellation(before);
+    return returned(result);
 }
 
 long wulgach_syscall(long call, ...)
@@ -99,15 +122,24 @@ long wulgach_polled_syscall(long call, ...)
 long wulgach_blocked_enter(const long words[6], const sigset_t *signals)
 {
     note_caller(__builtin_return_address(0));
-    return enter((int)words[0], (uint32_t)words[1], (uint32_t)words[2], (uint32_t)words[3], (const void *)words[4], (size_t)words[5], signals);
+    int before = forbid_cancellation();
+    long result = enter((int)words[0], (uint32_t)words[1], (uint32_t)words[2], (uint32_t)words[3], (const void *)words[4], (size_t)words[5], signals);
+    allow_cancellation(before);
+    return result;
 }
 
 void *wulgach_mmap(void *at, size_t size, int protection, int flags, int fd, off_t offset)
 {
-    return map_file(at, size, protection, flags, fd, offset);
+    int before = forbid_cancellation();
+    void *mapped = map_file(at, size, protection, flags, fd, offset);
+    allow_cancellation(before);
+    return mapped;
 }
 
 int wulgach_close(int fd)
 {
-    return (int)returned(close_descriptor(fd));
+    int before = forbid_cancellation();
+    long result = close_descriptor(fd);
+    allow_cancellation(before);
+    return (int)returned(result);
 }

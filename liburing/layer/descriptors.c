@@ -70,6 +70,12 @@ static bool is_open(const struct ring *ring)
     return is_found;
 }
 
+/* A call begins under the list's lock. It ends without: behind that it doesn't touch the ring. */
+static bool has_calls(const struct ring *ring)
+{
+    return __atomic_load_n(&ring->calls, __ATOMIC_ACQUIRE) > 0;
+}
+
 static void forget(const struct ring *ring)
 {
     for (size_t i = 0; i < by_number_room; i++)
@@ -82,7 +88,7 @@ static void free_closed_rings(void)
 {
     for (struct ring **at = &rings; *at;) {
         struct ring *ring = *at;
-        if (is_own(ring) && ring->calls == 0 && !is_open(ring)) {
+        if (is_own(ring) && !has_calls(ring) && !is_open(ring)) {
             *at = ring->next;
             forget(ring);
             free_ring(ring);
@@ -157,7 +163,7 @@ int close_descriptor(int fd)
     pthread_mutex_lock(&rings_lock);
     struct ring *ring = find_ring(fd);
     int result = close(fd) < 0 ? -errno : 0;
-    if (ring && ring->calls == 0 && !is_open(ring))
+    if (ring && !has_calls(ring) && !is_open(ring))
         drop_ring(ring);
     pthread_mutex_unlock(&rings_lock);
     return result;
@@ -168,16 +174,14 @@ struct ring *hold_ring(int fd)
     pthread_mutex_lock(&rings_lock);
     struct ring *ring = find_ring(fd);
     if (ring)
-        ring->calls++;
+        __atomic_add_fetch(&ring->calls, 1, __ATOMIC_RELAXED);
     pthread_mutex_unlock(&rings_lock);
     return ring;
 }
 
 void release_ring(struct ring *ring)
 {
-    pthread_mutex_lock(&rings_lock);
-    ring->calls--;
-    pthread_mutex_unlock(&rings_lock);
+    __atomic_sub_fetch(&ring->calls, 1, __ATOMIC_RELEASE);
 }
 
 struct ring *lock_ring(int fd)

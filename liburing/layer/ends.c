@@ -39,8 +39,7 @@ static void look_again_behind(struct ring *ring)
 
 static void stop_running(struct ring *ring, const struct request *ended)
 {
-    look_again(ring, place_of(&ring->running, ended->number));
-    take_request(&ring->running, ended);
+    look_again(ring, take_request(&ring->running, ended));
 }
 
 void end_of(struct ring *ring, struct request *request, int32_t res, int32_t told)

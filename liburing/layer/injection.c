@@ -82,6 +82,11 @@ void read_injection(void)
     pthread_once(&once, read_environment);
 }
 
+bool has_listed_faults(void)
+{
+    return item_count > 0;
+}
+
 /* A choice of 3 * rate ways of which 3 are faults: 1, 2 and 3. The others are no fault. */
 static enum injection roll_fault(struct ring *ring)
 {
@@ -98,11 +103,9 @@ static enum injection roll_fault(struct ring *ring)
     return fault;
 }
 
-enum injection injected(struct ring *ring, const struct request *request)
+__attribute__((noinline)) static enum injection find_fault(struct ring *ring, const struct request *request)
 {
     enum injection fault = NO_FAULT;
-    if (item_count == 0 && rate == 0)
-        return NO_FAULT;
     for (size_t i = 0; i < item_count; i++)
         if (items[i].ring == ring->index && items[i].number == request->number)
             fault = items[i].fault;
@@ -113,4 +116,9 @@ enum injection injected(struct ring *ring, const struct request *request)
     if (fault)
         trace_note(ring, "request %" PRIu64 " has fault %s", request->number, names[fault]);
     return fault;
+}
+
+enum injection injected(struct ring *ring, const struct request *request)
+{
+    return item_count == 0 && rate == 0 ? NO_FAULT : find_fault(ring, request);
 }

@@ -9,6 +9,9 @@ enum injection { NO_FAULT, FAULT_EIO, FAULT_ENOSPC, FAULT_SHORT };
 /* Reads the environment, once. */
 void read_injection(void);
 
+/* Whether any request may have a listed fault. */
+bool has_listed_faults(void);
+
 struct ring;
 
 /* The fault of a request that is about to be carried out. */

@@ -15,10 +15,11 @@ static bool is_write(const struct request *request)
     return code == IORING_OP_WRITE || code == IORING_OP_WRITEV || code == IORING_OP_WRITE_FIXED;
 }
 
-static bool is_logged(const struct request *request, char path[PATH_ROOM], uint64_t *file)
+/* Most requests aren't, and are passed over at once. */
+static bool may_be_logged(const struct request *request)
 {
     bool is_of_file = (is_write(request) && !request->is_stream) || request->entry.opcode == IORING_OP_FSYNC;
-    return is_logging() && request->mapping == TOKEN && is_of_file && is_on_disk(request->fd, path, file);
+    return is_of_file && request->mapping == TOKEN && is_logging();
 }
 
 /* A number that no other request of the process has. */
@@ -27,12 +28,13 @@ static uint64_t operation_of(const struct ring *ring, const struct request *requ
     return ((uint64_t)ring->index << 40) + request->number + 1;
 }
 
-void log_start(const struct ring *ring, const struct request *request)
+/* (a path's room is made only where it may be wanted) */
+__attribute__((noinline)) static void log_start_of(const struct ring *ring, const struct request *request)
 {
     char path[PATH_ROOM];
     uint64_t file;
     const struct io_uring_sqe *entry = &request->entry;
-    if (!is_logged(request, path, &file))
+    if (!is_on_disk(request->fd, path, &file))
         return;
     struct event event = {.operation = operation_of(ring, request), .file = file};
     if (!is_write(request)) {
@@ -49,11 +51,17 @@ void log_start(const struct ring *ring, const struct request *request)
     log_event(&event, path, NULL, request->vectors, request->vector_count <= MOST_VECTORS ? request->vector_count : 0);
 }
 
-static void log_part(const struct ring *ring, const struct request *request, uint16_t kind, int64_t result)
+void log_start(const struct ring *ring, const struct request *request)
+{
+    if (may_be_logged(request))
+        log_start_of(ring, request);
+}
+
+__attribute__((noinline)) static void log_part(const struct ring *ring, const struct request *request, uint16_t kind, int64_t result)
 {
     char path[PATH_ROOM];
     uint64_t file;
-    if (!is_logged(request, path, &file))
+    if (!is_on_disk(request->fd, path, &file))
         return;
     struct event event = {.kind = kind, .operation = operation_of(ring, request), .file = file, .result = result};
     log_event(&event, NULL, NULL, NULL, 0);
@@ -61,10 +69,12 @@ static void log_part(const struct ring *ring, const struct request *request, uin
 
 void log_carrying(const struct ring *ring, const struct request *request)
 {
-    log_part(ring, request, EVENT_CARRY, 0);
+    if (may_be_logged(request))
+        log_part(ring, request, EVENT_CARRY, 0);
 }
 
 void log_carried(const struct ring *ring, const struct request *request, int32_t res)
 {
-    log_part(ring, request, EVENT_END, res);
+    if (may_be_logged(request))
+        log_part(ring, request, EVENT_END, res);
 }

@@ -13,6 +13,7 @@
 #include "splices.h"
 #include "syncing.h"
 #include "timeouts.h"
+#include "trying.h"
 
 #include <errno.h>
 #include <fcntl.h>
@@ -60,7 +61,7 @@ static bool has_offsets(const struct request *request)
     return (is_read(request) ? preadv(fd, NULL, 0, 0) : pwritev(fd, NULL, 0, 0)) >= 0 || errno != ESPIPE;
 }
 
-bool is_stream(const struct request *request)
+bool is_stream(struct request *request)
 {
     struct stat status;
     bool is_socket_call = is_of_sockets(request->entry.opcode);
@@ -69,7 +70,12 @@ bool is_stream(const struct request *request)
     if ((!is_transfer(request) && !is_socket_call) || fstat(request->fd, &status) < 0)
         return false;
     /* A call of sockets on anything else fails at once. */
-    return is_socket_call ? S_ISSOCK(status.st_mode) : S_ISCHR(status.st_mode) || !has_offsets(request);
+    if (is_socket_call)
+        return S_ISSOCK(status.st_mode);
+    bool is_file = S_ISREG(status.st_mode);
+    note_kind(request->fd, is_file);
+    request->is_tried = is_file && may_be_tried(request);
+    return !request->is_tried && (S_ISCHR(status.st_mode) || !has_offsets(request));
 }
 
 bool goes_on(const struct request *request)
@@ -165,6 +171,16 @@ static int32_t transfer_on_stream(const struct request *request)
     return is_ready(request) ? transfer(request, offset, flags) : WOULD_WAIT;
 }
 
+static int32_t carry_transfer_out(struct request *request)
+{
+    int32_t res = request->is_tried ? try_transfer(request) : NOT_MOVED;
+    if (res != NOT_MOVED)
+        return res;
+    if (request->started < 0)
+        return request->started;
+    return request->is_stream ? transfer_on_stream(request) : transfer(request, (off_t)request->entry.off, request->entry.rw_flags);
+}
+
 static int32_t close_file(struct ring *ring, const struct request *request)
 {
     if (request->entry.file_index)
@@ -204,15 +220,13 @@ static int32_t call_system(struct ring *ring, struct request *request)
 {
     const struct io_uring_sqe *entry = &request->entry;
     switch (entry->opcode) {
-    case IORING_OP_NOP:
-        return 0;
     case IORING_OP_READ:
     case IORING_OP_READV:
     case IORING_OP_READ_FIXED:
     case IORING_OP_WRITE:
     case IORING_OP_WRITEV:
     case IORING_OP_WRITE_FIXED:
-        return request->is_stream ? transfer_on_stream(request) : transfer(request, (off_t)entry->off, entry->rw_flags);
+        return carry_transfer_out(request);
     case IORING_OP_FSYNC:
         return synchronize(request);
     case IORING_OP_SYNC_FILE_RANGE:
@@ -322,6 +336,8 @@ int32_t carry_out(struct ring *ring, struct request *request, enum injection fau
 {
     if (request->started < 0)
         return request->started;
+    if (request->entry.opcode == IORING_OP_NOP)
+        return 0;
     if (fault == FAULT_EIO)
         return -EIO;
     if (fault == FAULT_ENOSPC)

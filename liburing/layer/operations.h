@@ -18,13 +18,16 @@ int copy_behind(struct request *request, const struct request *before);
 /* Finds out what a request is carried out on: its file, its buffer, and whether it may have to wait. */
 void assign(struct ring *ring, struct request *request);
 
+/* Asks whether it may have to wait for its descriptor. At the wrong end of a pipe it ends with -9. */
+void find_kind(struct request *request);
+
 bool is_read(const struct request *request);
 bool is_transfer(const struct request *request);
 bool is_splice(const struct request *request);
 
 /* Whether it may have to wait for a descriptor: a transfer on what has no offset, as a pipe or an eventfd, or on a device,
- * a poll, a splice, or a call of sockets. */
-bool is_stream(const struct request *request);
+ * a poll, a splice, or a call of sockets. A file is to be tried first, where that is allowed. */
+bool is_stream(struct request *request);
 
 /* Whether a request can end with more than one completion: a poll, an accept or a receive that goes on. */
 bool goes_on(const struct request *request);

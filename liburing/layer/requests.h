@@ -33,6 +33,9 @@ struct request {
     struct buffer *buffer;          /* the registered buffer that it uses, or NULL */
     bool is_assigned;               /* these are known: when it is accepted, or, behind a link or beside a drain, when it starts */
     bool is_stream;                 /* it may have to wait for a descriptor: a transfer on what has no offset or on a device, a poll, a call of sockets */
+    bool is_tried;                  /* that isn't known: it is tried first, */
+    bool is_tried_at_once;          /* and nothing was asked of its descriptor, */
+    bool was_tried;                 /* or it was */
     uint64_t wanted;                /* of one that takes a provided buffer: how many bytes at most, or 0 */
     uint64_t done;                  /* the bytes that a transfer of sockets has moved so far */
     int32_t started;                /* what its start found out: an error number that it ends with, or 0 */
@@ -76,8 +79,8 @@ void add_request(struct requests *requests, struct request *request);
 /* Puts a request where its number belongs, and returns its place. Room was reserved. */
 size_t insert_request(struct requests *requests, struct request *request);
 
-/* Takes a request out. */
-void take_request(struct requests *requests, const struct request *request);
+/* Takes a request out, and returns the place that it had. */
+size_t take_request(struct requests *requests, const struct request *request);
 
 /* The request of a number, or NULL: it isn't there. */
 struct request *request_or_none(const struct requests *requests, uint64_t number);

@@ -42,7 +42,7 @@ struct ring {
     size_t watched_count;
     uint32_t index;                     /* its number among the process's rings, from 0 */
     uint32_t flags;                     /* IORING_SETUP_.. */
-    uint32_t calls;                     /* how many calls are on it, under the lock of all rings: it lives as long */
+    uint32_t calls;                     /* how many calls are on it: it lives as long. A call begins under the lock of all rings */
     pthread_mutex_t lock;               /* held during each call, but not while it sleeps */
     struct sleeper *sleepers;           /* the threads that sleep in a call on it */
     bool has_changed;                   /* something has gone on since they were last woken */

@@ -10,7 +10,7 @@ _Static_assert(DOOMED_BY_CANCEL - DOOMED_BY_OWN_FAULT == WULGACH_CANCELLED - WUL
 void note_standing(struct ring *ring, const struct request *request)
 {
     struct wulgach_why why;
-    if (!account() || wulgach_core_why(&ring->core, request->number, &why) != 0)
+    if (!has_account() || wulgach_core_why(&ring->core, request->number, &why) != 0)
         return;
     if (why.kind == WULGACH_WAITS)
         note_rule(WAITS_IN_GROUP + (why.reason - WULGACH_SAME_GROUP));
@@ -22,7 +22,7 @@ void note_standing(struct ring *ring, const struct request *request)
 
 void note_accepted(struct ring *ring, uint64_t first)
 {
-    for (size_t i = ring->requests.count; account() && i > 0 && ring->requests.rows[i - 1]->number >= first; i--) {
+    for (size_t i = ring->requests.count; has_account() && i > 0 && ring->requests.rows[i - 1]->number >= first; i--) {
         const struct request *request = ring->requests.rows[i - 1];
         if (request->mapping == REFUSED)
             note_rule(ENTRY_HAS_FAULT);
@@ -43,7 +43,7 @@ static void note_cancel(int32_t told)
 void note_outcome(const struct request *request, int32_t told)
 {
     uint8_t flags = request->entry.flags;
-    if (!account())
+    if (!has_account())
         return;
     if (request->mapping == CANCEL)
         note_cancel(told);

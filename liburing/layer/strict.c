@@ -69,9 +69,10 @@ int ask_set_up(uint32_t entries, const struct io_uring_params *params)
     return is_strict() && fd < 0 ? fd : 0;
 }
 
+/* (the ring's set-up has asked) */
 int32_t strict_fault(struct ring *ring, const struct io_uring_sqe *entry)
 {
-    if (!is_strict())
+    if (!is_on)
         return 0;
     bool is_skipping = entry->flags & IOSQE_CQE_SKIP_SUCCESS;
     if (!operations[entry->opcode] || (is_skipping && !(features & IORING_FEAT_CQE_SKIP)))

@@ -29,6 +29,10 @@ bool add_filter(const struct sock_fprog *program);
 bool is_on_signal_stack(const ucontext_t *at);
 void call_on_own_stack(const ucontext_t *at, void (*function)(void *), void *argument);
 
+/* Goes back to where a call was trapped, with the registers and the mask of signals that stand there. Where that can't be done here
+ * it returns, and the handler does. */
+void leave_trap(const ucontext_t *at);
+
 #define SEEN __attribute__((visibility("default")))
 
 #endif

@@ -94,7 +94,7 @@ static sigset_t mask_of(const ucontext_t *at)
     return mask;
 }
 
-/* The result of a trapped call. The return from the handler puts the thread's mask back: so one of enter, which wants all signals
+/* The result of a trapped call. Leaving the handler puts the thread's mask back: so one of enter, which wants all signals
  * blocked, takes no call for that; the others have the thread's mask. */
 static long serve(long call, const ucontext_t *at)
 {
@@ -145,6 +145,7 @@ static void answer(int number, siginfo_t *info, void *context)
     else
         serve_trapped(&trapped);
     errno = kept;
+    leave_trap(trapped.at);
 }
 
 static bool catch_trap(void)

@@ -6,6 +6,7 @@
 
 #include <pthread.h>
 #include <signal.h>
+#include <sys/eventfd.h>
 #include <time.h>
 
 /* A thread with a ring of its own: chains of three, one after the other. */
@@ -156,6 +157,70 @@ static void test_woken(void)
     close_ring(&ring);
 }
 
+/* A signal ends a call that sleeps for a read of an empty eventfd: the read goes on waiting, and ends with what comes. */
+static void test_interrupted(void)
+{
+    struct sigaction action = {.sa_handler = ignore_signal};
+    struct ring ring;
+    struct sleep sleep = {.ring = &ring};
+    uint64_t count;
+    int fd = eventfd(0, 0);
+    check(fd >= 0 && sigaction(SIGUSR1, &action, NULL) == 0);
+    make_ring(&ring, 4, 0, 0);
+    put_transfer(&ring, IORING_OP_READ, 0, 0, fd, &count, sizeof count, 0);
+    check(enter(&ring, 1, 0, 0) == 1);
+    pthread_t thread = start_sleeper(&sleep);
+    check(pthread_kill(thread, SIGUSR1) == 0);
+    check(pthread_join(thread, NULL) == 0);
+    check(sleep.result == -EINTR && count_ready(&ring) == 0);
+    check(eventfd_write(fd, 3) == 0);
+    check(wait_for_one(&ring) == 8 && count == 3);
+    close(fd);
+    close_ring(&ring);
+}
+
+/* Reads until it is cancelled, which is asked for behind each call alone. */
+struct reader {
+    struct ring *ring;
+    int file;
+    char bytes[4096];
+};
+
+static void *read_until_cancelled(void *reader)
+{
+    struct ring *ring = ((struct reader *)reader)->ring;
+    char *bytes = ((struct reader *)reader)->bytes;
+    int file = ((struct reader *)reader)->file;
+    check(pwrite(file, bytes, 4096, 0) == 4096);
+    for (bool is_on = true; is_on;) {
+        put_transfer(ring, IORING_OP_READ, 0, IOSQE_IO_LINK, file, bytes, 4096, 0);
+        put(ring, IORING_OP_FSYNC, 1, 0)->fd = file;
+        check(enter(ring, 2, 2, IORING_ENTER_GETEVENTS) == 2);
+        check(reap(ring).res == 4096 && reap(ring).res == 0);
+        pthread_testcancel();
+    }
+    return NULL;
+}
+
+/* A call isn't ended by a cancellation of its thread, and so the ring isn't left in the middle of one. */
+static void test_cancelled(void)
+{
+    for (int i = 0; i < 20; i++) {
+        struct ring ring;
+        struct reader reader = {&ring, make_file(), ""};
+        pthread_t thread;
+        void *result;
+        make_ring(&ring, 4, 0, 0);
+        check(pthread_create(&thread, NULL, read_until_cancelled, &reader) == 0);
+        usleep(2000);
+        check(pthread_cancel(thread) == 0 && pthread_join(thread, &result) == 0 && result == PTHREAD_CANCELED);
+        submit_nop(&ring, 2);
+        check(wait_for_one(&ring) == 0 && is_at_rest(&ring));
+        close(reader.file);
+        close_ring(&ring);
+    }
+}
+
 static void *stay(void *ends)
 {
     char byte;
@@ -240,6 +305,8 @@ int main(int count, char **words)
         {"closed while reading", test_closed_while_reading},
         {"closed while idle", test_closed_while_idle},
         {"woken", test_woken},
+        {"interrupted", test_interrupted},
+        {"cancelled", test_cancelled},
         {"limit beside threads", test_limit_beside_threads},
         {"not all submitted", test_not_all_submitted},
         {"cells before tail", test_cells_before_tail},

@@ -161,6 +161,75 @@ static void test_without_offsets(void)
     close_ring(&ring);
 }
 
+static int32_t read_at(struct ring *ring, int fd, void *bytes, unsigned length, uint64_t offset)
+{
+    put_transfer(ring, IORING_OP_READ, 0, 0, fd, bytes, length, offset);
+    check(enter(ring, 1, 0, 0) == 1);
+    return wait_for_one(ring);
+}
+
+/* What the number of a file was given to since is read as what it is now: a pipe and an eventfd, which have to wait, a device, a
+ * folder, nothing, and another file. */
+static void read_by_number(struct ring *ring, int fd, const char *bytes)
+{
+    char text[8];
+    for (int i = 0; i < 3; i++)
+        check(read_at(ring, fd, text, 4, 0) == 4 && memcmp(text, bytes, 4) == 0);
+    check(read_at(ring, fd, text, 8, 0) == 6 && memcmp(text, bytes, 6) == 0);
+    check(read_at(ring, fd, text, 4, 4) == 2 && memcmp(text, bytes + 4, 2) == 0);
+    check(read_at(ring, fd, text, 4, 6) == 0);
+}
+
+static void read_when_written(struct ring *ring, int fd, int to, const void *bytes, unsigned length)
+{
+    char text[8];
+    put_transfer(ring, IORING_OP_READ, 0, 0, fd, text, length, 0);
+    check(enter(ring, 1, 0, 0) == 1);
+    check(enter_for(ring, 1, 1000000) == -ETIME);
+    check(write(to, bytes, length) == (ssize_t)length);
+    check(wait_for_one(ring) == (int32_t)length && memcmp(text, bytes, length) == 0);
+}
+
+static void test_used_again(void)
+{
+    struct ring ring;
+    char text[8];
+    int ends[2], file = make_file(), other = open(".", O_RDWR | O_TMPFILE, 0600), number = dup(file);
+    check(other >= 0 && number >= 0 && pipe(ends) == 0);
+    check(write(file, "foobar", 6) == 6 && write(other, "barfoo", 6) == 6);
+    make_ring(&ring, 4, 0, 0);
+    read_by_number(&ring, number, "foobar");
+    check(dup2(ends[0], number) == number);
+    read_when_written(&ring, number, ends[1], "four", 4);
+    check(dup2(other, number) == number);
+    read_by_number(&ring, number, "barfoo");
+    int counter = eventfd(0, 0);
+    check(dup2(counter, number) == number);
+    read_when_written(&ring, number, counter, (const char[8]){7}, 8);
+    static const char *const places[] = {"/dev/null", "/dev/zero", "."};
+    static const int32_t results[] = {0, 4, -EISDIR};
+    for (int i = 0; i < 3; i++) {
+        int place = open(places[i], O_RDONLY);
+        check(dup2(other, number) == number);
+        read_by_number(&ring, number, "barfoo");
+        check(place >= 0 && dup2(place, number) == number);
+        check(read_at(&ring, number, text, 4, 0) == results[i]);
+        close(place);
+    }
+    check(dup2(other, number) == number);
+    read_by_number(&ring, number, "barfoo");
+    check(dup2(ends[1], number) == number);
+    check(read_at(&ring, number, text, 4, 0) == -EBADF);
+    close(number);
+    check(read_at(&ring, number, text, 4, 0) == -EBADF);
+    for (int i = 0; i < 2; i++)
+        close(ends[i]);
+    close(counter);
+    close(file);
+    close(other);
+    close_ring(&ring);
+}
+
 /* Faults of ring 0, as WULGACH_FAULTS says. */
 static void test_injection(void)
 {
@@ -202,6 +271,7 @@ int main(int count, char **words)
         {"waiting", test_waiting},
         {"not waiting", test_not_waiting},
         {"without offsets", test_without_offsets},
+        {"used again", test_used_again},
     };
     static const struct named injection = {"injection", test_injection};
     if (count > 1 && strcmp(words[1], injection.name) == 0)

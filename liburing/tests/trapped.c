@@ -1,11 +1,13 @@
 /* A program that is linked with nothing of ours and calls io_uring by the processor's own instruction. Run by uring-run
  * its rings are the layer's, which it sees by their descriptors: those are epoll instances.
  *
- *   trapped nop | shared | blocked | signals | issuers | threads | fork | vfork | exec | list | spawn | shell | sqpoll | filter | static PROGRAM
+ *   trapped nop | shared | blocked | signals | registers | issuers | threads | fork | vfork | exec | list | spawn | shell | sqpoll | filter | static PROGRAM
  *
- * Status 0: all was as it is to be. Else the number of the line that wasn't.
+ * Status 0: all was as it is to be. Else a line says what wasn't.
  */
 #define _GNU_SOURCE
+#include "registers.h"
+
 #include <errno.h>
 #include <linux/filter.h>
 #include <linux/io_uring.h>
@@ -31,7 +33,7 @@
     do {                                                                                                               \
         if (!(is_so)) {                                                                                                \
             fprintf(stderr, "trapped: line %d: %s\n", __LINE__, #is_so);                                               \
-            _exit(__LINE__ & 0x7f);                                                                                    \
+            _exit(1 + __LINE__ % 120);                                                                                 \
         }                                                                                                              \
     } while (0)
 
@@ -208,6 +210,22 @@ static void signals(void)
     want_mask(&mask);
 }
 
+/* A trapped call changes the result's register and the two that every call changes, and nothing else. */
+static void registers(void)
+{
+    struct ring ring = set_up(0);
+    bool is_whole = __builtin_cpu_supports("avx");
+    const uint64_t arguments[6] = {(uint64_t)ring.fd, 1, 1, IORING_ENTER_GETEVENTS, 0, 8};
+    static const uint64_t others[] = {112, 113, 114, 115, 116, 117, 1, 1};
+    memcpy(seen.arguments, arguments, sizeof arguments);
+    for (unsigned i = 0; i < 64; i++)
+        seen.vectors[i / 4][i % 4] = is_whole || i % 4 < 2 ? 0x9e3779b97f4a7c15u * (i + 1) : 0;
+    publish(&ring, (struct io_uring_sqe){.opcode = IORING_OP_NOP, .user_data = 77});
+    call_with_registers(is_whole);
+    WANT(memcmp(seen.behind, arguments, sizeof arguments) == 0 && seen.behind[6] == seen.frame && memcmp(seen.behind + 7, others, sizeof others) == 0);
+    WANT(memcmp(seen.vectors, seen.vectors_behind, sizeof seen.vectors) == 0);
+}
+
 static void *call_from_another(void *of)
 {
     const struct ring *ring = of;
@@ -331,6 +349,8 @@ int main(int argc, char **argv)
         blocked();
     else if (strcmp(name, "signals") == 0)
         signals();
+    else if (strcmp(name, "registers") == 0)
+        registers();
     else if (strcmp(name, "issuers") == 0)
         issuers();
     else if (strcmp(name, "threads") == 0)
