@@ -367,8 +367,6 @@ int32_t carry_out(struct ring *ring, struct request *request, enum injection fau
 
 bool is_success(const struct request *request, int32_t res)
 {
-    if (request->entry.opcode == IORING_OP_NOP)
-        return res >= 0;
     /* The chain goes on behind a linked timeout, also if that has fired. */
     if (is_linked_timeout(request))
         return !request->is_cancelled;
