@@ -7,11 +7,12 @@ KINDS = ("may", "never", "always")
 
 
 class Claim:
-    """That some outcome shows a line (may), none does (never), or each shows one of some lines (always)."""
+    """That some outcome shows a line (may), none does (never), or each shows one of some lines (always); or the same of what a power failure may show (crash)."""
 
     def __init__(self, text):
         self.text = text
-        self.kind, lines = text.split(" ", 1)
+        self.is_crash = text.startswith("crash ")
+        self.kind, lines = text.removeprefix("crash ").split(" ", 1)
         self.lines = lines.split(" or ")
 
     def is_shown_by(self, outcome):
@@ -35,11 +36,15 @@ class Test:
         first = lines[0].split() if lines else []
         self.options = first[2:] if first[:2] == ["#", "setup"] else []
         self.files = int(self.options[self.options.index("--files") + 1]) if "--files" in self.options else 2
-        self.remarks = [line[2:] for line in lines if line.startswith("# ") and not line.startswith("# setup ")]
-        self.claims = [Claim(line) for line in lines if line.startswith(tuple(f"{kind} " for kind in KINDS))]
-        counts = [line for line in lines if line.startswith("outcomes ")]
-        self.count = int(counts[0].split()[1]) if counts else None
-        said = {claim.text for claim in self.claims} | set(counts)
+        units = [line.split()[2] for line in lines if line.startswith("# unit ")]
+        self.unit = int(units[0]) if units else 1
+        self.remarks = [line[2:] for line in lines if line.startswith("# ") and not line.startswith(("# setup ", "# unit "))]
+        claims = [Claim(line) for line in lines if line.removeprefix("crash ").startswith(tuple(f"{kind} " for kind in KINDS))]
+        self.claims = [claim for claim in claims if not claim.is_crash]
+        self.crash_claims = [claim for claim in claims if claim.is_crash]
+        counts = [line for line in lines if line.startswith(("outcomes ", "crashes "))]
+        self.count, self.crash_count = (next((int(line.split()[1]) for line in counts if line.startswith(word)), None) for word in ("outcomes ", "crashes "))
+        said = {claim.text for claim in claims} | set(counts)
         calls = [line for line in lines if not line.startswith("#") and line not in said]
         self.calls = "\n".join(calls).strip("\n") + "\n"
 

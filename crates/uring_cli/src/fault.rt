@@ -37,6 +37,9 @@ pub enum Fault {
     /// A crash may leave more images than so many.
     TooMany(u32),
 
+    /// A power failure may leave more images of a file than so many.
+    ManyLeft(u32),
+
     /// Nobody reads standard output any more: its pipe was closed at the other end.
     Closed,
 }

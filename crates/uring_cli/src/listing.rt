@@ -2,6 +2,7 @@
 
 use crate::fault::Fault;
 use crate::outlet::Outlet;
+use crate::powered::run_crashes;
 use crate::unless_closed;
 use std::alloc::Global;
 use std::io::{ErrorKind, Read, Write};
@@ -12,18 +13,21 @@ use uring_litmus::{
 use uring_options::Setup;
 
 /// The exit status if all went well.
-const DONE: u8 = 0;
+pub(crate) const DONE: u8 = 0;
 
 /// The exit status if a claim isn't so.
-const NOT_SO: u8 = 1;
+pub(crate) const NOT_SO: u8 = 1;
 
 /// The exit status if the walk stopped before its end, so that not all is known.
-const UNKNOWN: u8 = 3;
+pub(crate) const UNKNOWN: u8 = 3;
 
 /// What is asked of the outcomes.
 #[derive(Clone, Copy, Drop)]
 pub(crate) struct Wanted {
     pub form: Form,
+
+    /// If it is what a power failure may show, its unit.
+    pub unit: Option<u32>,
 
     /// After how many paths the walk stops.
     pub most: Option<u32>,
@@ -57,6 +61,9 @@ pub(crate) fn run_outcomes(
         Some(most) => u64::from(most),
         None => u64::MAX,
     };
+    if let Some(unit) = wanted.unit {
+        return run_crashes(rt, setup, wanted.claim, unit, lines, most);
+    }
     match (wanted.claim, wanted.number) {
         (Some(claim), _) => run_claim(rt, setup, claim, lines, most),
         (None, Some(number)) => run_explained(rt, setup, wanted.form, most, number),
@@ -126,7 +133,7 @@ fn judge_input(
 }
 
 /// Writes a text to standard output.
-fn tell(rt: &HostRuntime, text: &str) -> Result<(), Fault> {
+pub(crate) fn tell(rt: &HostRuntime, text: &str) -> Result<(), Fault> {
     let mut output = Outlet::new(rt.stdout());
     let written = match output.write_all(text.as_bytes()) {
         Ok(()) => Ok(()),
@@ -148,7 +155,7 @@ fn write_shown(rt: &HostRuntime, input: &[u8], setup: &Setup, ending: Ending) ->
 }
 
 /// The parts of each of these lines.
-fn all_parts(alloc: Global, lines: &[&str]) -> Result<Vec<Vec<String>>, Fault> {
+pub(crate) fn all_parts(alloc: Global, lines: &[&str]) -> Result<Vec<Vec<String>>, Fault> {
     if lines.is_empty() {
         return Err(Fault::NoLine(0));
     }

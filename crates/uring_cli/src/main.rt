@@ -9,6 +9,7 @@ mod filled;
 mod listing;
 mod outlet;
 mod paged;
+mod powered;
 mod strict;
 mod telling;
 
@@ -152,12 +153,15 @@ fn run_words<R: Threads + Wait + Copy + Send + 'static>(
             setup,
             is_sorted,
             has_files,
+            is_crash,
+            unit,
             most,
             number,
             is_never,
             is_always,
         } => {
             let wanted = Wanted {
+                unit: is_crash.then_some(unit),
                 form: Shown {
                     is_sorted,
                     has_files,

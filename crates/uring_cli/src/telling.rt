@@ -36,7 +36,7 @@ fn status_of(fault: &Fault) -> u8 {
         Fault::Options(fault) if !fault.is_memory() => REFUSED,
         Fault::NoFile(..) | Fault::NoLine(_) | Fault::NoOutcome(..) => REFUSED,
         Fault::NotFound(..) | Fault::NoBytes => REFUSED,
-        Fault::TooMany(_) => UNKNOWN,
+        Fault::TooMany(_) | Fault::ManyLeft(_) => UNKNOWN,
         _ => FAILED,
     }
 }
@@ -69,6 +69,11 @@ fn text_of(alloc: Global, fault: &Fault) -> Result<String, AllocError> {
         Fault::TooMany(most) => {
             format!(in alloc;
                 "uring: a crash may leave more than {most} images: try --count or --most\n"
+            )
+        }
+        Fault::ManyLeft(most) => {
+            format!(in alloc;
+                "uring: a power failure may leave more than {most} images of a file: try --unit\n"
             )
         }
         Fault::Closed => Ok(String::new(alloc)),

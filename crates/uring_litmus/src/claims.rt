@@ -64,7 +64,7 @@ fn is_so_of(
 }
 
 /// Whether a claim is so of an outcome, by whether that shows some of the lines.
-fn so_by(claim: Claim, is_shown: bool) -> bool
+pub(crate) fn so_by(claim: Claim, is_shown: bool) -> bool
     ensures { result ≡ is_so claim is_shown }
 {
     match claim {
@@ -81,7 +81,7 @@ fn whole_parts(alloc: Global, ending: &Ending) -> Result<Vec<String>, AllocError
 }
 
 /// Whether some of these lines stands among these parts of an outcome.
-fn shows_some(parts: &[String], lines: &[Vec<String>]) -> bool
+pub(crate) fn shows_some(parts: &[String], lines: &[Vec<String>]) -> bool
     ensures { IsTrue result ↔ StandsSome (lines_in lines.now) (texts_of parts.now) }
 {
     for line in lines {

@@ -3,6 +3,7 @@
 
 mod calls;
 mod claims;
+mod crashes;
 mod form;
 mod judging;
 mod lines;
@@ -12,6 +13,7 @@ mod parts;
 mod wanted;
 
 pub use claims::Claim;
+pub use crashes::{CrashesJudged, CrashesListed, MOST_IMAGES, judge_crashes, list_crashes};
 pub use form::Form;
 pub use judging::{Chosen, Judged, choose, judge};
 pub use lines::line_of;

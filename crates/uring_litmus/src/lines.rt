@@ -102,7 +102,7 @@ pub fn line_of(alloc: Global, ending: &Ending, form: Form) -> Result<String, All
 }
 
 /// These parts with a comma and a blank between.
-fn join(alloc: Global, parts: &[String]) -> Result<String, AllocError>
+pub(crate) fn join(alloc: Global, parts: &[String]) -> Result<String, AllocError>
     ensures { IfOk result (λ line. string_bytes line ≡ joined (texts_of parts.now)) }
 {
     let mut line = String::new(alloc);

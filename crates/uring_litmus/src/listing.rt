@@ -61,7 +61,7 @@ fn write_found<W: Write>(
 }
 
 /// Writes a text.
-fn write_text<W: Write>(writer: &mut W, text: &str) -> Result<(), PlayFault>
+pub(crate) fn write_text<W: Write>(writer: &mut W, text: &str) -> Result<(), PlayFault>
     ensures { OnOk result (Appends (W.contents writer.old) (W.contents writer.new) text.now) }
 {
     match write_all(writer, text.as_bytes(), &mut Calls::new()) {
@@ -135,7 +135,11 @@ fn text_of(
 }
 
 /// Appends the lines, each with its end.
-fn push_lines(alloc: Global, text: &mut String, lines: &[String]) -> Result<(), AllocError>
+pub(crate) fn push_lines(
+    alloc: Global,
+    text: &mut String,
+    lines: &[String],
+) -> Result<(), AllocError>
     ensures { OnOk result
         (string_bytes text.new ≡ string_bytes text.old ++ lines_text (texts_of lines.now)) }
 {

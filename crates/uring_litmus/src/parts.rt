@@ -47,7 +47,7 @@ fn ordered(alloc: Global, posted: &[Cqe], is_sorted: bool) -> Result<Vec<Cqe>, A
 }
 
 /// Adds the text of each completion, or `none` if there is none.
-fn add_completions(
+pub(crate) fn add_completions(
     alloc: Global,
     parts: &mut Vec<String>,
     completions: &[Cqe],
@@ -228,7 +228,7 @@ fn byte_at(files: &Files, fd: u32, at: u32) -> Option<u8>
 }
 
 /// Appends bytes as two lower case hexadecimal digits each, or `-` for none.
-fn push_hex(alloc: Global, text: &mut String, bytes: &[u8]) -> Result<(), AllocError>
+pub(crate) fn push_hex(alloc: Global, text: &mut String, bytes: &[u8]) -> Result<(), AllocError>
     ensures { OnOk result
         (string_bytes text.new ≡ string_bytes text.old ++ hex_or_dash bytes.now) }
 {

@@ -4,7 +4,7 @@ use crate::lines::push_copy;
 use std::alloc::{AllocError, Global};
 use uring_text::{spelled_long, spelled_number, spelled_signed, split_tokens};
 
-/// The parts of a line, if each is one that an outcome may have: a completion, a file, or `none`.
+/// The parts of a line, if each is one that an outcome may have, or what a power failure shows: a completion, a file, or `none`.
 pub fn parts_of_line(alloc: Global, line: &str) -> Result<Option<Vec<String>>, AllocError> {
     let mut parts = Vec::new(alloc);
     for part in line.split(", ") {
@@ -42,6 +42,9 @@ fn is_part(alloc: Global, part: &str) -> Result<bool, AllocError> {
                 && spelled_long(writes).is_some()
                 && spelled_long(synced).is_some()
                 && is_data(bytes)
+        }
+        [b"file", fd, b"len", len, b"data", bytes] => {
+            spelled_number(fd).is_some() && spelled_number(len).is_some() && is_data(bytes)
         }
         _ => false,
     })

@@ -1,6 +1,7 @@
 -- A ring that stands empty takes a whole call: from a world, the world after the call, which some lawful history makes.
 -- By the laws of single steps, with the answers that are called for: first the items, then the tail, Begin, each Take, End and LoadHead.
-use Rattle.std.proofs.Common.{◌≡◌, ℕ, ◌+◌, ◌≤◌, Bool, true, false, zero, suc, List, [], ◌∷◌, ◌++◌, length, Option, Some, None, is_some, if◌then◌else◌, refl, sym, subst, ap, ◌∙◌, inl, arith}
+use Rattle.std.proofs.Common.{◌≡◌, ℕ, ◌+◌, ◌≤◌, Bool, true, false, zero, suc, List, [], ◌∷◌, ◌++◌, length, Option, Some, None, is_some, nat_lt, if◌then◌else◌, refl, sym, subst, ap, ◌∙◌, inl, arith}
+use Rattle.std.proofs.lemmas.Bool.{le-ltb}
 use Rattle.std.proofs.lemmas.List.{length_push}
 use Rattle.uring_entry.specs.Setup.{Setup}
 use Rattle.uring_entry.specs.Layout.{Sqe}
@@ -14,6 +15,9 @@ use Rattle.uring_core.specs.declared.answer.Answer.{Answer}
 use Rattle.uring_core.specs.declared.answer.Answer.TheVariants as answer
 use Rattle.uring_laws.specs.Standing.{Stands, with_items, in_call, after_call}
 use Rattle.uring_laws.proofs.Standing.{slot_filled, word_staged, tail_publishes, call_opens, position_taken, call_closes}
+use Rattle.uring_moves.specs.Recorded.{with_event}
+use Rattle.uring_moves.specs.declared.move_of_calls.Move.{Move}
+use Rattle.uring_moves.specs.declared.move_of_calls.Move.TheVariants as move
 use Rattle.uring_moves.proofs.Reaching.{Reaches, step_on, as_well}
 
 -- The items.
@@ -22,15 +26,15 @@ use Rattle.uring_moves.proofs.Reaching.{Reaches, step_on, as_well}
 abbrev in_world : World → ℕ → List Published → World
 in_world w slot items = record w { submission = with_items w.submission slot items }
 
-record ItemsIn (g : Setup) (w : World) (files : List FileContents) (words : List ℕ) (slot : ℕ) (items : List Published) : Type 0 where
-  reaches : Reaches g (in_world w slot items) files
+record ItemsIn (g : Setup) (w : World) (files : List FileContents) (moves : List Move) (words : List ℕ) (slot : ℕ) (items : List Published) : Type 0 where
+  reaches : Reaches g (in_world w slot items) files moves
   staged_then : List ℕ
   many : length staged_then ≡ length words + length items
   stands : Stands (with_items w.submission slot items) staged_then 0
 
-items_go_in : (g : Setup) (items : List Published) (w : World) (files : List FileContents) (words : List ℕ) (slot : ℕ)
-    → Reaches g w files → Stands w.submission words 0 → slot + length items ≤ g.sq
-    → length words + length items ≤ g.sq → ItemsIn g w files words slot items
+items_go_in : {moves : List Move} (g : Setup) (items : List Published) (w : World) (files : List FileContents) (words : List ℕ) (slot : ℕ)
+    → Reaches g w files moves → Stands w.submission words 0 → slot + length items ≤ g.sq
+    → length words + length items ≤ g.sq → ItemsIn g w files moves words slot items
 items_go_in g [] w files words slot there stands low few = record {
   reaches = there;
   staged_then = words;
@@ -47,10 +51,10 @@ items_go_in g (bad_word word ∷ later) w files words slot there stands low few 
       many = omega (arith, rest.many, length_push words word);
       stands = rest.stands;
     }
-items_go_in g (with_entry entry ∷ later) w files words slot there stands low few =
+items_go_in {moves} g (with_entry entry ∷ later) w files words slot there stands low few =
     let first = slot_filled g w words slot entry (fill_answer g w slot) stands (omega arith) refl in
     let w' : World = happens g w (step.Fill slot entry) answer.Filled in
-    let filled : Reaches g w' files = step_on g w files (step.Fill slot entry) answer.Filled there tt (sym first.0) (λ e. cc) in
+    let filled : Reaches g w' files moves = step_on g w files (step.Fill slot entry) answer.Filled there tt (sym first.0) (λ e. cc) in
     let second = word_staged g w' words slot (index_answer g w') first.1 (omega arith) refl in
     let w'' : World = happens g w' (step.Index slot) answer.Staged in
     let rest = items_go_in g later w'' files (words ++ slot ∷ []) (slot + 1) (step_on g w' files (step.Index slot) answer.Staged filled tt (sym second.0) (λ e. cc)) second.1 (omega arith) (omega (arith, length_push words slot)) in
@@ -80,9 +84,9 @@ begins_so g w count s is_open unspent =
       begin_with n spent =
           if w.is_closed then answer.Closed else (if is_some w.submission.call then answer.InCall else (if spent then answer.Spent else answer.Call n))
 
-call_begins : (g : Setup) (w : World) (files : List FileContents) (count : ℕ) → Reaches g w files
+call_begins : {moves : List Move} (g : Setup) (w : World) (files : List FileContents) (count : ℕ) → Reaches g w files moves
     → Stands w.submission [] count → w.is_closed ≡ false → is_spent w count ≡ false
-    → Reaches g (in_call w count 0) files
+    → Reaches g (in_call w count 0) files moves
 call_begins g w files count there s is_open unspent =
     let called : OrAgain (begin_answer w count) (answer.Call count) = subst (λ x. OrAgain x (answer.Call count)) (sym (begins_so g w count s is_open unspent)) (inl refl) in
     let opened = call_opens g w count count (answer.Call count) s is_open (omega arith) called in
@@ -97,12 +101,12 @@ not_again (Some place) e = by_entry place.entry e where
   by_entry None f = cc
   by_entry (Some x) f = cc
 
-takes_on : (g : Setup) → g.stops ≡ false → (w : World) (files : List FileContents) (count done : ℕ)
-    → Reaches g (in_call w count 0) files → Stands w.submission [] count → done ≤ count
-    → Reaches g (in_call w count done) files
+takes_on : {moves : List Move} (g : Setup) → g.stops ≡ false → (w : World) (files : List FileContents) (count done : ℕ)
+    → Reaches g (in_call w count 0) files moves → Stands w.submission [] count → done ≤ count
+    → Reaches g (in_call w count done) files moves
 takes_on g goes w files count zero there s few = there
-takes_on g goes w files count (suc done) there s few =
-    let before : Reaches g (in_call w count done) files = takes_on g goes w files count done there s (omega arith) in
+takes_on {moves} g goes w files count (suc done) there s few =
+    let before : Reaches g (in_call w count done) files moves = takes_on g goes w files count done there s (omega arith) in
     let a : Answer = take_answer (in_call w count done) in
     let one = position_taken g goes w count count done a s (omega arith) (omega arith) refl in
     let next : done + 1 ≡ suc done = omega arith in
@@ -116,15 +120,22 @@ ends_so : (few : Bool) (accepted missed head : ℕ)
 ends_so true accepted missed head e = cc
 ends_so false accepted missed head e = cc
 
-call_ends : (g : Setup) (w : World) (files : List FileContents) (count : ℕ)
-    → Reaches g (in_call w count count) files → Stands w.submission [] count
-    → Reaches g (after_call w count) files × Stands (after_call w count).submission [] 0
-call_ends g w files count there s =
+-- its end is a move
+ends_accept : (few : Bool) (accepted missed head : ℕ) (moves : List Move) → few ≡ false
+    → with_event step.End (if few then answer.NotAll else answer.Taken accepted missed head) moves
+    ≡ moves ++ move.Accept ∷ []
+ends_accept false accepted missed head moves e = refl
+ends_accept true accepted missed head moves e = absurd cc
+
+call_ends : {moves : List Move} (g : Setup) (w : World) (files : List FileContents) (count : ℕ)
+    → Reaches g (in_call w count count) files moves → Stands w.submission [] count
+    → Reaches g (after_call w count) files (moves ++ move.Accept ∷ []) × Stands (after_call w count).submission [] 0
+call_ends {moves} g w files count there s =
     let a : Answer = end_answer g (in_call w count count) in
     let w' : World = happens g (in_call w count count) step.End a in
     let loads : Answer = answer.Head (word_of g.start (taken w'.submission)) in
     let closed = call_closes g w count count 0 a loads s (omega arith) refl in
-    let ended : Reaches g w' files = step_on g (in_call w count count) files step.End a there tt refl (ends_so _ _ _ _) in
+    let ended : Reaches g w' files (moves ++ move.Accept ∷ []) = subst (Reaches g w' files) (ends_accept (nat_lt count count) _ _ _ moves (le-ltb count count (omega arith))) (step_on g (in_call w count count) files step.End a there tt refl (ends_so _ _ _ _)) in
     (as_well g (happens g w' step.LoadHead loads) (after_call w count) files closed.0 (step_on g w' files step.LoadHead loads ended tt refl (λ e. cc)), closed.1)
 
 -- A whole call.
@@ -133,23 +144,23 @@ call_ends g w files count there s =
 abbrev pub with_call_published : Setup → World → List Published → World
 with_call_published g w items = record w { submission = with_published g.sq (with_items w.submission 0 items) }
 
-pub record CallIsTaken (g : Setup) (w : World) (files : List FileContents) (items : List Published) : Type 0 where
-  pub reaches : Reaches g (after_call (with_call_published g w items) (length items)) files
+pub record CallIsTaken (g : Setup) (w : World) (files : List FileContents) (moves : List Move) (items : List Published) : Type 0 where
+  pub reaches : Reaches g (after_call (with_call_published g w items) (length items)) files (moves ++ move.Accept ∷ [])
   pub stands : Stands (after_call (with_call_published g w items) (length items)).submission [] 0
   pub waits : Stands (with_call_published g w items).submission [] (length items)
 
-pub call_is_taken : (g : Setup) → g.stops ≡ false → (w : World) (files : List FileContents) (items : List Published)
-    → Reaches g w files → Stands w.submission [] 0 → w.is_closed ≡ false
-    → is_spent w (length items) ≡ false → length items ≤ g.sq → CallIsTaken g w files items
-call_is_taken g goes w files items there s is_open unspent few =
+pub call_is_taken : {moves : List Move} (g : Setup) → g.stops ≡ false → (w : World) (files : List FileContents) (items : List Published)
+    → Reaches g w files moves → Stands w.submission [] 0 → w.is_closed ≡ false
+    → is_spent w (length items) ≡ false → length items ≤ g.sq → CallIsTaken g w files moves items
+call_is_taken {moves} g goes w files items there s is_open unspent few =
     let inside = items_go_in g items w files [] 0 there s (omega arith) (omega arith) in
     let w1 : World = in_world w 0 items in
     let w2 : World = with_call_published g w items in
-    let stored : Reaches g w2 files = step_on g w1 files step.StoreTail (answer.Tail (word_of g.start (staged w1.submission))) inside.reaches tt refl (λ e. cc) in
+    let stored : Reaches g w2 files moves = step_on g w1 files step.StoreTail (answer.Tail (word_of g.start (staged w1.submission))) inside.reaches tt refl (λ e. cc) in
     let many : length inside.staged_then ≡ length items = omega (arith, inside.many) in
     let waits : Stands w2.submission [] (length items) = subst (λ n. Stands w2.submission [] n) many (tail_publishes g w1.submission inside.staged_then inside.stands) in
-    let begun : Reaches g (in_call w2 (length items) 0) files = call_begins g w2 files (length items) stored waits is_open unspent in
-    let took : Reaches g (in_call w2 (length items) (length items)) files = takes_on g goes w2 files (length items) (length items) begun waits (omega arith) in
+    let begun : Reaches g (in_call w2 (length items) 0) files moves = call_begins g w2 files (length items) stored waits is_open unspent in
+    let took : Reaches g (in_call w2 (length items) (length items)) files moves = takes_on g goes w2 files (length items) (length items) begun waits (omega arith) in
     let closed = call_ends g w2 files (length items) took waits in
     record {
       reaches = closed.0;

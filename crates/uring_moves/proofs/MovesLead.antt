@@ -1,6 +1,6 @@
 -- A lawful history that refuses no memory makes moves: each event is a move, or changes nothing of a moment.
 -- By cases on `Change`: the close of a call is an accepting, an issue and a finish that isn't refused are moves, and all else is silent.
-use Rattle.std.proofs.Common.{◌≡◌, ℕ, ◌+◌, ◌≤◌, ℤ, Bool, true, false, not, ◌&&◌, ◌||◌, nat_lt, List, [], ◌∷◌, ◌++◌, length, take, drop, map, Option, Some, None, if◌then◌else◌, refl, sym, subst, ap, ap₂, ◌∙◌, arith, append_assoc}
+use Rattle.std.proofs.Common.{◌≡◌, ℕ, ◌+◌, ◌≤◌, ℤ, Bool, true, false, not, ◌&&◌, ◌||◌, nat_lt, List, [], ◌∷◌, ◌++◌, length, take, drop, map, Option, Some, None, if◌then◌else◌, refl, sym, subst, ap, ap₂, ◌∙◌, arith, append_assoc, append-nil}
 use Rattle.std.specs.Option.{option_and_then}
 use Rattle.std.proofs.Math.Seq.{take-add}
 use Rattle.std.proofs.lemmas.Bool.{lt-ltb, and_parts}
@@ -22,7 +22,7 @@ use Rattle.uring_core.specs.declared.step.Step.{Step}
 use Rattle.uring_core.specs.declared.step.Step.TheVariants as step
 use Rattle.uring_core.specs.declared.answer.Answer.{Answer}
 use Rattle.uring_core.specs.declared.answer.Answer.TheVariants as answer
-use Rattle.uring_core.proofs.Changes.{Change, refuses, stores, takes, drops, closes, runs, dooms, cancels, finishes, change_of}
+use Rattle.uring_core.proofs.Changes.{Change, IsSilent, refuses, stores, takes, drops, closes, runs, dooms, cancels, finishes, change_of}
 use Rattle.uring_core.proofs.FileHistory.{files_kept, files_ended}
 use Rattle.uring_core.proofs.Sound.{IsSound, sound_of}
 use Rattle.uring_core.proofs.SoundRings.{open_count}
@@ -30,15 +30,17 @@ use Rattle.uring_laws.proofs.WholeLaws.{lawful_apart}
 use Rattle.uring_machine.specs.Machine.{IsUnrefused, finish_answer}
 use Rattle.uring_moves.specs.Moments.{Moment, starting, issued, finished, ended_at_once, is_finishable, moved, after_moves}
 use Rattle.uring_moves.specs.Outcomes.{items_in, entries_in, RefusesNone}
+use Rattle.uring_moves.specs.Recorded.{with_event, moves_in}
 use Rattle.uring_moves.specs.declared.move_of_calls.Move.{Move}
 use Rattle.uring_moves.specs.declared.move_of_calls.Move.TheVariants as move
 use Rattle.uring_moves.proofs.ItemLists.{item, entries_back, items_more}
 use Rattle.uring_moves.proofs.MovesMade.{moment_of, posted_by_end}
 
--- A world is come to by moves: these calls were taken, whatever calls are left.
-pub record IsCome (g : Setup) (w : World) (files : List FileContents) : Type 0 where
+-- A world is come to by these moves: some calls were taken, the first of them these, whatever calls are left.
+pub record IsCome (g : Setup) (w : World) (files : List FileContents) (moves : List Move) (first : List (List Published)) : Type 0 where
   pub calls : List (List Published)
-  pub moves : List Move
+  pub more : List (List Published)
+  pub grows : calls ≡ first ++ more
   pub cut : map length calls ≡ w.submission.calls
   pub items : items_in calls ≡ take (taken w.submission) (published_items w.submission)
   pub leads : (rest : List (List Sqe))
@@ -63,28 +65,30 @@ one_move_more [] x m = just (moved x m)
 one_move_more (first ∷ later) x m =
     behind (moved x first) later m (λ y. one_move_more later y m)
 
-comes_on : (g : Setup) (w v : World) (files files' : List FileContents) (m : Move) → IsCome g w files
+comes_on : {moves : List Move} {first : List (List Published)} (g : Setup) (w v : World) (files files' : List FileContents) (m : Move) (c : IsCome g w files moves first)
     → v.submission ≡ w.submission
     → ((rest : List (List Sqe)) → moved (moment_of w files rest) m ≡ Some (moment_of v files' rest))
-    → IsCome g v files'
-comes_on g w v files files' m c same leads = record {
+    → IsCome g v files' (moves ++ m ∷ []) c.calls
+comes_on {moves} g w v files files' m c same leads = record {
   calls = c.calls;
-  moves = c.moves ++ m ∷ [];
+  more = [];
+  grows = sym (append-nil c.calls);
   cut = c.cut ∙ ap (λ (l : Submission). l.calls) (sym same);
   items = c.items ∙ ap (λ (l : Submission). take (taken l) (published_items l)) (sym same);
-  leads = λ rest. one_move_more c.moves (starting g (map entries_in c.calls ++ rest)) m ∙ (ap (option_and_then (λ z. moved z m)) (c.leads rest) ∙ leads rest);
+  leads = λ rest. one_move_more moves (starting g (map entries_in c.calls ++ rest)) m ∙ (ap (option_and_then (λ z. moved z m)) (c.leads rest) ∙ leads rest);
 }
 
 -- What changes nothing of a moment.
 
-still : (g : Setup) (w v : World) (files : List FileContents) → v.requests ≡ w.requests
+still : {moves : List Move} {first : List (List Published)} (g : Setup) (w v : World) (files : List FileContents) → v.requests ≡ w.requests
     → v.completions.posted ≡ w.completions.posted → v.submission.calls ≡ w.submission.calls
     → take (taken v.submission) (published_items v.submission)
     ≡ take (taken w.submission) (published_items w.submission)
-    → IsCome g w files → IsCome g v files
-still g w v files requests posted calls items c = record {
+    → (c : IsCome g w files moves first) → IsCome g v files moves c.calls
+still {moves} g w v files requests posted calls items c = record {
   calls = c.calls;
-  moves = c.moves;
+  more = [];
+  grows = sym (append-nil c.calls);
   cut = c.cut ∙ sym calls;
   items = c.items ∙ sym items;
   leads = λ rest. c.leads rest ∙ ap₂ (λ r p. Some (record { requests = r; posted = p; files = files; left = rest })) (sym requests) (sym posted);
@@ -95,10 +99,10 @@ still g w v files requests posted calls items c = record {
 abbrev new_call : World → ℕ → List Published
 new_call w count = map item (places_from w.submission count)
 
-call_comes : (g : Setup) (w : World) (files : List FileContents) (call : Call)
-    → taken w.submission + call.count ≤ length w.submission.published → IsCome g w files
-    → IsCome g (ending_of w (Some call)) files
-call_comes g w files call within c =
+call_comes : {moves : List Move} {first : List (List Published)} (g : Setup) (w : World) (files : List FileContents) (call : Call)
+    → taken w.submission + call.count ≤ length w.submission.published → (c : IsCome g w files moves first)
+    → IsCome g (ending_of w (Some call)) files (moves ++ move.Accept ∷ []) c.calls
+call_comes {moves} g w files call within c =
     let l : Submission = w.submission in
     let new : List Published = new_call w call.count in
     let v : World = ending_of w (Some call) in
@@ -107,7 +111,8 @@ call_comes g w files call within c =
     let entries : entries_in new ≡ entries_from l call.count = entries_back (places_from l call.count) in
     record {
       calls = c.calls ++ new ∷ [];
-      moves = c.moves ++ move.Accept ∷ [];
+      more = new ∷ [];
+      grows = refl;
       cut = map-append length c.calls (new ∷ []) ∙ ap₂ (λ xs n. xs ++ n ∷ []) c.cut many;
       items =
           items_more c.calls new
@@ -116,8 +121,8 @@ call_comes g w files call within c =
           ∙ ap (λ n. take n (published_items l)) (sym (sum_by_push (λ x. x) l.calls call.count));
       leads =
           λ rest.
-          ap (λ xs. after_moves (starting g xs) (c.moves ++ move.Accept ∷ [])) (ap (λ xs. xs ++ rest) (map-append entries_in c.calls (new ∷ [])) ∙ append_assoc (map entries_in c.calls) (entries_in new ∷ []) rest)
-          ∙ one_move_more c.moves (starting g (map entries_in c.calls ++ entries_in new ∷ rest)) move.Accept
+          ap (λ xs. after_moves (starting g xs) (moves ++ move.Accept ∷ [])) (ap (λ xs. xs ++ rest) (map-append entries_in c.calls (new ∷ [])) ∙ append_assoc (map entries_in c.calls) (entries_in new ∷ []) rest)
+          ∙ one_move_more moves (starting g (map entries_in c.calls ++ entries_in new ∷ rest)) move.Accept
           ∙ ap (option_and_then (λ z. moved z move.Accept)) (c.leads (entries_in new ∷ rest))
           ∙ ap (λ es. Some (record { requests = with_call w.requests es; posted = w.completions.posted; files = files; left = rest })) entries;
     }
@@ -159,10 +164,10 @@ at_once g w n res files rest =
     ap (λ posted. record { requests = v.requests; posted = posted; files = files; left = rest }) (sym (posted_by_end g.cq w.completions (entry_of w.requests n) res no_bytes))
 
 -- the world after a finish that refuses no memory
-finish_comes : (g : Setup) (w : World) (n : ℕ) → is_running w.requests n ≡ true → IsSound g w
-    → IsCome g w (files_of g w)
-    → IsCome g (happens g w (step.Finish n) (finish_answer (files_of g w) w.requests n)) (files_of g (happens g w (step.Finish n) (finish_answer (files_of g w) w.requests n)))
-finish_comes g w n running sound c =
+finish_comes : {moves : List Move} {first : List (List Published)} (g : Setup) (w : World) (n : ℕ) → is_running w.requests n ≡ true → IsSound g w
+    → (c : IsCome g w (files_of g w) moves first)
+    → IsCome g (happens g w (step.Finish n) (finish_answer (files_of g w) w.requests n)) (files_of g (happens g w (step.Finish n) (finish_answer (files_of g w) w.requests n))) (with_event (step.Finish n) (finish_answer (files_of g w) w.requests n) moves) c.calls
+finish_comes {moves} g w n running sound c =
     let r : Requests = w.requests in
     let o : Outcome = result_of (files_of g w) (operation_of (entry_of r n)) in
     let a : Answer = answer.Ended o.res o.bytes in
@@ -170,59 +175,93 @@ finish_comes g w n running sound c =
     let files : List FileContents = after (files_of g w) (operation_of (entry_of r n)) o.res in
     let left : files_of g v ≡ files = files_ended r n o.res o.bytes (empty_files g.files) in
     let accepted : nat_lt n (length r.accepted) ≡ true = lt-ltb n (length r.accepted) (sound.requests.started_accepted n (and_parts _ _ running).0) in
-    let there : IsCome g v files = comes_on g w v (files_of g w) files (move.Finish n) c refl (λ rest. can_then (is_finishable r n) (finished (moment_of w (files_of g w) rest) n) (moment_of v files rest) (and_both accepted running)
+    let there : IsCome g v files (moves ++ move.Finish n ∷ []) c.calls = comes_on g w v (files_of g w) files (move.Finish n) c refl (λ rest. can_then (is_finishable r n) (finished (moment_of w (files_of g w) rest) n) (moment_of v files rest) (and_both accepted running)
     (ap (λ posted. record { requests = v.requests; posted = posted; files = files; left = rest }) (sym (posted_by_end g.cq w.completions (entry_of r n) o.res o.bytes)))) in
-    subst (λ x. IsCome g (happens g w (step.Finish n) x) (files_of g (happens g w (step.Finish n) x))) (ap (λ b. if b then a else answer.NotRunning) (sym running)) (subst (IsCome g v) (sym left) there) where
+    subst (λ x. IsCome g (happens g w (step.Finish n) x) (files_of g (happens g w (step.Finish n) x)) (with_event (step.Finish n) x moves) c.calls) (ap (λ b. if b then a else answer.NotRunning) (sym running)) (subst (λ fs. IsCome g v fs (moves ++ move.Finish n ∷ []) c.calls) (sym left) there) where
       and_both : {x y : Bool} → x ≡ true → y ≡ true → (x && y) ≡ true
       and_both {x} {y} e f = ap₂ (λ p q. p && q) e f
 
-comes : (g : Setup) (w : World) (s : Step) (a : Answer) → Change g w s a → IsSound g w
+-- an event that tells nothing makes no move
+pub silent_makes_none : (s : Step) (a : Answer) (moves : List Move) → IsSilent (s, a)
+    → with_event s a moves ≡ moves
+silent_makes_none step.End (answer.Taken accepted missed head) moves q =
+    let closes = q.closes in absurd cc
+silent_makes_none (step.Issue n) answer.Run moves q = let starts = q.starts in absurd cc
+silent_makes_none (step.Issue n) (answer.Ended res bytes) moves q = let ends = q.ends in absurd cc
+silent_makes_none (step.Finish n) (answer.Ended res bytes) moves q =
+    let ends = q.ends in absurd cc
+silent_makes_none s a moves q = refl
+
+-- one event more
+comes : {moves : List Move} {first : List (List Published)} (g : Setup) (w : World) (s : Step) (a : Answer) → Change g w s a → IsSound g w
     → IsUnrefused g w s a → (IsNoFinish s → files_of g (happens g w s a) ≡ files_of g w)
-    → IsCome g w (files_of g w) → IsCome g (happens g w s a) (files_of g (happens g w s a))
-comes g w s a (refuses _ _ same silent) sound unrefused kept c =
-    subst (λ v. IsCome g v (files_of g v)) (sym (same w)) c
+    → (c : IsCome g w (files_of g w) moves first)
+    → IsCome g (happens g w s a) (files_of g (happens g w s a)) (with_event s a moves) c.calls
+comes {moves} g w s a (refuses _ _ same silent) sound unrefused kept c =
+    subst (λ ms. IsCome g (happens g w s a) (files_of g (happens g w s a)) ms c.calls) (sym (silent_makes_none s a moves silent)) (subst (λ v. IsCome g v (files_of g v) moves c.calls) (sym (same w)) (still g w w (files_of g w) refl refl refl refl c))
 comes g w s a (stores tail) sound unrefused kept c =
     let l : Submission = w.submission in
     still g w (happens g w step.StoreTail (answer.Tail tail)) (files_of g w) refl refl refl
     (ap (take (taken l)) (map-append item l.published (map (place_of g.sq l.content) l.fresh)) ∙ take-append-le (taken l) (map item l.published) (map item (map (place_of g.sq l.content) l.fresh)) (omega (arith, sound.submission.call_published, length-map l.published item)))
     c
-comes g w s a (takes entry call place opened left at valid) sound unrefused kept c =
-    subst (λ o. IsCome g (taking_entry_of g w entry o) (files_of g (taking_entry_of g w entry o))) (sym opened) (still g w (taking_entry_of g w entry (Some call)) (files_of g w) refl refl refl refl c)
-comes g w s a (drops call place opened left at invalid) sound unrefused kept c =
-    subst (λ o. IsCome g (taking_of w o) (files_of g (taking_of w o))) (sym opened) (still g w (taking_of w (Some call)) (files_of g w) refl refl refl refl c)
-comes g w s a (closes accepted missed head call opened all counted) sound unrefused kept c =
+comes {moves} g w s a (takes entry call place opened left at valid) sound unrefused kept c =
+    subst (λ o. IsCome g (taking_entry_of g w entry o) (files_of g (taking_entry_of g w entry o)) moves c.calls) (sym opened) (still g w (taking_entry_of g w entry (Some call)) (files_of g w) refl refl refl refl c)
+comes {moves} g w s a (drops call place opened left at invalid) sound unrefused kept c =
+    subst (λ o. IsCome g (taking_of w o) (files_of g (taking_of w o)) moves c.calls) (sym opened) (still g w (taking_of w (Some call)) (files_of g w) refl refl refl refl c)
+comes {moves} g w s a (closes accepted missed head call opened all counted) sound unrefused kept c =
     let within : taken w.submission + call.count ≤ length w.submission.published = omega (arith, sound.submission.call_published, ap open_count opened) in
-    let there : IsCome g (ending_of w w.submission.call) (files_of g w) = subst (λ o. IsCome g (ending_of w o) (files_of g w)) (sym opened) (call_comes g w (files_of g w) call within c) in
-    subst (IsCome g (ending_of w w.submission.call)) (sym (kept tt)) there
-comes g w s a (runs n outstanding idle spared ready no_cancel) sound unrefused kept c =
+    let there : IsCome g (ending_of w w.submission.call) (files_of g w) (moves ++ move.Accept ∷ []) c.calls = subst (λ o. IsCome g (ending_of w o) (files_of g w) (moves ++ move.Accept ∷ []) c.calls) (sym opened) (call_comes g w (files_of g w) call within c) in
+    subst (λ fs. IsCome g (ending_of w w.submission.call) fs (moves ++ move.Accept ∷ []) c.calls) (sym (kept tt)) there
+comes {moves} g w s a (runs n outstanding idle spared ready no_cancel) sound unrefused kept c =
     let r : Requests = w.requests in
     let v : World = happens g w (step.Issue n) answer.Run in
-    subst (IsCome g v) (sym (kept tt)) (comes_on g w v (files_of g w) (files_of g w) (move.Issue n) c refl (λ rest. can_then (is_issuable r n) (issued (moment_of w (files_of g w) rest) n) (moment_of v (files_of g w) rest) (issuable_so (is_outstanding r n) (is_running r n) (is_doomed r n) (is_ready r n) outstanding idle (or_second (is_doomed r n) (is_ready r n) ready))
+    subst (λ fs. IsCome g v fs (moves ++ move.Issue n ∷ []) c.calls) (sym (kept tt)) (comes_on g w v (files_of g w) (files_of g w) (move.Issue n) c refl (λ rest. can_then (is_issuable r n) (issued (moment_of w (files_of g w) rest) n) (moment_of v (files_of g w) rest) (issuable_so (is_outstanding r n) (is_running r n) (is_doomed r n) (is_ready r n) outstanding idle (or_second (is_doomed r n) (is_ready r n) ready))
     (if_not (is_doomed r n) _ _ spared ∙ if_not (is_cancel (entry_of r n)) _ _ no_cancel)))
-comes g w s a (dooms n outstanding idle doomed) sound unrefused kept c =
+comes {moves} g w s a (dooms n outstanding idle doomed) sound unrefused kept c =
     let r : Requests = w.requests in
     let v : World = happens g w (step.Issue n) (answer.Ended (doomed_result r n) no_bytes) in
-    subst (IsCome g v) (sym (kept tt)) (comes_on g w v (files_of g w) (files_of g w) (move.Issue n) c refl (λ rest. can_then (is_issuable r n) (issued (moment_of w (files_of g w) rest) n) (moment_of v (files_of g w) rest) (issuable_so (is_outstanding r n) (is_running r n) (is_doomed r n) (is_ready r n) outstanding idle (or_first (is_doomed r n) (is_ready r n) doomed))
+    subst (λ fs. IsCome g v fs (moves ++ move.Issue n ∷ []) c.calls) (sym (kept tt)) (comes_on g w v (files_of g w) (files_of g w) (move.Issue n) c refl (λ rest. can_then (is_issuable r n) (issued (moment_of w (files_of g w) rest) n) (moment_of v (files_of g w) rest) (issuable_so (is_outstanding r n) (is_running r n) (is_doomed r n) (is_ready r n) outstanding idle (or_first (is_doomed r n) (is_ready r n) doomed))
     (if_so (is_doomed r n) _ _ doomed ∙ at_once g w n (doomed_result r n) (files_of g w) rest)))
-comes g w s a (cancels n outstanding idle spared ready cancel) sound unrefused kept c =
+comes {moves} g w s a (cancels n outstanding idle spared ready cancel) sound unrefused kept c =
     let r : Requests = w.requests in
     let v : World = happens g w (step.Issue n) (answer.Ended (cancel_result r n) no_bytes) in
-    subst (IsCome g v) (sym (kept tt)) (comes_on g w v (files_of g w) (files_of g w) (move.Issue n) c refl (λ rest. can_then (is_issuable r n) (issued (moment_of w (files_of g w) rest) n) (moment_of v (files_of g w) rest) (issuable_so (is_outstanding r n) (is_running r n) (is_doomed r n) (is_ready r n) outstanding idle (or_second (is_doomed r n) (is_ready r n) ready))
+    subst (λ fs. IsCome g v fs (moves ++ move.Issue n ∷ []) c.calls) (sym (kept tt)) (comes_on g w v (files_of g w) (files_of g w) (move.Issue n) c refl (λ rest. can_then (is_issuable r n) (issued (moment_of w (files_of g w) rest) n) (moment_of v (files_of g w) rest) (issuable_so (is_outstanding r n) (is_running r n) (is_doomed r n) (is_ready r n) outstanding idle (or_second (is_doomed r n) (is_ready r n) ready))
     (if_not (is_doomed r n) _ _ spared ∙ (if_so (is_cancel (entry_of r n)) _ _ cancel ∙ at_once g w n (cancel_result r n) (files_of g w) rest))))
-comes g w s a (finishes n res bytes running) sound unrefused kept c =
-    subst (λ x. IsCome g (happens g w (step.Finish n) x) (files_of g (happens g w (step.Finish n) x))) (sym unrefused) (finish_comes g w n running sound c)
+comes {moves} g w s a (finishes n res bytes running) sound unrefused kept c =
+    subst (λ x. IsCome g (happens g w (step.Finish n) x) (files_of g (happens g w (step.Finish n) x)) (with_event (step.Finish n) x moves) c.calls) (sym unrefused) (finish_comes g w n running sound c)
 comes g w s a _ sound unrefused kept c = still g w _ (files_of g w) refl refl refl refl c
 
--- each lawful history that refuses no memory is come to by moves
-pub history_comes : (g : Setup) (h : History) → IsLawful g h → RefusesNone g h
-    → IsCome g (world g h) (files_of g (world g h))
-history_comes g [] lawful unrefused = record {
-  calls = [];
-  moves = [];
-  cut = refl;
-  items = refl;
-  leads = λ rest. refl;
+-- a world is come to by these moves, whatever calls were the first
+pub record HasCome (g : Setup) (h : History) : Type 0 where
+  pub first : List (List Published)
+  pub come : IsCome g (world g h) (files_of g (world g h)) (moves_in h) first
+
+-- before anything has happened
+pub come_at_first : (g : Setup) → HasCome g []
+come_at_first g = record {
+  first = [];
+  come = record {
+    calls = [];
+    more = [];
+    grows = refl;
+    cut = refl;
+    items = refl;
+    leads = λ rest. refl;
+  };
 }
-history_comes g ((s, a) ∷ before) lawful unrefused =
+
+-- one event more, in a history
+pub comes_behind : (g : Setup) (s : Step) (a : Answer) (before : History) → IsLawful g ((s, a) ∷ before)
+    → RefusesNone g ((s, a) ∷ before) → (c : HasCome g before)
+    → IsCome g (world g ((s, a) ∷ before)) (files_of g (world g ((s, a) ∷ before))) (moves_in ((s, a) ∷ before)) c.come.calls
+comes_behind g s a before lawful unrefused c =
     let apart = lawful_apart g ((s, a) ∷ before) lawful in
-    comes g (world g before) s a (change_of g (world g before) s a apart.0) (sound_of g before apart.1) unrefused.0 (files_kept g s a before apart) (history_comes g before lawful.1 unrefused.1)
+    comes g (world g before) s a (change_of g (world g before) s a apart.0) (sound_of g before apart.1) unrefused.0 (files_kept g s a before apart) c.come
+
+-- each lawful history that refuses no memory is come to by its moves
+pub history_comes : (g : Setup) (h : History) → IsLawful g h → RefusesNone g h
+    → HasCome g h
+history_comes g [] lawful unrefused = come_at_first g
+history_comes g ((s, a) ∷ before) lawful unrefused =
+    let c : HasCome g before = history_comes g before lawful.1 unrefused.1 in
+    record { first = c.come.calls; come = comes_behind g s a before lawful unrefused c }

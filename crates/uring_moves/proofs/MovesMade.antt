@@ -1,5 +1,5 @@
 -- Each list of moves is made by some lawful history: from a world that shows the moment, move by move.
-use Rattle.std.proofs.Common.{◌≡◌, ℕ, ◌+◌, ◌-◌, ◌^◌, ◌≤◌, ℤ, Bool, true, false, not, ◌&&◌, ◌||◌, nat_lt, List, [], ◌∷◌, ◌++◌, length, map, Some, None, if◌then◌else◌, refl, sym, subst, ap, ◌∙◌, arith, append_assoc}
+use Rattle.std.proofs.Common.{◌≡◌, ℕ, ◌+◌, ◌-◌, ◌^◌, ◌≤◌, ℤ, Bool, true, false, not, ◌&&◌, ◌||◌, nat_lt, List, [], ◌∷◌, ◌++◌, length, map, Some, None, if◌then◌else◌, refl, sym, subst, ap, ◌∙◌, arith, append_assoc, append-nil}
 use Rattle.std.specs.Prelude.{All, unwrap_or}
 use Rattle.std.specs.Option.{option_and_then}
 use Rattle.std.proofs.lemmas.Bool.{and_parts, le-ltb}
@@ -25,6 +25,7 @@ use Rattle.uring_laws.proofs.Standing.{items_published}
 use Rattle.uring_moves.specs.Moments.{Moment, posted_with, started, ended_at_once, issued, finished, is_finishable, after_moves}
 use Rattle.uring_moves.specs.Outcomes.{items_in, entries_in}
 use Rattle.uring_moves.specs.Laws.{GoesThrough}
+use Rattle.uring_moves.specs.Recorded.{with_event}
 use Rattle.uring_moves.specs.declared.move_of_calls.Move.{Move}
 use Rattle.uring_moves.specs.declared.move_of_calls.Move.TheVariants as move
 use Rattle.uring_moves.proofs.ItemLists.{item, items_behind, items_more, few_entries}
@@ -48,9 +49,9 @@ posted_by_end size l entry res bytes = by_test (posts_completion entry res) wher
   by_test true = refl
   by_test false = refl
 
--- A world between calls, in which these calls were taken: nothing was reaped.
-pub record Between (g : Setup) (w : World) (files : List FileContents) (done : List (List Published)) : Type 0 where
-  pub reaches : Reaches g w files
+-- A world between calls, in which these calls were taken, by these moves: nothing was reaped.
+pub record Between (g : Setup) (w : World) (files : List FileContents) (done : List (List Published)) (moves : List Move) : Type 0 where
+  pub reaches : Reaches g w files moves
   pub stands : Stands w.submission [] 0
   pub is_open : w.is_closed ≡ false
   pub published : published_items w.submission ≡ items_in done
@@ -60,10 +61,10 @@ pub record Between (g : Setup) (w : World) (files : List FileContents) (done : L
 
 -- A call.
 
-call_made : (g : Setup) → g.stops ≡ false → (w : World) (files : List FileContents) (done : List (List Published)) (call : List Published)
-    → Between g w files done → GoesThrough g.sq call
+call_made : {moves : List Move} (g : Setup) → g.stops ≡ false → (w : World) (files : List FileContents) (done : List (List Published)) (call : List Published)
+    → Between g w files done moves → GoesThrough g.sq call
     → length w.requests.accepted + length call ≤ 2 ^ 63 - 1
-    → Between g (after_call (with_call_published g w call) (length call)) files (done ++ call ∷ [])
+    → Between g (after_call (with_call_published g w call) (length call)) files (done ++ call ∷ []) (moves ++ move.Accept ∷ [])
     × (entries_from (with_call_published g w call).submission (length call) ≡ entries_in call)
 call_made g goes w files done call b goes_in room =
     let t = call_is_taken g goes w files call b.reaches b.stands b.is_open (le-ltb (2 ^ 63 - 1) (length w.requests.accepted + length call) room) goes_in.few in
@@ -96,8 +97,9 @@ record Aside (w v : World) : Type 0 where
   reaped : v.completions.reaped ≡ w.completions.reaped
   stored : v.completions.head ≡ w.completions.head
 
-between_still : (g : Setup) (w v : World) (files files' : List FileContents) (done : List (List Published))
-    → Between g w files done → Aside w v → Reaches g v files' → Between g v files' done
+between_still : {moves moves' : List Move} (g : Setup) (w v : World) (files files' : List FileContents) (done : List (List Published))
+    → Between g w files done moves → Aside w v → Reaches g v files' moves'
+    → Between g v files' done moves'
 between_still g w v files files' done b aside there = record {
   reaches = there;
   stands = subst (λ l. Stands l [] 0) (sym aside.submission) b.stands;
@@ -124,6 +126,7 @@ end_stores_none size l entry res bytes = by_test (posts_completion entry res) wh
 
 record IssueMade (g : Setup) (w : World) (n : ℕ) (files : List FileContents) (left : List (List Sqe)) (a : Answer) (next : Moment) : Type 0 where
   not_again : a ≡ answer.Again → ⊥
+  moves : (before : List Move) → with_event (step.Issue n) a before ≡ before ++ move.Issue n ∷ []
   shows : moment_of (happens g w (step.Issue n) a) files left ≡ next
   aside : Aside w (happens g w (step.Issue n) a)
 
@@ -133,6 +136,7 @@ ends_at_once g w n files left res =
     let v : World = happens g w (step.Issue n) (answer.Ended res no_bytes) in
     record {
       not_again = λ e. cc;
+      moves = λ before. refl;
       shows = ap (λ posted. record { requests = v.requests; posted = posted; files = files; left = left }) (posted_by_end g.cq w.completions (entry_of w.requests n) res no_bytes);
       aside = record {
         submission = refl;
@@ -154,6 +158,7 @@ issue_made g w n files left true false false true true can =
     ends_at_once g w n files left (cancel_result w.requests n)
 issue_made g w n files left true false false true false can = record {
   not_again = λ e. cc;
+  moves = λ before. refl;
   shows = refl;
   aside = record { submission = refl; closed = refl; accepted = refl; reaped = refl; stored = refl };
 }
@@ -163,55 +168,56 @@ issue_made g w n files left false running doomed ready cancel can = absurd cc
 
 -- All moves.
 
--- a history that shows the last moment, in which these calls were taken and those are left
-pub record Made (g : Setup) (calls : List (List Published)) (last : Moment) : Type 0 where
+-- a history of these moves that shows the last moment, in which these calls were taken and those are left
+pub record Made (g : Setup) (calls : List (List Published)) (last : Moment) (moves : List Move) : Type 0 where
   pub there : World
   pub files : List FileContents
   pub done : List (List Published)
   pub rest : List (List Published)
-  pub between : Between g there files done
+  pub between : Between g there files done moves
   pub shows : moment_of there files (map entries_in rest) ≡ last
   pub split : done ++ rest ≡ calls
 
 -- these moves are made, wherever they lead from
 abbrev AreMade : Setup → List (List Published) → Moment → List Move → Type 0
 AreMade g calls last moves =
-    (w : World) (files : List FileContents) (done rest : List (List Published)) → done ++ rest ≡ calls
-    → Between g w files done → All (GoesThrough g.sq) rest
+    (w : World) (files : List FileContents) (done rest : List (List Published)) (before : List Move)
+    → done ++ rest ≡ calls → Between g w files done before → All (GoesThrough g.sq) rest
     → length w.requests.accepted + length (items_in rest) ≤ 2 ^ 63 - 1
-    → after_moves (moment_of w files (map entries_in rest)) moves ≡ Some last → Made g calls last
+    → after_moves (moment_of w files (map entries_in rest)) moves ≡ Some last → Made g calls last (before ++ moves)
 
 accept_made : (g : Setup) → g.stops ≡ false → (calls : List (List Published)) (last : Moment) (later : List Move)
     → AreMade g calls last later → AreMade g calls last (move.Accept ∷ later)
-accept_made g goes calls last later next w files done [] split b fit room leads = absurd cc
-accept_made g goes calls last later next w files done (call ∷ rest) split b fit room leads =
+accept_made g goes calls last later next w files done [] before split b fit room leads = absurd cc
+accept_made g goes calls last later next w files done (call ∷ rest) before split b fit room leads =
     let many : length (items_in (call ∷ rest)) ≡ length call + length (items_in rest) = length-append call (items_in rest) in
     let made = call_made g goes w files done call b (All-head (GoesThrough g.sq) call rest fit) (omega (arith, room, many)) in
     let w2 : World = with_call_published g w call in
     let v : World = after_call w2 (length call) in
     let same : length (entries_from w2.submission (length call)) ≡ length (entries_in call) = ap length made.1 in
     let longer : length v.requests.accepted ≡ length w.requests.accepted + length (entries_from w2.submission (length call)) = length-append w.requests.accepted (entries_from w2.submission (length call)) in
-    next v files (done ++ call ∷ []) rest (append_assoc done (call ∷ []) rest ∙ split) made.0 (All-tail (GoesThrough g.sq) call rest fit) (omega (arith, room, many, same, longer, few_entries call))
-    (subst (λ es. after_moves (record { requests = with_call w.requests es; posted = w.completions.posted; files = files; left = map entries_in rest }) later ≡ Some last) (sym made.1) leads)
+    subst (Made g calls last) (append_assoc before (move.Accept ∷ []) later) (next v files (done ++ call ∷ []) rest (before ++ move.Accept ∷ []) (append_assoc done (call ∷ []) rest ∙ split) made.0 (All-tail (GoesThrough g.sq) call rest fit) (omega (arith, room, many, same, longer, few_entries call))
+    (subst (λ es. after_moves (record { requests = with_call w.requests es; posted = w.completions.posted; files = files; left = map entries_in rest }) later ≡ Some last) (sym made.1) leads))
 
 issue_step : (g : Setup) (calls : List (List Published)) (last : Moment) (n : ℕ) (later : List Move)
     → AreMade g calls last later → AreMade g calls last (move.Issue n ∷ later)
-issue_step g calls last n later next w files done rest split b fit room leads = by_test (is_issuable w.requests n) refl leads where
-  by_test : (can : Bool) → is_issuable w.requests n ≡ can → option_and_then (λ m. after_moves m later) (if can then Some (issued (moment_of w files (map entries_in rest)) n) else None) ≡ Some last → Made g calls last
+issue_step g calls last n later next w files done rest before split b fit room leads = by_test (is_issuable w.requests n) refl leads where
+  by_test : (can : Bool) → is_issuable w.requests n ≡ can → option_and_then (λ m. after_moves m later) (if can then Some (issued (moment_of w files (map entries_in rest)) n) else None) ≡ Some last → Made g calls last (before ++ move.Issue n ∷ later)
   by_test false is leads = absurd cc
   by_test true is leads =
       let r : Requests = w.requests in
       let a : Answer = issue_answer w n in
       let v : World = happens g w (step.Issue n) a in
       let m = issue_made g w n files (map entries_in rest) (is_outstanding r n) (is_running r n) (is_doomed r n) (is_ready r n) (is_cancel (entry_of r n)) is in
-      next v files done rest split (between_still g w v files files done b m.aside (step_on g w files (step.Issue n) a b.reaches tt refl m.not_again)) fit
+      let there : Reaches g v files (before ++ move.Issue n ∷ []) = subst (Reaches g v files) (m.moves before) (step_on g w files (step.Issue n) a b.reaches tt refl m.not_again) in
+      subst (Made g calls last) (append_assoc before (move.Issue n ∷ []) later) (next v files done rest (before ++ move.Issue n ∷ []) split (between_still g w v files files done b m.aside there) fit
       (subst (λ xs. length xs + length (items_in rest) ≤ 2 ^ 63 - 1) (sym m.aside.accepted) room)
-      (subst (λ x. after_moves x later ≡ Some last) (sym m.shows) leads)
+      (subst (λ x. after_moves x later ≡ Some last) (sym m.shows) leads))
 
 finish_step : (g : Setup) (calls : List (List Published)) (last : Moment) (n : ℕ) (later : List Move)
     → AreMade g calls last later → AreMade g calls last (move.Finish n ∷ later)
-finish_step g calls last n later next w files done rest split b fit room leads = by_test (is_finishable w.requests n) refl leads where
-  by_test : (can : Bool) → is_finishable w.requests n ≡ can → option_and_then (λ m. after_moves m later) (if can then Some (finished (moment_of w files (map entries_in rest)) n) else None) ≡ Some last → Made g calls last
+finish_step g calls last n later next w files done rest before split b fit room leads = by_test (is_finishable w.requests n) refl leads where
+  by_test : (can : Bool) → is_finishable w.requests n ≡ can → option_and_then (λ m. after_moves m later) (if can then Some (finished (moment_of w files (map entries_in rest)) n) else None) ≡ Some last → Made g calls last (before ++ move.Finish n ∷ later)
   by_test false is leads = absurd cc
   by_test true is leads =
       let running : is_running w.requests n ≡ true = (and_parts (nat_lt n (length w.requests.accepted)) (is_running w.requests n) is).1 in
@@ -227,17 +233,17 @@ finish_step g calls last n later next w files done rest split b fit room leads =
       } in
       let shows : moment_of v files' (map entries_in rest) ≡ finished (moment_of w files (map entries_in rest)) n =
       ap (λ posted. record { requests = v.requests; posted = posted; files = files'; left = map entries_in rest }) (posted_by_end g.cq w.completions (entry_of w.requests n) o.res o.bytes) in
-      next v files' done rest split (between_still g w v files files' done b aside (finish_on g w files n b.reaches running)) fit room
-      (subst (λ x. after_moves x later ≡ Some last) (sym shows) leads)
+      subst (Made g calls last) (append_assoc before (move.Finish n ∷ []) later) (next v files' done rest (before ++ move.Finish n ∷ []) split (between_still g w v files files' done b aside (finish_on g w files n b.reaches running)) fit room
+      (subst (λ x. after_moves x later ≡ Some last) (sym shows) leads))
 
 pub moves_made : (g : Setup) → g.stops ≡ false → (calls : List (List Published)) (last : Moment) (moves : List Move)
     → AreMade g calls last moves
-moves_made g goes calls last [] = λ w files done rest split b fit room leads. record {
+moves_made g goes calls last [] = λ w files done rest before split b fit room leads. record {
   there = w;
   files = files;
   done = done;
   rest = rest;
-  between = b;
+  between = subst (Between g w files done) (sym (append-nil before)) b;
   shows = ap (λ o. unwrap_or o last) leads;
   split = split;
 }

@@ -13,6 +13,8 @@ use Rattle.uring_core.specs.CalledFor.{files_of}
 use Rattle.uring_core.specs.Histories.{world}
 use Rattle.uring_moves.specs.Moments.{Moment, starting, after_moves}
 use Rattle.uring_moves.specs.Outcomes.{CallsOutcome, ComesTo, items_in, entries_in, bad_in}
+use Rattle.uring_moves.specs.Recorded.{moves_in}
+use Rattle.uring_moves.specs.declared.move_of_calls.Move.{Move}
 use Rattle.uring_moves.specs.Laws.{HistoriesAreMoves, MovesAreHistories, IsPlayed}
 use Rattle.uring_moves.proofs.ItemLists.{item, dropped_back, length_items}
 use Rattle.uring_moves.proofs.MovesMade.{moment_of, Between, moves_made}
@@ -28,7 +30,7 @@ first_length e = cc
 other_lengths : {x y : ℕ} {xs ys : List ℕ} → x ∷ xs ≡ y ∷ ys → xs ≡ ys
 other_lengths e = cc
 
-same_cut : (xs ys : List (List Published)) → map length xs ≡ map length ys
+pub same_cut : (xs ys : List (List Published)) → map length xs ≡ map length ys
     → items_in xs ≡ items_in ys → xs ≡ ys
 same_cut [] [] lengths items = refl
 same_cut [] (y ∷ ys) lengths items = absurd (omega (arith, ap length lengths))
@@ -40,7 +42,7 @@ same_cut (x ∷ xs) (y ∷ ys) lengths items =
     ap₂ (λ c cs. c ∷ cs) here (same_cut xs ys (other_lengths lengths) behind)
 
 -- if closed calls took all positions, what was published is what they took
-all_taken : (l : Submission) (calls : List (List Published)) → published_items l ≡ items_in calls
+pub all_taken : (l : Submission) (calls : List (List Published)) → published_items l ≡ items_in calls
     → l.calls ≡ map length calls → take (taken l) (published_items l) ≡ items_in calls
 all_taken l calls published cut =
     ap (λ n. take n (published_items l)) (ap sum cut ∙ sym (length_items calls) ∙ ap length (sym published)) ∙ take-length (published_items l) ∙ published
@@ -55,14 +57,14 @@ histories_are_moves g calls o outcome =
     let c : ComesTo g calls outcome.history o = outcome.comes in
     let w : World = world g outcome.history in
     let files : List FileContents = files_of g w in
-    let m = history_comes g outcome.history c.lawful c.refuses_none in
+    let m = (history_comes g outcome.history c.lawful c.refuses_none).come in
     let same : m.calls ≡ calls = same_cut m.calls calls (m.cut ∙ c.cut) (m.items ∙ all_taken w.submission calls c.published c.cut) in
     let begins : map entries_in m.calls ++ [] ≡ map entries_in calls = append-nil (map entries_in m.calls) ∙ ap (map entries_in) same in
     record {
       leads = record {
-        moves = m.moves;
+        moves = moves_in outcome.history;
         last = moment_of w files [];
-        leads = ap (λ xs. after_moves (starting g xs) m.moves) (sym begins) ∙ m.leads [];
+        leads = ap (λ xs. after_moves (starting g xs) (moves_in outcome.history)) (sym begins) ∙ m.leads [];
         over = record { none_left = refl; none_outstanding = c.none_outstanding };
         posts = c.posted;
         leaves = c.files;
@@ -72,7 +74,7 @@ histories_are_moves g calls o outcome =
 
 -- From moves to histories.
 
-first_between : (g : Setup) → Between g at_first (empty_files g.files) []
+pub first_between : (g : Setup) → Between g at_first (empty_files g.files) [] []
 first_between g = record {
   reaches = at_the_start g;
   stands = record { fresh = refl; call = refl; head = refl; waiting = refl };
@@ -83,7 +85,7 @@ first_between g = record {
   none_stored = refl;
 }
 
-some_size : (size : ℕ) → IsPowerOfTwo size → 1 ≤ size
+pub some_size : (size : ℕ) → IsPowerOfTwo size → 1 ≤ size
 some_size size (k, power) = let some = pow_pos k in omega arith
 
 none_left : (calls : List (List Published)) → map entries_in calls ≡ [] → calls ≡ []
@@ -91,7 +93,7 @@ none_left [] e = refl
 none_left (call ∷ later) e = absurd (omega (arith, ap length e))
 
 -- what the history comes to that made this world, of these calls
-comes_to : (g : Setup) (w : World) (files : List FileContents) (calls : List (List Published)) (o : CallsOutcome) (v : AllReaped g w files)
+comes_to : {moves : List Move} (g : Setup) (w : World) (files : List FileContents) (calls : List (List Published)) (o : CallsOutcome) (v : AllReaped g w files moves)
     → published_items w.submission ≡ items_in calls → w.submission.calls ≡ map length calls
     → outstanding_in w.requests ≡ 0 → w.completions.posted ≡ o.posted → files ≡ o.files
     → o.dropped ≡ bad_in (items_in calls) % 2 ^ 32
@@ -119,13 +121,13 @@ comes_to g w files calls o v published cut none_outstanding posted leaves droppe
 pub moves_are_histories : (g : Setup) → MovesAreHistories g
 moves_are_histories g calls o whole to =
     let lead = to.leads in
-    let m = moves_made g whole.goes_on calls lead.last lead.moves at_first (empty_files g.files) [] calls refl (first_between g) whole.fit (omega (arith, whole.unspent)) lead.leads in
+    let m = moves_made g whole.goes_on calls lead.last lead.moves at_first (empty_files g.files) [] calls [] refl (first_between g) whole.fit (omega (arith, whole.unspent)) lead.leads in
     let b = m.between in
     let w : World = m.there in
     let rest : m.rest ≡ [] = none_left m.rest (ap (λ (x : Moment). x.left) m.shows ∙ lead.over.none_left) in
     let done : m.done ≡ calls = sym (append-nil m.done) ∙ ap (λ xs. m.done ++ xs) (sym rest) ∙ m.split in
     let some : 1 ≤ g.cq = omega (arith, whole.limits.cq_holds_sq, some_size g.sq whole.limits.sq_power) in
-    let v : AllReaped g w m.files = all_reaped g w.completions.posted w m.files some b.reaches (b.none_stored ∙ ap length (sym b.none_reaped)) (ap (λ xs. xs ++ w.completions.posted) b.none_reaped) in
+    let v : AllReaped g w m.files lead.moves = all_reaped g w.completions.posted w m.files some b.reaches (b.none_stored ∙ ap length (sym b.none_reaped)) (ap (λ xs. xs ++ w.completions.posted) b.none_reaped) in
     comes_to g w m.files calls o v (b.published ∙ ap items_in done) (b.cut ∙ ap (map length) done)
     (ap (λ (x : Moment). outstanding_in x.requests) m.shows ∙ lead.over.none_outstanding)
     (ap (λ (x : Moment). x.posted) m.shows ∙ lead.posts)

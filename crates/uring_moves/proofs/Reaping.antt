@@ -12,12 +12,13 @@ use Rattle.uring_core.specs.StepAnswers.{reap_answer_of}
 use Rattle.uring_core.specs.declared.step.Step.TheVariants as step
 use Rattle.uring_core.specs.declared.answer.Answer.{Answer}
 use Rattle.uring_core.specs.declared.answer.Answer.TheVariants as answer
+use Rattle.uring_moves.specs.declared.move_of_calls.Move.{Move}
 use Rattle.uring_moves.proofs.Reaching.{Reaches, step_on}
 
 -- a world like another, in which all that was posted was reaped
-pub record AllReaped (g : Setup) (w : World) (files : List FileContents) : Type 0 where
+pub record AllReaped (g : Setup) (w : World) (files : List FileContents) (moves : List Move) : Type 0 where
   pub there : World
-  pub reaches : Reaches g there files
+  pub reaches : Reaches g there files moves
   pub submission : there.submission ≡ w.submission
   pub requests : there.requests ≡ w.requests
   pub posted : there.completions.posted ≡ w.completions.posted
@@ -44,24 +45,24 @@ next_is size l c later some head split =
     ∙ ap (λ xs. slice_get xs (length l.reaped)) (sym split)
     ∙ element_behind l.reaped c later
 
-one_reaped : (g : Setup) (w : World) (files : List FileContents) (c : Cqe) (later : List Cqe) → 1 ≤ g.cq
-    → Reaches g w files → w.completions.head ≡ length w.completions.reaped
+one_reaped : {moves : List Move} (g : Setup) (w : World) (files : List FileContents) (c : Cqe) (later : List Cqe) → 1 ≤ g.cq
+    → Reaches g w files moves → w.completions.head ≡ length w.completions.reaped
     → w.completions.reaped ++ c ∷ later ≡ w.completions.posted
-    → Reaches g (with_one_reaped g w c) files
-one_reaped g w files c later some there head split =
+    → Reaches g (with_one_reaped g w c) files moves
+one_reaped {moves} g w files c later some there head split =
     let a1 : Answer = answer.Moved (put_by_flush g.cq w.completions - w.completions.put) in
     let w1 : World = happens g w step.Flush a1 in
-    let r1 : Reaches g w1 files = step_on g w files step.Flush a1 there tt refl (λ e. cc) in
+    let r1 : Reaches g w1 files moves = step_on g w files step.Flush a1 there tt refl (λ e. cc) in
     let a2 : Answer = answer.Tail (word_of g.start w1.completions.put) in
     let w2 : World = happens g w1 step.LoadCqTail a2 in
-    let r2 : Reaches g w2 files = step_on g w1 files step.LoadCqTail a2 r1 tt refl (λ e. cc) in
+    let r2 : Reaches g w2 files moves = step_on g w1 files step.LoadCqTail a2 r1 tt refl (λ e. cc) in
     let w3 : World = happens g w2 step.Reap (answer.Reaped c) in
-    let r3 : Reaches g w3 files = step_on g w2 files step.Reap (answer.Reaped c) r2 tt (sym (ap reap_answer_of (next_is g.cq w.completions c later some head split))) (λ e. cc) in
+    let r3 : Reaches g w3 files moves = step_on g w2 files step.Reap (answer.Reaped c) r2 tt (sym (ap reap_answer_of (next_is g.cq w.completions c later some head split))) (λ e. cc) in
     step_on g w3 files step.StoreCqHead (answer.Head (word_of g.start (length w3.completions.reaped))) r3 tt refl (λ e. cc)
 
-pub all_reaped : (g : Setup) (left : List Cqe) (w : World) (files : List FileContents) → 1 ≤ g.cq
-    → Reaches g w files → w.completions.head ≡ length w.completions.reaped
-    → w.completions.reaped ++ left ≡ w.completions.posted → AllReaped g w files
+pub all_reaped : {moves : List Move} (g : Setup) (left : List Cqe) (w : World) (files : List FileContents) → 1 ≤ g.cq
+    → Reaches g w files moves → w.completions.head ≡ length w.completions.reaped
+    → w.completions.reaped ++ left ≡ w.completions.posted → AllReaped g w files moves
 all_reaped g [] w files some there head split = record {
   there = w;
   reaches = there;

@@ -58,8 +58,8 @@ own_options Crashes = flag (codes "stop") ∷ number (codes "file") 0 63
     ∷ number (codes "unit") 1 65536 ∷ number (codes "at") 0 4294967295
     ∷ number (codes "seed") 0 4294967295 ∷ flag (codes "count") ∷ flag (codes "all")
     ∷ number (codes "most") 1 4294967295 ∷ flag (codes "holds") ∷ flag (codes "each") ∷ []
-own_options Lists = flag (codes "results") ∷ flag (codes "contents")
-    ∷ number (codes "most") 1 4294967295 ∷ number (codes "explain") 1 4294967295
+own_options Lists = flag (codes "results") ∷ flag (codes "contents") ∷ flag (codes "crash")
+    ∷ number (codes "unit") 1 65536 ∷ number (codes "most") 1 4294967295 ∷ number (codes "explain") 1 4294967295
     ∷ flag (codes "never") ∷ flag (codes "always") ∷ []
 own_options Fills = flag (codes "stop") ∷ number (codes "most") 1 4294967295 ∷ []
 
@@ -248,9 +248,10 @@ IsRunOver run rows n (Crash s file unit at seed is_count is_all most is_holds is
     × IsGiven rows (codes "count") is_count × IsGiven rows (codes "all") is_all
     × Gives rows (codes "most") most × IsGiven rows (codes "holds") is_holds
     × IsGiven rows (codes "each") is_each
-IsRunOver run rows n (Outcomes s is_sorted has_files most line is_never is_always) =
+IsRunOver run rows n (Outcomes s is_sorted has_files is_crash unit most line is_never is_always) =
     (run ≡ Lists) × IsSetupOver n s
     × IsGiven rows (codes "results") is_sorted × IsGiven rows (codes "contents") has_files
+    × IsGiven rows (codes "crash") is_crash × IsNumberOr rows (codes "unit") 1 65536 1 unit
     × Gives rows (codes "most") most × Gives rows (codes "explain") line
     × IsGiven rows (codes "never") is_never × IsGiven rows (codes "always") is_always
 IsRunOver run rows n (Fill s most) =

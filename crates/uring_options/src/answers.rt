@@ -91,6 +91,10 @@ pub enum Options {
         is_sorted: bool,
         /// Whether the files follow (`--contents`).
         has_files: bool,
+        /// Whether it is what a power failure may show (`--crash`).
+        is_crash: bool,
+        /// How many bytes a crash leaves by themselves (`--unit`).
+        unit: u32,
         /// After how many paths the walk stops (`--most`).
         most: Option<u32>,
         /// Of which outcome a history is written, counted from 1 (`--explain`).

@@ -10,7 +10,7 @@ ghost use Rattle.uring_options.specs.CommandLine.{option_rule, flag_rule, uring}
 use crate::helps::{CLAIMS, IMAGES, ITEMS, REASONS, RECORDS, SEEN, STEPS};
 use crate::option_rows::{
     ALL, ALLOWED, ALWAYS, APART, AT, CONTENTS, COUNT, CQ, EACH, ECHO, FILE, FILES, GRAPH, GRAPH_AT,
-    HISTORIES, HOLDS, JSON, LIST, LISTED, MOST, NEVER, NUMBER, OptionRow, PAGE, RESULTS, SEED,
+    HISTORIES, HOLDS, JSON, LIST, LISTED, MOST, NEVER, NUMBER, OptionRow, PAGE, POWER, RESULTS, SEED,
     SHARED, SQ, START, STOP, STRICT, TIMELINE, UNIT, WORKERS,
 };
 use clap::builder::ValueParser;
@@ -76,7 +76,7 @@ static OUTCOMES: CommandRow = CommandRow {
     about: "Read calls as play does, and write everything that they may come to",
     after_help: CLAIMS,
     options: &[
-        SQ, CQ, FILES, START, RESULTS, CONTENTS, MOST, NUMBER, NEVER, ALWAYS,
+        SQ, CQ, FILES, START, RESULTS, CONTENTS, POWER, UNIT, MOST, NUMBER, NEVER, ALWAYS,
     ],
 };
 

@@ -195,7 +195,19 @@ such an outcome is written, as check reads it. With --explain N the history of
 line N is written.
 
 With --most N the walk stops after N paths: what was found is right, and the last
-line says that there may be more. The status is 3 then, if it isn't known.";
+line says that there may be more. The status is 3 then, if it isn't known.
+
+With --crash the power fails at any moment, and each line is what it may show: the
+completions posted by then, in their order, and what may be left of each file:
+  cqe 1 0 -, file 0 len 0 data -, file 1 len 0 data -
+  none, file 0 len 0 data -, file 1 len 0 data -
+  crashes 2
+A request may run then, and any part of a write may be left that isn't safe, as
+crash has it: with --unit 512 each 512 bytes of a file as a whole. A LINE is shown
+as above; where a claim isn't so, a line that shows it is written, and the status
+is 1. --results, --contents and --explain count for nothing. It walks all orders
+of starts and ends, so it is for small calls: four loose requests, or six in
+chains. If more than 1000 images may be left of a file, the status is 3.";
 
 /// What `uring fill` reads and writes, for its help.
 pub(crate) const SEEN: &str = "\

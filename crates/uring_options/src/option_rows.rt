@@ -177,6 +177,12 @@ pub(crate) const CONTENTS: OptionRow = OptionRow {
     numbers: None,
 };
 
+pub(crate) const POWER: OptionRow = OptionRow {
+    id: "crash",
+    help: "Write what a power failure may show of the calls, at any moment",
+    numbers: None,
+};
+
 pub(crate) const MOST: OptionRow = OptionRow {
     id: "most",
     help: "Stop after so many paths, and say that these are not known to be all",

@@ -1,0 +1,235 @@
+//! What a power failure may show of calls, as text: line by line, and claims about the lines.
+
+use crate::calls::entries_in;
+use crate::claims::{Claim, shows_some, so_by};
+use crate::lines::{join, sorted_of};
+use crate::listing::{push_lines, write_text};
+use crate::parts::{add_completions, push_hex};
+use std::alloc::{AllocError, Global};
+use std::io::{Read, Write};
+use uring_entry::Setup;
+use uring_play_text::{Item, PlayFault, read_calls};
+use uring_power::{Crash, CrashFault, FoundCrashes, crashes_within};
+use uring_text::{push_number, push_text};
+
+/// The most images that may be left of one file at one moment.
+pub const MOST_IMAGES: u32 = 1_000;
+
+/// What became of a list of what a power failure may show.
+#[derive(Clone, Copy, Debug, PartialEq, Eq)]
+pub enum CrashesListed {
+    /// It was written, and is all.
+    All,
+
+    /// It was written, but the walk stopped before its end.
+    Stopped,
+
+    /// More images may be left of a file than are listed. Nothing is written.
+    TooMany,
+}
+
+/// What became of a claim of what a power failure may show.
+#[derive(Drop)]
+pub enum CrashesJudged {
+    /// It is so of each line, and these are so many.
+    Holds { count: usize },
+
+    /// It isn't so of this line.
+    Fails { line: String },
+
+    /// It is so of so many lines, but the walk stopped before its end.
+    Unknown { count: usize },
+
+    /// More images may be left of a file than are listed.
+    TooMany,
+}
+
+/// Reads calls, as `list` does, and writes what a power failure may show of them at any moment, on empty files of this set-up of which each unit of so many bytes is left by itself: a line each, sorted by bytes, and then how many lines these are. The walk stops after so many paths.
+///
+/// The faults are those of `list`.
+pub fn list_crashes<R: Read, W: Write>(
+    alloc: Global,
+    reader: &mut R,
+    writer: &mut W,
+    setup: &Setup,
+    unit: u32,
+    most: u64,
+) -> Result<CrashesListed, PlayFault> {
+    let Some((lines, is_all)) = crash_lines(alloc, reader, setup, unit, most)? else {
+        return Ok(CrashesListed::TooMany);
+    };
+    let text = text_of(alloc, lines.as_slice(), is_all, most);
+    drop(lines);
+    let text = text?;
+    write_text(writer, text.as_str())?;
+    Ok(if is_all {
+        CrashesListed::All
+    } else {
+        CrashesListed::Stopped
+    })
+}
+
+/// Reads calls, as `list` does, and tells whether a claim of lines, each as its parts, is so of all that a power failure may show of them.
+///
+/// The faults are those of `read_calls`; `Memory` too if the walk is refused memory.
+pub fn judge_crashes<R: Read>(
+    alloc: Global,
+    reader: &mut R,
+    setup: &Setup,
+    unit: u32,
+    claim: Claim,
+    lines: &[Vec<String>],
+    most: u64,
+) -> Result<CrashesJudged, PlayFault> {
+    let Some((shown, is_all)) = crash_lines(alloc, reader, setup, unit, most)? else {
+        return Ok(CrashesJudged::TooMany);
+    };
+    let against = first_against(alloc, shown.as_slice(), claim, lines);
+    let count = shown.len();
+    drop(shown);
+    Ok(match against? {
+        Some(line) => CrashesJudged::Fails { line },
+        None if is_all => CrashesJudged::Holds { count },
+        None => CrashesJudged::Unknown { count },
+    })
+}
+
+/// The lines of what a power failure may show of the calls that are read, sorted by their bytes, each once, and whether they are all; none if too many images may be left of a file.
+fn crash_lines<R: Read>(
+    alloc: Global,
+    reader: &mut R,
+    setup: &Setup,
+    unit: u32,
+    most: u64,
+) -> Result<Option<(Vec<String>, bool)>, PlayFault> {
+    let items = read_calls(alloc, reader, setup)?;
+    let found = crashes_of(alloc, items.as_slice(), setup, unit, most);
+    drop(items);
+    match found {
+        Ok(FoundCrashes { crashes, is_all }) => {
+            let each = each_line(alloc, crashes.as_slice());
+            drop(crashes);
+            Ok(Some((sorted(alloc, each?)?, is_all)))
+        }
+        Err(CrashFault::Images) => Ok(None),
+        Err(CrashFault::Memory | CrashFault::Wide) => Err(PlayFault::Memory),
+    }
+}
+
+/// What a power failure may show of calls of these items.
+fn crashes_of(
+    alloc: Global,
+    items: &[Vec<Item>],
+    setup: &Setup,
+    unit: u32,
+    most: u64,
+) -> Result<FoundCrashes, CrashFault> {
+    let calls = entries_in(alloc, items)?;
+    let unit = u64::from(unit).max(1);
+    let found = crashes_within(alloc, setup, unit, calls.as_slice(), most, MOST_IMAGES);
+    drop(calls);
+    found
+}
+
+/// These lines sorted by their bytes, each once.
+fn sorted(alloc: Global, each: Vec<String>) -> Result<Vec<String>, AllocError> {
+    let lines = sorted_of(alloc, each.as_slice());
+    drop(each);
+    lines
+}
+
+/// The line of each.
+fn each_line(alloc: Global, crashes: &[Crash]) -> Result<Vec<String>, AllocError> {
+    let mut lines = Vec::new(alloc);
+    for crash in crashes {
+        lines.push(line_of_crash(alloc, crash)?)?;
+    }
+    Ok(lines)
+}
+
+/// The line of what a power failure shows: the completions, and what is left of each file.
+fn line_of_crash(alloc: Global, crash: &Crash) -> Result<String, AllocError> {
+    let parts = parts_of_crash(alloc, crash)?;
+    let line = join(alloc, parts.as_slice());
+    drop(parts);
+    line
+}
+
+/// The parts of what a power failure shows, in order.
+fn parts_of_crash(alloc: Global, crash: &Crash) -> Result<Vec<String>, AllocError> {
+    let mut parts = Vec::new(alloc);
+    add_completions(alloc, &mut parts, crash.posted())?;
+    for (fd, bytes) in crash.left().iter().enumerate() {
+        parts.push(text_of_left(alloc, fd, bytes.as_slice())?)?;
+    }
+    Ok(parts)
+}
+
+/// What is left of a file, as text.
+fn text_of_left(alloc: Global, fd: usize, bytes: &[u8]) -> Result<String, AllocError> {
+    let mut text = String::new(alloc);
+    push_text(&alloc, &mut text, "file ")?;
+    push_number(&alloc, &mut text, fd as u64)?;
+    push_text(&alloc, &mut text, " len ")?;
+    push_number(&alloc, &mut text, bytes.len() as u64)?;
+    push_text(&alloc, &mut text, " data ")?;
+    push_hex(alloc, &mut text, bytes)?;
+    Ok(text)
+}
+
+/// These lines, and how many they are.
+fn text_of(alloc: Global, lines: &[String], is_all: bool, most: u64) -> Result<String, AllocError> {
+    let mut text = String::new(alloc);
+    push_lines(alloc, &mut text, lines)?;
+    push_count(alloc, &mut text, lines.len(), is_all, most)?;
+    Ok(text)
+}
+
+/// Appends how many lines there are; if the walk stopped before its end, how many at least.
+fn push_count(
+    alloc: Global,
+    text: &mut String,
+    count: usize,
+    is_all: bool,
+    most: u64,
+) -> Result<(), AllocError> {
+    push_text(&alloc, text, "crashes ")?;
+    push_number(&alloc, text, count as u64)?;
+    if is_all {
+        return push_text(&alloc, text, "\n");
+    }
+    push_text(&alloc, text, " or more: stopped after ")?;
+    push_number(&alloc, text, most)?;
+    push_text(&alloc, text, " paths\n")
+}
+
+/// The first of these lines of which the claim isn't so, if there is one.
+fn first_against(
+    alloc: Global,
+    shown: &[String],
+    claim: Claim,
+    lines: &[Vec<String>],
+) -> Result<Option<String>, AllocError> {
+    for line in shown {
+        if !is_so_of(alloc, line.as_str(), claim, lines)? {
+            return Ok(Some(String::from_str(alloc, line.as_str())?));
+        }
+    }
+    Ok(None)
+}
+
+/// Whether the claim is so of this line.
+fn is_so_of(
+    alloc: Global,
+    line: &str,
+    claim: Claim,
+    lines: &[Vec<String>],
+) -> Result<bool, AllocError> {
+    let mut parts = Vec::new(alloc);
+    for part in line.split(", ") {
+        parts.push(String::from_str(alloc, part)?)?;
+    }
+    let is_shown = shows_some(parts.as_slice(), lines);
+    drop(parts);
+    Ok(so_by(claim, is_shown))
+}

@@ -1,0 +1,24 @@
+-- Behind lawful histories and behind moves, a power failure may show the same of calls.
+use Rattle.std.specs.Prelude.{◌≡◌, ℕ, List, map}
+use Rattle.uring_entry.specs.Setup.{Setup}
+use Rattle.uring_entry.specs.Submission.{Published}
+use Rattle.uring_core.specs.Histories.{world}
+use Rattle.uring_moves.specs.Outcomes.{entries_in}
+use Rattle.uring_moves.specs.Laws.{AreTakenWhole}
+use Rattle.uring_power.specs.Shown.{Crash, MayShow}
+use Rattle.uring_power.specs.Moves.{CanShow}
+
+-- what it shows behind a history, it shows behind moves
+abbrev pub HistoriesShowMoves : ℕ → Setup → Type 0
+HistoriesShowMoves unit g = (calls : List (List Published)) (c : Crash) → MayShow unit g calls c
+    → CanShow unit g (map entries_in calls) c
+
+-- it shows this behind a history in which the application has reaped all that was posted
+pub record IsSeen (unit : ℕ) (g : Setup) (calls : List (List Published)) (c : Crash) : Type 0 where
+  pub shows : MayShow unit g calls c
+  pub reaped : (world g shows.history).completions.reaped ≡ c.posted
+
+-- What it shows behind moves, it shows behind such a history, if the ring takes each call in whole.
+abbrev pub MovesShowHistories : ℕ → Setup → Type 0
+MovesShowHistories unit g = (calls : List (List Published)) (c : Crash) → AreTakenWhole g calls
+    → CanShow unit g (map entries_in calls) c → IsSeen unit g calls c
