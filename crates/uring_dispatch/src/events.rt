@@ -143,7 +143,9 @@ impl Outstanding {
         self.waiting.relist_other(&self.grouped, others.head, n);
         self.waiting
             .relist_range(&self.grouped, n, others.doomed_end);
-        self.waiting.drop_before(self.grouped.window.first());
+        let first = self.grouped.window.first();
+        self.waiting.drop_before(first);
+        self.by_user_data.drop_before(first);
     }
 }
 
