@@ -1,4 +1,4 @@
-use Rattle.std.proofs.Common.{arith, refl, ◌∙◌}
+use Rattle.std.proofs.Common.{arith, refl}
 use Rattle.uring_dispatch.proofs.by_user_data.ByUserData.fill.Goals as goal
 
 pub loop-n-init : goal.loop-n-init
