@@ -119,22 +119,22 @@ impl Core {
         ensures granted { (h : History) (n : ℕ) → FitsApart self.old h → M.grants memory.now n
             → elements_for self.old (world self.old.setup h) step ≤ n → result ≡ answer.Again → ⊥ }
     {
-        match step {
-            Step::Fill { slot, entry } => self.fill(slot, entry),
-            Step::Index { word } => self.index(word),
-            Step::StoreTail => self.store_tail(),
-            Step::LoadHead => self.load_head(),
-            Step::Begin { count } => self.begin(memory, count),
-            Step::Take => self.take(),
-            Step::End => self.end(),
-            Step::Issue { number } => self.issue(number),
+        match &step {
+            Step::Fill { slot, entry } => return self.fill(*slot, entry),
+            Step::Index { word } => return self.index(*word),
+            Step::StoreTail => return self.store_tail(),
+            Step::LoadHead => return self.load_head(),
+            Step::Begin { count } => return self.begin(memory, *count),
+            Step::Take => return self.take(),
+            Step::End => return self.end(),
+            Step::Issue { number } => return self.issue(*number),
             Step::Finish { .. } => unreachable!(),
-            Step::Flush => self.flush(),
-            Step::LoadCqTail => self.load_cq_tail(),
-            Step::Reap => self.reap(),
-            Step::StoreCqHead => self.store_cq_head(),
-            Step::Close => self.close(),
-            Step::Next => self.ask_next(),
+            Step::Flush => return self.flush(),
+            Step::LoadCqTail => return self.load_cq_tail(),
+            Step::Reap => return self.reap(),
+            Step::StoreCqHead => return self.store_cq_head(),
+            Step::Close => return self.close(),
+            Step::Next => return self.ask_next(),
         }
     }
 
@@ -158,14 +158,14 @@ impl Core {
     }
 
     /// The application writes an entry to a slot.
-    fn fill(&mut self, slot: u32, entry: Sqe) -> Answer
+    fn fill(&mut self, slot: u32, entry: &Sqe) -> Answer
         ensures setup { self.new.setup ≡ self.old.setup }
         ensures fits { (h : History) → FitsApart self.old h
-            → FitsApart self.new ((step.Fill slot entry, result) ∷ h) }
+            → FitsApart self.new ((step.Fill slot entry.now, result) ∷ h) }
         ensures others { self.new ≡ record self.old { sq = self.new.sq } }
         ensures memory { HasNoLessMemory self.old self.new }
     {
-        Answer::from(self.sq.fill(slot, entry))
+        Answer::from(self.sq.fill(slot, *entry))
     }
 
     /// The application stages a word.
@@ -406,6 +406,7 @@ fn accept_call(dispatch: &mut Dispatch, entries: &[Sqe])
 }
 
 /// Posts what the end of a request is to post.
+#[inline(always)]
 fn post_end(cq: &mut Cq, posts: Posts, res: i32, bytes: [u8; 64])
     requires { 0 < cq.old.room }
     ensures shows { (g : Setup) (l : Completions) (entry : Sqe) → posts ≡ posts_of entry res

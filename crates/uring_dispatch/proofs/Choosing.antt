@@ -5,7 +5,7 @@ use Rattle.std.specs.List.{list_any}
 use Rattle.std.specs.Option.{option_to_list}
 use Rattle.std.proofs.lemmas.List.{append-nil, append_assoc}
 use Rattle.std.proofs.lemmas.List.Folds.{list_any-append}
-use Rattle.std.proofs.lemmas.Bool.{cases_eq, and_left}
+use Rattle.std.proofs.lemmas.Bool.{cases_eq}
 use Rattle.std.proofs.Math.Bool.{or-false, and-false}
 use Rattle.uring_entry.specs.Layout.{Sqe, addr_of, user_data_of}
 use Rattle.uring_entry.specs.Preparation.{is_cancel, is_cancel_all}
@@ -23,7 +23,10 @@ use Rattle.uring_dispatch.specs.Grouped.{Shows}
 use Rattle.uring_dispatch.specs.declared.outstanding.Outstanding.{Outstanding}
 use Rattle.uring_dispatch.specs.Choosing.{HasChosen}
 use Rattle.uring_dispatch.specs.declared.waiting.Waiting.{Waiting}
-use Rattle.uring_dispatch.proofs.HeldLemmas.{running-none, running-some, candidate-none}
+use Rattle.uring_dispatch.proofs.HeldLemmas.{running-none, running-some}
+use Rattle.uring_dispatch.specs.ByUserData.{KeepsPlaces}
+use Rattle.uring_dispatch.specs.declared.by_user_data.ByUserData.{ByUserData}
+use Rattle.uring_dispatch.specs.declared.grouped.Grouped.{Grouped}
 
 -- What the end of a request as it is issued dooms.
 
@@ -129,13 +132,14 @@ memory-both s t u a b =
 
 pub chosen-nobody : (d : Outstanding) → HasChosen d d
 chosen-nobody d =
-    record { same = same-none d.grouped.window; groups = refl; memory = record { heads = omega arith; doomed = omega arith } }
+    record { same = same-none d.grouped.window; groups = refl; memory = record { heads = omega arith; doomed = omega arith }; places = omega arith }
 
-chosen-both : (a b c : Outstanding) → HasChosen a b → HasChosen b c → HasChosen a c
+pub chosen-both : (a b c : Outstanding) → HasChosen a b → HasChosen b c → HasChosen a c
 chosen-both a b c x y = record {
   same = same-both a.grouped.window b.grouped.window c.grouped.window x.same y.same;
   groups = y.groups ∙ x.groups;
   memory = memory-both a.waiting b.waiting c.waiting x.memory y.memory;
+  places = let p = x.places in let q = y.places in omega (arith, p, q);
 }
 
 -- Targets.
@@ -180,18 +184,32 @@ pub record AreChosen (old now : Outstanding) (n user_data m count : ℕ) : Type 
   pub shows : (r : Requests) → Shows old.grouped r → user_data ≡ addr_of (entry_of r n)
       → Shows now.grouped (with_cancelled r (all_below (is_target r n) m))
 
-pub chosen-none : (d : Outstanding) (n user_data m : ℕ)
-    → ((k : ℕ) → k < m → at d.grouped.window k ≡ None) → AreChosen d d n user_data m 0
-chosen-none d n user_data m none =
-    let nobody : (r : Requests) → Shows d.grouped r → all_below (is_target r n) m ≡ [] =
-    λ r h. all_below-none (is_target r n) m (λ k lt. and_left _ _ (candidate-none d.grouped.window d.grouped.groups r n k h (none k lt)))
+pub chosen-none : (d e : Outstanding) (n user_data m : ℕ) → e.grouped ≡ d.grouped → HasChosen d e
+    → ((r : Requests) → Shows d.grouped r → user_data ≡ addr_of (entry_of r n) → (k : ℕ) → k < m → is_target r n k ≡ false)
+    → AreChosen d e n user_data m 0
+chosen-none d e n user_data m same chosen none =
+    let nobody : (r : Requests) → Shows d.grouped r → user_data ≡ addr_of (entry_of r n) → all_below (is_target r n) m ≡ [] =
+    λ r h named. all_below-none (is_target r n) m (none r h named)
     in
     record {
-      chosen = chosen-nobody d;
+      chosen = chosen;
       few = omega arith;
-      count_is = λ r h named. sym (ap (λ (xs : List ℕ). length xs) (nobody r h));
-      shows = λ r h named. subst (λ xs. Shows d.grouped (with_cancelled r xs)) (sym (nobody r h)) (subst (λ q. Shows d.grouped q) (sym (none-cancelled r)) h);
+      count_is = λ r h named. sym (ap (λ (xs : List ℕ). length xs) (nobody r h named));
+      shows = λ r h named.
+          subst (λ (z : Grouped). Shows z (with_cancelled r (all_below (is_target r n) m))) (sym same)
+          (subst (λ xs. Shows d.grouped (with_cancelled r xs)) (sym (nobody r h named)) (subst (λ q. Shows d.grouped q) (sym (none-cancelled r)) h));
     }
+
+-- only what is noted of user data differs
+pub chosen-noted : (d e : Outstanding) → e.grouped.window ≡ d.grouped.window
+    → e.grouped.groups ≡ d.grouped.groups → e.waiting ≡ d.waiting
+    → (x y : ByUserData) → d.by_user_data ≡ x → e.by_user_data ≡ y → KeepsPlaces x y → HasChosen d e
+chosen-noted d e window groups waiting x y before after places = record {
+  same = subst (λ (z : Window). HasSameRequests d.grouped.window z) (sym window) (same-none d.grouped.window);
+  groups = groups;
+  memory = subst (λ (z : Waiting). HasMemory d.waiting z) (sym waiting) (record { heads = omega arith; doomed = omega arith });
+  places = subst (λ z. KeepsPlaces z e.by_user_data) (sym before) (subst (λ z. KeepsPlaces x z) (sym after) places);
+}
 
 one-more : (p : ℕ → Bool) (m : ℕ) → p m ≡ true → all_below p (m + 1) ≡ all_below p m ++ m ∷ []
 one-more p m e = let next : m + 1

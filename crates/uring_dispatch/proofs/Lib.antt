@@ -14,6 +14,7 @@ pub mod EndsHeld
 pub mod Issues
 pub mod Touches
 pub mod Changes
+pub mod ByData
 pub mod Choosing
 pub mod Accepts
 pub mod AcceptsHeld

@@ -1,5 +1,5 @@
 -- From what a dispatcher shows to what it holds, and back.
-use Rattle.std.proofs.Common.{◌≡◌, ℕ, ◌+◌, ◌<◌, ◌≤◌, ◌^◌, Result, Ok, Err, is_err, length, Bool, true, false, Option, Some, None, refl, sym, ◌∙◌, ap, subst, arith}
+use Rattle.std.proofs.Common.{◌≡◌, ℕ, ◌+◌, ◌≤◌, Result, Ok, Err, is_err, length, Bool, true, false, Option, Some, None, refl, sym, ◌∙◌, ap, subst, arith}
 use Rattle.std.specs.Prelude.{if◌then◌else◌, MatchOption, IsOk, OnOk}
 use Rattle.std.proofs.lemmas.Bool.{false≢true}
 use Rattle.uring_entry.specs.Preparation.{operation_of}
@@ -15,6 +15,7 @@ use Rattle.uring_dispatch.specs.declared.grouped.Grouped.{Grouped}
 use Rattle.uring_number_set.specs.NumberSet.{stop_of}
 use Rattle.uring_dispatch.specs.declared.waiting.Waiting.{Waiting}
 use Rattle.uring_dispatch.specs.Outstanding.{HasRoom, Stays}
+use Rattle.uring_dispatch.specs.ByUserData.{HasPlaces}
 use Rattle.uring_dispatch.specs.declared.outstanding.Outstanding.{Outstanding}
 use Rattle.uring_dispatch.specs.declared.answers.Issued.{Issued}
 use Rattle.uring_dispatch.specs.declared.answers.Issued.TheVariants.{Run, Ended, NotReady, Running, Unknown}
@@ -124,6 +125,7 @@ room-stays old new room s end r = record {
   groups = omega (arith, s.groups, r.groups);
   heads = omega (arith, end, s.memory.heads, r.heads);
   doomed = omega (arith, end, s.memory.doomed, r.doomed);
+  places = omega (arith, end, r.places, s.places);
 }
 
 pub room-fewer : (d : Outstanding) (room fewer : ℕ) → fewer ≤ room → HasRoom d room → HasRoom d fewer
@@ -132,17 +134,19 @@ room-fewer d room fewer le r = record {
   groups = omega (arith, r.groups);
   heads = omega (arith, r.heads);
   doomed = omega (arith, r.doomed);
+  places = omega (arith, r.places);
 }
 
 -- room was asked for, and not refused
 pub reserved-room : {E : Type 0} (d : Outstanding) (x : Result (Unit {0}) E) (w : Window) (s : Waiting) (count : ℕ)
     → d.grouped.window.room ≡ count → d.grouped.groups.room ≡ count
     → end_of d.grouped.window ≡ end_of w → end_of w ≤ stop_of s.heads → end_of w ≤ stop_of s.doomed
-    → OnOk x (stop_of s.heads + count ≤ d.waiting.heads.limit)
-    → OnOk x (stop_of s.doomed + count ≤ d.waiting.doomed.limit) → OnOk x (HasRoom d count)
-reserved-room d (Ok u) w s count window groups end a b heads doomed =
-    record { window = omega (arith, window); groups = omega (arith, groups); heads = omega (arith, end, a, heads); doomed = omega (arith, end, b, doomed) }
-reserved-room d (Err u) w s count window groups end a b heads doomed = heads
+    → stop_of s.heads + count ≤ d.waiting.heads.limit
+    → stop_of s.doomed + count ≤ d.waiting.doomed.limit
+    → OnOk x (HasPlaces d.by_user_data (end_of d.grouped.window + count)) → OnOk x (HasRoom d count)
+reserved-room d (Ok u) w s count window groups end a b heads doomed places =
+    record { window = omega (arith, window); groups = omega (arith, groups); heads = omega (arith, end, a, heads); doomed = omega (arith, end, b, doomed); places = places }
+reserved-room d (Err u) w s count window groups end a b heads doomed places = places
 
 -- the dispatcher shows no more than before, if only the room of its parts differs
 pub same-view : (d e : Grouped) (room : ℕ) (between : Bool) → HasSameRecords d e

@@ -16,6 +16,7 @@ use uring_entry::errno;
 
 impl Outstanding {
     /// Carries out the cancel `n` of these user data, which is one of all or not, and gives its result.
+    #[inline(never)]
     pub(crate) fn cancel(&mut self, n: u64, user_data: u64, all: bool) -> i32
         requires there { is_some (at self.old.grouped.window n) ≡ true }
         requires waits { runs (at self.old.grouped.window n) ≡ false }
@@ -58,7 +59,9 @@ impl Outstanding {
             → is_cancel (entry_of r n) ≡ true → is_cancel_all (entry_of r n) ≡ false
             → Shows self.new.grouped (with_cancelled r (chosen_by r n result)) }
     {
-        let Some(m) = self.grouped.target(n, user_data) else {
+        self.by_user_data.fill(&self.grouped.window);
+        let span = self.by_user_data.span(user_data);
+        let Some(m) = self.grouped.target(n, user_data, span) else {
             return -errno::ENOENT;
         };
         if self.grouped.window.is_running(m) {
@@ -76,8 +79,13 @@ impl Outstanding {
         ensures shows { (r : Requests) → Shows self.old.grouped r → user_data ≡ addr_of (entry_of r n)
             → Shows self.new.grouped (with_cancelled r (targets_of r n)) }
     {
+        self.by_user_data.fill(&self.grouped.window);
+        let span = self.by_user_data.span(user_data);
+        let first = self.grouped.window.first();
+        let end = self.grouped.window.end();
+        let from = span.from.max(first).min(end);
         let mut count = 0;
-        for m in self.grouped.window.first()..self.grouped.window.end() {
+        for m in from..end {
             if self.grouped.is_target(n, m, user_data) {
                 self.choose(m);
                 count += 1;

@@ -125,6 +125,7 @@ impl Outstanding {
     }
 
     /// Ends request `n`, which has this key and is of this group, lets go what was kept of it, and tells anew who waits.
+    #[inline(always)]
     fn end_by_key(&mut self, n: u64, key: usize, group: &Group, is_success: bool)
         requires found { key_at self.old.grouped.window.first self.old.grouped.window.keys n ≡ Some key }
         requires group { IsGroupOf self.old.grouped n group.now }
@@ -142,7 +143,9 @@ impl Outstanding {
         self.waiting.relist_other(&self.grouped, others.head, n);
         self.waiting
             .relist_range(&self.grouped, n, others.doomed_end);
-        self.waiting.drop_before(self.grouped.window.first());
+        let first = self.grouped.window.first();
+        self.waiting.drop_before(first);
+        self.by_user_data.drop_before(first);
     }
 }
 

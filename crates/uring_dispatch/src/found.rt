@@ -7,6 +7,7 @@ ghost use Rattle.uring_dispatch.specs.Cancels.{found_as, found_by};
 ghost use Rattle.uring_dispatch.specs.Grouped.{Shows};
 
 use crate::answers::Found;
+use crate::by_user_data::Span;
 use crate::grouped::Grouped;
 use uring_entry::Op;
 
@@ -35,7 +36,11 @@ impl Grouped {
         ensures { (r : Requests) → Shows self.now r → user_data ≡ addr_of (entry_of r n)
             → result ≡ found_as r (target_of r n) }
     {
-        let Some(m) = self.target(n, user_data) else {
+        let all = Span {
+            from: 0,
+            to: self.window.end(),
+        };
+        let Some(m) = self.target(n, user_data, all) else {
             return Found::Nobody;
         };
         if self.window.is_running(m) {

@@ -2,6 +2,7 @@
 #![tactic(auto)]
 
 mod answers;
+mod by_user_data;
 mod cancels;
 mod dispatch;
 mod errors;

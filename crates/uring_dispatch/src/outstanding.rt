@@ -1,19 +1,23 @@
-//! The outstanding requests: their groups, and who of them waits.
+//! The outstanding requests: their groups, who of them waits, and where those with the same user data are.
 
 ghost use Rattle.uring_dispatch.specs.Waiting.{IsListed};
+ghost use Rattle.uring_dispatch.specs.ByUserData.{AreFound};
 
+use crate::by_user_data::ByUserData;
 use crate::grouped::Grouped;
 use crate::waiting::Waiting;
 use std::alloc::{AllocError, Global};
 use uring_entry::Sqe;
 use uring_memory::Memory;
 
-/// The outstanding requests and their groups, and who of them waits at the head of its group or is doomed.
+/// The outstanding requests and their groups, who of them waits at the head of its group or is doomed, and between which numbers those with the same user data are.
 #[derive(Drop)]
 pub(crate) struct Outstanding {
     pub(crate) grouped: Grouped,
     pub(crate) waiting: Waiting,
+    pub(crate) by_user_data: ByUserData,
     ghost listed: { IsListed grouped.window grouped.groups waiting },
+    ghost found: { AreFound grouped.window by_user_data },
 }
 
 impl Outstanding {
@@ -32,10 +36,12 @@ impl Outstanding {
         Outstanding {
             grouped: Grouped::new(alloc),
             waiting: Waiting::new(alloc),
+            by_user_data: ByUserData::new(alloc),
         }
     }
 
     /// Makes room for `count` requests more. Where memory is refused, there is room for no fewer of these than before.
+    #[inline(never)]
     pub(crate) fn reserve_in<M: Memory>(&mut self, memory: &M, count: u64) -> Result<(), AllocError>
         requires { end_of self.old.grouped.window + count < 2 ^ 63 }
         ensures room { OnOk result (HasRoom self.new count) }
@@ -45,7 +51,11 @@ impl Outstanding {
             → end_of self.old.grouped.window + count < n → IsOk result }
     {
         self.grouped.reserve_in(memory, count)?;
-        self.waiting.reserve_in(memory, count)
+        self.waiting.reserve_in(memory, count)?;
+        let alloc = self.grouped.window.allocator();
+        let first = self.grouped.window.first();
+        let end = self.grouped.window.end() + count;
+        self.by_user_data.reserve_in(memory, alloc, first, end)
     }
 
     /// Accepts an entry: its number is that of the requests accepted before it.

@@ -7,7 +7,9 @@ ghost use Rattle.uring_entry.specs.Requests as spec;
 ghost use Rattle.uring_dispatch.specs.Window.{at};
 ghost use Rattle.uring_dispatch.specs.Groups.{group_at};
 ghost use Rattle.uring_dispatch.specs.Grouped.{Shows, IsGroupOf};
+ghost use Rattle.uring_dispatch.specs.ByUserData.{Spans};
 
+use crate::by_user_data::Span;
 use crate::group::{Group, is_before};
 use crate::grouped::Grouped;
 use crate::request::Request;
@@ -67,13 +69,14 @@ impl Grouped {
         !self.window.has_before(group.from)
     }
 
-    /// The request that the cancel `n` of these user data chooses: the least that is outstanding, another one, has the user data, and isn't doomed. Our own rule.
-    pub(crate) fn target(&self, n: u64, user_data: u64) -> Option<u64>
+    /// The request that the cancel `n` of these user data chooses, which are between these numbers: the least that is outstanding, another one, has the user data, and isn't doomed. Our own rule.
+    pub(crate) fn target(&self, n: u64, user_data: u64, span: Span) -> Option<u64>
+        requires { Spans self.now.window user_data span.from span.to }
         ensures target { (r : Requests) → Shows self.now r → user_data ≡ addr_of (entry_of r n)
             → result ≡ spec.target_of r n }
         ensures there { IfSome result (λ m. is_some (at self.now.window m) ≡ true) }
     {
-        for m in self.window.first()..self.window.end() {
+        for m in span.from.max(self.window.first())..span.to {
             if self.is_candidate(n, m, user_data) {
                 return Some(m);
             }

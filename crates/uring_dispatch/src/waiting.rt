@@ -79,6 +79,7 @@ impl Waiting {
     }
 
     /// Tells anew of request `n` whether it waits at the head of its group, and whether it is doomed.
+    #[inline(always)]
     pub(crate) fn relist(&mut self, grouped: &Grouped, n: u64)
         requires { CanTell self.old n }
         ensures here { IsListedAt grouped.now.window grouped.now.groups self.new n }

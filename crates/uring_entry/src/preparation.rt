@@ -15,6 +15,7 @@ use bitflags::Flags;
 /// What an entry asks for, or the first of its faults in the order of `Fault`. A field that an operation doesn't use may hold anything.
 ///
 /// Which operation takes which fields is that of io_uring_enter(2). The faults are our own rule but for `Opcode` and an invalid flag (CQE ERRORS, EINVAL), and so are their order and the fields that may hold anything.
+#[inline(always)]
 pub fn prepare(entry: &Sqe) -> Result<Op, Fault>
     ensures right { IfOk result
         (λ op. (fault_of entry.now ≡ None) × (op ≡ operation_of entry.now)) }

@@ -112,8 +112,8 @@ impl Machine {
             → IsUnrefused self.old.core.setup (world self.old.core.setup h) step result }
     {
         match step {
-            Step::Finish { number } => self.finish_in(memory, number),
-            _ => self.core.step_in(memory, step),
+            Step::Finish { number } => return self.finish_in(memory, number),
+            _ => return self.core.step_in(memory, step),
         }
     }
 

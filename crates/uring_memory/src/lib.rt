@@ -3,11 +3,13 @@
 
 ghost use Rattle.std.specs.Prelude.{◌≡◌, ℕ, ◌+◌, ◌<◌, ◌≤◌, [], replicate, IfOk, OnOk, OnErr, IsOk, vec_len, vec_capacity};
 ghost use Rattle.std.specs.VecDeque.{deque_len, deque_capacity};
+ghost use Rattle.std.specs.HashMap.{hash_map_len, spare, IsReordered, IsUnique};
 ghost use Rattle.slab.specs.Slab.{slab_len, HasRoomFor};
 
 use slab::Slab;
 use std::alloc::{AllocError, Global};
-use std::collections::VecDeque;
+use std::collections::{HashMap, VecDeque};
+use std::hash::Hash;
 
 /// What lists ask for memory, and which sizes it certainly grants. Our own rule.
 ///
@@ -63,6 +65,19 @@ pub trait Memory {
         ensures rest { slab.new ≡ record slab.old { capacity = slab.new.capacity } }
         ensures granted { (n : ℕ) → grants self.now n → slab_len slab.old + more ≤ n
             → IsOk result };
+
+    /// Makes room in a map for `more` keys more.
+    fn reserve_map<K: Eq + Hash, V>(
+        &self,
+        map: &mut HashMap<K, V>,
+        more: usize,
+    ) -> Result<(), AllocError>
+        ensures entries { IsReordered K.eq map.old map.new }
+        ensures unique { IsUnique K.eq map.new }
+        ensures ok { OnOk result (more ≤ spare map.new) }
+        ensures spare { spare map.old ≤ spare map.new }
+        ensures granted { (n : ℕ) → grants self.now n → hash_map_len map.old + more ≤ n
+            → IsOk result };
 }
 
 /// The program's own allocator. Nothing says when it refuses, so it grants nothing for certain.
@@ -97,5 +112,13 @@ impl Memory for Global {
 
     fn reserve_slab<T>(&self, slab: &mut Slab<T>, more: usize) -> Result<(), AllocError> {
         slab.reserve(more)
+    }
+
+    fn reserve_map<K: Eq + Hash, V>(
+        &self,
+        map: &mut HashMap<K, V>,
+        more: usize,
+    ) -> Result<(), AllocError> {
+        map.reserve(more)
     }
 }

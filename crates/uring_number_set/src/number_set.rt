@@ -104,6 +104,7 @@ impl NumberSet {
     }
 
     /// Puts the number `n`, which is covered, into the set if `is_in` holds, and takes it out otherwise. Every other number stays as it was.
+    #[inline(always)]
     pub fn put(&mut self, n: u64, is_in: bool)
         requires { Covers self.old n }
         ensures { Puts self.old self.new n is_in }
@@ -135,6 +136,7 @@ impl NumberSet {
     }
 
     /// Lets go what is kept for numbers before `n`, any number, 64 at a time, as far as none of them is in the set. No number leaves the set, and those from `n` on that are covered stay so.
+    #[inline(always)]
     pub fn drop_before(&mut self, n: u64)
         ensures { HasMoved self.old self.new n }
     {

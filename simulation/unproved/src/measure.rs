@@ -5,6 +5,7 @@ use crate::kinds::{round, PATH};
 use crate::machine::{run, Answer, Machine, Step};
 use crate::setup::Setup;
 use std::io::{self, Write};
+use std::ops::Range;
 use std::time::{Duration, Instant};
 
 const SIZES: [u32; 6] = [1, 8, 32, 64, 128, 4096];
@@ -28,6 +29,9 @@ const SHAPES: [Shape; 3] = [
     ),
     ("drain", |n, _| if n == 1 { 2 } else { 0 }, |n| n == 0),
 ];
+
+/// How many cancels are issued in a row.
+const CANCELS: u32 = 8;
 
 /// How often the next request is asked for.
 const ASKS: usize = 1024;
@@ -113,7 +117,7 @@ pub fn measure(writer: &mut impl Write) -> io::Result<()> {
             waiting(writer, shape, count)?;
         }
     }
-    Ok(())
+    WAITING.iter().try_for_each(|count| cancels(writer, *count))
 }
 
 /// The question for the next request where so many are outstanding in this shape.
@@ -134,6 +138,37 @@ fn waiting(writer: &mut impl Write, shape: &Shape, count: u32) -> io::Result<()>
     );
     run(&mut machine, &steps);
     time_next(writer, &mut machine, name, count)
+}
+
+/// The issue of cancels of the last of so many that run, which goes on.
+fn cancels(writer: &mut impl Write, count: u32) -> io::Result<()> {
+    let mut machine = machine(PATH_REQUESTS);
+    let steps = |first: u64, kinds: Range<usize>, size: u32| -> Vec<Step> {
+        let kinds = PATH[kinds].iter();
+        kinds
+            .flat_map(|(kind, _)| kind.steps(first, size))
+            .collect()
+    };
+    run(&mut machine, &steps(0, 0..8, count));
+    let mut measure = Measure::default();
+    for k in 0..=MEASURED / CANCELS {
+        if k == 1 {
+            measure = Measure::default();
+        }
+        let first = machine.accepted();
+        let fills = (0..CANCELS).map(|slot| Step::Fill {
+            slot,
+            entry: Sqe {
+                addr: u64::from(count) - 1,
+                ..Sqe::new(opcode::ASYNC_CANCEL, u64::MAX, 0)
+            },
+        });
+        run(&mut machine, &fills.collect::<Vec<Step>>());
+        run(&mut machine, &steps(first, 1..7, CANCELS));
+        measure.time(&mut machine, &steps(first, 7..8, CANCELS));
+        run(&mut machine, &steps(first, 9..13, CANCELS));
+    }
+    measure.print(writer, "cancel", count, "issue")
 }
 
 /// So many rounds of one no-op, on a new machine.

@@ -148,7 +148,7 @@ impl Core {
             → FitsApart self.new (after_index self.old.setup slot (after_fill self.old.setup slot entry h)) }
         ensures others { self.new ≡ record self.old { sq = self.new.sq } }
     {
-        self.fill(slot, entry);
+        self.fill(slot, &entry);
         self.index(slot);
     }
 

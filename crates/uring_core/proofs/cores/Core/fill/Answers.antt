@@ -40,7 +40,7 @@ fill_goes p q slot entry r answered shown h f = record {
 }
 
 pub invariant_of-self : goal.invariant_of-self
-invariant_of-self c = (c.self.invariant.0, core_after _ _ _ refl (fill_goes _ c.fill.new.self c.args.slot c.args.entry c.fill.result c.fill.ensures.answer c.fill.ensures.shows) c.self.invariant.1)
+invariant_of-self c = (c.self.invariant.0, core_after _ _ _ refl (fill_goes _ c.fill.new.self c.args.slot c.args.entry.now c.fill.result c.fill.ensures.answer c.fill.ensures.shows) c.self.invariant.1)
 
 pub returns-clause-fits : goal.returns-clause-fits
-returns-clause-fits c = rw (c.from.ensures, ← c.self.view_is) (fill_goes _ c.fill.new.self c.args.slot c.args.entry c.fill.result c.fill.ensures.answer c.fill.ensures.shows)
+returns-clause-fits c = rw (c.from.ensures, ← c.self.view_is) (fill_goes _ c.fill.new.self c.args.slot c.args.entry.now c.fill.result c.fill.ensures.answer c.fill.ensures.shows)

@@ -1,4 +1,4 @@
-use Rattle.std.proofs.Common.{sym, ◌∙◌, ap, is_some, Some, None, arith, refl, not, ◌&&◌, subst, ◌≡◌, ◌<◌, inl, inr}
+use Rattle.std.proofs.Common.{sym, ◌∙◌, ap, is_some, Some, None, arith, refl, not, ◌&&◌, subst, inl, inr}
 use Rattle.uring_entry.specs.Requests.{is_soft, entry_of}
 use Rattle.uring_entry.specs.Layout.{Sqe}
 use Rattle.uring_entry.specs.Groups.{earlier_of}

@@ -3,6 +3,7 @@ use Rattle.std.proofs.lemmas.Option.{same_Some}
 use Rattle.uring_dispatch.specs.declared.group.Group.{Group}
 use Rattle.uring_dispatch.specs.Waiting.{Starts}
 use Rattle.uring_dispatch.proofs.AcceptsListed.{accept-listed, can-grow, low-member, starts-least}
+use Rattle.uring_dispatch.proofs.ByData.{found-on, goes-accepted}
 use Rattle.uring_dispatch.proofs.outstanding.Outstanding.accept.Goals as goal
 
 pub accept-requires-clause-heads : goal.accept-requires-clause-heads
@@ -31,6 +32,7 @@ invariant_of-self c =
     let e = c.accept.ensures in
     record {
       listed = accept-listed _ _ _ _ c.args.entry _ c.args.self.now.waiting c.accept.new.self c.end-number.result c.args.self.now.grouped.sound c.args.self.now.listed c.accept-group.ensures.accepts c.end-number.ensures.value e.own e.members e.told e.heads_reach e.doomed_reach;
+      found = let end = c.accept-group.ensures.accepts.end in found-on _ _ _ c.args.self.now.found (goes-accepted _ _ _ _ _ _ c.accept-group.ensures.accepts) (omega (arith, end, c.requires.places));
     }
 
 pub returns-clause-end : goal.returns-clause-end
@@ -44,4 +46,5 @@ returns-clause-room c = λ k r.
       groups = omega (arith, r.groups, c.accept-group.ensures.groups_room);
       heads = omega (arith, r.heads, end, c.accept.ensures.heads_reach.limit);
       doomed = omega (arith, r.doomed, end, c.accept.ensures.doomed_reach.limit);
+      places = omega (arith, r.places, end);
     }

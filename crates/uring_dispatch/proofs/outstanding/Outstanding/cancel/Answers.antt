@@ -35,6 +35,7 @@ returns-clause-stays c =
       window = stays.window ∙ chosen.same.as_before.room;
       groups = stays.groups ∙ ap (λ (g : Groups). g.room) chosen.groups;
       memory = record { heads = omega (arith, chosen.memory.heads, stays.memory.heads); doomed = omega (arith, chosen.memory.doomed, stays.memory.doomed) };
+      places = omega (arith, chosen.places, stays.places);
     }
 
 pub returns-clause-counts : goal.returns-clause-counts

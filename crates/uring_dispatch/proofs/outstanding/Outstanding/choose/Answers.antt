@@ -1,8 +1,9 @@
-use Rattle.std.proofs.Common.{arith}
+use Rattle.std.proofs.Common.{arith, refl}
 use Rattle.uring_entry.proofs.BelowLemmas.{is_some_value}
 use Rattle.uring_dispatch.specs.Window.{at, chosen}
 use Rattle.uring_dispatch.proofs.WaitingLemmas.{tell-outstanding, restarted-listed}
 use Rattle.uring_dispatch.proofs.Choosing.{choose-same}
+use Rattle.uring_dispatch.proofs.ByData.{found-on, goes-changed}
 use Rattle.uring_dispatch.proofs.outstanding.Outstanding.choose.Goals as goal
 
 pub relist-requires : goal.relist-requires
@@ -13,6 +14,7 @@ invariant_of-self c =
     let found = is_some_value (at c.args.self.now.grouped.window c.args.m) c.requires in
     record {
       listed = restarted-listed _ _ _ _ _ _ c.args.m (chosen found.0) c.args.self.now.listed c.requires (c.choose.ensures.changes found.0 found.1) c.choose.ensures.same.end c.choose.ensures.groups c.relist.ensures.keeps c.relist.ensures.here;
+      found = let end = c.choose.ensures.same.end in found-on _ _ _ c.args.self.now.found (goes-changed _ _ c.args.m found.0 (chosen found.0) found.1 (c.choose.ensures.changes found.0 found.1) end refl) (omega (arith, end, c.args.self.now.found.places));
     }
 
 pub returns-clause-chosen : goal.returns-clause-chosen
@@ -24,4 +26,5 @@ returns-clause-chosen c =
       same = choose-same _ _ c.args.m found.0 found.1 (c.choose.ensures.changes found.0 found.1) c.choose.ensures.same c.choose.ensures.running;
       groups = c.choose.ensures.groups;
       memory = record { heads = omega arith; doomed = omega arith };
+      places = omega arith;
     }

@@ -1,17 +1,18 @@
-use Rattle.std.proofs.Common.{sym, ◌∙◌, subst, true, false}
+use Rattle.std.proofs.Common.{refl, sym, ◌∙◌, subst, true, false}
 use Rattle.uring_entry.specs.Requests.{with_cancelled}
 use Rattle.uring_dispatch.specs.Grouped.{Shows}
-use Rattle.uring_dispatch.proofs.Choosing.{held-failing, one_chosen, chosen-nobody, runs-held, result-some}
+use Rattle.uring_dispatch.proofs.Choosing.{held-failing, one_chosen, chosen-noted, chosen-both, runs-held, result-some}
+use Rattle.uring_dispatch.proofs.ByData.{spans-noted}
 use Rattle.uring_dispatch.proofs.outstanding.Outstanding.choose_target.Goals as goal
 
 pub returns-in_default-clause-chosen : goal.returns-in_default-clause-chosen
-returns-in_default-clause-chosen c = chosen-nobody _
+returns-in_default-clause-chosen c = chosen-noted c.args.self.now _ refl refl refl c.args.self.now.by_user_data c.fill.new.self refl refl c.fill.ensures.places
 
 pub returns-in_default-clause-shows : goal.returns-in_default-clause-shows
 returns-in_default-clause-shows c = λ r h named is one. held-failing _ _ r c.args.n 1 h
 
 pub returns-then-is_running-clause-chosen : goal.returns-then-is_running-clause-chosen
-returns-then-is_running-clause-chosen c = chosen-nobody _
+returns-then-is_running-clause-chosen c = chosen-noted c.args.self.now _ refl refl refl c.args.self.now.by_user_data c.fill.new.self refl refl c.fill.ensures.places
 
 pub returns-then-is_running-clause-answer : goal.returns-then-is_running-clause-answer
 returns-then-is_running-clause-answer c = λ r h named.
@@ -29,3 +30,10 @@ returns-clause-shows c = λ r h named is one.
     subst (λ xs. Shows c.choose.new.self.grouped (with_cancelled r xs))
     (sym (one_chosen r c.args.n c.in-Some.m is one (sym (c.in-Some.ensures.target r h named))))
     (c.choose.ensures.shows r h)
+
+pub target-requires : goal.target-requires
+target-requires c =
+    spans-noted _ _ c.args.user_data _ _ c.fill.ensures.found c.fill.ensures.full c.fill.ensures.fits c.span-span.ensures
+
+pub returns-clause-chosen : goal.returns-clause-chosen
+returns-clause-chosen c = chosen-both _ _ _ (chosen-noted c.args.self.now _ refl refl refl c.args.self.now.by_user_data c.fill.new.self refl refl c.fill.ensures.places) c.choose.ensures.chosen

@@ -1,5 +1,6 @@
 use Rattle.std.proofs.Common.{arith}
 use Rattle.uring_dispatch.proofs.WaitingLemmas.{tell-outstanding, tell-behind, tell-kept, keeps-both, forgotten-listed, forgotten-keeps, end-listed}
+use Rattle.uring_dispatch.proofs.ByData.{found-on, found-dropped, goes-ended}
 use Rattle.uring_dispatch.proofs.outstanding.Outstanding.end_by_key.Goals as goal
 
 pub forget-requires : goal.forget-requires
@@ -30,6 +31,10 @@ invariant_of-self-2 c =
     let d = c.relist_range.ensures in
     record {
       listed =
-          end-listed _ _ _ _ _ _ _ c.args.n c.take_out-others.result.head c.take_out-others.result.doomed_end c.first.result c.args.self.now.listed gone c.take_out-others.ensures.counts.end c.take_out-others.ensures.others
-          (keeps-both _ _ _ _ _ (keeps-both _ _ _ _ _ a b.keeps) d.keeps) (d.keeps.told c.args.n (b.keeps.told c.args.n own)) (d.keeps.told c.take_out-others.result.head (b.here own)) d.here c.drop_before.ensures.heads c.drop_before.ensures.doomed c.first.ensures.within c.first.ensures.before;
+          end-listed _ _ _ _ _ _ _ c.args.n c.take_out-others.result.head c.take_out-others.result.doomed_end c.first-first.result c.args.self.now.listed gone c.take_out-others.ensures.counts.end c.take_out-others.ensures.others
+          (keeps-both _ _ _ _ _ (keeps-both _ _ _ _ _ a b.keeps) d.keeps) (d.keeps.told c.args.n (b.keeps.told c.args.n own)) (d.keeps.told c.take_out-others.result.head (b.here own)) d.here c.drop_before.ensures.heads c.drop_before.ensures.doomed c.first-first.ensures.within c.first-first.ensures.before;
+      found =
+          let e = c.drop_before-2.ensures in
+          let end = c.take_out-others.ensures.counts.end in
+          found-dropped _ _ _ c.first-first.result (found-on _ _ _ c.args.self.now.found (goes-ended _ _ c.args.n gone end) (omega (arith, end, c.args.self.now.found.places))) c.first-first.ensures.within c.first-first.ensures.before e.up e.no_more e.ends;
     }

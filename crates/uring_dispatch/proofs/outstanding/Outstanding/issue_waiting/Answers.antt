@@ -1,4 +1,4 @@
-use Rattle.std.proofs.Common.{◌≡◌, sym, ◌∙◌, ap, refl, is_some, false, rules, arith}
+use Rattle.std.proofs.Common.{◌≡◌, sym, ◌∙◌, ap, refl, is_some, rules, arith}
 use Rattle.std.specs.Int.{w32}
 use Rattle.std.proofs.lemmas.Int.{to_z-of_z}
 use Rattle.uring_entry.specs.Layout.{addr_of}
@@ -11,6 +11,7 @@ use Rattle.uring_entry.proofs.RequestLemmas.{never_success}
 use Rattle.uring_dispatch.proofs.Choosing.{ends-failing}
 use Rattle.uring_dispatch.proofs.Issues.{op-none, op-some, issued-faulty, issued-doomed, issued-not_ready, issued-cancel, issued-run}
 use Rattle.uring_entry.proofs.Preparations.{cancel_asked}
+use Rattle.uring_dispatch.proofs.ByData.{found-on, goes-changed}
 use Rattle.uring_dispatch.proofs.outstanding.Outstanding.issue_waiting.Goals as goal
 
 pub returns-in_default-clause-answer : goal.returns-in_default-clause-answer
@@ -75,6 +76,7 @@ invariant_of-self c =
       listed =
           restarted-listed _ _ _ _ _ _ c.args.n (started c.args.request) c.args.self.now.listed (ap is_some c.requires.there) changes c.start.ensures.same.end c.start.ensures.groups
           (forgotten-keeps _ _ _ _ c.args.n own c.forget.ensures.heads c.forget.ensures.doomed) own;
+      found = let end = c.start.ensures.same.end in found-on _ _ _ c.args.self.now.found (goes-changed _ _ c.args.n c.args.request (started c.args.request) c.requires.there changes end refl) (omega (arith, end, c.args.self.now.found.places));
     }
 
 pub returns : goal.returns
@@ -86,6 +88,7 @@ returns c =
         window = same.room;
         groups = ap (λ (g : Groups). g.room) c.start.ensures.groups;
         memory = let heads = c.forget.ensures.heads.limit in let doomed = c.forget.ensures.doomed.limit in record { heads = omega arith; doomed = omega arith };
+        places = omega arith;
       };
       answer = λ r h.
           let does = op-some (entry_of r c.args.n) c.in-Some.op (sym c.in-Some.is ∙ (h.shown c.args.n c.args.request c.requires.there).op) in

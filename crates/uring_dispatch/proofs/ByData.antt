@@ -1,0 +1,201 @@
+-- Between which numbers the requests with the same user data are: what each event keeps of it, and what a search makes of it.
+use Rattle.std.proofs.Common.{◌≡◌, ◌⊎◌, ℕ, ◌+◌, ◌^◌, ◌<◌, ◌≤◌, Option, Some, None, is_some, true, false, refl, sym, ◌∙◌, ap, subst, arith, inl, inr}
+use Rattle.std.proofs.lemmas.Bool.{cases_lt, cases_eq, false≢true}
+use Rattle.std.proofs.lemmas.Option.{same_Some}
+use Rattle.std.specs.Prelude.{nat_eq}
+use Rattle.std.specs.HashMap.{get, spare}
+use Rattle.uring_entry.specs.Layout.{Sqe, user_data_of, addr_of}
+use Rattle.uring_entry.specs.Requests.{Requests, entry_of, is_candidate}
+use Rattle.uring_dispatch.specs.declared.request.Request.{Request}
+use Rattle.uring_dispatch.specs.declared.by_user_data.ByUserData.{ByUserData}
+use Rattle.uring_dispatch.specs.Window.{Window, at, end_of, Changes}
+use Rattle.uring_dispatch.specs.Groups.{Groups}
+use Rattle.uring_dispatch.specs.Held.{AreHeld}
+use Rattle.uring_dispatch.specs.Accepts.{Accepts}
+use Rattle.uring_dispatch.specs.Noted.{IsBetween, KeepsBetween}
+use Rattle.uring_dispatch.specs.ByUserData.{HasPlaces, KeepsFrom, AreFound, Spans, GoesOn}
+use Rattle.uring_dispatch.proofs.WindowFront.{at-past}
+use Rattle.uring_dispatch.proofs.HeldLemmas.{some_none, candidate-none, candidate-other_data}
+use Rattle.uring_dispatch.proofs.Alike.{IsAlike}
+
+-- What the events keep.
+
+pub found-on : (w v : Window) (x : ByUserData) → AreFound w x → GoesOn w v → HasPlaces x (end_of v)
+    → AreFound v x
+found-on w v x f on places =
+    let stop = f.stop in
+    let end = on.end in
+    record {
+      stop = omega arith;
+      between = λ n p e lt.
+          let was = on.kept n p (omega arith) e in
+          subst (λ d. IsBetween (get nat_eq x.ends) d n) (sym (ap user_data_of was.2)) (f.between n was.0 was.1 lt);
+      places = places;
+    }
+
+pub goes-alike : (w v : Window) (g h : Groups) → IsAlike w v g h → GoesOn w v
+goes-alike w v g h a = record {
+  end = let end = a.end in omega arith;
+  kept = λ n p lt e. (p, sym (a.rows n) ∙ e, refl);
+}
+
+-- a request was started, or chosen
+pub goes-changed : (w v : Window) (n : ℕ) (q p : Request) → at w n ≡ Some q
+    → Changes w v n (Some p) → end_of v ≡ end_of w → p.entry ≡ q.entry → GoesOn w v
+goes-changed w v n q p there c end entry = record {
+  end = omega arith;
+  kept = λ k x lt e.
+      elim (cases_eq k n) [
+        | inl same ↦
+            let one : p ≡ x = same_Some _ _ (sym c.here ∙ ap (at v) (sym same) ∙ e) in
+            (q, ap (at w) same ∙ there, subst (λ (y : Request). y.entry ≡ q.entry) one entry)
+        | inr other ↦ (x, sym (c.others k other) ∙ e, refl)
+      ];
+}
+
+pub goes-ended : (w v : Window) (n : ℕ) → Changes w v n None → end_of v ≡ end_of w → GoesOn w v
+goes-ended w v n c end = record {
+  end = omega arith;
+  kept = λ k p lt e.
+      elim (cases_eq k n) [
+        | inl same ↦ some_none p _ (ap (at v) same ∙ c.here) e
+        | inr other ↦ (p, sym (c.others k other) ∙ e, refl)
+      ];
+}
+
+pub goes-accepted : (w v : Window) (g h : Groups) (entry : Sqe) (request : Request)
+    → Accepts w v g h entry request → GoesOn w v
+goes-accepted w v g h entry request a = record {
+  end = let end = a.end in omega arith;
+  kept = λ n p lt e. (p, sym (a.changes.others n (λ same. omega (arith, same))) ∙ e, refl);
+}
+
+-- What the changes of what is noted keep.
+
+pub found-none : (w : Window) (x : ByUserData) → end_of w ≡ 0 → x.stop ≡ 0 → AreFound w x
+found-none w x end stop = record {
+  stop = omega arith;
+  between = λ n q e lt. absurd (omega (arith, lt));
+  places = omega arith;
+}
+
+pub found-dropped : (w : Window) (x y : ByUserData) (n : ℕ) → AreFound w x → n ≤ end_of w
+    → ((k : ℕ) → k < n → at w k ≡ None) → x.stop ≤ y.stop
+    → ((k : ℕ) → x.stop ≤ k → n ≤ k → y.stop ≤ k) → y.ends ≡ x.ends → AreFound w y
+found-dropped w x y n f within before up no_more ends =
+    let places = f.places in
+    record {
+      stop = no_more (end_of w) f.stop within;
+      between = λ k q e lt.
+          elim (cases_lt k n) [
+            | inl low ↦ some_none q _ (before k low) e
+            | inr high ↦
+                elim (cases_lt k x.stop) [
+                  | inl looked ↦ rw ends (f.between k q e looked)
+                  | inr not_yet ↦ let to = no_more k not_yet high in absurd (omega (arith, lt))
+                ]
+          ];
+      places = rw ends (omega arith);
+    }
+
+pub found-renewed : (w : Window) (x y : ByUserData) (first : ℕ) → AreFound w x → KeepsFrom x y first
+    → first ≤ end_of w → ((k : ℕ) → k < first → at w k ≡ None) → HasPlaces y (end_of w)
+    → AreFound w y
+found-renewed w x y first f same within before places = record {
+  stop =
+      elim (cases_lt (end_of w) y.stop) [
+        | inl past ↦ let looked = same.stop (end_of w) within past in absurd (omega (arith, looked, f.stop))
+        | inr le ↦ le
+      ];
+  between = λ k q e lt.
+      elim (cases_lt k first) [
+        | inl low ↦ some_none q _ (before k low) e
+        | inr high ↦
+            let was = f.between k q e (same.stop k high lt) in
+            let is = same.ends k (user_data_of q.entry) high lt in
+            record { there = ap is_some is ∙ was.there; within = λ x now. was.within x (sym is ∙ now) }
+      ];
+  places = places;
+}
+
+-- the number n was looked at, which isn't outstanding
+pub found-past : (w : Window) (x y : ByUserData) (n : ℕ) → AreFound w x → x.stop ≡ n
+    → n < end_of w → at w n ≡ None → y.stop ≡ n + 1 → y.ends ≡ x.ends → AreFound w y
+found-past w x y n f is within none stop ends =
+    let places = f.places in
+    record {
+      stop = omega arith;
+      between = λ k q e lt.
+          elim (cases_eq k n) [
+            | inl same ↦ some_none q _ (ap (at w) same ∙ none) e
+            | inr other ↦ rw ends (f.between k q e (omega (arith, lt, other)))
+          ];
+      places = rw ends (omega arith);
+    }
+
+-- the number n was looked at, and noted
+pub found-next : (w : Window) (x y : ByUserData) (n : ℕ) (q : Request) → AreFound w x → x.stop ≡ n
+    → n < end_of w → at w n ≡ Some q → y.stop ≡ n + 1
+    → IsBetween (get nat_eq y.ends) (user_data_of q.entry) n
+    → KeepsBetween w (get nat_eq x.ends) (get nat_eq y.ends) n
+    → spare x.ends ≤ spare y.ends + 1 → AreFound w y
+found-next w x y n q f is within there stop here kept spares =
+    let places = f.places in
+    record {
+      stop = omega arith;
+      between = λ k p e lt.
+          elim (cases_eq k n) [
+            | inl same ↦
+                let one : q ≡ p = same_Some _ _ (sym there ∙ ap (at w) (sym same) ∙ e) in
+                let P : Request → Type 0 = λ z. IsBetween (get nat_eq y.ends) (user_data_of z.entry) k in
+                let Q : ℕ → Type 0 = λ j. IsBetween (get nat_eq y.ends) (user_data_of q.entry) j in
+                subst P one (subst Q (sym same) here)
+            | inr other ↦ kept (user_data_of p.entry) k (ap is_some e) (omega (arith, lt)) (f.between k p e (omega (arith, lt, other)))
+          ];
+      places = omega arith;
+    }
+
+-- What a search makes of it.
+
+within-end : (w : Window) (n : ℕ) (q : Request) → at w n ≡ Some q → n < end_of w
+within-end w n q e =
+    elim (cases_lt n (end_of w)) [
+      | inl lt ↦ lt
+      | inr past ↦ some_none q _ (at-past w n past) e
+    ]
+
+pub some-within : (w : Window) (n : ℕ) → is_some (at w n) ≡ true → n < end_of w
+some-within w n e = go (at w n) refl e
+  where
+    go : (o : Option Request) → at w n ≡ o → is_some o ≡ true → n < end_of w
+    go (Some q) is s = within-end w n q is
+    go None is s = absurd (false≢true s)
+
+pub spans-all : (w : Window) (named_data : ℕ) → Spans w named_data 0 (end_of w)
+spans-all w named_data n q e named = (omega arith, within-end w n q e)
+
+pub spans-noted : (w : Window) (x : ByUserData) (named_data from to : ℕ) → AreFound w x
+    → x.stop ≡ end_of w → end_of w < 2 ^ 63
+    → ((n : ℕ) → n < 2 ^ 63 → IsBetween (get nat_eq x.ends) named_data n → (from ≤ n) × (n < to))
+    → Spans w named_data from to
+spans-noted w x named_data from to f full fits noted n q e named =
+    let lt = within-end w n q e in
+    noted n (omega arith) (subst (λ d. IsBetween (get nat_eq x.ends) d n) named (f.between n q e (omega arith)))
+
+pub outside : (w : Window) (g : Groups) (r : Requests) (n k named_data from to : ℕ) → AreHeld w g r
+    → named_data ≡ addr_of (entry_of r n) → Spans w named_data from to → (k < from) ⊎ (to ≤ k)
+    → is_candidate r n k ≡ false
+outside w g r n k named_data from to h named spans out = go (at w k) refl
+  where
+    go : (o : Option Request) → at w k ≡ o → is_candidate r n k ≡ false
+    go None e = candidate-none w g r n k h e
+    go (Some q) e =
+        elim (cases_eq (user_data_of q.entry) named_data) [
+          | inr other ↦ candidate-other_data w g r n k q named_data h e named other
+          | inl same ↦
+              let inside = spans k q e same in
+              elim out [
+                | inl low ↦ absurd (omega (arith, inside.0, low))
+                | inr past ↦ absurd (omega (arith, inside.1, past))
+              ]
+        ]
