@@ -1,12 +1,8 @@
 //! Whether a history is lawful by early effects: a search for the moments at which its operations took effect, between issue and finish, so that each result and its bytes are what the files gave then.
 #![tactic(auto)]
 
-mod apply;
-mod copies;
+mod decision;
 mod marks;
-mod running;
-mod search;
-mod state;
 
-pub use search::{Found, find_effects};
+pub use decision::{Found, find_effects};
 pub use uring_core::Setup;

@@ -7,26 +7,8 @@ ghost use Rattle.uring_core.specs.StepAnswers.{CalledForApart};
 ghost use Rattle.uring_early.specs.Marks.{mark_by, marks_behind};
 
 use std::alloc::AllocError;
-use uring_core::{Answer, Core, Op, Outcome, Refusal, Step};
-
-/// What an event has of operations.
-#[derive(Clone, Copy, Debug, PartialEq, Eq)]
-pub(crate) enum Mark {
-    /// The operation of this request starts.
-    Starts {
-        number: u64,
-        op: Op,
-    },
-
-    /// The operation of this request ends.
-    Ends {
-        number: u64,
-        outcome: Outcome,
-    },
-
-    /// Neither.
-    Idle,
-}
+use uring_core::{Answer, Core, Outcome, Refusal, Step};
+use uring_timelines::Mark;
 
 /// Follows these events on a new core, as far as each is called for, with the mark of each, and tells whether all were: then they are a lawful history apart from what operations gave.
 pub(crate) fn add_marks(

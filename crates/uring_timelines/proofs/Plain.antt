@@ -1,11 +1,11 @@
 -- No outcome tells what a file counts: operations give the same on files without their counts, and leave the same bytes.
-use Rattle.std.proofs.Common.{◌≡◌, ℕ, ℤ, pos, negsuc, Bool, true, false, List, Option, Some, None, length, map, refl, sym, ap, subst, ◌∙◌, ◌⊎◌, inl, inr}
-use Rattle.std.specs.Prelude.{slice_get, slice_set, if◌then◌else◌}
+use Rattle.std.proofs.Common.{◌≡◌, ◌&&◌, ℕ, ℤ, zero, suc, pos, negsuc, Bool, true, false, List, [], ◌∷◌, Option, Some, None, length, map, take, refl, sym, ap, ◌∙◌, inl, inr}
+use Rattle.std.specs.Prelude.{not, replicate, slice_set, slice_index_or, if◌then◌else◌}
 use Rattle.std.specs.Option.{option_map, option_map_or}
 use Rattle.std.specs.Ordering.{int_eq}
 use Rattle.std.proofs.Math.ListN.{get_or-map}
 use Rattle.std.proofs.lemmas.Option.{slice_get-map}
-use Rattle.std.proofs.lemmas.List.{map-set}
+use Rattle.std.proofs.lemmas.List.{length-map, length-set, map-set}
 use Rattle.uring_entry.specs.declared.operation.Op.{Op}
 use Rattle.uring_entry.specs.declared.operation.Op.TheVariants.{Nop, Read, Write, Fsync, Cancel}
 use Rattle.uring_entry.specs.declared.operation.Outcome.{Outcome}
@@ -36,3 +36,90 @@ result_plain files (Fsync fd) =
     ap (λ (f : Option FileContents). on_file f (λ x. ended_with (pos 0))) (file_plain files fd) ∙ same_plain (file_of files fd) (ended_with (pos 0))
 result_plain files Nop = refl
 result_plain files (Cancel target all) = refl
+
+longer_plain : (file : Option FileContents) (p : Bool) (off len : ℕ)
+    → option_map_or (λ (f : FileContents). p && is_past_end off len f) (option_map plain file) false ≡ option_map_or (λ (f : FileContents). p && is_past_end off len f) file false
+longer_plain None p off len = refl
+longer_plain (Some f) p off len = refl
+
+pub lengthens_plain : (files : List FileContents) (op : Op) → is_lengthening (map plain files) op ≡ is_lengthening files op
+lengthens_plain files (Write fd off len bytes) =
+    ap (λ (f : Option FileContents). option_map_or (λ x. not (is_too_long off len) && is_past_end off len x) f false) (file_plain files fd)
+    ∙ longer_plain (file_of files fd) (not (is_too_long off len)) off len
+lengthens_plain files (Read fd off len) = refl
+lengthens_plain files (Fsync fd) = refl
+lengthens_plain files Nop = refl
+lengthens_plain files (Cancel target all) = refl
+
+-- what they give on plain ones they give on these, and the other way round
+
+pub outcome_back : (files : List FileContents) (op : Op) (o : Outcome) → IsOutcome (map plain files) op o
+    → IsOutcome files op o
+outcome_back files op o (inl e) = inl (e ∙ result_plain files op)
+outcome_back files op o (inr e) = inr (sym (lengthens_plain files op) ∙ e.0, e.1)
+
+pub outcome_plain : (files : List FileContents) (op : Op) (o : Outcome) → IsOutcome files op o
+    → IsOutcome (map plain files) op o
+outcome_plain files op o (inl e) = inl (e ∙ sym (result_plain files op))
+outcome_plain files op o (inr e) = inr (lengthens_plain files op ∙ e.0, e.1)
+
+-- and leave the same bytes
+
+pub plain_twice : (files : List FileContents) → map plain (map plain files) ≡ map plain files
+plain_twice [] = refl
+plain_twice (f ∷ files) = ap (λ (fs : List FileContents). plain f ∷ fs) (plain_twice files)
+
+changed_plain : (files : List FileContents) (fd : ℤ) (change : FileContents → FileContents)
+    → ((f : FileContents) → plain (change (plain f)) ≡ plain (change f))
+    → map plain (with_changed (map plain files) fd change) ≡ map plain (with_changed files fd change)
+changed_plain files (pos fd) change same =
+    map-set plain (map plain files) fd (change (slice_index_or (map plain files) fd empty_file))
+    ∙ ap (λ (fs : List FileContents). slice_set fs fd (plain (change (slice_index_or (map plain files) fd empty_file)))) (plain_twice files)
+    ∙ ap (λ (f : FileContents). slice_set (map plain files) fd (plain (change f))) (get_or-map plain files fd empty_file)
+    ∙ ap (λ (f : FileContents). slice_set (map plain files) fd f) (same (slice_index_or files fd empty_file))
+    ∙ sym (map-set plain files fd (change (slice_index_or files fd empty_file)))
+changed_plain files (negsuc below) change same = plain_twice files
+
+either_plain : (b : Bool) (files : List FileContents) (fd : ℤ) (change : FileContents → FileContents)
+    → ((f : FileContents) → plain (change (plain f)) ≡ plain (change f))
+    → map plain (if b then with_changed (map plain files) fd change else map plain files) ≡ map plain (if b then with_changed files fd change else files)
+either_plain true files fd change same = changed_plain files fd change same
+either_plain false files fd change same = plain_twice files
+
+pub after_plain : (files : List FileContents) (op : Op) (res : ℤ)
+    → map plain (after (map plain files) op res) ≡ map plain (after files op res)
+after_plain files (Write fd off len bytes) res =
+    either_plain (int_eq res (pos len)) files fd (written off (take len bytes)) (λ f. refl)
+after_plain files (Fsync fd) res =
+    either_plain (int_eq res (pos 0)) files fd with_writes_synced (λ f. refl)
+after_plain files (Read fd off len) res = plain_twice files
+after_plain files Nop res = plain_twice files
+after_plain files (Cancel target all) res = plain_twice files
+
+-- they stay as many
+
+changed_length : (files : List FileContents) (fd : ℤ) (change : FileContents → FileContents)
+    → length (with_changed files fd change) ≡ length files
+changed_length files (pos fd) change =
+    length-set files fd (change (slice_index_or files fd empty_file))
+changed_length files (negsuc below) change = refl
+
+either_length : (b : Bool) (files : List FileContents) (fd : ℤ) (change : FileContents → FileContents)
+    → length (if b then with_changed files fd change else files) ≡ length files
+either_length true files fd change = changed_length files fd change
+either_length false files fd change = refl
+
+pub after_length : (files : List FileContents) (op : Op) (res : ℤ)
+    → length (map plain (after files op res)) ≡ length files
+after_length files op res = length-map (after files op res) plain ∙ length_after files op res where
+  length_after : (files : List FileContents) (op : Op) (res : ℤ) → length (after files op res) ≡ length files
+  length_after files (Write fd off len bytes) res = either_length (int_eq res (pos len)) files fd (written off (take len bytes))
+  length_after files (Fsync fd) res = either_length (int_eq res (pos 0)) files fd with_writes_synced
+  length_after files (Read fd off len) res = refl
+  length_after files Nop res = refl
+  length_after files (Cancel target all) res = refl
+
+-- new ones count nothing
+pub plain_new : (count : ℕ) → map plain (replicate count empty_file) ≡ replicate count empty_file
+plain_new zero = refl
+plain_new (suc count) = ap (λ (fs : List FileContents). empty_file ∷ fs) (plain_new count)

@@ -35,7 +35,7 @@ without running n = filter (λ one. not (one.number == n)) running
 
 -- one, which has taken effect if it is that of the request
 abbrev pub taking : ℕ → Outcome → Running → Running
-taking n o one = if one.number == n then record one { taken = Some o } else one
+taking n o one = if n == one.number then record one { taken = Some o } else one
 
 -- all, with that of a request having taken effect
 abbrev pub with_taken : List Running → ℕ → Outcome → List Running

@@ -1,7 +1,9 @@
 //! What an operation gives on files, without carrying it out, and that it is carried out with an outcome that it may have.
 
-ghost use Rattle.std.specs.Prelude.{◌≡◌, ◌↔◌, IsTrue, OnOk};
+ghost use Rattle.std.specs.Prelude.{◌≡◌, ◌≤◌, ◌↔◌, ℕ, List, IsTrue, OnOk};
+ghost use Rattle.uring_entry.specs.declared.operation.Op.TheVariants as op;
 ghost use Rattle.uring_files.specs.Contents as contents;
+ghost use Rattle.uring_files.specs.Operations as spec;
 ghost use Rattle.uring_files.specs.Operations.{IsForFiles, IsOutcome, after, result_of};
 
 use std::alloc::AllocError;
@@ -30,13 +32,29 @@ pub(crate) fn called_for(files: &mut Files, op: &Op) -> Outcome
 {
     match op {
         Op::Nop | Op::Read { .. } | Op::Cancel { .. } => files.apply(op),
-        Op::Write { fd, off, len, .. } => ended_with(write_result(files, *fd, *off, *len)),
+        Op::Write {
+            fd,
+            off,
+            len,
+            bytes,
+        } => write_called(files, *fd, *off, *len, bytes),
         Op::Fsync { fd } => ended_with(sync_result(files, *fd)),
     }
 }
 
 /// What a write calls for.
-fn write_result(files: &Files, fd: i32, off: u64, len: u32) -> i32 {
+fn write_called(files: &Files, fd: i32, off: u64, len: u32, bytes: &[u8; 64]) -> Outcome
+    requires { len ≤ 64 }
+    ensures { result ≡ result_of files.now (op.Write fd off len bytes.now) }
+{
+    ended_with(write_result(files, fd, off, len))
+}
+
+/// The result that a write calls for.
+fn write_result(files: &Files, fd: i32, off: u64, len: u32) -> i32
+    requires { len ≤ 64 }
+    ensures { (bytes : List ℕ) → spec.ended_with result ≡ result_of files.now (op.Write fd off len bytes) }
+{
     if files.state(fd).is_none() {
         -errno::EBADF
     } else if is_too_long(off, len) {
@@ -46,8 +64,10 @@ fn write_result(files: &Files, fd: i32, off: u64, len: u32) -> i32 {
     }
 }
 
-/// What a sync calls for.
-fn sync_result(files: &Files, fd: i32) -> i32 {
+/// The result that a sync calls for.
+fn sync_result(files: &Files, fd: i32) -> i32
+    ensures { spec.ended_with result ≡ result_of files.now (op.Fsync fd) }
+{
     if files.state(fd).is_none() {
         -errno::EBADF
     } else {
@@ -57,6 +77,7 @@ fn sync_result(files: &Files, fd: i32) -> i32 {
 
 /// Whether a write of `len` bytes at `off` would pass the largest size.
 fn is_too_long(off: u64, len: u32) -> bool
+    requires { len ≤ 64 }
     ensures { result ≡ contents.is_too_long off len }
 {
     len != 0 && off > MAX_LEN - u64::from(len)
@@ -79,7 +100,9 @@ pub(crate) fn carry_out(files: &mut Files, op: &Op, outcome: &Outcome) -> Result
 }
 
 /// An end with this result and no bytes.
-pub(crate) fn ended_with(res: i32) -> Outcome {
+pub(crate) fn ended_with(res: i32) -> Outcome
+    ensures { result ≡ spec.ended_with res }
+{
     Outcome {
         res,
         bytes: [0; 64],

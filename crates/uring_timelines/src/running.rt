@@ -1,6 +1,6 @@
 //! The operations that run, in the order in which they started.
 
-ghost use Rattle.std.specs.Prelude.{◌≡◌, filter, map, find, IfOk};
+ghost use Rattle.std.specs.Prelude.{◌≡◌, ◌↔◌, IfOk, IsTrue, Some};
 ghost use Rattle.uring_timelines.specs.Moves as moves;
 
 use std::alloc::{AllocError, Global};
@@ -28,6 +28,16 @@ pub(crate) fn taken_by(running: &[Running], number: u64) -> Option<Outcome>
     match look(running, number) {
         Some(one) => one.taken,
         None => None,
+    }
+}
+
+/// Whether that of a request runs and took effect with this outcome.
+pub(crate) fn took_effect_so(running: &[Running], number: u64, outcome: &Outcome) -> bool
+    ensures { IsTrue result ↔ (moves.taken_by running.now number ≡ Some outcome.now) }
+{
+    match taken_by(running, number) {
+        Some(taken) => taken == *outcome,
+        None => false,
     }
 }
 
@@ -66,7 +76,7 @@ pub(crate) fn with_taken(
 fn taking(one: &Running, number: u64, outcome: &Outcome) -> Running
     ensures { result ≡ moves.taking number outcome.now one.now }
 {
-    if one.number == number {
+    if number == one.number {
         Running {
             number: one.number,
             op: one.op,

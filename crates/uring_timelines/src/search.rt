@@ -1,6 +1,7 @@
 //! The search for the moments at which operations took effect.
 
-ghost use Rattle.std.specs.Prelude.{◌≡◌, ◌<◌, ◌≤◌, ◌++◌, ◌∷◌, [], true, false, length, map, IfOk, OnOk, All};
+ghost use Rattle.std.specs.Prelude.{◌≡◌, ◌<◌, ◌≤◌, ◌++◌, ◌∷◌, [], true, false, length, map, IfOk, OnOk, Contains};
+ghost use Rattle.uring_timelines.specs.declared.takers.Taker.{Taker};
 ghost use Rattle.uring_timelines.specs.Search.{seat_of, seats_of, took_at, awaits_at, IsFated, HasFate, IsPlaced, IsSearch, MayTakeAt, Replaces};
 
 use crate::mark::Mark;
@@ -164,7 +165,7 @@ fn push_others(
 ) -> Result<(), AllocError>
     requires limit { count ≤ 64 }
     requires placed { IsPlaced count marks.now (seat_of state.now) }
-    requires may { All (MayTakeAt marks.now (seat_of state.now)) takers.now }
+    requires may { (x : Taker) → Contains takers.now x → MayTakeAt marks.now (seat_of state.now) x }
     ensures { OnOk result
         (seats_of todo.new.items ≡ seats_of todo.old.items ++ map (took_at (seat_of state.now)) takers.now) }
 {

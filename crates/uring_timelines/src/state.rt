@@ -1,18 +1,18 @@
 //! How files and operations stand at a mark, and what may happen there.
 
-ghost use Rattle.std.specs.Prelude.{◌≡◌, ◌<◌, ◌≤◌, ◌↔◌, ◌++◌, ◌∷◌, [], true, false, is_some, length, IfOk, IsTrue, OnOk, List, None};
+ghost use Rattle.std.specs.Prelude.{◌≡◌, ◌<◌, ◌≤◌, ◌↔◌, ◌++◌, ◌∷◌, [], true, false, is_some, length, IfOk, IsTrue, OnOk, List, Some};
 ghost use Rattle.uring_timelines.specs.Moves as moves;
-ghost use Rattle.uring_timelines.specs.Moves.{at_first, awaits};
-ghost use Rattle.uring_timelines.specs.declared.mark.Mark as mark;
+ghost use Rattle.uring_timelines.specs.Moves.{Passes, at_first, awaits, passed};
+ghost use Rattle.uring_timelines.specs.declared.mark.Mark.{Mark};
 ghost use Rattle.uring_timelines.specs.Search.{seat_of, took_at, passed_at, left_at, awaits_at, PassesAt, MayTakeAt, AreTakers};
 
 use crate::apply::carry_out;
 use crate::copies::copied;
 use crate::mark::Mark;
-use crate::running::{Running, look, taken_by, with_taken, without};
+use crate::running::{Running, look, taken_by, took_effect_so, with_taken, without};
 use crate::takers::{Taker, takers_of};
 use std::alloc::{AllocError, Global};
-use uring_entry::Op;
+use uring_entry::{Op, Outcome};
 use uring_files::Files;
 
 /// How files and operations stand before the mark of this place.
@@ -38,7 +38,7 @@ impl State {
 
     /// The same once more.
     pub(crate) fn copied(&self, alloc: Global, count: u32) -> Result<State, AllocError>
-        requires count { length self.now.files ≡ count }
+        requires count { length (seat_of self.now).standing.files ≡ count }
         requires limit { count ≤ 64 }
         ensures { IfOk result (λ s. seat_of s ≡ seat_of self.now) }
     {
@@ -70,7 +70,7 @@ impl State {
 
     /// The request that this mark ends, if its operation has taken no effect.
     fn awaited_by(&self, mark: &Mark) -> Option<u64>
-        ensures { (later : List mark.Mark) → is_some result ≡ awaits self.now.running.items (mark.now ∷ later) }
+        ensures { (later : List Mark) → is_some result ≡ awaits self.now.running.items (mark.now ∷ later) }
     {
         let Mark::Ends { number, .. } = mark else {
             return None;
@@ -87,21 +87,52 @@ impl State {
         ensures passes { IfOk result
             (λ passes. passes ≡ true
             → PassesAt marks.now (seat_of self.old) × (seat_of self.new ≡ passed_at marks.now (seat_of self.old))) }
-        ensures kept { OnOk result (self.new.files ≡ self.old.files) }
         ensures stays { IfOk result
             (λ passes. passes ≡ false → PassesAt marks.now (seat_of self.old) → ⊥) }
     {
-        match marks[self.place] {
-            Mark::Starts { number, op } => self.start(number, op)?,
-            Mark::Ends { number, outcome } => {
-                if taken_by(self.running.as_slice(), number) != Some(outcome) {
-                    return Ok(false);
-                }
-                self.end(alloc, number)?;
-            }
-            Mark::Idle => {}
+        let mark = marks[self.place];
+        if !self.pass_mark(alloc, &mark)? {
+            return Ok(false);
         }
         self.place += 1;
+        Ok(true)
+    }
+
+    /// Goes past this mark, if it may, and tells whether it does. Its place stays.
+    fn pass_mark(&mut self, alloc: Global, mark: &Mark) -> Result<bool, AllocError>
+        ensures passes { IfOk result
+            (λ passes. passes ≡ true
+            → Passes self.old.running.items mark.now
+            × (seat_of self.new
+            ≡ record { standing = passed (seat_of self.old).standing mark.now; place = self.old.place })) }
+        ensures stays { IfOk result
+            (λ passes. passes ≡ false → Passes self.old.running.items mark.now → ⊥) }
+        ensures place { OnOk result (self.new.place ≡ self.old.place) }
+    {
+        match *mark {
+            Mark::Starts { number, op } => {
+                self.start(number, op)?;
+                Ok(true)
+            }
+            Mark::Ends { number, outcome } => self.end_so(alloc, number, &outcome),
+            Mark::Idle => Ok(true),
+        }
+    }
+
+    /// The operation of a request ends, if it took effect with this outcome, and tells whether it did.
+    fn end_so(&mut self, alloc: Global, number: u64, outcome: &Outcome) -> Result<bool, AllocError>
+        ensures so { IfOk result
+            (λ so. so ≡ true
+            → (moves.taken_by self.old.running.items number ≡ Some outcome.now)
+            × (self.new.running.items ≡ moves.without self.old.running.items number)) }
+        ensures other { IfOk result
+            (λ so. so ≡ false → moves.taken_by self.old.running.items number ≡ Some outcome.now → ⊥) }
+        ensures kept { OnOk result (self.new ≡ record self.old { running = self.new.running }) }
+    {
+        if !took_effect_so(self.running.as_slice(), number, outcome) {
+            return Ok(false);
+        }
+        self.end(alloc, number)?;
         Ok(true)
     }
 
