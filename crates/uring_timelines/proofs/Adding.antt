@@ -85,6 +85,18 @@ stands_in [] n one found = absurd (let f : None ≡ Some one = found in cc)
 stands_in (r ∷ rs) n one found =
     found_by r rs n (r.number == n) one refl (λ later. stands_in rs n one later) found
 
+number_by : (r : Running) (rs : List Running) (n : ℕ) (b : Bool) (one : Running) → (r.number == n) ≡ b
+    → (look rs n ≡ Some one → one.number ≡ n)
+    → (if b then Some r else look rs n) ≡ Some one → one.number ≡ n
+number_by r rs n true one same later found =
+    ap (λ (x : Running). x.number) (sym (same_Some r one found)) ∙ eqb-true r.number n same
+number_by r rs n false one other later found = later found
+
+found_number : (running : List Running) (n : ℕ) (one : Running) → look running n ≡ Some one → one.number ≡ n
+found_number [] n one found = absurd (let f : None ≡ Some one = found in cc)
+found_number (r ∷ rs) n one found =
+    number_by r rs n (r.number == n) one refl (λ later. found_number rs n one later) found
+
 -- ---- the outcomes of one that runs
 
 -- the operation of a request runs, has taken no effect, and may take one here
@@ -92,6 +104,21 @@ pub record IsReady (running : List Running) (left : List Mark) (n : ℕ) (op : O
   pub runs : look running n ≡ Some (record { number = n; op = op; taken = None })
   pub asks : IsForFiles op
   pub waits : awaits running left ≡ true
+
+none_taken : (o : Option Outcome) → is_some o ≡ false → o ≡ None
+none_taken None e = refl
+none_taken (Some x) e = let f : true ≡ false = e in absurd cc
+
+pub ready_by : (running : List Running) (left : List Mark) (n : ℕ) (one : Running) → Some one ≡ look running n
+    → is_some one.taken ≡ false → IsForFiles one.op → awaits running left ≡ true
+    → IsReady running left n one.op
+ready_by running left n one found idle asks waits = record {
+  runs =
+      sym found ∙ ap (λ (k : ℕ). Some (record { number = k; op = one.op; taken = one.taken })) (found_number running n one (sym found))
+      ∙ ap (λ (o : Option Outcome). Some (record { number = n; op = one.op; taken = o })) (none_taken one.taken idle);
+  asks = asks;
+  waits = waits;
+}
 
 -- it may take effect, of this number
 abbrev pub MayBe : List FileContents → List Running → List Mark → ℕ → Taker → Type 0
@@ -135,6 +162,15 @@ may_with files running left n op x ready may = by x.outcome refl (outcome_back f
   by : (o : Outcome) → x.outcome ≡ o → IsOutcome files op o → IsWith left n (result_of files op) x ⊎ ((is_lengthening files op ≡ true) × IsWith left n (ended_with (negsuc 11)) x)
   by o is (inl e) = inl (is_with (result_of files op) (is ∙ e))
   by o is (inr e) = inr (e.0, is_with (ended_with (negsuc 11)) (is ∙ e.1))
+
+-- what was added by an end that was looked up
+pub adds_for : (left : List Mark) (n : ℕ) (wanted : Option Outcome) (o p : Outcome) (old new : List Taker)
+    → wanted ≡ end_in left n → o ≡ p
+    → Adds (λ x. (x ≡ record { number = n; outcome = o }) × FitsEnd wanted o) old new
+    → Adds (IsWith left n p) old new
+adds_for left n wanted o p old new is same adds =
+    subst (λ (q : Outcome). Adds (IsWith left n q) old new) same
+    (subst (λ (w : Option Outcome). Adds (λ x. (x ≡ record { number = n; outcome = o }) × FitsEnd w o) old new) is adds)
 
 pub adds_called : (files : List FileContents) (running : List Running) (left : List Mark) (n : ℕ) (op : Op) (old new : List Taker)
     → IsReady running left n op → is_lengthening files op ≡ false

@@ -1,11 +1,12 @@
 -- No outcome tells what a file counts: operations give the same on files without their counts, and leave the same bytes.
-use Rattle.std.proofs.Common.{◌≡◌, ◌&&◌, ℕ, ℤ, zero, suc, pos, negsuc, Bool, true, false, List, [], ◌∷◌, Option, Some, None, length, map, take, refl, sym, ap, ◌∙◌, inl, inr}
-use Rattle.std.specs.Prelude.{not, replicate, slice_set, slice_index_or, if◌then◌else◌}
+use Rattle.std.proofs.Common.{◌≡◌, ◌&&◌, ℕ, ℤ, zero, suc, pos, negsuc, Bool, true, false, List, [], ◌∷◌, Option, Some, None, length, map, take, get_or, refl, sym, ap, ◌∙◌, inl, inr, ◌++◌, ◌+◌, ◌<◌, arith}
+use Rattle.std.specs.Prelude.{not, replicate, slice_get, slice_set, slice_index_or, if◌then◌else◌}
 use Rattle.std.specs.Option.{option_map, option_map_or}
 use Rattle.std.specs.Ordering.{int_eq}
 use Rattle.std.proofs.Math.ListN.{get_or-map}
-use Rattle.std.proofs.lemmas.Option.{slice_get-map}
-use Rattle.std.proofs.lemmas.List.{length-map, length-set, map-set}
+use Rattle.std.proofs.lemmas.Option.{get_or_from_slice_get, slice_get-get_or, slice_get-map, slice_get_past}
+use Rattle.std.proofs.lemmas.Bool.{cases_lt}
+use Rattle.std.proofs.lemmas.List.{ext_get_or, length-map, length-set, map-set, take_all, take_more}
 use Rattle.uring_entry.specs.declared.operation.Op.{Op}
 use Rattle.uring_entry.specs.declared.operation.Op.TheVariants.{Nop, Read, Write, Fsync, Cancel}
 use Rattle.uring_entry.specs.declared.operation.Outcome.{Outcome}
@@ -123,3 +124,26 @@ after_length files op res = length-map (after files op res) plain ∙ length_aft
 pub plain_new : (count : ℕ) → map plain (replicate count empty_file) ≡ replicate count empty_file
 plain_new zero = refl
 plain_new (suc count) = ap (λ (fs : List FileContents). empty_file ∷ fs) (plain_new count)
+
+-- one byte more was read, or there is none
+
+pub read_more : (bs items new : List ℕ) (at b : ℕ) → items ≡ take at bs → new ≡ items ++ b ∷ []
+    → Some b ≡ slice_get bs at → new ≡ take (at + 1) bs
+read_more bs items new at b so_far more is = elim (cases_lt at (length bs)) [
+  | inl low ↦ more ∙ ap (λ (xs : List ℕ). xs ++ b ∷ []) so_far ∙ ap (λ (x : ℕ). take at bs ++ x ∷ []) (sym (get_or_from_slice_get bs at b 0 (sym is))) ∙ sym (take_more bs at 0 low)
+  | inr past ↦ absurd (let f : Some b ≡ None = is ∙ slice_get_past bs at past in cc)
+]
+
+pub read_none : (bs items : List ℕ) (at : ℕ) → items ≡ take at bs → None ≡ slice_get bs at
+    → items ≡ take (at + 1) bs
+read_none bs items at so_far is = elim (cases_lt at (length bs)) [
+  | inl low ↦ absurd (let f : None ≡ Some (get_or bs at 0) = is ∙ slice_get-get_or bs at 0 low in cc)
+  | inr past ↦ so_far ∙ take_all at bs past ∙ sym (take_all (at + 1) bs (omega (arith, past)))
+]
+
+-- files that are the same at each place but for their counts
+pub same_plain_files : (xs ys : List FileContents) (count : ℕ) → length xs ≡ count → length ys ≡ count
+    → ((k : ℕ) → k < count → plain (get_or xs k empty_file) ≡ plain (get_or ys k empty_file))
+    → map plain xs ≡ map plain ys
+same_plain_files xs ys count xs_count ys_count same =
+    ext_get_or empty_file (map plain xs) (map plain ys) (length-map xs plain ∙ xs_count ∙ sym ys_count ∙ sym (length-map ys plain)) (λ k low. get_or-map plain xs k empty_file ∙ same k (omega (arith, low, length-map xs plain, xs_count)) ∙ sym (get_or-map plain ys k empty_file))

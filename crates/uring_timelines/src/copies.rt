@@ -31,8 +31,9 @@ fn bytes_of(alloc: Global, files: &Files, fd: u32) -> Result<Vec<u8>, AllocError
 {
     let mut bytes = Vec::new(alloc);
     for at in 0..len_of(files, fd) {
-        if let Some(byte) = byte_at(files, fd, at) {
-            bytes.push(byte)?;
+        match byte_at(files, fd, at) {
+            Some(byte) => bytes.push(byte)?,
+            None => {}
         }
     }
     Ok(bytes)

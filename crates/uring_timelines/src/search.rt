@@ -81,16 +81,31 @@ fn search_one(
     let Some(state) = todo.pop() else {
         return Ok(Fate::Over);
     };
+    go_on(alloc, count, marks, state, todo)
+}
+
+/// Goes on from this state, unless it stands behind all marks.
+fn go_on(
+    alloc: Global,
+    count: u32,
+    marks: &[Mark],
+    state: State,
+    todo: &mut Vec<State>,
+) -> Result<Fate, AllocError>
+    requires limit { count ≤ 64 }
+    requires stands { IsSearch count marks.now (seats_of todo.old.items ++ seat_of state ∷ []) }
+    ensures { IfOk result (HasFate count marks.now (seats_of todo.new.items)) }
+{
     if state.is_over(marks) {
         drop(state);
         return Ok(Fate::Explained);
     }
-    go_on(alloc, count, marks, state, todo)?;
+    replace(alloc, count, marks, state, todo)?;
     Ok(Fate::Open)
 }
 
-/// Goes on from a state before a mark.
-fn go_on(
+/// Puts in place of a state before a mark those that are one move further.
+fn replace(
     alloc: Global,
     count: u32,
     marks: &[Mark],
@@ -144,12 +159,48 @@ fn branch(
     ensures { OnOk result (Replaces count marks.now (seat_of state) (seats_of todo.old.items) (seats_of todo.new.items)) }
 {
     let takers = state.takers(alloc, marks, awaited)?;
-    let Some((last, others)) = takers.as_slice().split_last() else {
+    push_all(alloc, count, marks, state, takers.as_slice(), todo)?;
+    Ok(())
+}
+
+/// Puts this state behind each of these effects among those to be gone on from, the last in its own memory.
+fn push_all(
+    alloc: Global,
+    count: u32,
+    marks: &[Mark],
+    state: State,
+    takers: &[Taker],
+    todo: &mut Vec<State>,
+) -> Result<(), AllocError>
+    requires limit { count ≤ 64 }
+    requires placed { IsPlaced count marks.now (seat_of state) }
+    requires may { (x : Taker) → Contains takers.now x → MayTakeAt marks.now (seat_of state) x }
+    ensures { OnOk result
+        (seats_of todo.new.items ≡ seats_of todo.old.items ++ map (took_at (seat_of state)) takers.now) }
+{
+    if takers.is_empty() {
         drop(state);
         return Ok(());
-    };
-    push_others(alloc, count, marks, &state, others, todo)?;
-    state.take(alloc, marks, last)?;
+    }
+    let before = takers.len() - 1;
+    let last = takers[before];
+    push_others(alloc, count, marks, &state, &takers[..before], todo)?;
+    push_last(alloc, marks, state, &last, todo)
+}
+
+/// Puts this state behind this effect among those to be gone on from, in its own memory.
+fn push_last(
+    alloc: Global,
+    marks: &[Mark],
+    mut state: State,
+    taker: &Taker,
+    todo: &mut Vec<State>,
+) -> Result<(), AllocError>
+    requires { MayTakeAt marks.now (seat_of state) taker.now }
+    ensures { OnOk result
+        (seats_of todo.new.items ≡ seats_of todo.old.items ++ took_at (seat_of state) taker.now ∷ []) }
+{
+    state.take(alloc, marks, taker)?;
     todo.push(state)?;
     Ok(())
 }
