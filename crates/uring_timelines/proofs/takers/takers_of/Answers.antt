@@ -9,7 +9,7 @@ use Rattle.uring_timelines.proofs.Adding.{MayBe, SoFar, so_far_all, so_far_more,
 use Rattle.uring_timelines.proofs.takers.takers_of.Goals as goal
 use Rattle.uring_timelines.proofs.takers.takers_of.Goals.{then-one-awaited+in_ok-add_takers, else-one-awaited}
 
-none : Running
+abbrev none : Running
 none = record { number = 0; op = Nop; taken = None }
 
 pub loop-one-preserved : goal.loop-one-preserved
