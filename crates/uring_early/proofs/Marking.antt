@@ -36,9 +36,9 @@ wrong_from g o events k e low is same wrong lawful =
     let rest : drop k events ≡ e ∷ drop (suc k) events = drop-cons events k e low ∙ ap (λ (y : Event). y ∷ drop (suc k) events) (sym is) in
     let split : events ≡ take k events ++ (e ∷ drop (suc k) events) = sym (take-append-drop k events) ∙ ap (λ (ys : List Event). take k events ++ ys) rest in
     let turned : history_of events ≡ history_of (drop (suc k) events) ++ e ∷ history_of (take k events) =
-        sym (append-nil (history_of events)) ∙ ap (λ (ys : List Event). history_of ys ++ []) split
-        ∙ history_of-append (take k events) (e ∷ drop (suc k) events) []
-        ∙ history_of-cons e (drop (suc k) events) (history_of (take k events) ++ [])
-        ∙ ap (λ (h : History). history_of (drop (suc k) events) ++ e ∷ h) (append-nil (history_of (take k events))) in
+    sym (append-nil (history_of events)) ∙ ap (λ (ys : List Event). history_of ys ++ []) split
+    ∙ history_of-append (take k events) (e ∷ drop (suc k) events) []
+    ∙ history_of-cons e (drop (suc k) events) (history_of (take k events) ++ [])
+    ∙ ap (λ (h : History). history_of (drop (suc k) events) ++ e ∷ h) (append-nil (history_of (take k events))) in
     let here : IsLawfulApart g (e ∷ history_of (take k events)) = lawful_before g (history_of (drop (suc k) events)) (e ∷ history_of (take k events)) (subst (IsLawfulApart g) turned lawful) in
     wrong (subst (λ (s : Setup). CalledForApart s (world s (history_of (take k events))) e.0 e.1) (sym same) here.0)

@@ -48,9 +48,9 @@ ended_run true false k = refl
 
 start_runs : (r : Requests) (m n : ℕ) → has_ended r m ≡ false
     → is_running (with_started r m) n ≡ (is_running r n || (m == n))
-start_runs r m n open =
+start_runs r m n unended =
     ap (λ (b : Bool). b && not (has_ended r n)) (list_any-push (λ k. k == n) r.started m)
-    ∙ started_more (has_started r n) (m == n) (has_ended r n) (λ same. ap (has_ended r) (sym (eqb-true m n same)) ∙ open)
+    ∙ started_more (has_started r n) (m == n) (has_ended r n) (λ same. ap (has_ended r) (sym (eqb-true m n same)) ∙ unended)
 
 end_is : (r : Requests) (m n : ℕ) (res : ℤ) (bytes : List ℕ)
     → is_running (with_ended r m res bytes) n ≡ (has_started r n && not (has_ended r n || (m == n)))
@@ -84,8 +84,8 @@ idle_of r _ a silent = refl
 -- the mark of a start has the operation
 pub started_mark : (r : Requests) (m : ℕ) → has_ended r m ≡ false
     → mark_by (with_started r m) (step.Issue m, answer.Run) ≡ Starts m (operation_of (entry_of r m))
-started_mark r m open =
-    ap (λ (b : Bool). start_mark m (if b then Some (operation_of (entry_of r m)) else None)) (start_runs r m m open ∙ ap (λ (b : Bool). is_running r m || b) (eq-eqb m m refl) ∙ or_true (is_running r m))
+started_mark r m unended =
+    ap (λ (b : Bool). start_mark m (if b then Some (operation_of (entry_of r m)) else None)) (start_runs r m m unended ∙ ap (λ (b : Bool). is_running r m || b) (eq-eqb m m refl) ∙ or_true (is_running r m))
   where
     or_true : (b : Bool) → (b || true) ≡ true
     or_true true = refl
@@ -103,9 +103,9 @@ runs_by g w s a n (drops call place opened left at invalid) =
 runs_by g w s a n (closes accepted missed head call opened all told) =
     subst (λ o. is_running (ending_of w o).requests n ≡ is_running w.requests n) (sym opened) refl
 runs_by g w s a n (runs m outstanding idle spared ready no_cancel) =
-    let open : has_ended w.requests m ≡ false = open_of w.requests m outstanding in
-    start_runs w.requests m n open
-    ∙ sym (ap (λ (k : Mark). runs_behind k (is_running w.requests n) n) (started_mark w.requests m open))
+    let unended : has_ended w.requests m ≡ false = open_of w.requests m outstanding in
+    start_runs w.requests m n unended
+    ∙ sym (ap (λ (k : Mark). runs_behind k (is_running w.requests n) n) (started_mark w.requests m unended))
 runs_by g w s a n (dooms m outstanding idle doomed) =
     end_idle (with_cancelled w.requests (chosen_by w.requests m (doomed_result w.requests m))) m n (doomed_result w.requests m) no_bytes idle
 runs_by g w s a n (cancels m outstanding idle spared ready cancel) =

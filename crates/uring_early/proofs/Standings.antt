@@ -34,7 +34,7 @@ use Rattle.uring_early.proofs.Running.{open_of, runs_behind, runs_by}
 
 -- ---- the list of what runs
 
-or_else : Option Running → Option Running → Option Running
+abbrev or_else : Option Running → Option Running → Option Running
 or_else (Some x) y = Some x
 or_else None y = y
 
@@ -49,7 +49,7 @@ look_push [] new n = refl
 look_push (r ∷ rs) new n =
     either_else (r.number == n) r (look (rs ++ new ∷ []) n) (look rs n) (if new.number == n then Some new else None) (look_push rs new n)
 
-none_either : (b : Bool) → None ≡ (if b then None else None)
+none_either : (b : Bool) → ◌≡◌ {A = Option Running} None (if b then None else None)
 none_either true = refl
 none_either false = refl
 
@@ -172,9 +172,9 @@ stands_so : (r later : Requests) (n : ℕ) (taken : Option Outcome) → is_runni
     → standing_at r taken n ≡ standing_at later taken n
 stands_so r later n taken same entry = by (is_running r n) refl where
   by : (b : Bool) → is_running r n ≡ b → one_of b n (operation_of (entry_of r n)) taken ≡ standing_at later taken n
-  by true runs =
-      ap (λ e. one_of true n (operation_of e) taken) (sym (entry runs))
-      ∙ ap (λ (b : Bool). one_of b n (operation_of (entry_of later n)) taken) (sym (same ∙ runs))
+  by true ran =
+      ap (λ e. one_of true n (operation_of e) taken) (sym (entry ran))
+      ∙ ap (λ (b : Bool). one_of b n (operation_of (entry_of later n)) taken) (sym (same ∙ ran))
   by false idle = ap (λ (b : Bool). one_of b n (operation_of (entry_of later n)) taken) (sym (same ∙ idle))
 
 entry_same : (g : Setup) (s : Step) (a : Answer) (h : History) (n : ℕ) → IsLawfulApart g ((s, a) ∷ h)
@@ -238,9 +238,9 @@ and_false true = refl
 and_false false = refl
 
 unstarted : (started ended : Bool) → (started && not ended) ≡ false → ended ≡ false → started ≡ false
-unstarted true true idle open = sym idle ∙ open
-unstarted true false idle open = idle
-unstarted false ended idle open = refl
+unstarted true true idle unended = unended
+unstarted true false idle unended = idle
+unstarted false ended idle unended = refl
 
 -- a running request asks for this operation
 asked_by : (b : Bool) (op asked : Op) → (if b then Some asked else None) ≡ Some op → (b ≡ true) × (asked ≡ op)
@@ -262,6 +262,7 @@ module _ (g : Setup) (t : Timeline) (st : Standing) (s : Step) (a : Answer) wher
   behind_end k stands lawful runs_so n = look_without st.running k n ∙ by (k == n) refl where
     later : Requests
     later = requests_in g (Makes (s, a) ∷ t)
+
     by : (b : Bool) → (k == n) ≡ b → (if b then None else look st.running n) ≡ standing_at later (effect_of t n) n
     by true same = ap (λ (b : Bool). one_of b n (operation_of (entry_of later n)) (effect_of t n)) (sym (runs_so n ∙ ap (λ (b : Bool). is_running (requests_in g t) n && not b) same ∙ and_false (is_running (requests_in g t) n)))
     by false other =
@@ -275,8 +276,10 @@ module _ (g : Setup) (t : Timeline) (st : Standing) (s : Step) (a : Answer) wher
   behind_start k op stands lawful idle free asks runs_so n = look_push st.running (record { number = k; op = op; taken = None }) n ∙ by (k == n) refl where
     later : Requests
     later = requests_in g (Makes (s, a) ∷ t)
+
     new : Running
     new = record { number = k; op = op; taken = None }
+
     here : or_else (look st.running k) (Some new) ≡ standing_at later (effect_of t k) k
     here =
         let asked = asked_by (is_running later k) op (operation_of (entry_of later k)) asks in
@@ -284,6 +287,7 @@ module _ (g : Setup) (t : Timeline) (st : Standing) (s : Step) (a : Answer) wher
         ∙ ap (λ (x : Op). one_of true k x None) (sym asked.1)
         ∙ ap (λ (o : Option Outcome). one_of true k (operation_of (entry_of later k)) o) (sym free)
         ∙ ap (λ (b : Bool). one_of b k (operation_of (entry_of later k)) (effect_of t k)) (sym asked.0)
+
     by : (b : Bool) → (k == n) ≡ b → or_else (look st.running n) (if b then Some new else None) ≡ standing_at later (effect_of t n) n
     by true same = subst (λ (m : ℕ). or_else (look st.running m) (Some new) ≡ standing_at later (effect_of t m) m) (eqb-true k n same) here
     by false other =
@@ -316,19 +320,19 @@ taken_one : (b : Bool) (n m : ℕ) (op : Op) (o : Outcome) (taken : Option Outco
     → option_map (λ r. taking m o r) (one_of b n op taken) ≡ one_of b n op (if m == n then Some o else taken)
 taken_one false n m op o taken = refl
 taken_one true n m op o taken = by (m == n) where
-  by : (c : Bool) → Some (if c then record { number = n; op = op; taken = Some o } else record { number = n; op = op; taken = taken }) ≡ Some (record { number = n; op = op; taken = if c then Some o else taken })
+  by : (c : Bool) → ◌≡◌ {A = Option Running} (Some (if c then record { number = n; op = op; taken = Some o } else record { number = n; op = op; taken = taken })) (Some (record { number = n; op = op; taken = if c then Some o else taken }))
   by true = refl
   by false = refl
 
 op_one : (b : Bool) (n : ℕ) (op : Op) (taken : Option Outcome) → b ≡ true → op_of (one_of b n op taken) ≡ op
-op_one true n op taken runs = refl
-op_one false n op taken runs = let f : false ≡ true = runs in absurd cc
+op_one true n op taken ran = refl
+op_one false n op taken ran = let f : false ≡ true = ran in absurd cc
 
 pub stands_takes : (g : Setup) (t : Timeline) (st : Standing) (n : ℕ) (o : Outcome) → Stands g t st
     → is_running (requests_in g t) n ≡ true → Stands g (Takes n o ∷ t) (took st n o)
-stands_takes g t st n o stands runs = record {
+stands_takes g t st n o stands ran = record {
   files =
-      ap (λ (x : Op). map plain (after st.files x o.res)) (ap op_of (stands.running n) ∙ op_one (is_running (requests_in g t) n) n (operation_at g t n) (effect_of t n) runs)
+      ap (λ (x : Op). map plain (after st.files x o.res)) (ap op_of (stands.running n) ∙ op_one (is_running (requests_in g t) n) n (operation_at g t n) (effect_of t n) ran)
       ∙ ap (λ (fs : List FileContents). map plain (after fs (operation_at g t n) o.res)) stands.files
       ∙ after_plain (files_at g t) (operation_at g t n) o.res
       ∙ ap (map plain) (sym (left-snoc (empty_files g.files) (effects_in g t) (record { number = n; op = operation_at g t n; outcome = o })));

@@ -26,6 +26,10 @@ use Rattle.uring_timelines.specs.declared.mark.Mark.TheVariants.{Starts, Ends, I
 use Rattle.uring_timelines.specs.declared.running.Running.{Running}
 use Rattle.uring_timelines.specs.Moves.{FitsEnd, Goes, IsWalk, MayTake, Move, Pass, Take, Passes, Standing, at_first, awaits, end_in, look, passed, plain, taken_of, took}
 use Rattle.uring_timelines.proofs.Plain.{outcome_plain, plain_new}
+use Rattle.uring_timelines.specs.declared.search.Fate.{Fate}
+use Rattle.uring_timelines.specs.declared.search.Fate.TheVariants as fate
+use Rattle.uring_timelines.specs.Search.{IsFated}
+use Rattle.uring_early.specs.Decided.{IsFound, found_by}
 use Rattle.uring_early.specs.Marks.{mark_by, marks_behind, start_mark}
 use Rattle.uring_early.proofs.Standings.{Stands, ends_so, one_of, passes_so, stands_makes, stands_takes, takes_effect}
 
@@ -194,6 +198,7 @@ ends_before : (g : Setup) (s : Step) (a : Answer) (t : Timeline) (later : List E
 ends_before g (step.Finish k) (answer.Ended res bytes) t later ends so n o taken = by (k == n) refl where
   rest : List Mark
   rest = marks_behind g ((step.Finish k, answer.Ended res bytes) ∷ made_in t) later
+
   by : (b : Bool) → (k == n) ≡ b → FitsEnd (if b then Some (record { res = res; bytes = bytes }) else end_in rest n) o
   by true same = same_Some (record { res = res; bytes = bytes }) o (sym ends ∙ ap (effect_of t) (eqb-true k n same) ∙ taken)
   by false other = so n o taken
@@ -234,3 +239,11 @@ goes_by g events early =
     let late : IsLawfulLate g (history_of events) = early_effects_can_wait g (history_of events) early in
     let t : Timeline = late.timeline in
     subst (λ (l : List Event). Goes (at_first g.files) (marks_behind g [] l)) (append-nil (reverse (made_in t)) ∙ ap reverse late.made ∙ reverse-reverse events) (back g t [] late.timely (subst (IsLawfulApart g) (sym late.made) early.lawful) late.waits (none_next t late.ends) (λ n o taken. tt) (record { moves = []; walk = refl }))
+
+-- ---- what a search comes to
+
+pub decided : (g : Setup) (events : List Event) (come_to : Fate) → IsLawfulApart g (history_of events)
+    → IsFated g.files (marks_behind g [] events) come_to → IsFound g (history_of events) (found_by come_to)
+decided g events fate.Explained lawful goes = lawful_by g events lawful goes
+decided g events fate.Over lawful none = (lawful, λ early. none (goes_by g events early))
+decided g events fate.Open lawful left = lawful

@@ -10,4 +10,5 @@ mod state;
 mod takers;
 
 pub use mark::Mark;
+pub use running::Running;
 pub use search::{Fate, explain};

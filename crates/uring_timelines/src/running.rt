@@ -8,10 +8,10 @@ use uring_entry::{Op, Outcome};
 
 /// An operation that runs, and its outcome if it has taken effect.
 #[derive(Clone, Copy, Debug, PartialEq, Eq)]
-pub(crate) struct Running {
-    pub(crate) number: u64,
-    pub(crate) op: Op,
-    pub(crate) taken: Option<Outcome>,
+pub struct Running {
+    pub number: u64,
+    pub op: Op,
+    pub taken: Option<Outcome>,
 }
 
 /// That of a request, if it runs.
