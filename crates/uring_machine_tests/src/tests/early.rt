@@ -14,11 +14,7 @@ fn note(core: &mut Core, events: &mut Vec<(Step, Answer)>, step: Step) -> Result
 }
 
 /// Notes the end of a request with 1 and one byte.
-fn note_end(
-    events: &mut Vec<(Step, Answer)>,
-    number: u64,
-    byte: u8,
-) -> Result<(), AllocError> {
+fn note_end(events: &mut Vec<(Step, Answer)>, number: u64, byte: u8) -> Result<(), AllocError> {
     let mut bytes = [0; 64];
     bytes[0] = byte;
     events.push((Step::Finish { number }, Answer::ended(1, bytes)))?;
@@ -33,9 +29,23 @@ fn note_both(
 ) -> Result<(), AllocError> {
     let write = Sqe::write(1, 0, 0, 0, &[7]);
     let read = Sqe::read(2, 0, 0, 0, 1);
-    note(core, events, Step::Fill { slot: 0, entry: write })?;
+    note(
+        core,
+        events,
+        Step::Fill {
+            slot: 0,
+            entry: write,
+        },
+    )?;
     note(core, events, Step::Index { word: 0 })?;
-    note(core, events, Step::Fill { slot: 1, entry: read })?;
+    note(
+        core,
+        events,
+        Step::Fill {
+            slot: 1,
+            entry: read,
+        },
+    )?;
     note(core, events, Step::Index { word: 1 })?;
     note(core, events, Step::StoreTail)?;
     note(core, events, Step::Begin { count: 2 })?;
