@@ -1,7 +1,6 @@
 //! Tests of the public calls of core and machine.
 
 mod cores;
-mod early;
 mod growth;
 mod recorded;
 mod settling;
