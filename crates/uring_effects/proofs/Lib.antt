@@ -1,4 +1,4 @@
 mod AtFinishes
 mod AllowedResults
 mod EarlyResults
-mod Waiting
+pub mod Waiting

@@ -1,6 +1,6 @@
--- Effects can wait: a step that ends no running request changes places with the effects right before it, since their requests still run behind it, and those that happened last are left out.
+-- Effects can wait: a step changes places with the effects right before it, up to that of the request that it finishes, since their requests still run behind it, and those that happened last are left out.
 use Rattle.std.proofs.Common.{◌≡◌, ◌==◌, ◌++◌, ◌||◌, ◌&&◌, ◌<◌, ℕ, ℤ, Bool, true, false, not, List, [], ◌∷◌, length, Option, Some, if◌then◌else◌, refl, sym, ap, subst, ◌∙◌}
-use Rattle.std.proofs.lemmas.Bool.{and_parts, both_ways, eqb-true, false_from_ne_true}
+use Rattle.std.proofs.lemmas.Bool.{and_parts, both_ways, eq-eqb, eqb-true, false_from_ne_true}
 use Rattle.uring_entry.specs.Preparation.{operation_of}
 use Rattle.uring_entry.specs.Requests.{Ending, Requests, entry_of, has_ended, is_running, no_bytes, chosen_by, cancel_result, doomed_result, with_cancelled, with_started, with_ended}
 use Rattle.uring_entry.specs.Setup.{Setup}
@@ -19,7 +19,7 @@ use Rattle.uring_core.specs.declared.answer.Answer.TheVariants as answer
 use Rattle.uring_core.proofs.Changes.{Change, refuses, takes, drops, closes, runs, dooms, cancels, finishes, change_of}
 use Rattle.uring_core.proofs.Sound.{sound_of}
 use Rattle.uring_laws.proofs.Growth.{event_grows}
-use Rattle.uring_effects.specs.Effects.{Makes, Takes, Timeline, made_in, requests_in, operation_at, effects_in, files_at, effect_of, TakesEffect, EndsAsTaken, IsTimely, IsLawfulEarly, ends_running, ends_in_effect, EffectsWait}
+use Rattle.uring_effects.specs.Effects.{Makes, Takes, Timeline, made_in, requests_in, operation_at, effects_in, files_at, effect_of, TakesEffect, EndsAsTaken, IsTimely, IsLawfulEarly, is_end_of, ends_in_effect, EffectsWait}
 use Rattle.uring_effects.specs.Laws.{IsLawfulLate}
 
 -- ---- what runs goes on
@@ -34,20 +34,29 @@ start_runs r m n running =
     let parts = and_parts _ _ running in
     both_so _ _ (list_any-push (λ k. k == n) r.started m ∙ ap (λ (b : Bool). b || (m == n)) parts.0) parts.1
 
--- one that doesn't run ends
-end_runs : (r : Requests) (m n : ℕ) (res : ℤ) (bytes : List ℕ) → is_running r m ≡ false
+-- another ends
+end_runs : (r : Requests) (m n : ℕ) (res : ℤ) (bytes : List ℕ) → (m == n) ≡ false
     → is_running r n ≡ true → is_running (with_ended r m res bytes) n ≡ true
-end_runs r m n res bytes idle running =
+end_runs r m n res bytes other running =
     let parts = and_parts _ _ running in
-    let other : (m == n) ≡ false = false_from_ne_true _ (λ same. both_ways _ idle (subst (λ (k : ℕ). is_running r k ≡ true) (sym (eqb-true m n same)) running)) in
     both_so _ _ parts.0 (ap not (list_any-push (λ (e : Ending). e.number == n) r.ended (record { number = m; res = res; bytes = bytes }) ∙ ap (λ (b : Bool). has_ended r n || b) other ∙ or_false (has_ended r n)) ∙ parts.1)
   where
     or_false : (b : Bool) → (b || false) ≡ b
     or_false true = refl
     or_false false = refl
 
+-- told from either side
+other_way : (m n : ℕ) → (m == n) ≡ false → (n == m) ≡ false
+other_way m n other =
+    false_from_ne_true _ (λ same. both_ways _ other (eq-eqb m n (sym (eqb-true n m same))))
+
+-- what doesn't run is another than what does
+idle_other : (r : Requests) (m n : ℕ) → is_running r m ≡ false → is_running r n ≡ true → (m == n) ≡ false
+idle_other r m n idle running =
+    false_from_ne_true _ (λ same. both_ways _ idle (subst (λ (k : ℕ). is_running r k ≡ true) (sym (eqb-true m n same)) running))
+
 change_runs : (g : Setup) (w : World) (s : Step) (a : Answer) (n : ℕ) → Change g w s a
-    → ends_running (s, a) ≡ false → is_running w.requests n ≡ true
+    → is_end_of n (s, a) ≡ false → is_running w.requests n ≡ true
     → is_running (happens g w s a).requests n ≡ true
 change_runs g w s a n (refuses _ _ same silent) other running =
     subst (λ (v : World). is_running v.requests n ≡ true) (sym (same w)) running
@@ -60,15 +69,15 @@ change_runs g w s a n (closes accepted missed head call opened all told) other r
 change_runs g w s a n (runs m outstanding idle spared ready no_cancel) other running =
     start_runs w.requests m n running
 change_runs g w s a n (dooms m outstanding idle doomed) other running =
-    end_runs (with_cancelled w.requests (chosen_by w.requests m (doomed_result w.requests m))) m n (doomed_result w.requests m) no_bytes idle running
+    end_runs (with_cancelled w.requests (chosen_by w.requests m (doomed_result w.requests m))) m n (doomed_result w.requests m) no_bytes (idle_other w.requests m n idle running) running
 change_runs g w s a n (cancels m outstanding idle spared ready cancel) other running =
-    end_runs (with_cancelled w.requests (chosen_by w.requests m (cancel_result w.requests m))) m n (cancel_result w.requests m) no_bytes idle running
+    end_runs (with_cancelled w.requests (chosen_by w.requests m (cancel_result w.requests m))) m n (cancel_result w.requests m) no_bytes (idle_other w.requests m n idle running) running
 change_runs g w s a n (finishes m res bytes ran) other running =
-    absurd (let f : true ≡ false = other in cc)
+    end_runs w.requests m n res bytes (other_way n m other) running
 change_runs g w s a n _ other running = running
 
 step_runs : (g : Setup) (s : Step) (a : Answer) (h : History) (n : ℕ) → IsLawfulApart g ((s, a) ∷ h)
-    → ends_running (s, a) ≡ false → is_running (world g h).requests n ≡ true
+    → is_end_of n (s, a) ≡ false → is_running (world g h).requests n ≡ true
     → is_running (world g ((s, a) ∷ h)).requests n ≡ true
 step_runs g s a h n lawful other running =
     change_runs g (world g h) s a n (change_of g (world g h) s a lawful.0) other running
@@ -81,23 +90,40 @@ step_entry g s a h n lawful running =
     let low : n < length (world g h).requests.accepted = (sound_of g h lawful.1).requests.started_accepted n (and_parts _ _ running).0 in
     (event_grows g s a h lawful).same_entry n low
 
--- ---- a step before the effects that happened last
+-- ---- a step before the effects that happened last, up to that which it ends
+
+-- behind this effect, or before it
+abbrev stand : Bool → Step → Answer → ℕ → Outcome → Timeline → Timeline → Timeline
+stand true s a n o t waited = Makes (s, a) ∷ Takes n o ∷ t
+stand false s a n o t waited = Takes n o ∷ waited
 
 abbrev wait : Step → Answer → Timeline → Timeline
 wait s a [] = Makes (s, a) ∷ []
 wait s a (Makes event ∷ t) = Makes (s, a) ∷ Makes event ∷ t
-wait s a (Takes n o ∷ t) = Takes n o ∷ wait s a t
+wait s a (Takes n o ∷ t) = stand (is_end_of n (s, a)) s a n o t (wait s a t)
+
+made_stand : (b : Bool) (s : Step) (a : Answer) (n : ℕ) (o : Outcome) (t waited : Timeline)
+    → made_in waited ≡ ((s, a) ∷ made_in t) → made_in (stand b s a n o t waited) ≡ ((s, a) ∷ made_in t)
+made_stand true s a n o t waited same = refl
+made_stand false s a n o t waited same = same
 
 made_wait : (s : Step) (a : Answer) (t : Timeline) → made_in (wait s a t) ≡ ((s, a) ∷ made_in t)
 made_wait s a [] = refl
 made_wait s a (Makes event ∷ t) = refl
-made_wait s a (Takes n o ∷ t) = made_wait s a t
+made_wait s a (Takes n o ∷ t) = made_stand (is_end_of n (s, a)) s a n o t (wait s a t) (made_wait s a t)
+
+effect_stand : (b : Bool) (s : Step) (a : Answer) (m : ℕ) (o : Outcome) (t waited : Timeline) (n : ℕ)
+    → effect_of waited n ≡ effect_of t n
+    → effect_of (stand b s a m o t waited) n ≡ effect_of (Takes m o ∷ t) n
+effect_stand true s a m o t waited n same = refl
+effect_stand false s a m o t waited n same =
+    ap (λ (e : Option Outcome). if m == n then Some o else e) same
 
 effect_wait : (s : Step) (a : Answer) (t : Timeline) (n : ℕ) → effect_of (wait s a t) n ≡ effect_of t n
 effect_wait s a [] n = refl
 effect_wait s a (Makes event ∷ t) n = refl
 effect_wait s a (Takes m o ∷ t) n =
-    ap (λ (e : Option Outcome). if m == n then Some o else e) (effect_wait s a t n)
+    effect_stand (is_end_of m (s, a)) s a m o t (wait s a t) n (effect_wait s a t n)
 
 operation_wait : (g : Setup) (s : Step) (a : Answer) (t : Timeline) (n : ℕ)
     → IsLawfulApart g ((s, a) ∷ made_in t) → is_running (requests_in g t) n ≡ true
@@ -106,13 +132,20 @@ operation_wait g s a t n lawful running =
     ap (λ (h : History). operation_of (entry_of (world g h).requests n)) (made_wait s a t)
     ∙ ap operation_of (step_entry g s a (made_in t) n lawful running)
 
+effects_stand : (g : Setup) (b : Bool) (s : Step) (a : Answer) (n : ℕ) (o : Outcome) (t waited : Timeline)
+    → effects_in g waited ≡ effects_in g t → operation_at g waited n ≡ operation_at g t n
+    → effects_in g (stand b s a n o t waited) ≡ effects_in g (Takes n o ∷ t)
+effects_stand g true s a n o t waited same asks = refl
+effects_stand g false s a n o t waited same asks =
+    ap (λ (l : List Done). l ++ record { number = n; op = operation_at g waited n; outcome = o } ∷ []) same
+    ∙ ap (λ (x : Op). effects_in g t ++ record { number = n; op = x; outcome = o } ∷ []) asks
+
 effects_wait : (g : Setup) (s : Step) (a : Answer) (t : Timeline) → IsTimely g t
     → IsLawfulApart g ((s, a) ∷ made_in t) → effects_in g (wait s a t) ≡ effects_in g t
 effects_wait g s a [] timely lawful = refl
 effects_wait g s a (Makes event ∷ t) timely lawful = refl
 effects_wait g s a (Takes n o ∷ t) timely lawful =
-    ap (λ (l : List Done). l ++ record { number = n; op = operation_at g (wait s a t) n; outcome = o } ∷ []) (effects_wait g s a t timely.1 lawful)
-    ∙ ap (λ (x : Op). effects_in g t ++ record { number = n; op = x; outcome = o } ∷ []) (operation_wait g s a t n lawful timely.0.runs)
+    effects_stand g (is_end_of n (s, a)) s a n o t (wait s a t) (effects_wait g s a t timely.1 lawful) (operation_wait g s a t n lawful timely.0.runs)
 
 -- an effect goes on to be timely if what is before it stays the same in all that it asks
 effect_stays : (g : Setup) (old new : Timeline) (n : ℕ) (o : Outcome)
@@ -125,72 +158,65 @@ effect_stays g old new n o running same effects asks taken = record {
   gives = subst (λ (l : List Done). IsOutcome (files_left (empty_files g.files) l) (operation_at g new n) o) (sym effects) (subst (λ (x : Op). IsOutcome (files_at g old) x o) (sym asks) taken.gives);
 }
 
-plain_ends : (s : Step) (a : Answer) (t : Timeline) → ends_running (s, a) ≡ false → EndsAsTaken t (s, a)
-plain_ends (step.Finish n) (answer.Ended res bytes) t other = absurd (let f : true ≡ false = other in cc)
-plain_ends (step.Finish n) _ t other = tt
-plain_ends _ a t other = tt
+-- a step that isn't the end of this effect ends before it as behind it
+ends_past : (s : Step) (a : Answer) (n : ℕ) (o : Outcome) (t : Timeline) → is_end_of n (s, a) ≡ false
+    → EndsAsTaken (Takes n o ∷ t) (s, a) → EndsAsTaken t (s, a)
+ends_past (step.Finish m) (answer.Ended res bytes) n o t other ends =
+    sym (ap (λ (b : Bool). if b then Some o else effect_of t m) other) ∙ ends
+ends_past (step.Finish m) _ n o t other ends = tt
+ends_past _ a n o t other ends = tt
 
-timely_wait : (g : Setup) (s : Step) (a : Answer) (t : Timeline) → ends_running (s, a) ≡ false
-    → IsTimely g t → IsLawfulApart g ((s, a) ∷ made_in t) → IsTimely g (wait s a t)
-timely_wait g s a [] other timely lawful = (plain_ends s a [] other, tt)
-timely_wait g s a (Makes event ∷ t) other timely lawful =
-    (plain_ends s a (Makes event ∷ t) other, timely)
-timely_wait g s a (Takes n o ∷ t) other timely lawful = (
+timely_stand : (g : Setup) (b : Bool) (s : Step) (a : Answer) (n : ℕ) (o : Outcome) (t : Timeline)
+    → is_end_of n (s, a) ≡ b → EndsAsTaken (Takes n o ∷ t) (s, a) → IsTimely g (Takes n o ∷ t)
+    → IsLawfulApart g ((s, a) ∷ made_in t)
+    → (EndsAsTaken t (s, a) → IsTimely g (wait s a t)) → IsTimely g (stand b s a n o t (wait s a t))
+timely_stand g true s a n o t same ends timely lawful later = (ends, timely)
+timely_stand g false s a n o t other ends timely lawful later = (
   effect_stays g t (wait s a t) n o (subst (λ (h : History). is_running (world g h).requests n ≡ true) (sym (made_wait s a t)) (step_runs g s a (made_in t) n lawful other timely.0.runs)) (effect_wait s a t n) (effects_wait g s a t timely.1 lawful) (operation_wait g s a t n lawful timely.0.runs) timely.0,
-  timely_wait g s a t other timely.1 lawful,
+  later (ends_past s a n o t other ends),
 )
 
+timely_wait : (g : Setup) (s : Step) (a : Answer) (t : Timeline) → EndsAsTaken t (s, a)
+    → IsTimely g t → IsLawfulApart g ((s, a) ∷ made_in t) → IsTimely g (wait s a t)
+timely_wait g s a [] ends timely lawful = (ends, tt)
+timely_wait g s a (Makes event ∷ t) ends timely lawful = (ends, timely)
+timely_wait g s a (Takes n o ∷ t) ends timely lawful =
+    timely_stand g (is_end_of n (s, a)) s a n o t refl ends timely lawful (λ before. timely_wait g s a t before timely.1 lawful)
+
+stand_waits : (b : Bool) (s : Step) (a : Answer) (n : ℕ) (o : Outcome) (t waited : Timeline)
+    → is_end_of n (s, a) ≡ b → EffectsWait t → EffectsWait waited → EffectsWait (stand b s a n o t waited)
+stand_waits true s a n o t waited same waits later = (same, waits)
+stand_waits false s a n o t waited other waits later = later
+
 wait_waits : (s : Step) (a : Answer) (t : Timeline) → EffectsWait t → EffectsWait (wait s a t)
-wait_waits s a [] waits = ((λ e. absurd (let f : false ≡ true = e in cc)), tt)
-wait_waits s a (Makes event ∷ t) waits = ((λ e. absurd (let f : false ≡ true = e in cc)), waits)
-wait_waits s a (Takes n o ∷ t) waits = wait_waits s a t waits
+wait_waits s a [] waits = (tt, tt)
+wait_waits s a (Makes event ∷ t) waits = (tt, waits)
+wait_waits s a (Takes n o ∷ t) waits =
+    stand_waits (is_end_of n (s, a)) s a n o t (wait s a t) refl waits (wait_waits s a t waits)
 
 -- ---- all steps
 
-abbrev put : Bool → Step → Answer → Timeline → Timeline
-put true s a t = Makes (s, a) ∷ t
-put false s a t = wait s a t
-
 abbrev late : Timeline → Timeline
 late [] = []
-late (Makes (s, a) ∷ t) = put (ends_running (s, a)) s a (late t)
+late (Makes (s, a) ∷ t) = wait s a (late t)
 late (Takes n o ∷ t) = Takes n o ∷ late t
-
-made_put : (b : Bool) (s : Step) (a : Answer) (t : Timeline) → made_in (put b s a t) ≡ ((s, a) ∷ made_in t)
-made_put true s a t = refl
-made_put false s a t = made_wait s a t
 
 made_late : (t : Timeline) → made_in (late t) ≡ made_in t
 made_late [] = refl
 made_late (Makes (s, a) ∷ t) =
-    made_put (ends_running (s, a)) s a (late t) ∙ ap (λ (h : History). (s, a) ∷ h) (made_late t)
+    made_wait s a (late t) ∙ ap (λ (h : History). (s, a) ∷ h) (made_late t)
 made_late (Takes n o ∷ t) = made_late t
-
-effect_put : (b : Bool) (s : Step) (a : Answer) (t : Timeline) (n : ℕ) → effect_of (put b s a t) n ≡ effect_of t n
-effect_put true s a t n = refl
-effect_put false s a t n = effect_wait s a t n
 
 effect_late : (t : Timeline) (n : ℕ) → effect_of (late t) n ≡ effect_of t n
 effect_late [] n = refl
-effect_late (Makes (s, a) ∷ t) n = effect_put (ends_running (s, a)) s a (late t) n ∙ effect_late t n
+effect_late (Makes (s, a) ∷ t) n = effect_wait s a (late t) n ∙ effect_late t n
 effect_late (Takes m o ∷ t) n =
     ap (λ (e : Option Outcome). if m == n then Some o else e) (effect_late t n)
-
-effects_put : (g : Setup) (b : Bool) (s : Step) (a : Answer) (t : Timeline) → IsTimely g t
-    → IsLawfulApart g ((s, a) ∷ made_in t) → effects_in g (put b s a t) ≡ effects_in g t
-effects_put g true s a t timely lawful = refl
-effects_put g false s a t timely lawful = effects_wait g s a t timely lawful
 
 lawful_late : (g : Setup) (s : Step) (a : Answer) (t : Timeline) → IsLawfulApart g ((s, a) ∷ made_in t)
     → IsLawfulApart g ((s, a) ∷ made_in (late t))
 lawful_late g s a t lawful =
     subst (λ (h : History). IsLawfulApart g ((s, a) ∷ h)) (sym (made_late t)) lawful
-
-timely_put : (g : Setup) (b : Bool) (s : Step) (a : Answer) (t : Timeline) → ends_running (s, a) ≡ b
-    → EndsAsTaken t (s, a) → IsTimely g t → IsLawfulApart g ((s, a) ∷ made_in t)
-    → IsTimely g (put b s a t)
-timely_put g true s a t same ends timely lawful = (ends, timely)
-timely_put g false s a t other ends timely lawful = timely_wait g s a t other timely lawful
 
 ends_late : (s : Step) (a : Answer) (t : Timeline) → EndsAsTaken t (s, a) → EndsAsTaken (late t) (s, a)
 ends_late (step.Finish n) (answer.Ended res bytes) t ends = effect_late t n ∙ ends
@@ -208,8 +234,8 @@ late_same g (Makes (s, a) ∷ t) timely lawful =
     let before : IsSame g t = late_same g t timely.1 lawful.1 in
     let later = lawful_late g s a t lawful in
     record {
-      timely = timely_put g (ends_running (s, a)) s a (late t) refl (ends_late s a t timely.0) before.timely later;
-      effects = effects_put g (ends_running (s, a)) s a (late t) before.timely later ∙ before.effects;
+      timely = timely_wait g s a (late t) (ends_late s a t timely.0) before.timely later;
+      effects = effects_wait g s a (late t) before.timely later ∙ before.effects;
     }
 late_same g (Takes n o ∷ t) timely lawful =
     let before : IsSame g t = late_same g t timely.1 lawful in
@@ -221,14 +247,9 @@ late_same g (Takes n o ∷ t) timely lawful =
           ∙ ap (λ (x : Op). effects_in g t ++ record { number = n; op = x; outcome = o } ∷ []) asks;
     }
 
-put_waits : (b : Bool) (s : Step) (a : Answer) (t : Timeline) → ends_running (s, a) ≡ b → EffectsWait t
-    → EffectsWait (put b s a t)
-put_waits true s a t same waits = ((λ e. same), waits)
-put_waits false s a t other waits = wait_waits s a t waits
-
 late_waits : (t : Timeline) → EffectsWait (late t)
 late_waits [] = tt
-late_waits (Makes (s, a) ∷ t) = put_waits (ends_running (s, a)) s a (late t) refl (late_waits t)
+late_waits (Makes (s, a) ∷ t) = wait_waits s a (late t) (late_waits t)
 late_waits (Takes n o ∷ t) = late_waits t
 
 -- ---- without the effects that happened last

@@ -77,10 +77,10 @@ pub record IsLawfulEarly (g : Setup) (h : History) : Type 0 where
   pub made : made_in timeline ≡ h
   pub timely : IsTimely g timeline
 
--- whether an event is the finish of a running request
-abbrev pub ends_running : Event → Bool
-ends_running (step.Finish n, answer.Ended res bytes) = true
-ends_running event = false
+-- whether an event is the finish of this running request
+abbrev pub is_end_of : ℕ → Event → Bool
+is_end_of n (step.Finish m, answer.Ended res bytes) = n == m
+is_end_of n event = false
 
 -- whether an effect happened last
 abbrev pub ends_in_effect : Timeline → Bool
@@ -88,9 +88,13 @@ ends_in_effect [] = false
 ends_in_effect (Makes event ∷ before) = false
 ends_in_effect (Takes n outcome ∷ before) = true
 
--- effects wait for a finish: no other step stands right behind one
+-- if an effect happened last, the event is the finish of its request
+abbrev pub EndsLast : Timeline → Event → Type 0
+EndsLast (Takes n outcome ∷ before) event = is_end_of n event ≡ true
+EndsLast before event = Unit {0}
+
+-- effects wait: no other step stands right behind one than the finish of its own request
 abbrev pub EffectsWait : Timeline → Type 0
 EffectsWait [] = Unit {0}
-EffectsWait (Makes event ∷ before) =
-    (ends_in_effect before ≡ true → ends_running event ≡ true) × EffectsWait before
+EffectsWait (Makes event ∷ before) = EndsLast before event × EffectsWait before
 EffectsWait (Takes n outcome ∷ before) = EffectsWait before

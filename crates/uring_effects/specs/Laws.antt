@@ -35,6 +35,6 @@ pub record IsLawfulLate (g : Setup) (h : History) : Type 0 where
   pub waits : EffectsWait timeline
   pub ends : ends_in_effect timeline ≡ false
 
--- Effects can wait: a search need put them right before finishes alone.
+-- Effects can wait: a search need put them right before finishes alone, and the last of them is that of the request that finishes.
 abbrev pub EarlyEffectsCanWait : Setup → Type 0
 EarlyEffectsCanWait g = (h : History) → IsLawfulEarly g h → IsLawfulLate g h

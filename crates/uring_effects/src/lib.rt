@@ -14,7 +14,7 @@ pub fn early_effects_give_allowed()
     ensures { (g : Setup) → EarlyEffectsGiveAllowed g }
 {}
 
-/// Effects can wait for a finish: where a history is lawful by early effects, there is a timeline with effects right before finishes alone.
+/// Effects can wait for a finish: where a history is lawful by early effects, there is a timeline with effects right before finishes alone, the last of them that of the request that finishes.
 pub fn early_effects_can_wait()
     ensures { (g : Setup) → EarlyEffectsCanWait g }
 {}

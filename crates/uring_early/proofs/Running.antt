@@ -1,0 +1,115 @@
+-- Which operations run behind an event, by its mark.
+use Rattle.std.proofs.Common.{◌≡◌, ◌==◌, ◌||◌, ◌&&◌, ℕ, ℤ, Bool, true, false, not, List, Option, Some, None, if◌then◌else◌, refl, sym, ap, subst, ◌∙◌}
+use Rattle.std.specs.List.{list_any}
+use Rattle.std.proofs.lemmas.Bool.{and_parts, both_ways, eq-eqb, eqb-true}
+use Rattle.uring_entry.specs.Preparation.{operation_of}
+use Rattle.uring_entry.specs.Requests.{Ending, Requests, entry_of, has_ended, has_started, is_outstanding, is_running, no_bytes, chosen_by, cancel_result, doomed_result, operation_running, with_cancelled, with_started, with_ended}
+use Rattle.uring_entry.specs.Setup.{Setup}
+use Rattle.uring_entry.specs.declared.operation.Op.{Op}
+use Rattle.uring_entry.specs.declared.operation.Outcome.{Outcome}
+use Rattle.uring_entry.proofs.RequestLemmas.{list_any-push}
+use Rattle.uring_core.specs.World.{World, happens, taking_of, taking_entry_of, ending_of}
+use Rattle.uring_core.specs.declared.step.Step.{Step}
+use Rattle.uring_core.specs.declared.step.Step.TheVariants as step
+use Rattle.uring_core.specs.declared.answer.Answer.{Answer}
+use Rattle.uring_core.specs.declared.answer.Answer.TheVariants as answer
+use Rattle.uring_core.proofs.Changes.{Change, IsSilent, refuses, takes, drops, closes, runs, dooms, cancels, finishes}
+use Rattle.uring_timelines.specs.declared.mark.Mark.{Mark}
+use Rattle.uring_timelines.specs.declared.mark.Mark.TheVariants.{Starts, Ends, Idle}
+use Rattle.uring_early.specs.Marks.{mark_by, start_mark}
+
+-- whether an operation runs behind a mark, if it did before it or not as told
+abbrev pub runs_behind : Mark → Bool → ℕ → Bool
+runs_behind (Starts m op) b n = b || (m == n)
+runs_behind (Ends m o) b n = b && not (m == n)
+runs_behind Idle b n = b
+
+-- ---- of Bools
+
+started_more : (s k e : Bool) → (k ≡ true → e ≡ false) → ((s || k) && not e) ≡ ((s && not e) || k)
+started_more true k false none = refl
+started_more true true true none = let f : true ≡ false = none refl in absurd cc
+started_more true false true none = refl
+started_more false true e none = ap not (none refl)
+started_more false false e none = refl
+
+ended_idle : (s e k : Bool) → (k ≡ true → (s && not e) ≡ false) → (s && not (e || k)) ≡ (s && not e)
+ended_idle false e k idle = refl
+ended_idle true true k idle = refl
+ended_idle true false true idle = sym (idle refl)
+ended_idle true false false idle = refl
+
+ended_run : (s e k : Bool) → (s && not (e || k)) ≡ ((s && not e) && not k)
+ended_run false e k = refl
+ended_run true true k = refl
+ended_run true false k = refl
+
+-- ---- of requests
+
+start_runs : (r : Requests) (m n : ℕ) → has_ended r m ≡ false
+    → is_running (with_started r m) n ≡ (is_running r n || (m == n))
+start_runs r m n unended =
+    ap (λ (b : Bool). b && not (has_ended r n)) (list_any-push (λ k. k == n) r.started m)
+    ∙ started_more (has_started r n) (m == n) (has_ended r n) (λ same. ap (has_ended r) (sym (eqb-true m n same)) ∙ unended)
+
+end_is : (r : Requests) (m n : ℕ) (res : ℤ) (bytes : List ℕ)
+    → is_running (with_ended r m res bytes) n ≡ (has_started r n && not (has_ended r n || (m == n)))
+end_is r m n res bytes =
+    ap (λ (b : Bool). has_started r n && not b) (list_any-push (λ (e : Ending). e.number == n) r.ended (record { number = m; res = res; bytes = bytes }))
+
+end_idle : (r : Requests) (m n : ℕ) (res : ℤ) (bytes : List ℕ) → is_running r m ≡ false
+    → is_running (with_ended r m res bytes) n ≡ is_running r n
+end_idle r m n res bytes idle =
+    end_is r m n res bytes ∙ ended_idle (has_started r n) (has_ended r n) (m == n) (λ same. ap (is_running r) (sym (eqb-true m n same)) ∙ idle)
+
+pub open_of : (r : Requests) (m : ℕ) → is_outstanding r m ≡ true → has_ended r m ≡ false
+open_of r m outstanding = by (has_ended r m) (and_parts _ _ outstanding).1 where
+  by : (b : Bool) → not b ≡ true → b ≡ false
+  by false free = refl
+  by true free = sym free
+
+-- ---- of events
+
+none_some : {X : Type 0} (x : X) → Some x ≡ None → ⊥
+none_some x e = absurd cc
+
+idle_of : (r : Requests) (s : Step) (a : Answer) → IsSilent (s, a) → mark_by r (s, a) ≡ Idle
+idle_of r (step.Issue n) answer.Run silent = absurd (none_some n silent.starts)
+idle_of r (step.Issue n) _ silent = refl
+idle_of r (step.Finish n) (answer.Ended res bytes) silent =
+    absurd (none_some (record { number = n; res = res; bytes = bytes }) silent.ends)
+idle_of r (step.Finish n) _ silent = refl
+idle_of r _ a silent = refl
+
+-- the mark of a start has the operation
+pub started_mark : (r : Requests) (m : ℕ) → has_ended r m ≡ false
+    → mark_by (with_started r m) (step.Issue m, answer.Run) ≡ Starts m (operation_of (entry_of r m))
+started_mark r m unended =
+    ap (λ (b : Bool). start_mark m (if b then Some (operation_of (entry_of r m)) else None)) (start_runs r m m unended ∙ ap (λ (b : Bool). is_running r m || b) (eq-eqb m m refl) ∙ or_true (is_running r m))
+  where
+    or_true : (b : Bool) → (b || true) ≡ true
+    or_true true = refl
+    or_true false = refl
+
+pub runs_by : (g : Setup) (w : World) (s : Step) (a : Answer) (n : ℕ) → Change g w s a
+    → is_running (happens g w s a).requests n ≡ runs_behind (mark_by (happens g w s a).requests (s, a)) (is_running w.requests n) n
+runs_by g w s a n (refuses _ _ same silent) =
+    ap (λ (v : World). is_running v.requests n) (same w)
+    ∙ sym (ap (λ (m : Mark). runs_behind m (is_running w.requests n) n) (idle_of (happens g w s a).requests s a silent))
+runs_by g w s a n (takes entry call place opened left at valid) =
+    subst (λ o. is_running (taking_entry_of g w entry o).requests n ≡ is_running w.requests n) (sym opened) refl
+runs_by g w s a n (drops call place opened left at invalid) =
+    subst (λ o. is_running (taking_of w o).requests n ≡ is_running w.requests n) (sym opened) refl
+runs_by g w s a n (closes accepted missed head call opened all told) =
+    subst (λ o. is_running (ending_of w o).requests n ≡ is_running w.requests n) (sym opened) refl
+runs_by g w s a n (runs m outstanding idle spared ready no_cancel) =
+    let unended : has_ended w.requests m ≡ false = open_of w.requests m outstanding in
+    start_runs w.requests m n unended
+    ∙ sym (ap (λ (k : Mark). runs_behind k (is_running w.requests n) n) (started_mark w.requests m unended))
+runs_by g w s a n (dooms m outstanding idle doomed) =
+    end_idle (with_cancelled w.requests (chosen_by w.requests m (doomed_result w.requests m))) m n (doomed_result w.requests m) no_bytes idle
+runs_by g w s a n (cancels m outstanding idle spared ready cancel) =
+    end_idle (with_cancelled w.requests (chosen_by w.requests m (cancel_result w.requests m))) m n (cancel_result w.requests m) no_bytes idle
+runs_by g w s a n (finishes m res bytes ran) =
+    end_is w.requests m n res bytes ∙ ended_run (has_started w.requests n) (has_ended w.requests n) (m == n)
+runs_by g w s a n _ = refl

@@ -1,0 +1,390 @@
+-- How operations stand along a timeline: as a search has it, behind each event and each effect.
+use Rattle.std.proofs.Common.{◌≡◌, ◌==◌, ◌||◌, ◌&&◌, ◌<◌, ℕ, ℤ, Bool, true, false, not, List, [], ◌∷◌, ◌++◌, length, map, Option, Some, None, if◌then◌else◌, refl, sym, ap, subst, ◌∙◌}
+use Rattle.std.specs.Option.{option_map}
+use Rattle.std.proofs.lemmas.Bool.{and_parts, both_ways, eq-eqb, eqb-true, false_from_ne_true}
+use Rattle.std.proofs.lemmas.Option.{same_Some}
+use Rattle.uring_entry.specs.Preparation.{operation_of}
+use Rattle.uring_entry.specs.Requests.{Requests, entry_of, has_ended, has_started, is_running, operation_running}
+use Rattle.uring_entry.specs.Setup.{Setup}
+use Rattle.uring_entry.specs.declared.operation.Op.{Op}
+use Rattle.uring_entry.specs.declared.operation.Outcome.{Outcome}
+use Rattle.uring_files.specs.Contents.{FileContents, empty_files}
+use Rattle.uring_files.specs.Done.{Done, files_left}
+use Rattle.uring_files.specs.Operations.{IsOutcome, after}
+use Rattle.uring_files.proofs.DoneLemmas.{left-snoc}
+use Rattle.uring_core.specs.Histories.{Event, History, world, IsLawfulApart}
+use Rattle.uring_core.specs.declared.step.Step.{Step}
+use Rattle.uring_core.specs.declared.step.Step.TheVariants as step
+use Rattle.uring_core.specs.declared.answer.Answer.{Answer}
+use Rattle.uring_core.specs.declared.answer.Answer.TheVariants as answer
+use Rattle.uring_core.specs.StepAnswers.{CalledForApart, FinishesApart}
+use Rattle.uring_core.specs.World.{World, happens, taking_of, taking_entry_of, ending_of}
+use Rattle.uring_core.proofs.Changes.{Change, IsSilent, change_of, refuses, takes, drops, closes, runs}
+use Rattle.uring_entry.proofs.RequestLemmas.{list_any-push}
+use Rattle.uring_core.proofs.Sound.{sound_of}
+use Rattle.uring_laws.proofs.Growth.{event_grows}
+use Rattle.uring_effects.specs.Effects.{Makes, Takes, Timeline, made_in, requests_in, operation_at, effects_in, files_at, effect_of, TakesEffect, EndsAsTaken, IsTimely}
+use Rattle.uring_timelines.specs.declared.mark.Mark.{Mark}
+use Rattle.uring_timelines.specs.declared.mark.Mark.TheVariants.{Starts, Ends, Idle}
+use Rattle.uring_timelines.specs.declared.running.Running.{Running}
+use Rattle.uring_timelines.specs.Moves.{MayTake, Passes, Standing, look, op_of, passed, plain, taken_by, taken_of, taking, took, with_taken, without}
+use Rattle.uring_timelines.proofs.Plain.{after_plain, outcome_back}
+use Rattle.uring_early.specs.Marks.{mark_by, start_mark}
+use Rattle.uring_early.proofs.Running.{open_of, runs_behind, runs_by}
+
+-- ---- the list of what runs
+
+abbrev or_else : Option Running → Option Running → Option Running
+or_else (Some x) y = Some x
+or_else None y = y
+
+either_else : (b : Bool) (r : Running) (x y z : Option Running) → x ≡ or_else y z
+    → (if b then Some r else x) ≡ or_else (if b then Some r else y) z
+either_else true r x y z same = refl
+either_else false r x y z same = same
+
+look_push : (rs : List Running) (new : Running) (n : ℕ)
+    → look (rs ++ new ∷ []) n ≡ or_else (look rs n) (if new.number == n then Some new else None)
+look_push [] new n = refl
+look_push (r ∷ rs) new n =
+    either_else (r.number == n) r (look (rs ++ new ∷ []) n) (look rs n) (if new.number == n then Some new else None) (look_push rs new n)
+
+none_either : (b : Bool) → ◌≡◌ {A = Option Running} None (if b then None else None)
+none_either true = refl
+none_either false = refl
+
+gone : (b : Bool) (r : Running) (x : Option Running) → (if b then None else x) ≡ (if b then None else (if b then Some r else x))
+gone true r x = refl
+gone false r x = refl
+
+kept : (b d : Bool) (r : Running) (x : Option Running) → (d ≡ true → b ≡ false)
+    → (if d then Some r else (if b then None else x)) ≡ (if b then None else (if d then Some r else x))
+kept b false r x other = refl
+kept false true r x other = refl
+kept true true r x other = let f : true ≡ false = other refl in absurd cc
+
+without_by : (c : Bool) (r : Running) (rs : List Running) (m n : ℕ) → (r.number == m) ≡ c
+    → look (without rs m) n ≡ (if m == n then None else look rs n)
+    → look (if not c then r ∷ without rs m else without rs m) n ≡ (if m == n then None else (if r.number == n then Some r else look rs n))
+without_by true r rs m n same before =
+    before ∙ gone (m == n) r (look rs n)
+    ∙ ap (λ (b : Bool). if m == n then None else (if b then Some r else look rs n)) (ap (λ (k : ℕ). k == n) (sym (eqb-true r.number m same)))
+without_by false r rs m n other before =
+    ap (λ (o : Option Running). if r.number == n then Some r else o) before
+    ∙ kept (m == n) (r.number == n) r (look rs n) (λ at_n. false_from_ne_true _ (λ same. both_ways _ other (eq-eqb r.number m (eqb-true r.number n at_n ∙ sym (eqb-true m n same)))))
+
+look_without : (rs : List Running) (m n : ℕ) → look (without rs m) n ≡ (if m == n then None else look rs n)
+look_without [] m n = none_either (m == n)
+look_without (r ∷ rs) m n = without_by (r.number == m) r rs m n refl (look_without rs m n)
+
+taking_number : (m : ℕ) (o : Outcome) (r : Running) → (taking m o r).number ≡ r.number
+taking_number m o r = by (m == r.number) where
+  by : (b : Bool) → (if b then record r { taken = Some o } else r).number ≡ r.number
+  by true = refl
+  by false = refl
+
+either_taken : (b : Bool) (m : ℕ) (o : Outcome) (r : Running) (x y : Option Running) → x ≡ option_map (λ r. taking m o r) y
+    → (if b then Some (taking m o r) else x) ≡ option_map (λ r. taking m o r) (if b then Some r else y)
+either_taken true m o r x y same = refl
+either_taken false m o r x y same = same
+
+look_taken : (rs : List Running) (m n : ℕ) (o : Outcome)
+    → look (with_taken rs m o) n ≡ option_map (λ r. taking m o r) (look rs n)
+look_taken [] m n o = refl
+look_taken (r ∷ rs) m n o =
+    ap (λ (k : ℕ). if k == n then Some (taking m o r) else look (with_taken rs m o) n) (taking_number m o r)
+    ∙ either_taken (r.number == n) m o r (look (with_taken rs m o) n) (look rs n) (look_taken rs m n o)
+
+-- ---- how a request stands
+
+-- one that runs, with what it asks for and its effect
+abbrev pub one_of : Bool → ℕ → Op → Option Outcome → Option Running
+one_of true n op taken = Some (record { number = n; op = op; taken = taken })
+one_of false n op taken = None
+
+abbrev pub standing_at : Requests → Option Outcome → ℕ → Option Running
+standing_at r taken n = one_of (is_running r n) n (operation_of (entry_of r n)) taken
+
+-- The search's standing is that behind a timeline.
+pub record Stands (g : Setup) (t : Timeline) (s : Standing) : Type 0 where
+  pub files : s.files ≡ map plain (files_at g t)
+  pub running : (n : ℕ) → look s.running n ≡ standing_at (requests_in g t) (effect_of t n) n
+
+runs_one : (b : Bool) (n : ℕ) (op op2 : Op) (taken : Option Outcome) (r : Running)
+    → one_of b n op taken ≡ Some r → (b ≡ true) × ((op ≡ r.op) × (taken ≡ r.taken))
+runs_one true n op op2 taken r is = (refl, (ap (λ (x : Running). x.op) (same_Some _ r is), ap (λ (x : Running). x.taken) (same_Some _ r is)))
+runs_one false n op op2 taken r is = let f : None ≡ Some r = is in absurd cc
+
+-- ---- effects
+
+-- an effect that was taken was by what had started
+starts_stay : (g : Setup) (w : World) (s : Step) (a : Answer) (n : ℕ) → Change g w s a
+    → has_started w.requests n ≡ true → has_started (happens g w s a).requests n ≡ true
+starts_stay g w s a n (refuses _ _ same silent) started =
+    ap (λ (v : World). has_started v.requests n) (same w) ∙ started
+starts_stay g w s a n (takes entry call place opened left at valid) started =
+    subst (λ o. has_started (taking_entry_of g w entry o).requests n ≡ true) (sym opened) started
+starts_stay g w s a n (drops call place opened left at invalid) started =
+    subst (λ o. has_started (taking_of w o).requests n ≡ true) (sym opened) started
+starts_stay g w s a n (closes accepted missed head call opened all told) started =
+    subst (λ o. has_started (ending_of w o).requests n ≡ true) (sym opened) started
+starts_stay g w s a n (runs m outstanding idle spared ready no_cancel) started =
+    list_any-push (λ k. k == n) w.requests.started m ∙ ap (λ (b : Bool). b || (m == n)) started
+starts_stay g w s a n _ started = started
+
+started_kept : (g : Setup) (s : Step) (a : Answer) (h : History) (n : ℕ) → IsLawfulApart g ((s, a) ∷ h)
+    → has_started (world g h).requests n ≡ true → has_started (world g ((s, a) ∷ h)).requests n ≡ true
+started_kept g s a h n lawful started = starts_stay g (world g h) s a n (change_of g (world g h) s a lawful.0) started
+
+newest_started : (g : Setup) (t : Timeline) (m n : ℕ) (p o : Outcome) (b : Bool) → (m == n) ≡ b
+    → has_started (requests_in g t) m ≡ true → (effect_of t n ≡ Some o → has_started (requests_in g t) n ≡ true)
+    → (if b then Some p else effect_of t n) ≡ Some o → has_started (requests_in g t) n ≡ true
+newest_started g t m n p o true same started earlier taken =
+    subst (λ (k : ℕ). has_started (requests_in g t) k ≡ true) (eqb-true m n same) started
+newest_started g t m n p o false other started earlier taken = earlier taken
+
+effect_started : (g : Setup) (t : Timeline) (n : ℕ) (o : Outcome) → IsTimely g t → IsLawfulApart g (made_in t)
+    → effect_of t n ≡ Some o → has_started (requests_in g t) n ≡ true
+effect_started g [] n o timely lawful is = let f : None ≡ Some o = is in absurd cc
+effect_started g (Makes (s, a) ∷ t) n o timely lawful is =
+    started_kept g s a (made_in t) n lawful (effect_started g t n o timely.1 lawful.1 is)
+effect_started g (Takes m p ∷ t) n o timely lawful is =
+    newest_started g t m n p o (m == n) refl (and_parts _ _ timely.0.runs).0 (effect_started g t n o timely.1 lawful) is
+
+-- what hasn't started has taken none
+pub unstarted_free : (g : Setup) (t : Timeline) (n : ℕ) → IsTimely g t → IsLawfulApart g (made_in t)
+    → has_started (requests_in g t) n ≡ false → effect_of t n ≡ None
+unstarted_free g t n timely lawful idle = by (effect_of t n) refl where
+  by : (o : Option Outcome) → effect_of t n ≡ o → o ≡ None
+  by None is = refl
+  by (Some o) is = absurd (both_ways _ idle (effect_started g t n o timely lawful is))
+
+-- ---- behind an event
+
+passed_files : (s : Standing) (m : Mark) → (passed s m).files ≡ s.files
+passed_files s (Starts n op) = refl
+passed_files s (Ends n o) = refl
+passed_files s Idle = refl
+
+-- a request of the same entry stands as before, if it runs as before
+stands_so : (r later : Requests) (n : ℕ) (taken : Option Outcome) → is_running later n ≡ is_running r n
+    → (is_running r n ≡ true → entry_of later n ≡ entry_of r n)
+    → standing_at r taken n ≡ standing_at later taken n
+stands_so r later n taken same entry = by (is_running r n) refl where
+  by : (b : Bool) → is_running r n ≡ b → one_of b n (operation_of (entry_of r n)) taken ≡ standing_at later taken n
+  by true ran =
+      ap (λ e. one_of true n (operation_of e) taken) (sym (entry ran))
+      ∙ ap (λ (b : Bool). one_of b n (operation_of (entry_of later n)) taken) (sym (same ∙ ran))
+  by false idle = ap (λ (b : Bool). one_of b n (operation_of (entry_of later n)) taken) (sym (same ∙ idle))
+
+entry_same : (g : Setup) (s : Step) (a : Answer) (h : History) (n : ℕ) → IsLawfulApart g ((s, a) ∷ h)
+    → is_running (world g h).requests n ≡ true
+    → entry_of (world g ((s, a) ∷ h)).requests n ≡ entry_of (world g h).requests n
+entry_same g s a h n lawful running =
+    (event_grows g s a h lawful).same_entry n ((sound_of g h lawful.1).requests.started_accepted n (and_parts _ _ running).0)
+
+-- of a start what stood before it
+abbrev StartFacts : Requests → Step → Answer → Type 0
+StartFacts r (step.Issue k) answer.Run = (is_running r k ≡ false) × (has_ended r k ≡ false)
+StartFacts r s a = Unit {0}
+
+silent_start : (r : Requests) (s : Step) (a : Answer) → IsSilent (s, a) → StartFacts r s a
+silent_start r (step.Issue k) answer.Run silent = let f : Some k ≡ None = silent.starts in absurd cc
+silent_start r (step.Issue k) _ silent = tt
+silent_start r _ a silent = tt
+
+start_facts : (g : Setup) (w : World) (s : Step) (a : Answer) → Change g w s a → StartFacts w.requests s a
+start_facts g w s a (refuses _ _ same silent) = silent_start w.requests s a silent
+start_facts g w s a (runs m outstanding idle spared ready no_cancel) = (idle, open_of w.requests m outstanding)
+start_facts g w s a _ = tt
+
+-- what a mark of a start tells
+record IsStart (r : Requests) (s : Step) (a : Answer) (k : ℕ) (op : Op) : Type 0 where
+  step_is : s ≡ step.Issue k
+  answer_is : a ≡ answer.Run
+  asks : operation_running r k ≡ Some op
+
+start_by : (r : Requests) (n k : ℕ) (op : Op) (o : Option Op) → operation_running r n ≡ o
+    → start_mark n o ≡ Starts k op → IsStart r (step.Issue n) answer.Run k op
+start_by r n k op None is mark = let f : Idle ≡ Starts k op = mark in absurd cc
+start_by r n k op (Some p) is mark =
+    let number : n ≡ k = let f : Starts n p ≡ Starts k op = mark in cc in
+    let same : p ≡ op = let f : Starts n p ≡ Starts k op = mark in cc in
+    record { step_is = ap (λ (x : ℕ). step.Issue x) number; answer_is = refl; asks = ap (operation_running r) (sym number) ∙ is ∙ ap (λ (x : Op). Some x) same }
+
+start_from : (r : Requests) (s : Step) (a : Answer) (k : ℕ) (op : Op) → mark_by r (s, a) ≡ Starts k op
+    → IsStart r s a k op
+start_from r (step.Issue n) answer.Run k op mark = start_by r n k op (operation_running r n) refl mark
+start_from r (step.Issue n) _ k op mark = let f : Idle ≡ Starts k op = mark in absurd cc
+start_from r (step.Finish n) (answer.Ended res bytes) k op mark =
+    let f : Ends n (record { res = res; bytes = bytes }) ≡ Starts k op = mark in absurd cc
+start_from r (step.Finish n) _ k op mark = let f : Idle ≡ Starts k op = mark in absurd cc
+start_from r _ a k op mark = let f : Idle ≡ Starts k op = mark in absurd cc
+
+or_none : (o : Option Running) → or_else o None ≡ o
+or_none None = refl
+or_none (Some x) = refl
+
+or_false : (b : Bool) → (b || false) ≡ b
+or_false true = refl
+or_false false = refl
+
+and_true : (b : Bool) → (b && true) ≡ b
+and_true true = refl
+and_true false = refl
+
+and_false : (b : Bool) → (b && false) ≡ false
+and_false true = refl
+and_false false = refl
+
+unstarted : (started ended : Bool) → (started && not ended) ≡ false → ended ≡ false → started ≡ false
+unstarted true true idle unended = unended
+unstarted true false idle unended = idle
+unstarted false ended idle unended = refl
+
+-- a running request asks for this operation
+asked_by : (b : Bool) (op asked : Op) → (if b then Some asked else None) ≡ Some op → (b ≡ true) × (asked ≡ op)
+asked_by true op asked is = (refl, same_Some asked op is)
+asked_by false op asked is = let f : None ≡ Some op = is in absurd cc
+
+-- ---- behind a mark
+
+module _ (g : Setup) (t : Timeline) (st : Standing) (s : Step) (a : Answer) where
+  behind_idle : Stands g t st → IsLawfulApart g ((s, a) ∷ made_in t)
+      → ((n : ℕ) → is_running (requests_in g (Makes (s, a) ∷ t)) n ≡ is_running (requests_in g t) n)
+      → (n : ℕ) → look st.running n ≡ standing_at (requests_in g (Makes (s, a) ∷ t)) (effect_of t n) n
+  behind_idle stands lawful same n =
+      stands.running n ∙ stands_so (requests_in g t) (requests_in g (Makes (s, a) ∷ t)) n (effect_of t n) (same n) (entry_same g s a (made_in t) n lawful)
+
+  behind_end : (k : ℕ) → Stands g t st → IsLawfulApart g ((s, a) ∷ made_in t)
+      → ((n : ℕ) → is_running (requests_in g (Makes (s, a) ∷ t)) n ≡ (is_running (requests_in g t) n && not (k == n)))
+      → (n : ℕ) → look (without st.running k) n ≡ standing_at (requests_in g (Makes (s, a) ∷ t)) (effect_of t n) n
+  behind_end k stands lawful runs_so n = look_without st.running k n ∙ by (k == n) refl where
+    later : Requests
+    later = requests_in g (Makes (s, a) ∷ t)
+
+    by : (b : Bool) → (k == n) ≡ b → (if b then None else look st.running n) ≡ standing_at later (effect_of t n) n
+    by true same = ap (λ (b : Bool). one_of b n (operation_of (entry_of later n)) (effect_of t n)) (sym (runs_so n ∙ ap (λ (b : Bool). is_running (requests_in g t) n && not b) same ∙ and_false (is_running (requests_in g t) n)))
+    by false other =
+        stands.running n ∙ stands_so (requests_in g t) later n (effect_of t n) (runs_so n ∙ ap (λ (b : Bool). is_running (requests_in g t) n && not b) other ∙ and_true (is_running (requests_in g t) n)) (entry_same g s a (made_in t) n lawful)
+
+  behind_start : (k : ℕ) (op : Op) → Stands g t st → IsLawfulApart g ((s, a) ∷ made_in t)
+      → is_running (requests_in g t) k ≡ false → effect_of t k ≡ None
+      → operation_running (requests_in g (Makes (s, a) ∷ t)) k ≡ Some op
+      → ((n : ℕ) → is_running (requests_in g (Makes (s, a) ∷ t)) n ≡ (is_running (requests_in g t) n || (k == n)))
+      → (n : ℕ) → look (st.running ++ record { number = k; op = op; taken = None } ∷ []) n ≡ standing_at (requests_in g (Makes (s, a) ∷ t)) (effect_of t n) n
+  behind_start k op stands lawful idle free asks runs_so n = look_push st.running (record { number = k; op = op; taken = None }) n ∙ by (k == n) refl where
+    later : Requests
+    later = requests_in g (Makes (s, a) ∷ t)
+
+    new : Running
+    new = record { number = k; op = op; taken = None }
+
+    here : or_else (look st.running k) (Some new) ≡ standing_at later (effect_of t k) k
+    here =
+        let asked = asked_by (is_running later k) op (operation_of (entry_of later k)) asks in
+        ap (λ (o : Option Running). or_else o (Some new)) (stands.running k ∙ ap (λ (b : Bool). one_of b k (operation_of (entry_of (requests_in g t) k)) (effect_of t k)) idle)
+        ∙ ap (λ (x : Op). one_of true k x None) (sym asked.1)
+        ∙ ap (λ (o : Option Outcome). one_of true k (operation_of (entry_of later k)) o) (sym free)
+        ∙ ap (λ (b : Bool). one_of b k (operation_of (entry_of later k)) (effect_of t k)) (sym asked.0)
+
+    by : (b : Bool) → (k == n) ≡ b → or_else (look st.running n) (if b then Some new else None) ≡ standing_at later (effect_of t n) n
+    by true same = subst (λ (m : ℕ). or_else (look st.running m) (Some new) ≡ standing_at later (effect_of t m) m) (eqb-true k n same) here
+    by false other =
+        or_none (look st.running n) ∙ stands.running n
+        ∙ stands_so (requests_in g t) later n (effect_of t n) (runs_so n ∙ ap (λ (b : Bool). is_running (requests_in g t) n || b) other ∙ or_false (is_running (requests_in g t) n)) (entry_same g s a (made_in t) n lawful)
+
+  behind_mark : (m : Mark) → mark_by (requests_in g (Makes (s, a) ∷ t)) (s, a) ≡ m → IsTimely g t → Stands g t st
+      → IsLawfulApart g ((s, a) ∷ made_in t)
+      → (n : ℕ) → look (passed st m).running n ≡ standing_at (requests_in g (Makes (s, a) ∷ t)) (effect_of t n) n
+  behind_mark Idle is timely stands lawful n =
+      behind_idle stands lawful (λ k. runs_by g (world g (made_in t)) s a k (change_of g (world g (made_in t)) s a lawful.0) ∙ ap (λ (x : Mark). runs_behind x (is_running (requests_in g t) k) k) is) n
+  behind_mark (Ends m o) is timely stands lawful n =
+      behind_end m stands lawful (λ k. runs_by g (world g (made_in t)) s a k (change_of g (world g (made_in t)) s a lawful.0) ∙ ap (λ (x : Mark). runs_behind x (is_running (requests_in g t) k) k) is) n
+  behind_mark (Starts m op) is timely stands lawful n =
+      let start : IsStart (requests_in g (Makes (s, a) ∷ t)) s a m op = start_from (requests_in g (Makes (s, a) ∷ t)) s a m op is in
+      let facts : (is_running (requests_in g t) m ≡ false) × (has_ended (requests_in g t) m ≡ false) = subst (λ (x : Answer). StartFacts (requests_in g t) (step.Issue m) x) start.answer_is (subst (λ (x : Step). StartFacts (requests_in g t) x a) start.step_is (start_facts g (world g (made_in t)) s a (change_of g (world g (made_in t)) s a lawful.0))) in
+      behind_start m op stands lawful facts.0 (unstarted_free g t m timely lawful.1 (unstarted (has_started (requests_in g t) m) (has_ended (requests_in g t) m) facts.0 facts.1)) start.asks (λ k. runs_by g (world g (made_in t)) s a k (change_of g (world g (made_in t)) s a lawful.0) ∙ ap (λ (x : Mark). runs_behind x (is_running (requests_in g t) k) k) is) n
+
+pub stands_makes : (g : Setup) (t : Timeline) (st : Standing) (s : Step) (a : Answer) → IsTimely g t → Stands g t st
+    → IsLawfulApart g ((s, a) ∷ made_in t)
+    → Stands g (Makes (s, a) ∷ t) (passed st (mark_by (requests_in g (Makes (s, a) ∷ t)) (s, a)))
+stands_makes g t st s a timely stands lawful = record {
+  files = passed_files st (mark_by (requests_in g (Makes (s, a) ∷ t)) (s, a)) ∙ stands.files;
+  running = behind_mark g t st s a (mark_by (requests_in g (Makes (s, a) ∷ t)) (s, a)) refl timely stands lawful;
+}
+
+-- ---- behind an effect
+
+taken_one : (b : Bool) (n m : ℕ) (op : Op) (o : Outcome) (taken : Option Outcome)
+    → option_map (λ r. taking m o r) (one_of b n op taken) ≡ one_of b n op (if m == n then Some o else taken)
+taken_one false n m op o taken = refl
+taken_one true n m op o taken = by (m == n) where
+  by : (c : Bool) → ◌≡◌ {A = Option Running} (Some (if c then record { number = n; op = op; taken = Some o } else record { number = n; op = op; taken = taken })) (Some (record { number = n; op = op; taken = if c then Some o else taken }))
+  by true = refl
+  by false = refl
+
+op_one : (b : Bool) (n : ℕ) (op : Op) (taken : Option Outcome) → b ≡ true → op_of (one_of b n op taken) ≡ op
+op_one true n op taken ran = refl
+op_one false n op taken ran = let f : false ≡ true = ran in absurd cc
+
+pub stands_takes : (g : Setup) (t : Timeline) (st : Standing) (n : ℕ) (o : Outcome) → Stands g t st
+    → is_running (requests_in g t) n ≡ true → Stands g (Takes n o ∷ t) (took st n o)
+stands_takes g t st n o stands ran = record {
+  files =
+      ap (λ (x : Op). map plain (after st.files x o.res)) (ap op_of (stands.running n) ∙ op_one (is_running (requests_in g t) n) n (operation_at g t n) (effect_of t n) ran)
+      ∙ ap (λ (fs : List FileContents). map plain (after fs (operation_at g t n) o.res)) stands.files
+      ∙ after_plain (files_at g t) (operation_at g t n) o.res
+      ∙ ap (map plain) (sym (left-snoc (empty_files g.files) (effects_in g t) (record { number = n; op = operation_at g t n; outcome = o })));
+  running = λ k.
+      look_taken st.running n k o ∙ ap (λ (x : Option Running). option_map (λ r. taking n o r) x) (stands.running k)
+      ∙ taken_one (is_running (requests_in g t) k) k n (operation_at g t k) o (effect_of t k);
+}
+
+-- an effect that a search has is one of the timeline
+pub takes_effect : (g : Setup) (t : Timeline) (st : Standing) (marks : List Mark) (n : ℕ) (o : Outcome) → Stands g t st
+    → MayTake st marks n o → TakesEffect g t n o
+takes_effect g t st marks n o stands may =
+    let r = runs_one (is_running (requests_in g t) n) n (operation_at g t n) may.op (effect_of t n) _ (sym (stands.running n) ∙ may.runs) in
+    record {
+      runs = r.0;
+      first = r.1.1;
+      gives = subst (λ (x : Op). IsOutcome (files_at g t) x o) (sym r.1.0) (outcome_back (files_at g t) may.op o (subst (λ (fs : List FileContents). IsOutcome fs may.op o) stands.files may.gives));
+    }
+
+-- ---- behind an end
+
+taken_one_of : (b : Bool) (n : ℕ) (op : Op) (taken : Option Outcome) (o : Outcome)
+    → taken_of (one_of b n op taken) ≡ Some o → taken ≡ Some o
+taken_one_of true n op taken o is = is
+taken_one_of false n op taken o is = let f : None ≡ Some o = is in absurd cc
+
+-- what passes the mark of an end ends as it was taken
+pub ends_so : (g : Setup) (t : Timeline) (st : Standing) (s : Step) (a : Answer) → Stands g t st
+    → Passes st.running (mark_by (requests_in g (Makes (s, a) ∷ t)) (s, a)) → EndsAsTaken t (s, a)
+ends_so g t st (step.Finish n) (answer.Ended res bytes) stands passes =
+    taken_one_of (is_running (requests_in g t) n) n (operation_at g t n) (effect_of t n) (record { res = res; bytes = bytes }) (ap taken_of (sym (stands.running n)) ∙ passes)
+ends_so g t st (step.Finish n) _ stands passes = tt
+ends_so g t st _ a stands passes = tt
+
+-- and what ends as it was taken passes
+start_passes : (running : List Running) (n : ℕ) (o : Option Op) → Passes running (start_mark n o)
+start_passes running n None = tt
+start_passes running n (Some op) = tt
+
+finish_runs : (b : Bool) (res : ℤ) (bytes : List ℕ) → FinishesApart b (answer.Ended res bytes) → b ≡ true
+finish_runs true res bytes called = refl
+finish_runs false res bytes called = let f : answer.Ended res bytes ≡ answer.NotRunning = called in absurd cc
+
+pub passes_so : (g : Setup) (t : Timeline) (st : Standing) (s : Step) (a : Answer) → Stands g t st
+    → CalledForApart g (world g (made_in t)) s a
+    → EndsAsTaken t (s, a) → Passes st.running (mark_by (requests_in g (Makes (s, a) ∷ t)) (s, a))
+passes_so g t st (step.Finish n) (answer.Ended res bytes) stands called ends =
+    ap taken_of (stands.running n)
+    ∙ ap (λ (b : Bool). taken_of (one_of b n (operation_at g t n) (effect_of t n))) (finish_runs (is_running (requests_in g t) n) res bytes called)
+    ∙ ends
+passes_so g t st (step.Finish n) _ stands called ends = tt
+passes_so g t st (step.Issue n) answer.Run stands called ends =
+    start_passes st.running n (operation_running (requests_in g (Makes (step.Issue n, answer.Run) ∷ t)) n)
+passes_so g t st (step.Issue n) _ stands called ends = tt
+passes_so g t st _ a stands called ends = tt

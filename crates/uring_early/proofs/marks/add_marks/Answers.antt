@@ -1,0 +1,34 @@
+use Rattle.std.proofs.Common.{◌≡◌, ◌+◌, false, true, length, take, [], ◌∷◌, ◌++◌, List, ap, sym, subst, ◌∙◌, arith, rules}
+use Rattle.std.proofs.lemmas.Bool.{not-true, not-false}
+use Rattle.uring_entry.specs.Setup.{Setup}
+use Rattle.uring_core.specs.Core.{FitsApart}
+use Rattle.uring_core.specs.Histories.{history_of, world}
+use Rattle.uring_core.proofs.Following.{history_of-snoc}
+use Rattle.uring_timelines.specs.declared.mark.Mark.{Mark}
+use Rattle.uring_early.specs.Marks.{mark_by, marks_behind}
+use Rattle.uring_early.proofs.Marking.{marks_more, taken_next, wrong_from}
+use Rattle.uring_early.proofs.marks.add_marks.Goals as goal
+
+pub loop-event-preserved : goal.loop-event-preserved
+loop-event-preserved c =
+    let made : c.in_ok-follow_one.field-0 ≡ true = search (rules, not-false) in
+    let earlier = take c.loop-event.event-index c.args.events.now in
+    let low = c.loop-event-test.true in
+    let grown : take (c.loop-event.event-index + 1) c.args.events.now ≡ earlier ++ c.event-item.result ∷ [] = taken_next c.args.events.now c.loop-event.event-index c.event-item.result (omega (arith, low)) c.event-item.is in
+    let fits : FitsApart c.follow_one.new.core (c.event-item.result ∷ history_of earlier) = c.in_ok-follow_one.ensures.called made (history_of earlier) c.loop-event.invariant.fits in
+    let setup : c.follow_one.new.core.setup ≡ c.args.core.now.setup = c.in_ok-follow_one.ensures.setup ∙ c.loop-event.invariant.setup in
+    record {
+      setup = setup;
+      fits = subst (FitsApart c.follow_one.new.core) (sym (ap history_of grown ∙ history_of-snoc earlier c.event-item.result)) fits;
+      marks =
+          c.in_ok-push.ensures.items ∙ ap (λ (ms : List Mark). ms ++ c.mark_of.result ∷ []) c.loop-event.invariant.marks
+          ∙ ap (λ (m : Mark). marks_behind c.args.core.now.setup [] earlier ++ m ∷ []) (c.mark_of.ensures (c.event-item.result ∷ history_of earlier) fits ∙ ap (λ (s : Setup). mark_by (world s (c.event-item.result ∷ history_of earlier)).requests c.event-item.result) setup)
+          ∙ sym (marks_more c.args.core.now.setup earlier c.event-item.result)
+          ∙ ap (marks_behind c.args.core.now.setup []) (sym grown);
+    }
+
+pub returns-then-not-branch-clause-wrong : goal.returns-then-not-branch-clause-wrong
+returns-then-not-branch-clause-wrong c = λ is.
+    let made : c.in_ok-follow_one.field-0 ≡ false = search (rules, not-true) in
+    wrong_from c.args.core.now.setup c.loop-event.core.setup c.args.events.now c.loop-event.event-index c.event-item.result (omega arith) c.event-item.is c.loop-event.invariant.setup
+    (c.in_ok-follow_one.ensures.wrong made (history_of (take c.loop-event.event-index c.args.events.now)) c.loop-event.invariant.fits)
