@@ -10,8 +10,8 @@ ghost use Rattle.uring_options.specs.CommandLine.{option_rule, flag_rule, uring}
 use crate::helps::{CLAIMS, IMAGES, ITEMS, REASONS, RECORDS, SEEN, STEPS};
 use crate::option_rows::{
     ALL, ALLOWED, ALWAYS, APART, AT, CONTENTS, COUNT, CQ, EACH, ECHO, FILE, FILES, GRAPH, GRAPH_AT,
-    HISTORIES, HOLDS, JSON, LIST, LISTED, MOST, NEVER, NUMBER, OptionRow, PAGE, POWER, RESULTS, SEED,
-    SHARED, SQ, START, STOP, STRICT, TIMELINE, UNIT, WORKERS,
+    HISTORIES, HOLDS, JSON, LIST, LISTED, MOST, NEVER, NUMBER, OptionRow, PAGE, POWER, RESULTS,
+    SEED, SHARED, SQ, START, STOP, STRICT, TIMELINE, UNIT, WORKERS,
 };
 use clap::builder::ValueParser;
 use clap::{Arg, ArgAction, Command};
