@@ -66,7 +66,7 @@ impl ByUserData {
         if self.ends.len() as u64 > 2 * (end - first) {
             return self.renew(memory, alloc, first, end);
         }
-        memory.reserve_map(&mut self.ends, (end - self.stop) as usize)
+        memory.reserve_keys(&mut self.ends, (end - self.stop) as usize)
     }
 
     /// Forgets what was looked at, with the memory of the numbers below `end`.
@@ -86,7 +86,7 @@ impl ByUserData {
         ensures granted { (n : ℕ) → M.grants memory.now n → end ≤ n → IsOk result }
     {
         let mut ends = HashMap::new(alloc);
-        memory.reserve_map(&mut ends, (end - first) as usize)?;
+        memory.reserve_keys(&mut ends, (end - first) as usize)?;
         self.ends = ends;
         self.stop = first;
         Ok(())

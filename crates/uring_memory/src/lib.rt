@@ -67,7 +67,7 @@ pub trait Memory {
             → IsOk result };
 
     /// Makes room in a map for `more` keys more.
-    fn reserve_map<K: Eq + Hash, V>(
+    fn reserve_keys<K: Eq + Hash, V>(
         &self,
         map: &mut HashMap<K, V>,
         more: usize,
@@ -114,7 +114,7 @@ impl Memory for Global {
         slab.reserve(more)
     }
 
-    fn reserve_map<K: Eq + Hash, V>(
+    fn reserve_keys<K: Eq + Hash, V>(
         &self,
         map: &mut HashMap<K, V>,
         more: usize,
