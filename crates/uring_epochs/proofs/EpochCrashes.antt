@@ -27,7 +27,7 @@ use Rattle.uring_epochs.specs.Epochs.{CrashMachine, Epoch, FitsRun, IsRun, AreLe
 use Rattle.uring_epochs.proofs.Noted.{map_same, first_many, first_empty, first_at, logs_at}
 
 -- a log keeps its unit and its first bytes
-abbrev Keeps : Log → Log → Type 0
+abbrev pub Keeps : Log → Log → Type 0
 Keeps old new = (new.volume.unit ≡ old.volume.unit) × (new.volume.first ≡ old.volume.first)
 
 keeps_if : (b : Bool) (old new : Log) → Keeps old new → Keeps old (cond b new old)
@@ -39,12 +39,12 @@ event_if : (b : Bool) (e : Event) (v : Volume)
 event_if true e v = (refl, refl)
 event_if false e v = (refl, refl)
 
-begun_keeps : (n : ℕ) (op : Op) (log : Log) → Keeps log (begun n op log)
+pub begun_keeps : (n : ℕ) (op : Op) (log : Log) → Keeps log (begun n op log)
 begun_keeps n (Write fd off len bytes) log = keeps_if _ log _ (refl, refl)
 begun_keeps n (Fsync fd) log = keeps_if _ log _ (refl, refl)
 begun_keeps n _ log = (refl, refl)
 
-finished_keeps : (n : ℕ) (op : Op) (res : ℤ) (log : Log) → Keeps log (finished n op res log)
+pub finished_keeps : (n : ℕ) (op : Op) (res : ℤ) (log : Log) → Keeps log (finished n op res log)
 finished_keeps n (Write fd off len bytes) res log = keeps_if _ log _ (event_if _ _ log.volume)
 finished_keeps n (Fsync fd) res log = keeps_if _ log _ (event_if _ _ log.volume)
 finished_keeps n _ res log = (refl, refl)

@@ -28,8 +28,8 @@ pub(crate) fn make_files<M: Memory>(
     Ok(files)
 }
 
-/// The logs of these files, in units of so many bytes, by this memory. If it grants whatever is asked for, there is no error.
-pub(crate) fn make_logs<M: Memory>(
+/// The logs of so many files, of which the first have these bytes, and the others none, in units of so many bytes, by this memory. If it grants whatever is asked for, there is no error.
+pub fn make_logs<M: Memory>(
     memory: &M,
     alloc: Global,
     unit: u64,

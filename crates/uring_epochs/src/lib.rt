@@ -9,5 +9,7 @@ mod note;
 
 pub use crash_machine::CrashMachine;
 pub use file_log::FileLog;
+pub use first_files::make_logs;
+pub use note::{note_finish, note_issue};
 pub use uring_core::{Answer, Op, Setup, Step};
 pub use uring_files::FileState;

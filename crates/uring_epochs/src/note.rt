@@ -10,7 +10,7 @@ use uring_core::{Answer, Op};
 use uring_memory::Memory;
 
 /// Notes in each log how an Issue of a request was answered, whose operation this is if it runs now, by this memory. `AllocError`: memory was refused, and the logs are of no use any more. If it grants whatever is asked for, there is no error.
-pub(crate) fn note_issue<M: Memory>(
+pub fn note_issue<M: Memory>(
     memory: &M,
     logs: &mut [FileLog],
     n: u64,
@@ -30,7 +30,7 @@ pub(crate) fn note_issue<M: Memory>(
 }
 
 /// Notes in each log how a Finish of a request was answered, whose operation this was if it ran, by this memory.
-pub(crate) fn note_finish<M: Memory>(
+pub fn note_finish<M: Memory>(
     memory: &M,
     logs: &mut [FileLog],
     n: u64,

@@ -5,7 +5,10 @@ use Rattle.std.specs.declared.vec.Vec.{Vec}
 use Rattle.std.specs.declared.alloc.Global.{Global}
 use Rattle.uring_entry.specs.Setup.{Setup}
 use Rattle.uring_entry.specs.Layout.{Sqe}
-use Rattle.uring_entry.specs.Requests.{is_issuable, is_running}
+use Rattle.uring_entry.specs.Preparation.{operation_of}
+use Rattle.uring_entry.specs.Requests.{entry_of, is_issuable, is_running}
+use Rattle.uring_entry.specs.declared.operation.Outcome.{Outcome}
+use Rattle.uring_files.specs.Operations.{result_of}
 use Rattle.uring_dispatch.specs.Dispatch.{ShowsRequests}
 use Rattle.uring_moves.specs.Moments.{Moment, starting, is_finishable, moved, after_moves}
 use Rattle.uring_moves.specs.Prompt.{is_named}
@@ -38,6 +41,10 @@ pub record StandsAt (calls : List (List Sqe)) (run : Run) (m : Moment) : Type 0 
 pub record Stands (calls : List (List Sqe)) (run : Run) : Type 0 where
   pub moment : Moment
   pub at : StandsAt calls run moment
+
+-- the outcome that the operation of a request calls for on the files that there are
+abbrev pub called_in : Moment → ℕ → Outcome
+called_in m n = result_of m.files (operation_of (entry_of m.requests n))
 
 -- whether moves were made, by what they lead to: if to nothing, they weren't, and else this is so of it
 abbrev pub MadeAs : Bool → Option Moment → (Moment → Type 0) → Type 0

@@ -38,6 +38,29 @@ pub(crate) fn next_moves<M: Memory>(
     }
 }
 
+/// Every move that can be made next, with others, by this memory. If it grants whatever is asked for, there is no error.
+pub fn all_next<M: Memory>(
+    memory: &M,
+    alloc: Global,
+    run: &Run,
+    calls: &[Vec<Sqe>],
+) -> Result<Vec<Move>, AllocError>
+    requires { Stands (entries_of calls.now) run.now }
+    ensures all { (m : Moment) → StandsAt (entries_of calls.now) run.now m
+        → IfOk result (λ moves.
+        (x : Move) (next : Moment) → moved m x ≡ Some next → Contains moves.items x) }
+    ensures granted { ((n : ℕ) → M.grants memory.now n) → IsOk result }
+{
+    let mut moves = Vec::new(alloc);
+    match add_all(memory, run, calls, &mut moves) {
+        Ok(()) => Ok(moves),
+        Err(refused) => {
+            drop(moves);
+            Err(refused)
+        }
+    }
+}
+
 /// Adds the direct moves that can be made next to none.
 fn add_next<M: Memory>(
     memory: &M,

@@ -38,8 +38,8 @@ pub(crate) fn fork<M: Memory>(
     }
 }
 
-/// Puts this path with each of these moves behind it among those to be taken.
-fn push_longer<M: Memory>(
+/// Puts this path with each of these moves behind it among those to be taken, by this memory. If it grants whatever is asked for, there is no error.
+pub fn push_longer<M: Memory>(
     memory: &M,
     alloc: Global,
     path: &[Move],

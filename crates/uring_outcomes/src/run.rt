@@ -1,6 +1,6 @@
 //! A run of calls: what moves made of them.
 
-ghost use Rattle.std.specs.Prelude.{◌≡◌, ◌+◌, ◌≤◌, ℕ, true, length, List, IfOk, IfErr, IsOk, IsTrue, OnOk, Some};
+ghost use Rattle.std.specs.Prelude.{◌≡◌, ◌+◌, ◌≤◌, ℕ, true, is_some, length, List, IfOk, IfErr, IfSome, IsOk, IsTrue, OnOk, Some};
 ghost use Rattle.uring_entry.specs.Setup.{Setup};
 ghost use Rattle.uring_entry.specs.Layout.{Sqe};
 ghost use Rattle.uring_entry.specs.Requests.{Requests, with_call};
@@ -18,7 +18,7 @@ use uring_moves::Move;
 
 /// What moves made of calls.
 #[derive(Drop)]
-pub(crate) struct Run {
+pub struct Run {
     pub dispatch: Dispatch,
     pub files: Files,
 
@@ -30,11 +30,11 @@ pub(crate) struct Run {
 }
 
 impl Run {
-    ghost use Rattle.uring_outcomes.specs.Runs.{entries_of, Stands, StandsAt, MadeAs};
+    ghost use Rattle.uring_outcomes.specs.Runs.{called_in, entries_of, Stands, StandsAt, MadeAs};
     ghost use Rattle.uring_outcomes.specs.Faults.{IsReason};
 
     /// Nothing was accepted yet, and there are so many files.
-    pub(crate) fn new<M: Memory>(memory: &M, alloc: Global, files: u32) -> Result<Run, AllocError>
+    pub fn new<M: Memory>(memory: &M, alloc: Global, files: u32) -> Result<Run, AllocError>
         ensures stands { IfOk result
             (λ run. (g : Setup) (calls : List (List Sqe)) → g.files ≡ files → files ≤ 64 → StandsAt calls run (starting g calls)) }
         ensures granted { ((n : ℕ) → M.grants memory.now n) → IsOk result }
@@ -85,12 +85,12 @@ impl Run {
         match next {
             Move::Accept => self.accept(memory, calls),
             Move::Issue { number } => Ok(self.issue(memory, number)?),
-            Move::Finish { number } => Ok(self.finish(memory, number)?),
+            Move::Finish { number } => Ok(self.finish(memory, number)?.is_some()),
         }
     }
 
-    /// Accepts the next call, if one is left.
-    fn accept<M: Memory>(&mut self, memory: &M, calls: &[Vec<Sqe>]) -> Result<bool, WalkFault>
+    /// Accepts the next call, if one is left, and tells whether one was.
+    pub fn accept<M: Memory>(&mut self, memory: &M, calls: &[Vec<Sqe>]) -> Result<bool, WalkFault>
         requires { Stands (entries_of calls.now) self.old }
         ensures made { (m : Moment) → StandsAt (entries_of calls.now) self.old m
             → IfOk result
@@ -106,8 +106,8 @@ impl Run {
         Ok(true)
     }
 
-    /// Issues a request, if it can be issued.
-    fn issue<M: Memory>(&mut self, memory: &M, number: u64) -> Result<bool, AllocError>
+    /// Issues a request, if it can be issued, and tells whether it was.
+    pub fn issue<M: Memory>(&mut self, memory: &M, number: u64) -> Result<bool, AllocError>
         requires { (calls : List (List Sqe)) × Stands calls self.old }
         ensures made { (calls : List (List Sqe)) (m : Moment) → StandsAt calls self.old m
             → IfOk result
@@ -126,16 +126,18 @@ impl Run {
         }
     }
 
-    /// Finishes a request, if it runs: as its operation calls for on the files that there are.
-    fn finish<M: Memory>(&mut self, memory: &M, number: u64) -> Result<bool, AllocError>
+    /// Finishes a request, if it runs: as its operation calls for on the files that there are. Returns the result with which it ended.
+    pub fn finish<M: Memory>(&mut self, memory: &M, number: u64) -> Result<Option<i32>, AllocError>
         requires { (calls : List (List Sqe)) × Stands calls self.old }
         ensures made { (calls : List (List Sqe)) (m : Moment) → StandsAt calls self.old m
             → IfOk result
-            (λ made. MadeAs made (moved m (move.Finish number)) (StandsAt calls self.new)) }
+            (λ ended. MadeAs (is_some ended) (moved m (move.Finish number)) (StandsAt calls self.new)) }
+        ensures called { (calls : List (List Sqe)) (m : Moment) → StandsAt calls self.old m
+            → IfOk result (λ ended. IfSome ended (λ res. res ≡ (called_in m number).res)) }
         ensures granted { ((n : ℕ) → M.grants memory.now n) → IsOk result }
     {
         let Some(op) = self.dispatch.running_op(number) else {
-            return Ok(false);
+            return Ok(None);
         };
         let Some(entry) = self.dispatch.entry(number) else {
             unreachable!()
@@ -146,7 +148,7 @@ impl Run {
         }
         self.dispatch.finish(number, outcome);
         post(memory, &mut self.posted, &entry, outcome.res, outcome.bytes)?;
-        Ok(true)
+        Ok(Some(outcome.res))
     }
 }
 

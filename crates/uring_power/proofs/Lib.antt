@@ -1,3 +1,10 @@
 -- In the order in which they are best read.
+-- The laws:
 pub mod LogMoves
 pub mod CrashLaws
+-- Trials, and what is shown behind them:
+pub mod Lists
+pub mod Trying
+pub mod Showing
+-- The walk:
+pub mod Taking

@@ -38,7 +38,7 @@ use Rattle.uring_power.specs.Moves.{log_moved, log_past, log_along}
 unwrapped : (a b : Moment) → Some a ≡ Some b → a ≡ b
 unwrapped a b e = ap (λ o. unwrap_or o a) e
 
-log_more : (moves : List Move) (m mid next : Moment) (x : Move) (log : Log)
+pub log_more : (moves : List Move) (m mid next : Moment) (x : Move) (log : Log)
     → after_moves m moves ≡ Some mid → moved mid x ≡ Some next
     → log_along (moves ++ x ∷ []) m log ≡ log_moved mid x (log_along moves m log)
 log_more [] m mid next x log e can =
@@ -68,14 +68,14 @@ not_false false e = refl
 not_false true e = absurd cc
 
 -- whoever starts runs
-runs_now : (r : Requests) (n : ℕ) → is_outstanding r n ≡ true
+pub runs_now : (r : Requests) (n : ℕ) → is_outstanding r n ≡ true
     → is_running (with_started r n) n ≡ true
 runs_now r n outstanding =
     let alive : not (has_ended r n) ≡ true = (and_parts _ (not (has_ended r n)) outstanding).1 in
     let there : has_started (with_started r n) n ≡ true = list_any-append (λ m. m == n) r.started (n ∷ []) ∙ or_right (has_started r n) ((n == n) || false) (or_left (n == n) false (eq-eqb n n refl)) in
     and_from (has_started (with_started r n) n) (not (has_ended r n)) there alive
 
-running_op_is : (r : Requests) (n : ℕ) → is_running r n ≡ true
+pub running_op_is : (r : Requests) (n : ℕ) → is_running r n ≡ true
     → operation_running r n ≡ Some (operation_of (entry_of r n))
 running_op_is r n is = ap (λ b. if b then Some (operation_of (entry_of r n)) else None) is
 

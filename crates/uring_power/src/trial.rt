@@ -1,35 +1,54 @@
-//! A machine that makes moves of calls.
+//! A run of calls, with the log of each file.
 
-ghost use Rattle.std.specs.Prelude.{◌<◌};
+ghost use Rattle.std.specs.Prelude.{◌≡◌, ◌<◌, ℕ, List, [], ◌∷◌, ◌++◌, IfOk, IfErr};
+ghost use Rattle.uring_entry.specs.Setup.{Setup};
+ghost use Rattle.uring_entry.specs.Layout.{Sqe};
+ghost use Rattle.uring_entry.specs.Requests.{no_bytes};
+ghost use Rattle.uring_core.specs.declared.answer.Answer.TheVariants as answer;
+ghost use Rattle.uring_moves.specs.declared.move_of_calls.Move.{Move};
+ghost use Rattle.uring_moves.specs.declared.move_of_calls.Move.TheVariants as move;
+ghost use Rattle.uring_outcomes.specs.Runs.{entries_of, Stands};
+ghost use Rattle.uring_power.specs.Trials.{HasMade, HasTried};
+ghost use Rattle.uring_power.specs.Faults.{IsSpent};
 
-use crate::fault::CrashFault;
 use std::alloc::{AllocError, Global};
-use uring_entry::{Cqe, Sqe, errno};
-use uring_epochs::{Answer, CrashMachine, FileLog, Setup, Step};
+use uring_entry::Sqe;
+use uring_epochs::{Answer, FileLog, Setup, make_logs, note_finish, note_issue};
 use uring_moves::Move;
+use uring_outcomes::{Run, WalkFault};
 
-/// A machine whose power may fail, and how many calls it has accepted. Nobody reaps its completions.
+/// A run of calls, and what has happened to each file.
 #[derive(Drop)]
 pub(crate) struct Trial {
-    machine: CrashMachine,
-    next_call: usize,
+    pub run: Run,
+    pub logs: Vec<FileLog>,
 }
 
 impl Trial {
     /// Nothing was accepted yet, and all files are empty.
     pub(crate) fn new(alloc: Global, setup: &Setup, unit: u64) -> Result<Trial, AllocError>
         requires { 0 < unit }
+        ensures { IfOk result (λ trial. (calls : List (List Sqe)) → HasMade unit setup.now calls [] trial.run trial.logs.items) }
     {
-        Ok(Trial {
-            machine: CrashMachine::new(alloc, setup, unit)?,
-            next_call: 0,
-        })
+        let logs = make_logs(&alloc, alloc, unit, setup.files(), &[])?;
+        let run = Run::new(&alloc, alloc, setup.files())?;
+        Ok(Trial { run, logs })
     }
 
-    /// Makes these moves, one after the other, as far as each can be made, and tells whether all were.
-    pub(crate) fn replay(&mut self, calls: &[Vec<Sqe>], path: &[Move]) -> Result<bool, CrashFault> {
+    /// Makes these moves, one after the other, as far as each can be made, and tells whether all were. None was made before.
+    pub(crate) fn replay(
+        &mut self,
+        alloc: Global,
+        calls: &[Vec<Sqe>],
+        path: &[Move],
+    ) -> Result<bool, WalkFault>
+        requires { (unit : ℕ) × ((g : Setup) × HasMade unit g (entries_of calls.now) [] self.old.run self.old.logs.items) }
+        ensures tried { (unit : ℕ) (g : Setup) → HasMade unit g (entries_of calls.now) [] self.old.run self.old.logs.items
+            → IfOk result (λ made. HasTried unit g (entries_of calls.now) path.now made self.new.run self.new.logs.items) }
+        ensures fault { IfErr result (IsSpent (entries_of calls.now)) }
+    {
         for next in path {
-            if !self.make(calls, *next)? {
+            if !self.make(alloc, calls, *next)? {
                 return Ok(false);
             }
         }
@@ -37,109 +56,58 @@ impl Trial {
     }
 
     /// Makes a move, if it can be made, and tells whether it was.
-    fn make(&mut self, calls: &[Vec<Sqe>], next: Move) -> Result<bool, CrashFault> {
+    fn make(&mut self, alloc: Global, calls: &[Vec<Sqe>], next: Move) -> Result<bool, WalkFault>
+        requires { Stands (entries_of calls.now) self.old.run }
+        ensures tried { (unit : ℕ) (g : Setup) (moves : List Move)
+            → HasMade unit g (entries_of calls.now) moves self.old.run self.old.logs.items
+            → IfOk result (λ made. HasTried unit g (entries_of calls.now) (moves ++ next ∷ []) made self.new.run self.new.logs.items) }
+        ensures fault { IfErr result (IsSpent (entries_of calls.now)) }
+    {
         match next {
-            Move::Accept => self.accept(calls),
-            Move::Issue { number } => Ok(self.issue(number)?),
-            Move::Finish { number } => Ok(self.finish(number)?),
+            Move::Accept => self.run.accept(&alloc, calls),
+            Move::Issue { number } => Ok(self.issue(alloc, number)?),
+            Move::Finish { number } => Ok(self.finish(alloc, number)?),
         }
     }
 
-    /// Accepts the next call, if one is left.
-    fn accept(&mut self, calls: &[Vec<Sqe>]) -> Result<bool, CrashFault> {
-        let Some(call) = calls.get(self.next_call) else {
+    /// Issues a request, if it can be issued, and tells whether it was.
+    fn issue(&mut self, alloc: Global, number: u64) -> Result<bool, AllocError>
+        requires { (calls : List (List Sqe)) × Stands calls self.old.run }
+        ensures tried { (unit : ℕ) (g : Setup) (calls : List (List Sqe)) (moves : List Move)
+            → HasMade unit g calls moves self.old.run self.old.logs.items
+            → IfOk result (λ made. HasTried unit g calls (moves ++ move.Issue number ∷ []) made self.new.run self.new.logs.items) }
+    {
+        if !self.run.issue(&alloc, number)? {
             return Ok(false);
-        };
-        self.next_call += 1;
-        let Ok(count) = u32::try_from(call.len()) else {
-            return Err(CrashFault::Wide);
-        };
-        self.publish(call.as_slice())?;
-        self.take(count)?;
+        }
+        let op = self.run.dispatch.running_op(number);
+        note_issue(&alloc, &mut self.logs, number, op, &Answer::Run)?;
         Ok(true)
     }
 
-    /// Puts these entries into slots from the first one on, and publishes them.
-    fn publish(&mut self, entries: &[Sqe]) -> Result<(), CrashFault> {
-        let mut slot = 0_u32;
-        for entry in entries {
-            let filled = self.machine.step(Step::Fill {
-                slot,
-                entry: *entry,
-            })?;
-            let staged = self.machine.step(Step::Index { word: slot })?;
-            if filled != Answer::Filled || staged != Answer::Staged {
-                return Err(CrashFault::Wide);
-            }
-            slot = slot.wrapping_add(1);
-        }
-        self.machine.step(Step::StoreTail)?;
-        Ok(())
+    /// Finishes a request, if it runs, and tells whether it did.
+    fn finish(&mut self, alloc: Global, number: u64) -> Result<bool, AllocError>
+        requires { (calls : List (List Sqe)) × Stands calls self.old.run }
+        ensures tried { (unit : ℕ) (g : Setup) (calls : List (List Sqe)) (moves : List Move)
+            → HasMade unit g calls moves self.old.run self.old.logs.items
+            → IfOk result (λ made. HasTried unit g calls (moves ++ move.Finish number ∷ []) made self.new.run self.new.logs.items) }
+    {
+        let op = self.run.dispatch.running_op(number);
+        let Some(res) = self.run.finish(&alloc, number)? else {
+            return Ok(false);
+        };
+        let answer = ended(res);
+        note_finish(&alloc, &mut self.logs, number, op, &answer);
+        Ok(true)
     }
+}
 
-    /// Takes so many positions in by a call.
-    fn take(&mut self, count: u32) -> Result<(), AllocError> {
-        if self.machine.step(Step::Begin { count })? == Answer::Again {
-            return Err(AllocError);
-        }
-        for _ in 0..count {
-            self.machine.step(Step::Take)?;
-        }
-        self.machine.step(Step::End)?;
-        self.machine.step(Step::LoadHead)?;
-        Ok(())
-    }
-
-    /// Issues a request, if it can be issued.
-    fn issue(&mut self, number: u64) -> Result<bool, AllocError> {
-        let answer = self.machine.step(Step::Issue { number })?;
-        Ok(matches!(answer, Answer::Run | Answer::Ended { .. }))
-    }
-
-    /// Finishes a request, if it runs.
-    fn finish(&mut self, number: u64) -> Result<bool, AllocError> {
-        match self.machine.step(Step::Finish { number })? {
-            Answer::Ended { res, .. } if res == -errno::ENOMEM => Err(AllocError),
-            Answer::Ended { .. } => Ok(true),
-            _ => Ok(false),
-        }
-    }
-
-    /// The moves that can be made next: the acceptance of the next call, and the issue or the finish of each request.
-    pub(crate) fn next_moves(
-        &self,
-        alloc: Global,
-        calls: &[Vec<Sqe>],
-    ) -> Result<Vec<Move>, AllocError> {
-        let mut moves = Vec::new(alloc);
-        if self.next_call < calls.len() {
-            moves.push(Move::Accept)?;
-        }
-        for number in 0..self.machine.core().counts().accepted {
-            if self.machine.core().next_issuable(number) == Some(number) {
-                moves.push(Move::Issue { number })?;
-            }
-            if self.machine.core().running_op(number).is_some() {
-                moves.push(Move::Finish { number })?;
-            }
-        }
-        Ok(moves)
-    }
-
-    /// The completions posted so far, in order.
-    pub(crate) fn posted(&self, alloc: Global) -> Result<Vec<Cqe>, AllocError> {
-        let mut posted = Vec::new(alloc);
-        'places: for place in 0..u64::MAX {
-            let Some(completion) = self.machine.core().rest(place) else {
-                return Ok(posted);
-            };
-            posted.push(completion)?;
-        }
-        Ok(posted)
-    }
-
-    /// What is kept of the file of a descriptor, if there is one.
-    pub(crate) fn log(&self, fd: i32) -> Option<&FileLog> {
-        self.machine.log(fd)
+/// An end with this result, and no bytes.
+fn ended(res: i32) -> Answer
+    ensures { result ≡ answer.Ended res no_bytes }
+{
+    Answer::Ended {
+        res,
+        bytes: [0; 64],
     }
 }

@@ -1,14 +1,20 @@
 //! The walk over all lists of moves, with what a power failure may show behind each.
 
-ghost use Rattle.std.specs.Prelude.{◌<◌};
+ghost use Rattle.std.specs.Prelude.{◌≡◌, ◌<◌, ◌++◌, ◌∷◌, [], ℕ, List, true, false, IfOk, IfErr, OnOk};
+ghost use Rattle.uring_moves.specs.declared.move_of_calls.Move.{Move};
+ghost use Rattle.uring_outcomes.specs.Runs.{entries_of};
+ghost use Rattle.uring_outcomes.specs.Walks.{paths_of};
+ghost use Rattle.uring_power.specs.Found.{AreCrashes, AreAllCrashes, IsReason};
+ghost use Rattle.uring_power.specs.Trials.{HasMade, IsWalk, TakesPath};
 
-use crate::crash::{Crash, crashes_at};
+use crate::crash::{Crash, crashes_of};
 use crate::fault::CrashFault;
 use crate::trial::Trial;
 use std::alloc::{AllocError, Global};
 use uring_entry::Sqe;
 use uring_epochs::Setup;
 use uring_moves::Move;
+use uring_outcomes::{all_next, push_longer};
 
 /// What was found of all that a power failure may show.
 #[derive(Drop)]
@@ -20,9 +26,10 @@ pub struct FoundCrashes {
     pub is_all: bool,
 }
 
-/// What a power failure may show of these calls, at any moment, on files of this set-up that were empty at first, of which each unit of so many bytes is left by itself. The walk stops behind so many paths; what it has found by then it may show, and whether these are all is told. Each call has the entries that it accepts. No clause says so: it is tested.
+/// What a power failure may show of these calls, at any moment, on files of this set-up that were empty at first, of which each unit of so many bytes is left by itself. The walk stops behind so many paths; what it has found by then it may show, and whether these are all is told. Each call has the entries that it accepts.
 ///
-/// `Wide`: a call has more entries than the submission ring.
+/// `Memory`: memory was refused.
+/// `Spent`: the calls have more than 2^63 - 1 entries.
 /// `Images`: more than `images` images may be left of a file at some moment.
 pub fn crashes_within(
     alloc: Global,
@@ -33,6 +40,11 @@ pub fn crashes_within(
     images: u32,
 ) -> Result<FoundCrashes, CrashFault>
     requires { 0 < unit }
+    ensures right { IfOk result (λ found.
+        AreCrashes unit setup.now (entries_of calls.now) found.crashes.items) }
+    ensures all { IfOk result (λ found. found.is_all ≡ true
+        → AreAllCrashes unit setup.now (entries_of calls.now) found.crashes.items) }
+    ensures fault { IfErr result (IsReason unit setup.now (entries_of calls.now) images) }
 {
     let mut walk = Walk::new(alloc)?;
     match walk.take_turns(alloc, setup, unit, calls, most, images) {
@@ -56,7 +68,10 @@ struct Walk {
 
 impl Walk {
     /// Nothing was found, and the path of no move is to be taken.
-    fn new(alloc: Global) -> Result<Walk, AllocError> {
+    fn new(alloc: Global) -> Result<Walk, AllocError>
+        ensures todo { IfOk result (λ walk. paths_of walk.todo.items ≡ [] ∷ []) }
+        ensures found { IfOk result (λ walk. walk.found.items ≡ []) }
+    {
         let mut todo = Vec::new(alloc);
         todo.push(Vec::new(alloc))?;
         Ok(Walk {
@@ -66,7 +81,9 @@ impl Walk {
     }
 
     /// What was found.
-    fn into_found(self) -> Vec<Crash> {
+    fn into_found(self) -> Vec<Crash>
+        ensures { result ≡ self.found }
+    {
         let Walk { todo, found } = self;
         drop(todo);
         found
@@ -82,7 +99,12 @@ impl Walk {
         most: u64,
         images: u32,
     ) -> Result<bool, CrashFault>
-        requires { 0 < unit }
+        requires some { 0 < unit }
+        requires walk { IsWalk unit setup.now (entries_of calls.now) (paths_of self.old.todo.items) self.old.found.items }
+        ensures walk { OnOk result
+            (IsWalk unit setup.now (entries_of calls.now) (paths_of self.new.todo.items) self.new.found.items) }
+        ensures over { IfOk result (λ is_all. is_all ≡ true → self.new.todo.items ≡ []) }
+        ensures fault { IfErr result (IsReason unit setup.now (entries_of calls.now) images) }
     {
         'turns: for _ in 0..most {
             if !self.turn(alloc, setup, unit, calls, images)? {
@@ -101,7 +123,12 @@ impl Walk {
         calls: &[Vec<Sqe>],
         images: u32,
     ) -> Result<bool, CrashFault>
-        requires { 0 < unit }
+        requires some { 0 < unit }
+        requires walk { IsWalk unit setup.now (entries_of calls.now) (paths_of self.old.todo.items) self.old.found.items }
+        ensures walk { OnOk result
+            (IsWalk unit setup.now (entries_of calls.now) (paths_of self.new.todo.items) self.new.found.items) }
+        ensures over { IfOk result (λ taken. taken ≡ false → self.new.todo.items ≡ []) }
+        ensures fault { IfErr result (IsReason unit setup.now (entries_of calls.now) images) }
     {
         let Some(path) = self.todo.pop() else {
             return Ok(false);
@@ -123,42 +150,65 @@ impl Walk {
         images: u32,
     ) -> Result<(), CrashFault>
         requires { 0 < unit }
+        ensures takes { OnOk result
+            (TakesPath unit setup.now (entries_of calls.now) path.now (paths_of self.old.todo.items) self.old.found.items (paths_of self.new.todo.items) self.new.found.items) }
+        ensures fault { IfErr result (IsReason unit setup.now (entries_of calls.now) images) }
     {
         let mut trial = Trial::new(alloc, setup, unit)?;
-        let taken = self.note(alloc, setup, calls, path, images, &mut trial);
+        let taken = self.try_path(alloc, setup, unit, calls, path, images, &mut trial);
         drop(trial);
         taken
     }
 
     /// The same, on a trial in which nothing has happened.
-    fn note(
+    fn try_path(
         &mut self,
         alloc: Global,
         setup: &Setup,
+        unit: u64,
         calls: &[Vec<Sqe>],
         path: &[Move],
         images: u32,
         trial: &mut Trial,
-    ) -> Result<(), CrashFault> {
-        if !trial.replay(calls, path)? {
+    ) -> Result<(), CrashFault>
+        requires { HasMade unit setup.now (entries_of calls.now) [] trial.old.run trial.old.logs.items }
+        ensures takes { OnOk result
+            (TakesPath unit setup.now (entries_of calls.now) path.now (paths_of self.old.todo.items) self.old.found.items (paths_of self.new.todo.items) self.new.found.items) }
+        ensures fault { IfErr result (IsReason unit setup.now (entries_of calls.now) images) }
+    {
+        if !trial.replay(alloc, calls, path)? {
             return Ok(());
         }
-        let mut shown = crashes_at(alloc, trial, setup.files(), images)?;
-        self.found.append(&mut shown)?;
-        drop(shown);
-        let moves = trial.next_moves(alloc, calls)?;
-        let left = self.leave(alloc, path, moves.as_slice());
-        drop(moves);
-        Ok(left?)
+        self.note(alloc, setup, unit, calls, path, images, trial)
     }
 
-    /// Leaves this path with each of these moves behind it to be taken.
-    fn leave(&mut self, alloc: Global, path: &[Move], moves: &[Move]) -> Result<(), AllocError> {
-        for next in moves {
-            let mut longer = Vec::from_slice(alloc, path)?;
-            longer.push(*next)?;
-            self.todo.push(longer)?;
-        }
-        Ok(())
+    /// Notes what a power failure may show behind this path, whose moves the trial has made, and leaves the paths that are longer by one move to be taken.
+    fn note(
+        &mut self,
+        alloc: Global,
+        setup: &Setup,
+        unit: u64,
+        calls: &[Vec<Sqe>],
+        path: &[Move],
+        images: u32,
+        trial: &Trial,
+    ) -> Result<(), CrashFault>
+        requires { HasMade unit setup.now (entries_of calls.now) path.now trial.now.run trial.now.logs.items }
+        ensures takes { OnOk result
+            (TakesPath unit setup.now (entries_of calls.now) path.now (paths_of self.old.todo.items) self.old.found.items (paths_of self.new.todo.items) self.new.found.items) }
+        ensures fault { IfErr result (IsReason unit setup.now (entries_of calls.now) images) }
+    {
+        let mut shown = crashes_of(
+            alloc,
+            trial.run.posted.as_slice(),
+            trial.logs.as_slice(),
+            images,
+        )?;
+        self.found.append(&mut shown)?;
+        drop(shown);
+        let moves = all_next(&alloc, alloc, &trial.run, calls)?;
+        let left = push_longer(&alloc, alloc, path, moves.as_slice(), &mut self.todo);
+        drop(moves);
+        Ok(left?)
     }
 }
