@@ -112,7 +112,7 @@ fn crash_lines<R: Read>(
             Ok(Some((sorted(alloc, each?)?, is_all)))
         }
         Err(CrashFault::Images) => Ok(None),
-        Err(CrashFault::Memory | CrashFault::Wide) => Err(PlayFault::Memory),
+        Err(CrashFault::Memory | CrashFault::Spent) => Err(PlayFault::Memory),
     }
 }
 
