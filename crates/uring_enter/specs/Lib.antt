@@ -20,3 +20,7 @@ pub mod ChainLaws
 pub mod Clocks
 pub mod Forms
 pub mod Shots
+pub mod Takings
+pub mod Ways
+pub mod Drainings
+pub mod Updates

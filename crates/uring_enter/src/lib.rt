@@ -9,6 +9,7 @@ mod chain_laws;
 mod command;
 mod course;
 mod course_laws;
+mod drains;
 mod enter;
 mod form;
 mod laws;
@@ -17,15 +18,19 @@ mod outcome;
 mod posted;
 mod posting_laws;
 mod reply;
+mod search;
 mod shot;
 mod showing;
 mod showing_laws;
 mod submission;
+mod taking;
 mod time_laws;
 mod timeout;
 mod timeout_rows;
 mod times;
+mod update;
 mod wait;
+mod ways;
 
 pub use act::{Act, Fact};
 pub use asked::{Asked, Policy};
@@ -39,6 +44,7 @@ pub use course::Course;
 pub use course_laws::{
     carries_out_once, carries_out_what_runs, ends_for_good, ends_with_its_result, tries_once,
 };
+pub use drains::Drains;
 pub use enter::{Before, Enter, WrongReply};
 pub use form::{Form, Rule, form_of, rule_of};
 pub use laws::{ends_for_a_reason, gives_up_in_vain, sleeps_in_vain, submits_once};
@@ -47,10 +53,12 @@ pub use outcome::{EndedEarly, Success, is_success, looks_for_running, shown_of};
 pub use posted::{Completion, Posted, WrongEnd};
 pub use posting_laws::{shows_each_once, shows_the_cores};
 pub use reply::{Reply, Sight};
+pub use search::Search;
 pub use shot::Shot;
 pub use showing::{Shown, Store};
 pub use showing_laws::{shows_what_was_posted, stands_apart};
 pub use submission::Submission;
+pub use taking::{Item, Submitting, Taking};
 pub use time_laws::{
     ends_alone, ends_in_time, ends_once, never_goes_back, passes_none_over, runs_apart,
 };
@@ -59,4 +67,6 @@ pub use timeout::{
     nanoseconds_of,
 };
 pub use times::{NoRoom, Times};
+pub use update::{Poll, Removal, poll_removal, timeout_removal, updated_flags, updated_poll};
 pub use wait::{Wait, WakeSources, Woken};
+pub use ways::{Way, Ways, names_the_ways};
