@@ -18,7 +18,9 @@ pub mod PostingLaws
 pub mod Chains
 pub mod ChainLaws
 pub mod Clocks
+pub mod SocketForms
 pub mod Forms
+pub mod Pieces
 pub mod Shots
 pub mod Takings
 pub mod Ways
