@@ -3,7 +3,7 @@ use Rattle.std.specs.Prelude.{ℕ, ℤ, pos, ◌+◌, ◌*◌, Bool, not, ◌&&�
 use Rattle.std.specs.Int.RustNames.{bit_and}
 use Rattle.uring_enter.specs.declared.submission.Submission.{Submission}
 use Rattle.uring_enter.specs.declared.piece.What.{What}
-use Rattle.uring_enter.specs.declared.piece.What.TheVariants.{Vectors, Path, SecondPath, How, Time, Value, Message, Address}
+use Rattle.uring_enter.specs.declared.piece.What.TheVariants.{Buffer, Vectors, Path, SecondPath, How, Time, Value, Message, Address}
 use Rattle.uring_enter.specs.declared.piece.Piece.{Piece}
 use Rattle.uring_enter.specs.Clocks.{has_some}
 use Rattle.uring_enter.specs.Forms.{is_below}
@@ -19,11 +19,17 @@ unless is_none what from size = if is_none then None else stands what from size
 abbrev pub value_of : Submission → Option Piece
 value_of e = unless (e.len == 0) Value e.off e.len
 
--- what is copied first. A vector has 16 bytes, a message 56, a time 16 and an event of an epoll instance 12; where an address ends a connect says in `off`, and a send in 16 bits of `file_index`
+-- the address that a SEND_ZC may name, whose length stands in 16 bits of `file_index`
+abbrev pub address_of : Submission → Option Piece
+address_of e = unless (e.off == 0) Address e.off (bit_and e.file_index 65535)
+
+-- what is copied first; of one buffer nothing is. A vector has 16 bytes, a message 56, a time 16 and an event of an epoll instance 12; how long an address is a connect says in `off`
 abbrev pub first_of : Submission → Option Piece
 first_of e =
     -- READV and WRITEV
     if e.opcode == 1 || e.opcode == 2 then unless (e.len == 0) Vectors e.addr (e.len * 16) else
+    -- READ_FIXED, WRITE_FIXED, READ, WRITE, SEND, RECV and SEND_ZC
+    if e.opcode == 4 || e.opcode == 5 || e.opcode == 22 || e.opcode == 23 || e.opcode == 26 || e.opcode == 27 || e.opcode == 47 then stands Buffer e.addr e.len else
     -- SENDMSG, RECVMSG and SENDMSG_ZC
     if e.opcode == 9 || e.opcode == 10 || e.opcode == 48 then stands Message e.addr 56 else
     -- TIMEOUT and LINK_TIMEOUT; TIMEOUT_REMOVE, if it is an update
@@ -38,9 +44,7 @@ first_of e =
     -- EPOLL_CTL, but for EPOLL_CTL_DEL
     if e.opcode == 29 then unless (e.len == 2) Value e.addr 12 else
     -- FSETXATTR, SETXATTR, FGETXATTR and GETXATTR: the attribute's name
-    if nat_le 41 e.opcode && nat_le e.opcode 44 then stands SecondPath e.addr 0 else
-    -- SEND_ZC
-    if e.opcode == 47 then unless (e.off == 0) Address e.off (bit_and e.file_index 65535) else None
+    if nat_le 41 e.opcode && nat_le e.opcode 44 then stands SecondPath e.addr 0 else None
 
 -- what is copied second
 abbrev pub second_of : Submission → Option Piece
@@ -52,7 +56,9 @@ second_of e =
     -- FSETXATTR
     if e.opcode == 41 then value_of e else
     -- SETXATTR and GETXATTR: the file's path
-    if e.opcode == 42 || e.opcode == 44 then stands Path e.addr3 0 else None
+    if e.opcode == 42 || e.opcode == 44 then stands Path e.addr3 0 else
+    -- SEND_ZC
+    if e.opcode == 47 then address_of e else None
 
 -- and third: SETXATTR
 abbrev pub third_of : Submission → Option Piece

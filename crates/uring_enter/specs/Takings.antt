@@ -1,9 +1,11 @@
 -- Which positions of the submission ring a call takes, by what stood at those that it has taken, the newest first. io_uring(7), Submitting I/O requests; io_uring_setup(2), IORING_SETUP_SUBMIT_ALL; io_uring_enter(2), to_submit; but where the kernel is named.
-use Rattle.std.specs.Prelude.{◌≡◌, ℕ, ◌+◌, ◌-◌, ◌%◌, ◌^◌, Bool, false, not, ◌&&◌, ◌||◌, nat_lt, min, length, Option, Some, None, List, [], ◌∷◌, if◌then◌else◌}
+use Rattle.std.specs.Prelude.{◌≡◌, ℕ, ◌+◌, ◌-◌, ◌%◌, ◌^◌, Bool, false, not, ◌&&◌, ◌||◌, nat_lt, min, length, List, [], ◌∷◌, if◌then◌else◌}
 use Rattle.std.specs.Int.RustNames.{bit_and}
 use Rattle.uring_enter.specs.declared.taking.Submitting.{Submitting}
 use Rattle.uring_enter.specs.declared.taking.Item.{Item}
 use Rattle.uring_enter.specs.declared.taking.Taking.{Taking}
+use Rattle.uring_enter.specs.declared.taking.Onward.{Onward}
+use Rattle.uring_enter.specs.declared.taking.Onward.TheVariants.{Takes, IsFull, HasEnded}
 
 -- how many positions are published: head and tail are words that wrap, and there are no more than the ring has entries
 abbrev pub published : Submitting → ℕ
@@ -29,8 +31,10 @@ takes_more a taken = not (has_ended a.submits_all taken) && nat_lt (length taken
 abbrev pub cell_of : Submitting → List Item → ℕ
 cell_of a taken = bit_and ((a.head + length taken) % 2 ^ 32) (a.entries - 1)
 
-abbrev pub next_of : Submitting → List Item → Option ℕ
-next_of a taken = if takes_more a taken then Some (cell_of a taken) else None
+abbrev pub next_of : Submitting → List Item → Onward
+next_of a taken =
+    if has_ended a.submits_all taken then HasEnded else
+    if takes_more a taken then Takes (cell_of a taken) else IsFull
 
 -- how many more a call takes, if none of them ends it
 abbrev pub left_of : Submitting → List Item → ℕ

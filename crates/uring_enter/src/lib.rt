@@ -61,7 +61,7 @@ pub use shot::Shot;
 pub use showing::{Shown, Store};
 pub use showing_laws::{shows_what_was_posted, stands_apart};
 pub use submission::Submission;
-pub use taking::{Item, Submitting, Taking};
+pub use taking::{Item, Onward, Submitting, Taking};
 pub use time_laws::{
     ends_alone, ends_in_time, ends_once, never_goes_back, passes_none_over, runs_apart,
 };

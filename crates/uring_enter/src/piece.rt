@@ -8,6 +8,9 @@ use crate::submission::Submission;
 /// What a piece is.
 #[derive(Clone, Copy, Drop)]
 pub enum What {
+    /// One buffer that the entry itself names: nothing is copied.
+    Buffer,
+
     /// The vectors of a transfer.
     Vectors,
 
@@ -67,6 +70,7 @@ fn first_of(entry: &Submission) -> Option<Piece>
             entry.addr,
             entry.len as u64 * 16,
         ),
+        4 | 5 | 22 | 23 | 26 | 27 | 47 => stands(What::Buffer, entry.addr, entry.len as u64),
         9 | 10 | 48 => stands(What::Message, entry.addr, 56),
         11 | 15 => stands(What::Time, entry.addr, 16),
         12 => unless(entry.op_flags == 0, What::Time, entry.off, 16),
@@ -75,12 +79,6 @@ fn first_of(entry: &Submission) -> Option<Piece>
         21 => unless(entry.addr == 0, What::Path, entry.addr, 0),
         29 => unless(entry.len == 2, What::Value, entry.addr, 12),
         41..=44 => stands(What::SecondPath, entry.addr, 0),
-        47 => unless(
-            entry.off == 0,
-            What::Address,
-            entry.off,
-            (entry.file_index & 0xffff) as u64,
-        ),
         _ => None,
     }
 }
@@ -93,6 +91,7 @@ fn second_of(entry: &Submission) -> Option<Piece>
         35 | 38 | 39 => stands(What::SecondPath, entry.off, 0),
         41 => value_of(entry),
         42 | 44 => stands(What::Path, entry.addr3, 0),
+        47 => address_of(entry),
         _ => None,
     }
 }
@@ -104,6 +103,14 @@ fn third_of(entry: &Submission) -> Option<Piece>
         42 => value_of(entry),
         _ => None,
     }
+}
+
+/// The address that a send without copies may name.
+fn address_of(entry: &Submission) -> Option<Piece>
+    ensures { result ≡ spec.address_of entry.now }
+{
+    let size = (entry.file_index & 0xffff) as u64;
+    unless(entry.off == 0, What::Address, entry.off, size)
 }
 
 /// The value of an attribute that is set.

@@ -1,7 +1,7 @@
 //! Which positions of the submission ring a call takes. io_uring(7), Submitting I/O requests; io_uring_setup(2), IORING_SETUP_SUBMIT_ALL.
 
-ghost use Rattle.std.specs.Prelude.{◌≡◌, List, [], ◌∷◌};
-ghost use Rattle.uring_enter.specs.Takings.{KeepsTaking, most, next_of, ends};
+ghost use Rattle.std.specs.Prelude.{◌≡◌, false, List, [], ◌∷◌};
+ghost use Rattle.uring_enter.specs.Takings.{KeepsTaking, next_of, ends, has_ended};
 
 /// What a call that submits finds in its ring, and how many it is asked for.
 #[repr(C)]
@@ -35,6 +35,19 @@ pub struct Item {
     pub links: bool,
 }
 
+/// How a call that takes positions goes on.
+#[derive(Clone, Copy, Drop)]
+pub enum Onward {
+    /// It takes one more, whose word stands in this cell.
+    Takes(u32),
+
+    /// It has taken all that it may.
+    IsFull,
+
+    /// What it took last has ended it.
+    HasEnded,
+}
+
 /// A call that takes positions, one after the other.
 #[repr(C)]
 #[derive(Clone, Copy, Drop)]
@@ -65,29 +78,35 @@ impl Taking {
         }
     }
 
-    /// The cell where the word of the next position stands that the call takes. `None`: it takes no more.
-    pub fn next(&self) -> Option<u32>
-        ensures { (asked : Submitting) (taken : List Item) → KeepsTaking asked taken self.now
-            → result ≡ next_of asked taken }
+    /// What comes first.
+    pub fn first(&self) -> Onward
+        ensures { (asked : Submitting) → KeepsTaking asked [] self.now → result ≡ next_of asked [] }
     {
         if 0 < self.left {
-            Some(self.next & self.mask)
+            Onward::Takes(self.next & self.mask)
         } else {
-            None
+            Onward::IsFull
         }
     }
 
-    /// The call has taken a position. Says whether it ends the call, which then takes no more.
-    pub fn took(&mut self, item: Item) -> bool
-        ensures ends { (asked : Submitting) (taken : List Item) → KeepsTaking asked taken self.old
-            → result ≡ ends asked.submits_all item }
+    /// The call has taken a position. Says what comes next. Nothing has ended the call before.
+    pub fn took(&mut self, item: Item) -> Onward
+        ensures next { (asked : Submitting) (taken : List Item) → KeepsTaking asked taken self.old
+            → has_ended asked.submits_all taken ≡ false → result ≡ next_of asked (item ∷ taken) }
         ensures after { (asked : Submitting) (taken : List Item) → KeepsTaking asked taken self.old
             → KeepsTaking asked (item ∷ taken) self.new }
     {
-        let ends = ends(self.submits_all, item);
         self.next = self.next.wrapping_add(1);
-        self.left = if ends { 0 } else { self.left.saturating_sub(1) };
-        ends
+        if ends(self.submits_all, item) {
+            self.left = 0;
+            return Onward::HasEnded;
+        }
+        self.left = self.left.saturating_sub(1);
+        if 0 < self.left {
+            Onward::Takes(self.next & self.mask)
+        } else {
+            Onward::IsFull
+        }
     }
 }
 
