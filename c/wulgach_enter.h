@@ -127,7 +127,7 @@ uint32_t wulgach_taking_begin(struct wulgach_taking *taking, const struct wulgac
 enum wulgach_onward {
     WULGACH_TAKES = 0,          /* it takes one more: its cell is written */
     WULGACH_IS_FULL = 1,        /* it has taken all that it may */
-    WULGACH_HAS_ENDED = 2       /* what it took last has ended it */
+    WULGACH_ENDS_CALL = 2       /* what it took last has ended it */
 };
 
 /* The call has taken a position; nothing has ended it before. Returns how it goes on (enum wulgach_onward): a word that names no slot ends

@@ -73,7 +73,7 @@ static uint32_t stage_taken(struct ring *ring, struct wulgach_taking *taking, ui
         count++;
         struct wulgach_item item = item_of(row);
         onward = wulgach_taking_took(taking, &item, &cell);
-        if (onward == WULGACH_HAS_ENDED)
+        if (onward == WULGACH_ENDS_CALL)
             note_rule(row ? CALL_STOPS : WORD_IS_DROPPED);
     } while (onward == WULGACH_TAKES);
     return count;
