@@ -54,6 +54,53 @@ bool wulgach_cancel_sees(struct wulgach_cancel *cancel, const struct wulgach_out
 /* What the cancel ends with, once it has looked at all: how many it has cancelled, or of one 0, or -2 (ENOENT) if there was none. */
 int32_t wulgach_cancel_result(const struct wulgach_cancel *cancel);
 
+/* ---- a cancel by user data for which the core has found a request that runs ---- */
+
+/* A search among the running requests, the oldest first. It is the caller's memory, and its fields are the library's. */
+struct wulgach_search {
+    uint64_t user_data;
+    bool has_found;
+    bool has_cancelled;
+};
+
+/* A search for this user data, which hasn't looked at any. */
+void wulgach_search_begin(struct wulgach_search *search, uint64_t user_data);
+
+/* Looks at the next running request, and says whether it is to be cancelled: it is the oldest of this user data, no cancel has chosen it,
+ * and it waits for something. */
+bool wulgach_search_sees(struct wulgach_search *search, const struct wulgach_outstanding *request);
+
+/* Whether the one that was found is cancelled, by this cancel or another. */
+bool wulgach_search_has_cancelled(const struct wulgach_search *search);
+
+/* ---- updates ---- */
+
+/* An entry of the submission ring: see wulgach_form.h. */
+struct wulgach_submission;
+
+/* What a removal does with the poll or the timeout that it finds. */
+enum wulgach_removal {
+    WULGACH_REMOVAL_CANCELS = 0,
+    WULGACH_REMOVAL_UPDATES = 1,
+    WULGACH_REMOVAL_UPDATES_LINKED = 2  /* of a timeout that is linked behind a request */
+};
+
+uint32_t wulgach_poll_removal(const struct wulgach_submission *entry);
+uint32_t wulgach_timeout_removal(const struct wulgach_submission *entry);
+
+/* What an update may change of a poll. */
+struct wulgach_poll {
+    uint64_t user_data;
+    uint32_t events;
+    bool is_multishot;
+};
+
+/* Changes a poll as this entry updates it. */
+void wulgach_updated_poll(struct wulgach_poll *poll, const struct wulgach_submission *entry);
+
+/* The flags of a timeout behind an update by this entry: whether the new time is absolute, and its clock, are the update's. */
+uint32_t wulgach_updated_flags(uint32_t flags, const struct wulgach_submission *entry);
+
 #ifdef __cplusplus
 }
 #endif

@@ -61,6 +61,10 @@ bool wulgach_course_start(struct wulgach_course *course);
 bool wulgach_course_done(struct wulgach_course *course, int32_t res);
 bool wulgach_course_end(struct wulgach_course *course);
 
+/* Writes what the second completion of a send without copies shows, which says that its memory is free: 0, or with `reports` that it was
+ * copied. False, and nothing is written: it has none, since a cancel has found it, or no completion may be posted before its end. */
+bool wulgach_course_notice(const struct wulgach_course *course, bool reports, bool may_post, int32_t *res);
+
 /* ---- what is shown of an end ---- */
 
 /* A completion that was posted and isn't reaped. The rows that a call is given are the caller's memory: the first are those that stand

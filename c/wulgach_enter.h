@@ -94,6 +94,89 @@ int32_t wulgach_enter_begin(struct wulgach_enter *call, const struct wulgach_ask
  * written. */
 int32_t wulgach_enter_next(struct wulgach_enter *call, const struct wulgach_reply *reply, struct wulgach_command *command);
 
+/* ---- which positions of the submission ring a call takes ---- */
+
+/* What a call that submits finds in its ring, and how many entries it is asked for. */
+struct wulgach_submitting {
+    uint32_t to_submit;
+    uint32_t head;          /* the submission ring's, */
+    uint32_t tail;          /* as the application has stored it */
+    uint32_t entries;       /* a power of two */
+    bool submits_all;       /* IORING_SETUP_SUBMIT_ALL */
+};
+
+/* What stands at a position. */
+struct wulgach_item {
+    bool is_entry;          /* an entry; else its word names no slot */
+    bool is_faulty;
+    bool links;             /* IOSQE_IO_LINK or IOSQE_IO_HARDLINK */
+};
+
+/* A call that takes positions. It is the caller's memory, and its fields are the library's. */
+struct wulgach_taking {
+    uint32_t next;
+    uint32_t mask;
+    uint32_t left;
+    bool submits_all;
+};
+
+/* Begins a call that has taken nothing. Returns how many it takes at most: those that are published, and no more than it is asked for.
+ * Unless that is 0, the cell is written where the word of its first position stands. */
+uint32_t wulgach_taking_begin(struct wulgach_taking *taking, const struct wulgach_submitting *asked, uint32_t *cell);
+
+enum wulgach_onward {
+    WULGACH_TAKES = 0,          /* it takes one more: its cell is written */
+    WULGACH_IS_FULL = 1,        /* it has taken all that it may */
+    WULGACH_ENDS_CALL = 2       /* what it took last has ended it */
+};
+
+/* The call has taken a position; nothing has ended it before. Returns how it goes on (enum wulgach_onward): a word that names no slot ends
+ * it, and an entry with a fault, unless the ring submits all or the entry links the next. */
+uint32_t wulgach_taking_took(struct wulgach_taking *taking, const struct wulgach_item *item, uint32_t *cell);
+
+/* ---- what goes on next ---- */
+
+/* How many requests run that needn't wait, and how many the core lets start; and whether the call may return instead. */
+struct wulgach_ways {
+    uint32_t ready;
+    uint32_t issuable;
+    bool may_return;
+};
+
+enum wulgach_way {
+    WULGACH_NO_WAY = 0,
+    WULGACH_WAY_FINISH = 1,     /* one that runs and needn't wait goes on */
+    WULGACH_WAY_ISSUE = 2,      /* one that the core lets start is issued */
+    WULGACH_WAY_RETURN = 3
+};
+
+/* How many ways there are, as far as 32 bits say it. */
+uint32_t wulgach_ways_count(const struct wulgach_ways *ways);
+
+/* Returns the kind of the way of this number (enum wulgach_way), and writes its place among those of its kind, or 0: those that run stand
+ * before those that the core lets start, and that the call returns is the last. Way 0 is what goes on first in order. */
+uint32_t wulgach_ways_at(const struct wulgach_ways *ways, uint32_t number, uint32_t *place);
+
+/* ---- completions that belong to no end of a request ---- */
+
+/* How many requests are outstanding that drain. It is the caller's memory. */
+struct wulgach_drains {
+    uint64_t outstanding;
+};
+
+/* No request was accepted. */
+void wulgach_drains_begin(struct wulgach_drains *drains);
+
+/* A chain of so many requests was accepted, of which one has IOSQE_IO_DRAIN or none. Says whether they drain. */
+bool wulgach_drains_accept(struct wulgach_drains *drains, uint32_t members, bool has_drain);
+
+/* A request has ended, which drains or doesn't. */
+void wulgach_drains_end(struct wulgach_drains *drains, bool is_draining);
+
+/* Whether such a completion may be posted, where so many positions are staged and not taken: none is, and nothing that drains is
+ * outstanding. */
+bool wulgach_drains_may_post(const struct wulgach_drains *drains, uint64_t staged);
+
 #ifdef __cplusplus
 }
 #endif

@@ -39,8 +39,7 @@ enum wulgach_form {
 /* Returns what an entry is to the core (enum wulgach_form), and writes its fault, or 0. The first of these counts: `refusal`, with which
  * a strict ring refuses it, if that is negative; -13 (EACCES) where restrictions don't allow it; -95 (EOPNOTSUPP) if it asks for a
  * provided buffer that its operation can't have; -22 (EINVAL) for a flag that there isn't, a personality, an operation that isn't
- * served, or fields that its operation may not have. What the entry points to isn't looked at, nor the flags of an operation of
- * sockets. */
+ * served, or fields that its operation may not have. What the entry points to isn't looked at. */
 uint32_t wulgach_form_of(const struct wulgach_submission *entry, int32_t refusal, bool is_allowed, int32_t *fault);
 
 /* Whether an operation is served. */
@@ -61,6 +60,43 @@ bool wulgach_goes_on(const struct wulgach_shown *shown, const struct wulgach_sho
 /* Whether an eventfd is told of a completion, where it is registered for all, or only for what ends behind the call that submitted
  * it. */
 bool wulgach_tells(const struct wulgach_posted *posted, bool is_async_alone);
+
+/* ---- what an entry points to ---- */
+
+enum wulgach_what {
+    WULGACH_BUFFER = 0,         /* one that the entry itself names: nothing is copied */
+    WULGACH_VECTORS = 1,
+    WULGACH_PATH = 2,
+    WULGACH_SECOND_PATH = 3,    /* or the name of an attribute */
+    WULGACH_HOW = 4,            /* of an open: struct open_how */
+    WULGACH_TIME = 5,
+    WULGACH_VALUE = 6,          /* bytes that the operation reads */
+    WULGACH_MESSAGE = 7,        /* and behind it its vectors */
+    WULGACH_ADDRESS = 8         /* of a socket */
+};
+
+/* A piece of the application's memory. */
+struct wulgach_piece {
+    uint32_t what;              /* enum wulgach_what */
+    int32_t fault;              /* if it is too long: the request ends so, and nothing is copied. Else 0 */
+    uint64_t from;
+    uint64_t size;              /* in bytes; 0 of a path, which ends by itself */
+};
+
+/* Writes the piece of this place, from 0 on, that is copied of an entry when it is submitted, in order. The first that can't be copied, or
+ * has a fault, ends the request. False, and nothing is written: there are no more. */
+bool wulgach_piece_of(const struct wulgach_submission *entry, uint32_t place, struct wulgach_piece *piece);
+
+/* The fault of a time, -22 (EINVAL) if it is negative; of a message with more than 1,024 vectors, -90 (EMSGSIZE), before these are copied;
+ * of a RECVMSG that goes on, -22 or -75 (EOVERFLOW) if what stands in front of the bytes is too long; and of an entry that takes a
+ * provided buffer and hasn't one vector, -22, behind those of its pieces. Each is 0 if there is none. */
+int32_t wulgach_time_fault(int64_t seconds, int64_t nanoseconds);
+int32_t wulgach_message_fault(uint64_t vectors);
+int32_t wulgach_room_fault(const struct wulgach_submission *entry, uint32_t name, uint64_t control);
+int32_t wulgach_selection_fault(const struct wulgach_submission *entry, uint32_t vectors);
+
+/* The flags of an entry that the core is told, whatever fault it has. */
+uint8_t wulgach_form_flags(uint8_t flags);
 
 #ifdef __cplusplus
 }

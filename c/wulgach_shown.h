@@ -53,6 +53,10 @@ bool wulgach_shown_overflows(const struct wulgach_shown *shown);
  * if they are asked for and there is room, else if any was reaped. */
 bool wulgach_shown_loads_head(const struct wulgach_shown *shown, uint32_t count, bool is_asked, uint32_t entries);
 
+/* Whether a ring's descriptor is readable, where this is the head that the application has stored: completions wait, in the ring or
+ * outside it, or a call may bring something. */
+bool wulgach_shown_is_readable(const struct wulgach_shown *shown, uint32_t head, bool may_bring);
+
 /* The flags word of the submission ring: IORING_SQ_CQ_OVERFLOW, IORING_SQ_TASKRUN if a call may bring something, and
  * IORING_SQ_NEED_WAKEUP if a thread takes entries, which sleeps. */
 uint32_t wulgach_shown_flags(const struct wulgach_shown *shown, bool may_bring, bool has_thread);

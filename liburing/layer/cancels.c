@@ -73,6 +73,19 @@ static int32_t cancel_all(struct ring *ring, const struct wulgach_sought *sought
     return wulgach_cancel_result(&cancel);
 }
 
+bool cancel_running(struct ring *ring, uint64_t user_data)
+{
+    struct wulgach_search search;
+    wulgach_search_begin(&search, user_data);
+    for (size_t i = 0; i < ring->running.count; i++) {
+        struct request *request = ring->running.rows[i];
+        struct wulgach_outstanding seen = seen_of(request);
+        if (wulgach_search_sees(&search, &seen))
+            cancel_request(ring, request);
+    }
+    return wulgach_search_has_cancelled(&search);
+}
+
 static int32_t cancel_by(struct ring *ring, const struct request *canceller)
 {
     const struct io_uring_sqe *entry = &canceller->entry;
@@ -110,13 +123,16 @@ static struct request *find_request(struct ring *ring, uint8_t code, uint64_t us
 
 static int32_t change_poll(struct ring *ring, struct request *poll, const struct io_uring_sqe *change)
 {
+    struct wulgach_poll changed = {
+        .user_data = poll->entry.user_data,
+        .events = poll->entry.poll32_events,
+        .is_multishot = poll->entry.len & IORING_POLL_ADD_MULTI,
+    };
     look_again_at(ring, poll);
-    if (change->len & IORING_POLL_UPDATE_EVENTS) {
-        poll->entry.poll32_events = change->poll32_events;
-        poll->entry.len = change->len & IORING_POLL_ADD_MULTI;
-    }
-    if (change->len & IORING_POLL_UPDATE_USER_DATA)
-        poll->entry.user_data = change->off;
+    wulgach_updated_poll(&changed, submission_of(change));
+    poll->entry.user_data = changed.user_data;
+    poll->entry.poll32_events = changed.events;
+    poll->entry.len = changed.is_multishot ? IORING_POLL_ADD_MULTI : 0;
     poll->has_to_wait = false;
     poll->looked_at = UINT64_MAX;
     return poll->course.has_started ? start_poll(poll) : 0;
@@ -127,7 +143,7 @@ static int32_t remove_poll(struct ring *ring, const struct io_uring_sqe *removal
     struct request *poll = find_request(ring, IORING_OP_POLL_ADD, removal->addr);
     if (!poll)
         return -ENOENT;
-    if (removal->len & (IORING_POLL_UPDATE_EVENTS | IORING_POLL_UPDATE_USER_DATA))
+    if (wulgach_poll_removal(submission_of(removal)) == WULGACH_REMOVAL_UPDATES)
         return change_poll(ring, poll, removal);
     cancel_request(ring, poll);
     return 0;
@@ -136,16 +152,16 @@ static int32_t remove_poll(struct ring *ring, const struct io_uring_sqe *removal
 static int32_t remove_timeout(struct ring *ring, const struct request *removal)
 {
     const struct io_uring_sqe *entry = &removal->entry;
-    if (entry->timeout_flags & IORING_LINK_TIMEOUT_UPDATE)
+    uint32_t what = wulgach_timeout_removal(submission_of(entry));
+    if (what == WULGACH_REMOVAL_UPDATES_LINKED)
         return change_linked_timeout(ring, removal);
     struct request *timeout = find_request(ring, IORING_OP_TIMEOUT, entry->addr);
     if (!timeout)
         return -ENOENT;
-    if (!(entry->timeout_flags & IORING_TIMEOUT_UPDATE)) {
-        cancel_request(ring, timeout);
-        return 0;
-    }
-    return change_timeout(ring, timeout, removal);
+    if (what == WULGACH_REMOVAL_UPDATES)
+        return change_timeout(ring, timeout, removal);
+    cancel_request(ring, timeout);
+    return 0;
 }
 
 int32_t act_on_others(struct ring *ring, const struct request *request)

@@ -12,6 +12,10 @@ bool is_cancellable(const struct request *request);
 /* A cancel found this request running. It ends when it is next gone on with. */
 void cancel_request(struct ring *ring, struct request *request);
 
+/* The core has found that a request of this user data runs: cancels the one that the library finds. Says whether that is cancelled; then it
+ * ends so when it is next gone on with. */
+bool cancel_running(struct ring *ring, uint64_t user_data);
+
 /* Carries out a cancel, a removal of a poll or one of a timeout. */
 int32_t act_on_others(struct ring *ring, const struct request *request);
 

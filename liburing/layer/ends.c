@@ -33,7 +33,7 @@ void look_again(struct ring *ring, size_t place)
 /* Where an end can change which other requests can be finished, all are looked at again. */
 static void look_again_behind(struct ring *ring)
 {
-    if (ring->is_count_reached || ring->drains > 0 || ring->have_to_wait)
+    if (ring->is_count_reached || ring->drains.outstanding > 0 || ring->have_to_wait)
         look_again(ring, 0);
 }
 
@@ -60,25 +60,12 @@ void end_of(struct ring *ring, struct request *request, int32_t res, int32_t tol
     look_again_behind(ring);
     if (request->course.has_started)
         stop_running(ring, request);
-    ring->drains -= request->is_draining;
+    if (request->is_draining)
+        wulgach_drains_end(&ring->drains, true);
     ring->counting -= request->course.has_started && has_count(request);
     end_request(&ring->requests, request);
     forget_waits(ring);
     ring->completions.is_behind = true;
-}
-
-/* A cancel found its request running. The kernel ends one that waits; here it ends so when it is next gone on with. */
-static bool cancel_running(struct ring *ring, uint64_t target)
-{
-    for (size_t i = 0; i < ring->running.count; i++) {
-        struct request *request = ring->running.rows[i];
-        if (request->entry.user_data == target) {
-            if (is_cancellable(request))
-                cancel_request(ring, request);
-            return request->course.is_cancelled;
-        }
-    }
-    return false;
 }
 
 int32_t shown_of(struct ring *ring, const struct request *request, int32_t res)

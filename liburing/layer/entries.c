@@ -1,4 +1,5 @@
-/* What is copied of an entry when it is submitted. What it is to the core, and which fault its form has, is the library's decision. */
+/* What is copied of an entry when it is submitted. What it is to the core, which fault its form has, what is copied and which fault that has
+ * is the library's decision. */
 #define _GNU_SOURCE
 #include "operations.h"
 #include "cancels.h"
@@ -10,7 +11,6 @@
 
 #include <errno.h>
 #include <fcntl.h>
-#include <linux/limits.h>
 #include <linux/openat2.h>
 #include <stdlib.h>
 #include <string.h>
@@ -31,11 +31,9 @@ static int copy_of(void **to, uint64_t from, size_t size)
     return *to ? copy_in(*to, from, size) : -ENOMEM;
 }
 
-static int copy_vectors(struct request *request)
+static int copy_vectors(struct request *request, const struct wulgach_piece *piece)
 {
-    if (!request->entry.len)
-        return 0;
-    int result = copy_of((void **)&request->vectors, request->entry.addr, request->entry.len * sizeof *request->vectors);
+    int result = copy_of((void **)&request->vectors, piece->from, piece->size);
     if (result < 0)
         return result;
     for (uint32_t i = 0; i < request->entry.len; i++)
@@ -56,110 +54,66 @@ static int make_vector(struct request *request)
     return 0;
 }
 
-static int copy_paths(struct request *request)
-{
-    int result = copy_path(&request->path, request->entry.addr);
-    return result ? result : copy_path(&request->second_path, request->entry.addr2);
-}
-
-static int copy_how(struct request *request)
-{
-    if (request->entry.len != sizeof *request->how)
-        return 0;
-    return copy_of((void **)&request->how, request->entry.addr2, sizeof *request->how);
-}
-
-/* Time is virtual: one that is negative is a fault, as it is in the kernel. */
 static int copy_time(struct request *request, uint64_t from)
 {
     int result = copy_of((void **)&request->time, from, sizeof *request->time);
-    return result < 0 ? result : request->time->tv_sec < 0 || request->time->tv_nsec < 0 ? -EINVAL : 0;
+    return result < 0 ? result : wulgach_time_fault(request->time->tv_sec, request->time->tv_nsec);
 }
 
-/* Bytes that an operation reads, of which there are no more than it says. */
-static int copy_value(struct request *request, uint64_t from, size_t size, size_t most)
+/* The sizes that the library gives. */
+_Static_assert(sizeof(struct iovec) == 16 && sizeof(struct msghdr) == 56 && sizeof(struct __kernel_timespec) == 16, "a piece is as long as it is here");
+_Static_assert(sizeof(struct open_how) == 24 && sizeof(struct epoll_event) == 12 && sizeof(struct sockaddr_storage) == 128, "a piece is as long as it is here");
+
+/* Copies a piece of what the entry points to. Returns 0, its fault or -ENOMEM. */
+static int copy_piece(struct request *request, const struct wulgach_piece *piece)
 {
-    return size > most ? -E2BIG : size == 0 ? 0 : copy_of(&request->value, from, size);
+    if (piece->fault < 0)
+        return piece->fault;
+    switch (piece->what) {
+    case WULGACH_BUFFER:
+        return is_of_sockets(request->entry.opcode) ? make_message(request) : make_vector(request);
+    case WULGACH_VECTORS:
+        return copy_vectors(request, piece);
+    case WULGACH_PATH:
+        return copy_path(&request->path, piece->from);
+    case WULGACH_SECOND_PATH:
+        return copy_path(&request->second_path, piece->from);
+    case WULGACH_HOW:
+        return copy_of((void **)&request->how, piece->from, piece->size);
+    case WULGACH_TIME:
+        return copy_time(request, piece->from);
+    case WULGACH_MESSAGE:
+        return copy_message(request, piece->from);
+    case WULGACH_ADDRESS:
+        return copy_address(request, piece->from, piece->size);
+    default:
+        return copy_of(&request->value, piece->from, piece->size);
+    }
 }
 
-static int copy_attribute(struct request *request)
+static int copy_pieces(struct request *request)
 {
-    const struct io_uring_sqe *entry = &request->entry;
-    bool has_path = entry->opcode == IORING_OP_SETXATTR || entry->opcode == IORING_OP_GETXATTR;
-    bool is_set = entry->opcode == IORING_OP_SETXATTR || entry->opcode == IORING_OP_FSETXATTR;
-    int result = copy_path(&request->second_path, entry->addr);
-    if (result == 0 && has_path)
-        result = copy_path(&request->path, entry->addr3);
-    return result == 0 && is_set ? copy_value(request, entry->addr2, entry->len, XATTR_SIZE_MAX) : result;
+    struct wulgach_piece piece;
+    int result = 0;
+    for (uint32_t place = 0; result == 0 && wulgach_piece_of(submission_of(&request->entry), place, &piece); place++)
+        result = copy_piece(request, &piece);
+    return result;
 }
 
 /* One that takes a provided buffer has a single vector, whose length is at most what it wants. */
-static int copy_wanted(struct request *request, int result)
+static int note_wanted(struct request *request)
 {
-    bool is_selecting = request->entry.flags & IOSQE_BUFFER_SELECT;
-    if (result < 0 || !is_selecting)
-        return result;
     request->wanted = request->length;
-    return request->vector_count == 1 ? 0 : -EINVAL;
-}
-
-static int copy_of_token(struct request *request)
-{
-    switch (request->entry.opcode) {
-    case IORING_OP_READV:
-    case IORING_OP_WRITEV:
-        return copy_vectors(request);
-    case IORING_OP_READ:
-    case IORING_OP_READ_FIXED:
-    case IORING_OP_WRITE:
-    case IORING_OP_WRITE_FIXED:
-        return make_vector(request);
-    case IORING_OP_STATX:
-        /* With AT_EMPTY_PATH it may have none. */
-        return request->entry.addr ? copy_path(&request->path, request->entry.addr) : 0;
-    case IORING_OP_OPENAT:
-    case IORING_OP_UNLINKAT:
-    case IORING_OP_MKDIRAT:
-        return copy_path(&request->path, request->entry.addr);
-    case IORING_OP_OPENAT2: {
-        int result = copy_path(&request->path, request->entry.addr);
-        return result ? result : copy_how(request);
-    }
-    case IORING_OP_RENAMEAT:
-    case IORING_OP_SYMLINKAT:
-    case IORING_OP_LINKAT:
-        return copy_paths(request);
-    case IORING_OP_TIMEOUT:
-    case IORING_OP_LINK_TIMEOUT:
-        return copy_time(request, request->entry.addr);
-    case IORING_OP_TIMEOUT_REMOVE:
-        return request->entry.timeout_flags ? copy_time(request, request->entry.addr2) : 0;
-    case IORING_OP_EPOLL_CTL:
-        return request->entry.len == EPOLL_CTL_DEL ? 0 : copy_of(&request->value, request->entry.addr, sizeof(struct epoll_event));
-    case IORING_OP_FSETXATTR:
-    case IORING_OP_SETXATTR:
-    case IORING_OP_FGETXATTR:
-    case IORING_OP_GETXATTR:
-        return copy_attribute(request);
-    case IORING_OP_SEND:
-    case IORING_OP_RECV:
-    case IORING_OP_SENDMSG:
-    case IORING_OP_RECVMSG:
-    case IORING_OP_ACCEPT:
-    case IORING_OP_CONNECT:
-    case IORING_OP_SEND_ZC:
-    case IORING_OP_SENDMSG_ZC:
-        return copy_of_socket(request);
-    default:
-        return 0;
-    }
+    return wulgach_selection_fault(submission_of(&request->entry), request->vector_count);
 }
 
 int copy_behind(struct request *request, const struct request *before)
 {
     if (request->mapping == CANCEL)
         return 0;
-    int result = copy_wanted(request, copy_of_token(request));
+    int result = copy_pieces(request);
+    if (result == 0 && request->entry.flags & IOSQE_BUFFER_SELECT)
+        result = note_wanted(request);
     if (result == -ENOMEM)
         return result;
     if (result == 0 && is_linked_timeout(request) && !has_its_place(&request->entry, before))

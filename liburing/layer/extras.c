@@ -1,7 +1,7 @@
 /* The core posts one completion for a request, and knows of no others. So each extra one is a request to it: a no-op of the
  * layer's own, submitted, issued and finished at once, whose completion shows the event. So the order in the ring and what
  * overflows are the core's here too. As a no-op behind a drain would have to wait, events and messages are left where they
- * are until no drain is outstanding.
+ * are until the library says that one may be posted: until no drain is outstanding.
  */
 #include "extras.h"
 #include "descriptors.h"
@@ -17,7 +17,7 @@
 
 bool can_post_extra(struct ring *ring)
 {
-    return ring->staged.count == 0 && ring->drains == 0 && reserve_all(ring, 1);
+    return wulgach_drains_may_post(&ring->drains, ring->staged.count) && reserve_all(ring, 1);
 }
 
 void post_extra(struct ring *ring, uint64_t user_data, int32_t res, uint32_t flags)

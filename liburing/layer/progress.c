@@ -87,6 +87,20 @@ static bool try_operation(struct ring *ring, struct request *request, int32_t *r
     return true;
 }
 
+/* A send without copies ends with this result: if it has two completions, its own end is the second, that its memory may be used again.
+ * Returns what its own end shows. */
+static int32_t notify(struct ring *ring, struct request *request, int32_t res)
+{
+    int32_t shown;
+    bool reports = request->entry.ioprio & IORING_SEND_ZC_REPORT_USAGE;
+    if (!wulgach_course_notice(&request->course, reports, can_post_extra(ring), &shown))
+        return res;
+    post_extra(ring, request->entry.user_data, res, IORING_CQE_F_MORE);
+    request->flags = IORING_CQE_F_NOTIF;
+    note_fact(request, WULGACH_FACT_NOTIFIED, shown);
+    return shown;
+}
+
 /* Goes on with a running request: whether its operation is carried out, or it ends at once, is the library's decision. */
 static void finish_running(struct ring *ring, struct request *request)
 {
@@ -99,13 +113,8 @@ static void finish_running(struct ring *ring, struct request *request)
         request->flags = 0;
     }
     int32_t told = is_success(request, res) ? TOLD_SUCCESS : TOLD_FAILURE;
-    if (is_zero_copy(request) && !request->course.is_cancelled && can_post_extra(ring)) {
-        /* The request's own end is the second completion: its memory may be used again. */
-        post_extra(ring, request->entry.user_data, res, IORING_CQE_F_MORE);
-        request->flags = IORING_CQE_F_NOTIF;
-        res = request->entry.ioprio & IORING_SEND_ZC_REPORT_USAGE ? (int32_t)IORING_NOTIF_USAGE_ZC_COPIED : 0;
-        note_fact(request, WULGACH_FACT_NOTIFIED, res);
-    }
+    if (is_zero_copy(request))
+        res = notify(ring, request, res);
     finish(ring, request->number, told);
     demand(wulgach_course_end(&request->course), "a request ends that isn't to end");
     end_of(ring, request, res, told);
@@ -167,19 +176,23 @@ static struct request *first_to_finish(struct ring *ring)
     return NULL;
 }
 
-/* What the policy in order goes on with: the least running request that can be finished, else what the core says is
- * next. NULL if there is neither. */
-static struct request *first_in_order(struct ring *ring)
+/* The least request that the core lets start, or NULL, where none can be finished. */
+static struct request *first_to_issue(struct ring *ring)
 {
     const struct requests *requests = &ring->requests;
-    struct request *running = first_to_finish(ring);
-    if (running)
-        return running;
     /* The least outstanding one runs or can be issued, so of one that waits the core needn't be asked. */
     if (requests->count > 0 && !requests->rows[0]->course.has_started)
         return requests->rows[0];
     uint64_t number;
     return requests->count > 0 && find_next(ring, &number) ? request_of(requests, number) : NULL;
+}
+
+/* What goes on first in order: way 0 of the library's, which is asked where there are two kinds. NULL if there is none. */
+static struct request *first_in_order(struct ring *ring)
+{
+    struct request *running = first_to_finish(ring);
+    uint32_t place;
+    return running && wulgach_ways_at(&(struct wulgach_ways){.ready = 1, .issuable = 1}, 0, &place) == WULGACH_WAY_FINISH ? running : first_to_issue(ring);
 }
 
 enum progress go_on(struct ring *ring, bool may_return)

@@ -149,8 +149,10 @@ void show_readiness(struct ring *ring)
     if (ring->ready_fd < 0)
         return;
     watch_streams(ring, ring->called_fd);
-    bool has_ready = count_ready(ring) > 0, has_overflowed = wulgach_shown_overflows(&ring->completions.at);
-    bool is_readable = has_ready || has_overflowed || can_go_on(ring) || can_pass_time(ring);
+    show_ends(ring);
+    /* Whether a call may bring something matters only if no completion waits. */
+    uint32_t head = load_word(&ring->memory.cq->head);
+    bool is_readable = wulgach_shown_is_readable(&ring->completions.at, head, false) || wulgach_shown_is_readable(&ring->completions.at, head, can_go_on(ring) || can_pass_time(ring));
     if (is_readable == ring->is_readable)
         return;
     ring->is_readable = is_readable;

@@ -31,10 +31,15 @@ void note_fact(struct request *request, enum wulgach_fact fact, int32_t res)
     demand(wulgach_course_note(&request->course, fact, res), "something happens to a request that can't");
 }
 
-enum mapping form_of(const struct io_uring_sqe *entry, int32_t refusal, bool is_allowed, int32_t *fault)
+const struct wulgach_submission *submission_of(const struct io_uring_sqe *entry)
 {
     _Static_assert(sizeof(struct wulgach_submission) == sizeof *entry, "an entry has the library's fields");
-    return (enum mapping)wulgach_form_of((const void *)entry, refusal, is_allowed, fault);
+    return (const void *)entry;
+}
+
+enum mapping form_of(const struct io_uring_sqe *entry, int32_t refusal, bool is_allowed, int32_t *fault)
+{
+    return (enum mapping)wulgach_form_of(submission_of(entry), refusal, is_allowed, fault);
 }
 
 struct wulgach_link link_of(const struct io_uring_sqe *entry)

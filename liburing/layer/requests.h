@@ -101,6 +101,9 @@ void note_fact(struct request *request, enum wulgach_fact fact, int32_t res);
  * not. */
 enum mapping form_of(const struct io_uring_sqe *entry, int32_t refusal, bool is_allowed, int32_t *fault);
 
+/* An entry as the library has it. */
+const struct wulgach_submission *submission_of(const struct io_uring_sqe *entry);
+
 /* What an entry says of its chain. */
 struct wulgach_link link_of(const struct io_uring_sqe *entry);
 

@@ -13,6 +13,7 @@
 #include "requests.h"
 #include "restrictions.h"
 #include "wulgach.h"
+#include "wulgach_enter.h"
 #include "wulgach_times.h"
 
 #include <linux/io_uring.h>
@@ -51,8 +52,8 @@ struct ring {
     struct requests requests;           /* accepted and not ended */
     uint64_t moment;                    /* counts what can make a descriptor ready: within one, each is looked at once */
     struct requests running;            /* those of them that were started */
-    size_t drains;                      /* how many are draining, */
-    size_t counting;                    /* and how many are timeouts with a count that have started, */
+    struct wulgach_drains drains;       /* which of them drain, */
+    size_t counting;                    /* how many are timeouts with a count that have started, */
     bool is_count_reached;              /* of which one, maybe, has counted enough */
     size_t passed;                      /* at moment `passed_at` none of so many first running ones can be finished */
     uint64_t passed_at;

@@ -139,6 +139,7 @@ static int make_ring(struct ring **made, uint32_t entries, struct io_uring_param
     make_files(&ring->files);
     make_pipes(&ring->pipes);
     wulgach_shown_begin(&ring->completions.at);
+    wulgach_drains_begin(&ring->drains);
     ring->ready_fd = -1;
     ring->eventfd = -1;
     ring->is_disabled = params->flags & IORING_SETUP_R_DISABLED;

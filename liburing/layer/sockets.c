@@ -16,9 +16,6 @@
 #include <sys/socket.h>
 #include <unistd.h>
 
-/* The flag of the kernel's header that begins a send or a receive behind a look at the descriptor: it changes nothing. */
-enum { SERVED_FLAGS = IORING_RECVSEND_POLL_FIRST, MOST_VECTORS_OF_MESSAGE = 1024 };
-
 /* A message, with room for an address that is the layer's. */
 struct addressed {
     struct msghdr message;
@@ -67,8 +64,7 @@ short events_of_socket(const struct request *request)
     return is_sending(request) || request->entry.opcode == IORING_OP_CONNECT ? POLLOUT : POLLIN;
 }
 
-/* One buffer becomes a message of a single vector. */
-static int make_message(struct request *request)
+int make_message(struct request *request)
 {
     struct addressed *addressed = request->value = calloc(1, sizeof *addressed);
     struct msghdr *message = &addressed->message;
@@ -88,23 +84,17 @@ static size_t size_in_front(const struct msghdr *message)
     return sizeof(struct io_uring_recvmsg_out) + message->msg_namelen + message->msg_controllen;
 }
 
-static int check_room(const struct msghdr *message)
-{
-    if (message->msg_namelen > INT_MAX)
-        return -EINVAL;
-    return message->msg_controllen > INT_MAX || size_in_front(message) > INT_MAX ? -EOVERFLOW : 0;
-}
-
-static int copy_message(struct request *request)
+int copy_message(struct request *request, uint64_t from)
 {
     struct msghdr *message = calloc(1, sizeof *message);
     request->value = message;
     if (!message)
         return -ENOMEM;
-    if (copy_in(message, request->entry.addr, sizeof *message) < 0)
+    if (copy_in(message, from, sizeof *message) < 0)
         return -EFAULT;
-    if (message->msg_iovlen > MOST_VECTORS_OF_MESSAGE)
-        return -EMSGSIZE;
+    int fault = wulgach_message_fault(message->msg_iovlen);
+    if (fault < 0)
+        return fault;
     size_t size = message->msg_iovlen * sizeof *request->vectors;
     request->vectors = malloc(size + sizeof *request->vectors);
     if (!request->vectors)
@@ -119,83 +109,19 @@ static int copy_message(struct request *request)
     for (uint32_t i = 0; i < request->vector_count; i++)
         request->length += request->vectors[i].iov_len;
     message->msg_iov = request->vectors;
-    bool is_multishot = request->entry.opcode == IORING_OP_RECVMSG && request->entry.ioprio & IORING_RECV_MULTISHOT;
-    return is_multishot ? check_room(message) : 0;
+    return wulgach_room_fault(submission_of(&request->entry), message->msg_namelen, message->msg_controllen);
 }
 
-static int copy_address(struct request *request)
+int copy_address(struct request *request, uint64_t from, size_t size)
 {
-    size_t size = request->entry.off;
-    if (size > sizeof(struct sockaddr_storage))
-        return -EINVAL;
-    request->value = calloc(1, sizeof(struct sockaddr_storage));
-    return request->value ? copy_in(request->value, request->entry.addr, size) : -ENOMEM;
-}
-
-/* One that goes to an address that the entry names. */
-static int make_message_to(struct request *request)
-{
-    const struct io_uring_sqe *entry = &request->entry;
-    int result = make_message(request);
-    struct addressed *addressed = request->value;
-    if (result < 0 || !entry->addr2)
-        return result;
-    if (entry->addr_len > sizeof addressed->address)
-        return -EINVAL;
-    addressed->message.msg_name = &addressed->address;
-    addressed->message.msg_namelen = entry->addr_len;
-    return copy_in(&addressed->address, entry->addr2, entry->addr_len);
-}
-
-/* The kernel refuses to skip the success of one. */
-static int copy_of_zero_copy(struct request *request)
-{
-    const struct io_uring_sqe *entry = &request->entry;
-    bool is_message = entry->opcode == IORING_OP_SENDMSG_ZC;
-    uint32_t served = SERVED_FLAGS | IORING_SEND_ZC_REPORT_USAGE | (is_message ? 0 : IORING_RECVSEND_FIXED_BUF);
-    if (entry->ioprio & ~served || entry->addr3 || entry->flags & IOSQE_CQE_SKIP_SUCCESS || (is_message && (entry->addr2 || entry->file_index)))
-        return -EINVAL;
-    return is_message ? copy_message(request) : make_message_to(request);
-}
-
-/* A receive that goes on takes a buffer each time. */
-static bool is_well_formed_multishot(const struct io_uring_sqe *entry)
-{
-    if (!(entry->ioprio & IORING_RECV_MULTISHOT))
-        return true;
-    return entry->flags & IOSQE_BUFFER_SELECT && !(entry->msg_flags & MSG_WAITALL) && !(entry->opcode == IORING_OP_RECV && entry->len);
-}
-
-static bool is_well_formed_accept(const struct io_uring_sqe *entry)
-{
-    bool is_multishot = entry->ioprio & IORING_ACCEPT_MULTISHOT;
-    if (entry->ioprio & ~IORING_ACCEPT_MULTISHOT || entry->len || entry->buf_index || entry->accept_flags & ~(uint32_t)(SOCK_CLOEXEC | SOCK_NONBLOCK))
-        return false;
-    if (is_multishot && (entry->flags & IOSQE_CQE_SKIP_SUCCESS || (entry->file_index && entry->file_index != IORING_FILE_INDEX_ALLOC)))
-        return false;
-    return !(entry->file_index && entry->accept_flags & SOCK_CLOEXEC);
-}
-
-int copy_of_socket(struct request *request)
-{
-    const struct io_uring_sqe *entry = &request->entry;
-    switch (entry->opcode) {
-    case IORING_OP_RECV:
-        return entry->ioprio & ~(SERVED_FLAGS | IORING_RECV_MULTISHOT) || entry->addr2 || entry->file_index || !is_well_formed_multishot(entry) ? -EINVAL : make_message(request);
-    case IORING_OP_SEND:
-        return entry->ioprio & ~SERVED_FLAGS || entry->addr2 || entry->file_index ? -EINVAL : make_message(request);
-    case IORING_OP_SENDMSG:
-        return entry->ioprio & ~SERVED_FLAGS || entry->addr2 || entry->file_index ? -EINVAL : copy_message(request);
-    case IORING_OP_RECVMSG:
-        return entry->ioprio & ~(SERVED_FLAGS | IORING_RECV_MULTISHOT) || entry->addr2 || entry->file_index || !is_well_formed_multishot(entry) ? -EINVAL : copy_message(request);
-    case IORING_OP_SEND_ZC:
-    case IORING_OP_SENDMSG_ZC:
-        return copy_of_zero_copy(request);
-    case IORING_OP_CONNECT:
-        return entry->ioprio || entry->len || entry->buf_index || entry->rw_flags || entry->splice_fd_in ? -EINVAL : copy_address(request);
-    default:
-        return is_well_formed_accept(entry) ? 0 : -EINVAL;
+    if (request->entry.opcode == IORING_OP_CONNECT) {
+        request->value = calloc(1, sizeof(struct sockaddr_storage));
+        return request->value ? copy_in(request->value, from, size) : -ENOMEM;
     }
+    struct addressed *addressed = request->value;
+    addressed->message.msg_name = &addressed->address;
+    addressed->message.msg_namelen = (socklen_t)size;
+    return copy_in(&addressed->address, from, size);
 }
 
 static bool is_not_to_wait(const struct request *request)

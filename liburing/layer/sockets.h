@@ -13,8 +13,12 @@ short events_of_socket(const struct request *request);
 /* Whether its entry has flags of a message: one of them asks it not to wait. */
 bool has_message_flags(uint8_t code);
 
-/* What the entry points to. Returns 0, -EFAULT, -EINVAL or -ENOMEM. */
-int copy_of_socket(struct request *request);
+/* One buffer becomes a message of a single vector. Returns 0 or -ENOMEM. */
+int make_message(struct request *request);
+
+/* Copies a message with its vectors, or the address that a connect or a message goes to. Each returns 0, a fault or -ENOMEM. */
+int copy_message(struct request *request, uint64_t from);
+int copy_address(struct request *request, uint64_t from, size_t size);
 
 /* Carries the operation out: its result, or WOULD_WAIT. */
 int32_t call_socket(struct ring *ring, struct request *request);

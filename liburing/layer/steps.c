@@ -30,16 +30,13 @@ static uint32_t make_word(struct ring *ring, uint32_t kind, uint32_t expected)
     return answer.word;
 }
 
-/* The flags that the core serves. A refused entry keeps these, so that it is a member of its chain. */
-enum { CORE_FLAGS = WULGACH_IO_DRAIN | WULGACH_IO_LINK | WULGACH_IO_HARDLINK | WULGACH_ASYNC | WULGACH_CQE_SKIP_SUCCESS };
-
 /* No operation has this code: its request ends as faulty. */
 enum { REFUSED_CODE = 255 };
 
 void write_token(struct wulgach_entry *entry, const struct request *request)
 {
     const struct io_uring_sqe *real = &request->entry;
-    uint8_t flags = real->flags & CORE_FLAGS;
+    uint8_t flags = wulgach_form_flags(real->flags);
     switch (request->mapping) {
     case TOKEN:
         wulgach_nop(entry->words, real->user_data, flags);

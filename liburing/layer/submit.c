@@ -1,5 +1,5 @@
-/* Stages what the application has published, at the moment when the kernel would read it, and has the core take it in
- * one call. If memory is refused, what is staged stays so, and waits in the core: the next call goes on with it.
+/* Stages what the application has published, as far as the library says that the call takes it, at the moment when the kernel would read
+ * it, and has the core take it in one call. If memory is refused, what is staged stays so, and waits in the core: the next call goes on with it.
  */
 #include "submit.h"
 #include "account.h"
@@ -33,14 +33,6 @@ static struct request *read_entry(struct ring *ring, uint32_t slot)
     return NULL;
 }
 
-/* Without IORING_SETUP_SUBMIT_ALL the kernel ends a call behind a faulty entry, unless that is linked to the next. */
-static bool ends_call(const struct ring *ring, const struct request *request)
-{
-    if (!request)
-        return true;
-    return request->mapping == REFUSED && !(ring->flags & IORING_SETUP_SUBMIT_ALL) && !(request->entry.flags & (IOSQE_IO_LINK | IOSQE_IO_HARDLINK));
-}
-
 /* Stages the position of an index word. A word that names no slot gives an empty row. */
 static bool stage(struct ring *ring, uint32_t word, struct request **row)
 {
@@ -57,21 +49,34 @@ static bool stage(struct ring *ring, uint32_t word, struct request **row)
     return true;
 }
 
-/* Stages the positions behind those that are staged, up to `count` in all. False if memory was refused. */
-static bool stage_up_to(struct ring *ring, uint32_t count)
+/* What stands at a position: its request, or none. */
+static struct wulgach_item item_of(const struct request *request)
 {
-    struct memory *memory = &ring->memory;
-    for (uint32_t i = (uint32_t)ring->staged.count; i < count; i++) {
-        uint32_t word = load_word(&memory->array[(ring->head + i) & (memory->sq_entries - 1)]);
-        struct request *row;
-        if (!stage(ring, word, &row))
-            return false;
-        if (ends_call(ring, row)) {
-            note_rule(row ? CALL_STOPS : WORD_IS_DROPPED);
+    return (struct wulgach_item){
+        .is_entry = request,
+        .is_faulty = request && request->mapping == REFUSED,
+        .links = request && request->entry.flags & (IOSQE_IO_LINK | IOSQE_IO_HARDLINK),
+    };
+}
+
+/* Stages the positions that a call takes, the first of which has its word in this cell, but those that are staged already, and returns how many it takes. If memory is refused, these
+ * are all that could be staged. */
+static uint32_t stage_taken(struct ring *ring, struct wulgach_taking *taking, uint32_t cell)
+{
+    uint32_t count = 0, onward;
+    do {
+        struct request *row = NULL;
+        if (count < ring->staged.count)
+            row = ring->staged.rows[count];
+        else if (!stage(ring, load_word(&ring->memory.array[cell]), &row))
             break;
-        }
-    }
-    return true;
+        count++;
+        struct wulgach_item item = item_of(row);
+        onward = wulgach_taking_took(taking, &item, &cell);
+        if (onward == WULGACH_ENDS_CALL)
+            note_rule(row ? CALL_STOPS : WORD_IS_DROPPED);
+    } while (onward == WULGACH_TAKES);
+    return count;
 }
 
 /* Gives the request of a position that was taken a number. */
@@ -91,12 +96,12 @@ static void accept_one(struct ring *ring, struct request *request, const struct 
 /* A drain makes its whole chain drain. */
 static void mark_draining(struct ring *ring, size_t first, size_t end)
 {
-    bool is_draining = false;
+    bool has_drain = false;
     for (size_t i = first; i < end; i++)
-        is_draining |= (ring->requests.rows[i]->entry.flags & IOSQE_IO_DRAIN) != 0;
+        has_drain |= (ring->requests.rows[i]->entry.flags & IOSQE_IO_DRAIN) != 0;
+    bool is_draining = has_drain && wulgach_drains_accept(&ring->drains, (uint32_t)(end - first), has_drain);
     for (size_t i = first; i < end && is_draining; i++)
         ring->requests.rows[i]->is_draining = true;
-    ring->drains += is_draining ? end - first : 0;
 }
 
 /* Of the requests from a row on, which are new: which drain, and on what those are carried out that wait for no other. */
@@ -107,7 +112,7 @@ static void note_chains(struct ring *ring, size_t first)
         for (end = first + 1; end < ring->requests.count && rows[end]->member.chain == rows[first]->member.chain;)
             end++;
         mark_draining(ring, first, end);
-        if (ring->drains == 0)
+        if (ring->drains.outstanding == 0)
             assign(ring, rows[first]);
     }
 }
@@ -157,20 +162,19 @@ bool reserve_all(struct ring *ring, uint32_t count)
 
 int submit(struct ring *ring, uint32_t count)
 {
-    struct sq_words *sq = ring->memory.sq;
-    uint32_t published = load_word(&sq->tail) - ring->head, given = (uint32_t)ring->staged.count;
-    if (published > ring->memory.sq_entries)
-        published = ring->memory.sq_entries;
-    if (count > published)
-        count = published;
-    if (count < given)
-        count = given;
-    if (count == 0)
+    uint32_t given = (uint32_t)ring->staged.count;
+    struct wulgach_submitting asked = {
+        .to_submit = count < given ? given : count,
+        .head = ring->head,
+        .tail = load_word(&ring->memory.sq->tail),
+        .entries = ring->memory.sq_entries,
+        .submits_all = ring->flags & IORING_SETUP_SUBMIT_ALL,
+    };
+    struct wulgach_taking taking;
+    uint32_t cell, most = wulgach_taking_begin(&taking, &asked, &cell);
+    if (most == 0)
         return 0;
-    if (!reserve_all(ring, count))
-        return -EAGAIN;
-    bool is_all = stage_up_to(ring, count);
-    if (!is_all && ring->staged.count == 0)
+    if (!reserve_all(ring, most) || stage_taken(ring, &taking, cell) == 0)
         return -EAGAIN;
     return take_staged(ring, given);
 }

@@ -11,6 +11,7 @@
 #include "cancels.h"
 #include "fault.h"
 #include "ring.h"
+#include "wulgach_cancel.h"
 
 #include <errno.h>
 #include <stdlib.h>
@@ -134,8 +135,7 @@ void fire_linked_timeout(struct ring *ring, const struct wulgach_timeout *timeou
 int32_t change_timeout(struct ring *ring, struct request *timeout, const struct request *change)
 {
     *timeout->time = *change->time;
-    timeout->entry.timeout_flags &= ~(uint32_t)(IORING_TIMEOUT_ABS | IORING_TIMEOUT_CLOCK_MASK);
-    timeout->entry.timeout_flags |= change->entry.timeout_flags & (IORING_TIMEOUT_ABS | IORING_TIMEOUT_CLOCK_MASK);
+    timeout->entry.timeout_flags = wulgach_updated_flags(timeout->entry.timeout_flags, submission_of(&change->entry));
     ring->counting -= timeout->course.has_started && has_count(timeout);
     timeout->entry.off = 0;
     wulgach_times_change(&ring->times, ring->timeouts, ring->timeouts_room, timeout->number, time_left(timeout));
@@ -144,11 +144,15 @@ int32_t change_timeout(struct ring *ring, struct request *timeout, const struct 
 
 int32_t change_linked_timeout(struct ring *ring, const struct request *change)
 {
+    struct wulgach_sought sought = {.user_data = change->entry.addr};
+    struct wulgach_cancel search;
+    wulgach_cancel_begin(&search, &sought);
     for (size_t i = 0; i < ring->requests.count; i++) {
         struct request *timeout = ring->requests.rows[i];
-        bool is_meant = is_linked_timeout(timeout) && timeout->entry.user_data == change->entry.addr;
-        if (is_meant && wulgach_times_runs(&ring->times, ring->timeouts, ring->timeouts_room, timeout->number))
+        struct wulgach_outstanding seen = {.user_data = timeout->entry.user_data, .is_free = true, .runs = true};
+        seen.is_waiting = is_linked_timeout(timeout) && wulgach_times_runs(&ring->times, ring->timeouts, ring->timeouts_room, timeout->number);
+        if (wulgach_cancel_sees(&search, &seen))
             return change_timeout(ring, timeout, change);
     }
-    return -ENOENT;
+    return wulgach_cancel_result(&search);
 }

@@ -11,13 +11,11 @@
 
 #include <inttypes.h>
 
-/* The running requests that can be finished, and behind them those that can be issued, both by number. Few of these are listed; of
- * many only their number is known, and each is asked for by its place. */
+/* The ways of a choice: which stands where is the library's. Of those that can be issued few are listed behind those that can be finished;
+ * of many only their number is known, and each is asked for by its place. */
 struct ways {
-    uint32_t ready;         /* how many can be finished */
-    uint32_t listed;        /* how many ways stand in ring->ways */
-    uint32_t count;         /* how many there are */
-    bool may_return;        /* one more is to return */
+    struct wulgach_ways of;
+    uint32_t listed;        /* how many requests stand in ring->ways */
 };
 
 /* So many that can be issued are listed. */
@@ -39,19 +37,40 @@ static struct ways ways_of(struct ring *ring, bool may_return)
     uint64_t number = next_issuable(ring, 0);
     for (; number != UINT64_MAX && listed < ready + FEW; number = next_issuable(ring, number + 1))
         ring->ways[listed++] = request_of(&ring->requests, number);
-    uint32_t count = number == UINT64_MAX ? listed : ready + count_issuable(ring);
-    return (struct ways){ready, listed, count, may_return};
+    uint32_t issuable = number == UINT64_MAX ? listed - ready : count_issuable(ring);
+    return (struct ways){{ready, issuable, may_return}, listed};
 }
 
-static struct request *way_at(struct ring *ring, const struct ways *ways, uint32_t place)
+static struct request *issuable_at(struct ring *ring, const struct ways *ways, uint32_t place)
 {
-    return place < ways->listed ? ring->ways[place] : request_of(&ring->requests, nth_issuable(ring, place - ways->ready));
+    uint32_t listed = ways->of.ready + place;
+    return listed < ways->listed ? ring->ways[listed] : request_of(&ring->requests, nth_issuable(ring, place));
+}
+
+/* The request of a way, or NULL: it is to return. */
+static struct request *way_at(struct ring *ring, const struct ways *ways, uint32_t number)
+{
+    uint32_t place;
+    switch (wulgach_ways_at(&ways->of, number, &place)) {
+    case WULGACH_WAY_FINISH:
+        return ring->ways[place];
+    case WULGACH_WAY_ISSUE:
+        return issuable_at(ring, ways, place);
+    default:
+        return NULL;
+    }
+}
+
+/* How many ways are requests. */
+static uint32_t count_requests(const struct ways *ways)
+{
+    return ways->of.ready + ways->of.issuable;
 }
 
 /* The place of a way that can be issued. */
 static uint32_t place_of_issuable(struct ring *ring, const struct ways *ways, uint64_t number)
 {
-    uint32_t low = ways->ready, high = ways->count;
+    uint32_t low = ways->of.ready, high = count_requests(ways);
     while (low < high) {
         uint32_t middle = low + (high - low) / 2;
         if (way_at(ring, ways, middle)->number < number)
@@ -68,11 +87,9 @@ static void describe(char *text, size_t size, const struct request *request)
     snprintf(text, size, "%s request %" PRIu64 " (%s)", request->course.has_started ? "finish" : "issue", request->number, operation_name(request->entry.opcode));
 }
 
-static void take_way(struct ring *ring, const struct ways *ways, uint64_t at, uint32_t chosen)
+static void take_way(struct ring *ring, struct request *way, uint64_t at, uint32_t chosen, uint32_t count)
 {
     char what[96];
-    uint32_t count = ways->count + ways->may_return;
-    struct request *way = way_at(ring, ways, chosen);
     describe(what, sizeof what, way);
     trace_note(ring, "choice %" PRIu64 " is %" PRIu32 " of %" PRIu32 ": %s", at, chosen, count, what);
     go_on_with(ring, way);
@@ -111,11 +128,11 @@ static void look_at_way(struct highest *highest, struct ring *ring, struct reque
 static struct request *highest_way(struct ring *ring, const struct ways *ways)
 {
     struct highest highest = {0, NULL};
-    if (ways->may_return && ring->returns < MOST_RETURNS)
+    if (ways->of.may_return && ring->returns < MOST_RETURNS)
         look_at_way(&highest, ring, NULL, true);
     for (uint32_t place = 0; place < ways->listed; place++)
         look_at_way(&highest, ring, ring->ways[place], true);
-    for (size_t i = 0; ways->listed < ways->count && i < ring->requests.count; i++)
+    for (size_t i = 0; ways->listed < count_requests(ways) && i < ring->requests.count; i++)
         if (!ring->requests.rows[i]->course.has_started)
             look_at_way(&highest, ring, ring->requests.rows[i], false);
     return highest.way;
@@ -126,7 +143,7 @@ static uint32_t place_of_way(struct ring *ring, const struct ways *ways, const s
 {
     uint32_t place = 0;
     if (!way)
-        return ways->count;
+        return count_requests(ways);
     if (!way->course.has_started)
         return place_of_issuable(ring, ways, way->number);
     while (ring->ways[place] != way)
@@ -151,15 +168,15 @@ static void record_all_ways(struct ring *ring, const uint64_t *at, const struct 
     if (!is_recording_ways())
         return;
     record_ways(ring, at);
-    for (uint32_t place = 0; place < ways->count; place++)
+    for (uint32_t place = 0; place < count_requests(ways); place++)
         record_way(ring, way_at(ring, ways, place));
-    record_return(ways->may_return);
+    record_return(ways->of.may_return);
 }
 
 enum progress go_on_by_choice(struct ring *ring, struct request *first, bool may_return)
 {
     struct ways ways = ways_of(ring, may_return);
-    uint32_t count = ways.count + may_return;
+    uint32_t count = wulgach_ways_count(&ways.of);
     if (count == 1) {
         record_all_ways(ring, NULL, &ways);
         go_on_with(ring, first);
@@ -169,12 +186,13 @@ enum progress go_on_by_choice(struct ring *ring, struct request *first, bool may
     uint64_t at = count_choice();
     record_all_ways(ring, &at, &ways);
     uint32_t chosen = policy() == BY_PRIORITY ? choose_by_priority(ring, at, &ways) : choose(at, count);
-    if (chosen == ways.count) {
+    struct request *way = way_at(ring, &ways, chosen);
+    if (!way) {
         ring->returns++;
         choose_return(ring, at, count);
         return MAY_RETURN;
     }
-    take_way(ring, &ways, at, chosen);
+    take_way(ring, way, at, chosen, count);
     ring->returns = 0;
     return WENT_ON;
 }

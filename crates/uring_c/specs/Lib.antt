@@ -18,3 +18,4 @@ pub mod TimeForm
 pub mod ShownForm
 pub mod CourseForm
 pub mod EntryForm
+pub mod TakingForm

@@ -1,10 +1,10 @@
 //! What a cancel finds, for C: the functions of `c/wulgach_cancel.h`.
-ghost use Rattle.std.specs.Prelude.{◌≡◌, List, [], ◌∷◌};
+ghost use Rattle.std.specs.Prelude.{◌≡◌, ℕ, List, [], ◌∷◌};
 ghost use Rattle.uring_enter.specs.declared.cancel.Outstanding.{Outstanding};
 ghost use Rattle.uring_enter.specs.declared.cancel.Sought.{Sought};
-ghost use Rattle.uring_enter.specs.Cancels.{result_of, is_cancelled, is_asked, HasSeen};
+ghost use Rattle.uring_enter.specs.Cancels.{result_of, is_cancelled, is_asked, HasSeen, HasSought, oldest, is_stopped, has_cancelled};
 
-use uring_enter::{Cancel, Outstanding, Sought};
+use uring_enter::{Cancel, Outstanding, Search, Sought};
 
 /// A cancel that hasn't looked at any request.
 #[unsafe(no_mangle)]
@@ -41,4 +41,32 @@ pub extern "C" fn wulgach_cancel_result(cancel: &Cancel) -> i32
         → result ≡ result_of sought seen }
 {
     cancel.result()
+}
+
+/// A search for a running request of this user data, which hasn't looked at any.
+#[unsafe(no_mangle)]
+pub extern "C" fn wulgach_search_begin(search: &mut Search, user_data: u64)
+    ensures { HasSought user_data [] search.new }
+{
+    *search = Search::begin(user_data);
+}
+
+/// Looks at the next running request, and says whether it is to be cancelled.
+#[unsafe(no_mangle)]
+pub extern "C" fn wulgach_search_sees(search: &mut Search, request: &Outstanding) -> bool
+    ensures stopped { (user_data : ℕ) (seen : List Outstanding) → HasSought user_data seen search.old
+        → result ≡ is_stopped user_data seen request.now }
+    ensures after { (user_data : ℕ) (seen : List Outstanding) → HasSought user_data seen search.old
+        → HasSought user_data (request.now ∷ seen) search.new }
+{
+    search.sees(request)
+}
+
+/// Whether the one that was found is cancelled, by this cancel or another.
+#[unsafe(no_mangle)]
+pub extern "C" fn wulgach_search_has_cancelled(search: &Search) -> bool
+    ensures { (user_data : ℕ) (seen : List Outstanding) → HasSought user_data seen search.now
+        → result ≡ has_cancelled (oldest user_data seen) }
+{
+    search.has_cancelled()
 }

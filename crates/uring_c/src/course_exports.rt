@@ -1,10 +1,10 @@
 //! The course of a request for C, what is shown of its end, and its chain: the functions of `c/wulgach_course.h`.
-ghost use Rattle.std.specs.Prelude.{◌≡◌, ◌+◌, ◌<◌, ◌-◌, ◌^◌, ℕ, length, List, [], ◌∷◌, Some, true, false, negsuc, if◌then◌else◌};
+ghost use Rattle.std.specs.Prelude.{◌≡◌, ◌+◌, ◌<◌, ◌-◌, ◌^◌, ℕ, length, List, [], ◌∷◌, Some, true, false, negsuc, MatchOption, if◌then◌else◌};
 ghost use Rattle.uring_enter.specs.declared.act.Fact.{Fact};
 ghost use Rattle.uring_enter.specs.declared.act.Fact.TheVariants.{Started, Done};
 ghost use Rattle.uring_enter.specs.declared.act.Fact.TheVariants.{Ended as HasEnded};
 ghost use Rattle.uring_enter.specs.declared.member.Entry.{Entry};
-ghost use Rattle.uring_enter.specs.Courses.{KeepsCourse, act, behind_act, fits};
+ghost use Rattle.uring_enter.specs.Courses.{KeepsCourse, act, behind_act, fits, notice_of};
 ghost use Rattle.uring_enter.specs.Courses.{shown as shown_by};
 ghost use Rattle.uring_enter.specs.Outcomes.{is_success, looks_for_running, shown_of};
 ghost use Rattle.uring_enter.specs.Chains.{member_of, limits, has_its_place};
@@ -115,6 +115,25 @@ pub extern "C" fn wulgach_shown_end(
         Ok(false) => 0,
         Err(_) => -22,
     }
+}
+
+/// Writes what the second completion of a send without copies shows. False, and nothing is written: it has none.
+#[unsafe(no_mangle)]
+pub extern "C" fn wulgach_course_notice(
+    course: &Course,
+    reports: bool,
+    may_post: bool,
+    res: &mut i32,
+) -> bool
+    ensures { (log : List Fact) → KeepsCourse log course.now
+        → MatchOption (notice_of log reports may_post) ((result ≡ false) × (res.new ≡ res.old))
+        (λ shows. (result ≡ true) × (res.new ≡ shows)) }
+{
+    let Some(shows) = course.notice(reports, may_post) else {
+        return false;
+    };
+    *res = shows;
+    true
 }
 
 /// Whether a result is a success to the links behind the request.

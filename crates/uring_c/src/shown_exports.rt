@@ -1,6 +1,6 @@
 //! What the application is shown, for C: the functions of `c/wulgach_shown.h`.
 ghost use Rattle.std.specs.Prelude.{◌≡◌, ◌+◌, ◌-◌, ◌^◌, ◌<◌, ◌≤◌, ℕ, pos, negsuc, drop, MatchOption, List, [], ◌∷◌, nat_le};
-ghost use Rattle.uring_enter.specs.Showing.{Change, Posted, Reaped, KeepsShown, IsTold, posted, written, reaped, store_of, behind_store, heard_of, overflows, loads_head, flags_of};
+ghost use Rattle.uring_enter.specs.Showing.{Change, Posted, Reaped, KeepsShown, IsTold, posted, written, reaped, store_of, behind_store, heard_of, overflows, loads_head, is_readable, flags_of};
 ghost use Rattle.uring_enter.specs.declared.posted.Posted.{Posted as Row};
 ghost use Rattle.uring_enter.specs.Postings.{Posting, Reaped as RowsReaped, KeepsPosted};
 ghost use Rattle.uring_c.specs.ShownForm.{words_of_store};
@@ -116,6 +116,15 @@ pub extern "C" fn wulgach_shown_loads_head(
         → result ≡ loads_head log count is_asked entries }
 {
     shown.loads_head(count, is_asked, entries)
+}
+
+/// Whether a ring's descriptor is readable, where this is the head that the application has stored.
+#[unsafe(no_mangle)]
+pub extern "C" fn wulgach_shown_is_readable(shown: &Shown, head: u32, may_bring: bool) -> bool
+    ensures { (log : List Change) (n : ℕ) → KeepsShown log shown.now → IsTold log head n
+        → result ≡ is_readable log n may_bring }
+{
+    shown.is_readable(head, may_bring)
 }
 
 /// The flags word of the submission ring.

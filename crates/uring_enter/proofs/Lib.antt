@@ -11,3 +11,4 @@ mod CancelRuns
 mod CourseRuns
 mod PostingRuns
 mod ChainRuns
+mod WayRuns

@@ -1,8 +1,9 @@
 -- What a cancel finds among the requests that haven't ended. io_uring_enter(2), IORING_OP_ASYNC_CANCEL, but where our own rule is named.
-use Rattle.std.specs.Prelude.{◌≡◌, ℕ, ℤ, pos, ◌+◌, ◌-◌, ◌^◌, Bool, true, false, not, ◌&&◌, ◌||◌, ◌==◌, min, List, [], ◌∷◌, if◌then◌else◌}
+use Rattle.std.specs.Prelude.{◌≡◌, ℕ, ℤ, pos, ◌+◌, ◌-◌, ◌^◌, Bool, true, false, not, ◌&&◌, ◌||◌, ◌==◌, min, Option, Some, None, List, [], ◌∷◌, if◌then◌else◌}
 use Rattle.uring_enter.specs.declared.cancel.Sought.{Sought}
 use Rattle.uring_enter.specs.declared.cancel.Outstanding.{Outstanding}
 use Rattle.uring_enter.specs.declared.cancel.Cancel.{Cancel}
+use Rattle.uring_enter.specs.declared.search.Search.{Search}
 use Rattle.uring_enter.specs.Replies.{error}
 
 -- whether a cancel is of all that it finds
@@ -53,6 +54,35 @@ result_of s seen =
 abbrev pub is_asked : Sought → List Outstanding → Outstanding → Bool
 is_asked s earlier r =
     (is_of_all s || not (finds_any s earlier)) && fits s r && r.is_free && not r.runs
+
+abbrev pub is_none : Option Outstanding → Bool
+is_none None = true
+is_none (Some _) = false
+
+abbrev pub first_of : Option Outstanding → Bool → Outstanding → Option Outstanding
+first_of (Some found) fits r = Some found
+first_of None fits r = if fits then Some r else None
+
+-- the oldest of these that a cancel by user data fits, where the core has found one that runs
+abbrev pub oldest : ℕ → List Outstanding → Option Outstanding
+oldest user_data [] = None
+oldest user_data (r ∷ earlier) = first_of (oldest user_data earlier) (r.user_data == user_data) r
+
+-- whether a running request is cancelled then: it is the oldest, and waits for something. One that is carried out isn't
+abbrev pub is_stopped : ℕ → List Outstanding → Outstanding → Bool
+is_stopped user_data earlier r =
+    is_none (oldest user_data earlier) && r.user_data == user_data && r.is_free && r.is_waiting
+
+-- whether the cancel has cancelled the one that it found: that waits, or another cancel has chosen it
+abbrev pub has_cancelled : Option Outstanding → Bool
+has_cancelled None = false
+has_cancelled (Some r) = not r.is_free || r.is_waiting
+
+-- glue: a search that has looked at these, the newest first
+pub record HasSought (user_data : ℕ) (seen : List Outstanding) (s : Search) : Type 0 where
+  pub sought : s.user_data ≡ user_data
+  pub found : not s.has_found ≡ is_none (oldest user_data seen)
+  pub cancelled : s.has_cancelled ≡ has_cancelled (oldest user_data seen)
 
 -- glue: a cancel that has looked at these, the newest first
 pub record HasSeen (s : Sought) (seen : List Outstanding) (cancel : Cancel) : Type 0 where

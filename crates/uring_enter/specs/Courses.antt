@@ -1,5 +1,5 @@
 -- What has happened to a request that was accepted, the newest first, and what is to be done with it. io_uring(7); io_uring_enter(2); but where our own rule is named.
-use Rattle.std.specs.Prelude.{◌≡◌, ℤ, Bool, true, false, not, ◌&&◌, Option, Some, None, List, [], ◌∷◌, if◌then◌else◌}
+use Rattle.std.specs.Prelude.{◌≡◌, ℤ, pos, negsuc, Bool, true, false, not, ◌&&◌, ◌||◌, Option, Some, None, List, [], ◌∷◌, if◌then◌else◌}
 use Rattle.uring_enter.specs.declared.act.Fact.{Fact}
 use Rattle.uring_enter.specs.declared.act.Fact.TheVariants.{Started, Dropped, Cancelled, Tried, Waits, WentOn, Done, Notified, Ended}
 use Rattle.uring_enter.specs.declared.act.Act.{Act}
@@ -107,6 +107,12 @@ is_run (fact ∷ earlier) = fits earlier fact && is_run earlier
 
 abbrev pub option_of : Bool → ℤ → Option ℤ
 option_of known res = if known then Some res else None
+
+-- what the second completion of a send without copies shows, which says that its memory is free: 0, or -2^31 (IORING_NOTIF_USAGE_ZC_COPIED) where it is to say that it was copied. None, so that its first has no MORE, if it was cancelled, or if no completion may be posted before its end. io_uring_enter(2), IORING_OP_SEND_ZC; when there is none is our own rule
+abbrev pub notice_of : List Fact → Bool → Bool → Option ℤ
+notice_of log reports may_post =
+    if is_cancelled log || not may_post then None else
+    Some (if reports then negsuc 2147483647 else pos 0)
 
 -- glue: what is kept is that of a request to which this has happened
 pub record KeepsCourse (log : List Fact) (c : Course) : Type 0 where

@@ -4,10 +4,11 @@ use Rattle.std.specs.Ordering.{int_eq}
 use Rattle.std.specs.Int.RustNames.{bit_and}
 use Rattle.uring_enter.specs.declared.submission.Submission.{Submission}
 use Rattle.uring_enter.specs.declared.form.Rule.{Rule}
-use Rattle.uring_enter.specs.declared.form.Rule.TheVariants.{Plain, Transfer, Vectors, Fsync, Timeout, LinkedTimeout, TimeoutRemoval, Cancel, Poll, PollRemoval, Open, OpenHow, Close, FilesUpdate, Provision, ProvisionRemoval, Message, Shutdown, Socket, Splice, Tee, OnSocket}
+use Rattle.uring_enter.specs.declared.form.Rule.TheVariants.{Plain, Transfer, Vectors, Fsync, Timeout, LinkedTimeout, TimeoutRemoval, Cancel, Poll, PollRemoval, Open, OpenHow, Close, FilesUpdate, Provision, ProvisionRemoval, Message, Shutdown, Socket, Splice, Tee, Send, Receive, ReceiveMessage, SendZeroCopy, SendMessageZeroCopy, Connect, Accept}
 use Rattle.uring_enter.specs.declared.form.Form.{Form}
 use Rattle.uring_enter.specs.declared.form.Form.TheVariants as form
 use Rattle.uring_enter.specs.Clocks.{has_some, are_timeout_flags}
+use Rattle.uring_enter.specs.SocketForms.{is_send, is_receive, is_receive_message, is_send_zero_copy, is_send_message_zero_copy, is_connect, is_accept}
 use Rattle.uring_enter.specs.Replies.{error}
 
 -- the operations that are served, each with the rule of its fields; the numbers are those of <linux/io_uring.h>
@@ -22,8 +23,14 @@ rule_of code =
     -- POLL_ADD and POLL_REMOVE
     if code == 6 then Some Poll else
     if code == 7 then Some PollRemoval else
-    -- SENDMSG, RECVMSG, ACCEPT, SEND, RECV, SEND_ZC and SENDMSG_ZC
-    if code == 9 || code == 10 || code == 13 || code == 26 || code == 27 || code == 47 || code == 48 then Some OnSocket else
+    -- SENDMSG and SEND, RECVMSG, ACCEPT, CONNECT, RECV, SEND_ZC and SENDMSG_ZC
+    if code == 9 || code == 26 then Some Send else
+    if code == 10 then Some ReceiveMessage else
+    if code == 13 then Some Accept else
+    if code == 16 then Some Connect else
+    if code == 27 then Some Receive else
+    if code == 47 then Some SendZeroCopy else
+    if code == 48 then Some SendMessageZeroCopy else
     -- TIMEOUT, TIMEOUT_REMOVE, ASYNC_CANCEL and LINK_TIMEOUT
     if code == 11 then Some Timeout else
     if code == 12 then Some TimeoutRemoval else
@@ -158,8 +165,13 @@ meets Shutdown e = is_shutdown e
 meets Socket e = is_socket e
 meets Splice e = is_splice e
 meets Tee e = is_tee e
--- its flags are looked at with what it points to
-meets OnSocket e = true
+meets Send e = is_send e
+meets Receive e = is_receive e
+meets ReceiveMessage e = is_receive_message e
+meets SendZeroCopy e = is_send_zero_copy e
+meets SendMessageZeroCopy e = is_send_message_zero_copy e
+meets Connect e = is_connect e
+meets Accept e = is_accept e
 
 -- READV, RECVMSG, READ and RECV may take a provided buffer. IOSQE_BUFFER_SELECT
 abbrev pub can_select : ℕ → Bool
@@ -197,3 +209,7 @@ form_of e refusal allowed =
     if selects_in_vain e then form.Refused (error 95) else
     if is_malformed e then form.Refused (error 22) else
     if is_plain_cancel e then form.Cancel else form.Token
+
+-- the flags of an entry that the core is told, also of one with a fault, which so is a member of its chain: IOSQE_IO_DRAIN (2), IO_LINK (4), IO_HARDLINK (8), ASYNC (16) and CQE_SKIP_SUCCESS (64). The others are the layer's. Our own rule
+abbrev pub core_flags : ℕ → ℕ
+core_flags flags = bit_and flags 94

@@ -18,5 +18,11 @@ pub mod PostingLaws
 pub mod Chains
 pub mod ChainLaws
 pub mod Clocks
+pub mod SocketForms
 pub mod Forms
+pub mod Pieces
 pub mod Shots
+pub mod Takings
+pub mod Ways
+pub mod Drainings
+pub mod Updates

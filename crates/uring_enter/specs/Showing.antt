@@ -1,5 +1,5 @@
 -- Which completions the application is shown in ring memory, and which it has reaped, by what has happened so far, the newest first. Completions count from 0, in the order in which they were posted. io_uring(7), Reading completion events; io_uring_setup(2), the flags of the submission ring; but where our own rule is named.
-use Rattle.std.specs.Prelude.{◌≡◌, ℕ, ◌+◌, ◌-◌, ◌%◌, ◌^◌, ◌<◌, ◌≤◌, Bool, ◌&&◌, nat_lt, nat_le, Option, Some, None, List, [], ◌∷◌, if◌then◌else◌}
+use Rattle.std.specs.Prelude.{◌≡◌, ℕ, ◌+◌, ◌-◌, ◌%◌, ◌^◌, ◌<◌, ◌≤◌, Bool, not, ◌&&◌, ◌||◌, ◌==◌, nat_lt, nat_le, Option, Some, None, List, [], ◌∷◌, if◌then◌else◌}
 use Rattle.uring_enter.specs.declared.showing.Store.{Store}
 use Rattle.uring_enter.specs.declared.showing.Store.TheVariants.{Cell, Tail}
 use Rattle.uring_enter.specs.declared.showing.Shown.{Shown}
@@ -57,6 +57,14 @@ loads_head log count is_asked entries =
 abbrev pub flags_of : Bool → Bool → Bool → ℕ
 flags_of overflowed may_bring has_thread =
     (if has_thread then 1 else 0) + (if overflowed then 2 else 0) + (if may_bring then 4 else 0)
+
+-- completions wait for the application, whose head tells this count: it isn't at the tail, or some don't stand in the ring
+abbrev pub waits : List Change → ℕ → Bool
+waits log n = not (n == written log) || overflows log
+
+-- a ring's descriptor is readable while completions wait, or a call may bring something. io_uring(7), for the first; else our own rule
+abbrev pub is_readable : List Change → ℕ → Bool → Bool
+is_readable log n may_bring = waits log n || may_bring
 
 -- glue: what is kept is that of a ring to which this has happened
 pub record KeepsShown (log : List Change) (x : Shown) : Type 0 where

@@ -2,7 +2,7 @@
 
 ghost use Rattle.std.specs.Prelude.{◌≡◌, List, [], ◌∷◌, true, false};
 ghost use Rattle.uring_enter.specs.declared.act.Fact.{Fact};
-ghost use Rattle.uring_enter.specs.Courses.{KeepsCourse, act, act_by, behind_act, end_by, fits, is_ending, is_carrying_out, option_of, shown};
+ghost use Rattle.uring_enter.specs.Courses.{KeepsCourse, act, act_by, behind_act, end_by, fits, is_ending, is_carrying_out, notice_of, option_of, shown};
 
 use crate::act::{Act, Fact};
 
@@ -71,6 +71,20 @@ impl Course {
             Some(self.res)
         } else {
             None
+        }
+    }
+
+    /// What the second completion of a send without copies shows, if it has one: that its memory is free. `reports`: it is to say that it was copied. `may_post`: a completion may be posted before its end.
+    pub fn notice(&self, reports: bool, may_post: bool) -> Option<i32>
+        ensures { (log : List Fact) → KeepsCourse log self.now
+            → result ≡ notice_of log reports may_post }
+    {
+        if self.is_cancelled || !may_post {
+            None
+        } else if reports {
+            Some(-0x8000_0000)
+        } else {
+            Some(0)
         }
     }
 

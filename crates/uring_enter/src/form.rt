@@ -3,6 +3,10 @@
 ghost use Rattle.std.specs.Prelude.{◌≡◌};
 ghost use Rattle.uring_enter.specs.Forms as spec;
 
+use crate::socket_form::{
+    is_accept, is_connect, is_receive, is_receive_message, is_send, is_send_message_zero_copy,
+    is_send_zero_copy,
+};
 use crate::submission::Submission;
 use crate::timeout::are_timeout_flags;
 
@@ -60,8 +64,21 @@ pub enum Rule {
 
     Tee,
 
-    /// An operation of sockets: its flags are looked at with what it points to.
-    OnSocket,
+    /// A send, of one buffer or by a message.
+    Send,
+
+    Receive,
+
+    ReceiveMessage,
+
+    /// A send without copies.
+    SendZeroCopy,
+
+    SendMessageZeroCopy,
+
+    Connect,
+
+    Accept,
 }
 
 /// What an entry is to the core.
@@ -87,14 +104,18 @@ pub fn rule_of(code: u8) -> Option<Rule>
         4 | 5 | 22 | 23 => Some(Rule::Transfer),
         6 => Some(Rule::Poll),
         7 => Some(Rule::PollRemoval),
-        9 | 10 | 13 | 26 | 27 | 47 | 48 => Some(Rule::OnSocket),
+        9 | 26 => Some(Rule::Send),
+        10 => Some(Rule::ReceiveMessage),
         11 => Some(Rule::Timeout),
         12 => Some(Rule::TimeoutRemoval),
+        13 => Some(Rule::Accept),
         14 => Some(Rule::Cancel),
         15 => Some(Rule::LinkedTimeout),
+        16 => Some(Rule::Connect),
         18 => Some(Rule::Open),
         19 => Some(Rule::Close),
         20 => Some(Rule::FilesUpdate),
+        27 => Some(Rule::Receive),
         28 => Some(Rule::OpenHow),
         30 => Some(Rule::Splice),
         31 => Some(Rule::Provision),
@@ -104,6 +125,8 @@ pub fn rule_of(code: u8) -> Option<Rule>
         40 => Some(Rule::Message),
         45 => Some(Rule::Socket),
         46 => None,
+        47 => Some(Rule::SendZeroCopy),
+        48 => Some(Rule::SendMessageZeroCopy),
         0..=48 => Some(Rule::Plain),
         _ => None,
     }
@@ -135,7 +158,13 @@ fn meets(rule: Rule, entry: &Submission) -> bool
         Rule::Socket => is_socket(entry),
         Rule::Splice => is_splice(entry),
         Rule::Tee => is_splice(entry) && entry.addr == 0 && entry.off == 0,
-        Rule::OnSocket => true,
+        Rule::Send => is_send(entry),
+        Rule::Receive => is_receive(entry),
+        Rule::ReceiveMessage => is_receive_message(entry),
+        Rule::SendZeroCopy => is_send_zero_copy(entry),
+        Rule::SendMessageZeroCopy => is_send_message_zero_copy(entry),
+        Rule::Connect => is_connect(entry),
+        Rule::Accept => is_accept(entry),
     }
 }
 
@@ -310,4 +339,11 @@ pub fn form_of(entry: &Submission, refusal: i32, is_allowed: bool) -> Form
     } else {
         Form::Token
     }
+}
+
+/// The flags of an entry that the core is told.
+pub fn core_flags(flags: u8) -> u8
+    ensures { result ≡ spec.core_flags flags }
+{
+    flags & 94
 }

@@ -1,7 +1,7 @@
 //! Which completions the application is shown in ring memory, and what it has reaped.
 
 ghost use Rattle.std.specs.Prelude.{◌≡◌, ◌+◌, ◌<◌, ◌≤◌, ◌%◌, ◌^◌, ◌-◌, ℕ, drop, List, [], ◌∷◌, nat_le};
-ghost use Rattle.uring_enter.specs.Showing.{Change, Posted, Reaped, KeepsShown, IsTold, posted, written, reaped, store_of, behind_store, heard_of, overflows, loads_head, flags_of};
+ghost use Rattle.uring_enter.specs.Showing.{Change, Posted, Reaped, KeepsShown, IsTold, posted, written, reaped, store_of, behind_store, heard_of, overflows, loads_head, is_readable, flags_of};
 ghost use Rattle.uring_enter.specs.declared.posted.Posted.{Posted as Row};
 ghost use Rattle.uring_enter.specs.Postings.{Posting, Reaped as RowsReaped, KeepsPosted};
 
@@ -115,6 +115,14 @@ impl Shown {
         } else {
             0 < count
         }
+    }
+
+    /// Whether a ring's descriptor is readable, where this is the head that the application has stored: completions wait, in the ring or outside it, or a call may bring something.
+    pub fn is_readable(&self, head: u32, may_bring: bool) -> bool
+        ensures { (log : List Change) (n : ℕ) → KeepsShown log self.now → IsTold log head n
+            → result ≡ is_readable log n may_bring }
+    {
+        distance(self.head, head) != self.shown || (self.shown as u64) < self.posted || may_bring
     }
 
     /// The flags word of the submission ring: whether some have overflowed, whether a call may bring something, and whether a thread takes entries, which sleeps.

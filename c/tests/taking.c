@@ -1,0 +1,131 @@
+/* Which positions a call takes, what goes on next, what waits behind drains, what an update changes and what is copied of an entry: with
+ * what the manual page calls for, written by hand. */
+#include "wulgach_cancel.h"
+#include "wulgach_enter.h"
+#include "wulgach_form.h"
+
+#include <stdio.h>
+#include <stdlib.h>
+
+static void demand(bool holds, const char *what)
+{
+    if (!holds) {
+        printf("FAILED: %s\n", what);
+        exit(1);
+    }
+}
+
+static void take_positions(void)
+{
+    struct wulgach_submitting asked = {.to_submit = 9, .head = UINT32_MAX, .tail = 3, .entries = 8};
+    struct wulgach_item good = {.is_entry = true}, linked = {.is_entry = true, .is_faulty = true, .links = true}, faulty = {.is_entry = true, .is_faulty = true}, none = {0};
+    struct wulgach_taking taking;
+    uint32_t cell = 99;
+    demand(wulgach_taking_begin(&taking, &asked, &cell) == 4 && cell == 7, "the first position");
+    demand(wulgach_taking_took(&taking, &good, &cell) == WULGACH_TAKES && cell == 0, "the second");
+    demand(wulgach_taking_took(&taking, &linked, &cell) == WULGACH_TAKES && cell == 1, "behind a faulty entry that links");
+    demand(wulgach_taking_took(&taking, &faulty, &cell) == WULGACH_ENDS_CALL && cell == 1, "behind one that doesn't");
+    asked.submits_all = true;
+    wulgach_taking_begin(&taking, &asked, &cell);
+    demand(wulgach_taking_took(&taking, &faulty, &cell) == WULGACH_TAKES && wulgach_taking_took(&taking, &none, &cell) == WULGACH_ENDS_CALL, "a ring that submits all");
+    asked.to_submit = 1;
+    demand(wulgach_taking_begin(&taking, &asked, &cell) == 1 && wulgach_taking_took(&taking, &good, &cell) == WULGACH_IS_FULL, "as many as are asked for");
+    asked.tail = asked.head;
+    cell = 99;
+    demand(wulgach_taking_begin(&taking, &asked, &cell) == 0 && cell == 99, "nothing is published");
+}
+
+static void choose(void)
+{
+    struct wulgach_ways ways = {.ready = 2, .issuable = 1, .may_return = true};
+    uint32_t place;
+    demand(wulgach_ways_count(&ways) == 4, "how many ways");
+    demand(wulgach_ways_at(&ways, 1, &place) == WULGACH_WAY_FINISH && place == 1, "one that runs");
+    demand(wulgach_ways_at(&ways, 2, &place) == WULGACH_WAY_ISSUE && place == 0, "one that can start");
+    demand(wulgach_ways_at(&ways, 3, &place) == WULGACH_WAY_RETURN && wulgach_ways_at(&ways, 4, &place) == WULGACH_NO_WAY, "the last");
+}
+
+static void post(void)
+{
+    struct wulgach_drains drains;
+    struct wulgach_shown shown;
+    struct wulgach_course course;
+    int32_t res = 7;
+    wulgach_drains_begin(&drains);
+    demand(wulgach_drains_may_post(&drains, 0) && !wulgach_drains_may_post(&drains, 1), "nothing drains");
+    demand(!wulgach_drains_accept(&drains, 3, false) && wulgach_drains_may_post(&drains, 0), "a chain without a drain");
+    demand(wulgach_drains_accept(&drains, 2, true), "a chain with one");
+    wulgach_drains_end(&drains, true);
+    wulgach_drains_end(&drains, false);
+    demand(!wulgach_drains_may_post(&drains, 0), "its second member");
+    wulgach_drains_end(&drains, true);
+    demand(wulgach_drains_may_post(&drains, 0), "behind its end");
+    wulgach_shown_begin(&shown);
+    demand(!wulgach_shown_is_readable(&shown, 0, false) && wulgach_shown_is_readable(&shown, 0, true) && wulgach_shown_is_readable(&shown, 1, false), "an empty ring");
+    wulgach_shown_post(&shown);
+    demand(wulgach_shown_is_readable(&shown, 0, false), "a completion");
+    wulgach_course_begin(&course);
+    demand(!wulgach_course_notice(&course, true, false, &res) && res == 7, "no notice behind a drain");
+    demand(wulgach_course_notice(&course, true, true, &res) && res == INT32_MIN && wulgach_course_notice(&course, false, true, &res) && res == 0, "a notice");
+    wulgach_course_note(&course, WULGACH_FACT_CANCELLED, 0);
+    demand(!wulgach_course_notice(&course, false, true, &res), "none of one that was cancelled");
+}
+
+static void search_and_update(void)
+{
+    struct wulgach_outstanding other = {.user_data = 1, .is_free = true, .runs = true, .is_waiting = true}, read = {.user_data = 2, .is_free = true, .runs = true}, poll = {.user_data = 2, .is_free = true, .runs = true, .is_waiting = true};
+    struct wulgach_search search;
+    wulgach_search_begin(&search, 2);
+    demand(!wulgach_search_sees(&search, &other) && wulgach_search_sees(&search, &poll) && !wulgach_search_sees(&search, &poll) && wulgach_search_has_cancelled(&search), "the oldest that waits");
+    wulgach_search_begin(&search, 2);
+    demand(!wulgach_search_sees(&search, &read) && !wulgach_search_sees(&search, &poll) && !wulgach_search_has_cancelled(&search), "the oldest is carried out");
+    struct wulgach_poll changed = {.user_data = 5, .events = 1, .is_multishot = true};
+    wulgach_updated_poll(&changed, &(struct wulgach_submission){.len = 4, .off = 6});
+    demand(changed.user_data == 6 && changed.events == 1 && changed.is_multishot, "user data");
+    wulgach_updated_poll(&changed, &(struct wulgach_submission){.len = 2, .off = 8, .op_flags = 4});
+    demand(changed.user_data == 6 && changed.events == 4 && !changed.is_multishot, "events");
+    demand(wulgach_poll_removal(&(struct wulgach_submission){.len = 1}) == WULGACH_REMOVAL_CANCELS && wulgach_poll_removal(&(struct wulgach_submission){.len = 2}) == WULGACH_REMOVAL_UPDATES, "a poll's removal");
+    demand(wulgach_timeout_removal(&(struct wulgach_submission){0}) == WULGACH_REMOVAL_CANCELS && wulgach_timeout_removal(&(struct wulgach_submission){.op_flags = 3}) == WULGACH_REMOVAL_UPDATES && wulgach_timeout_removal(&(struct wulgach_submission){.op_flags = 17}) == WULGACH_REMOVAL_UPDATES_LINKED, "a timeout's");
+    demand(wulgach_updated_flags(33, &(struct wulgach_submission){.op_flags = 2}) == 32 && wulgach_updated_flags(32, &(struct wulgach_submission){.op_flags = 11}) == 41, "a timeout's flags");
+}
+
+static int32_t fault_of(struct wulgach_submission entry, uint32_t place)
+{
+    struct wulgach_piece piece;
+    demand(wulgach_piece_of(&entry, place, &piece), "a piece");
+    return piece.fault;
+}
+
+static void copy_pieces(void)
+{
+    enum { READV = 1, RECVMSG = 10, CONNECT = 16, READ = 22, OPENAT2 = 28, SETXATTR = 42, SEND_ZC = 47 };
+    struct wulgach_submission set = {.opcode = SETXATTR, .addr = 1, .off = 2, .addr3 = 3, .len = 5};
+    struct wulgach_piece piece = {.from = 99};
+    demand(!wulgach_piece_of(&(struct wulgach_submission){0}, 0, &piece) && piece.from == 99, "a no-op");
+    demand(wulgach_piece_of(&(struct wulgach_submission){.opcode = READV, .addr = 8, .len = 3}, 0, &piece) && piece.what == WULGACH_VECTORS && piece.from == 8 && piece.size == 48, "vectors");
+    demand(wulgach_piece_of(&(struct wulgach_submission){.opcode = READ}, 0, &piece) && piece.what == WULGACH_BUFFER, "a buffer");
+    demand(wulgach_piece_of(&set, 0, &piece) && piece.what == WULGACH_SECOND_PATH && piece.from == 1, "an attribute's name");
+    demand(wulgach_piece_of(&set, 1, &piece) && piece.what == WULGACH_PATH && piece.from == 3, "its file");
+    demand(wulgach_piece_of(&set, 2, &piece) && piece.what == WULGACH_VALUE && piece.from == 2 && piece.size == 5 && !wulgach_piece_of(&set, 3, &piece), "its value");
+    set.len = 65537;
+    demand(fault_of(set, 2) == -7 && fault_of((struct wulgach_submission){.opcode = CONNECT, .off = 129}, 0) == -22 && fault_of((struct wulgach_submission){.opcode = CONNECT, .off = 128}, 0) == 0, "too long");
+    demand(fault_of((struct wulgach_submission){.opcode = SEND_ZC, .off = 1, .file_index = 0x10080}, 1) == 0 && !wulgach_piece_of(&(struct wulgach_submission){.opcode = SEND_ZC}, 1, &piece), "where a send goes");
+    demand(!wulgach_piece_of(&(struct wulgach_submission){.opcode = OPENAT2, .len = 23}, 1, &piece), "a structure of another size");
+    demand(wulgach_time_fault(0, 0) == 0 && wulgach_time_fault(-1, 5) == -22 && wulgach_time_fault(5, -1) == -22, "a time");
+    demand(wulgach_message_fault(1024) == 0 && wulgach_message_fault(1025) == -90, "a message");
+    struct wulgach_submission receive = {.opcode = RECVMSG, .ioprio = 2};
+    demand(wulgach_room_fault(&receive, 8, 8) == 0 && wulgach_room_fault(&receive, UINT32_MAX, 8) == -22 && wulgach_room_fault(&receive, INT32_MAX, 8) == -75 && wulgach_room_fault(&set, UINT32_MAX, 8) == 0, "what stands in front");
+    demand(wulgach_selection_fault(&(struct wulgach_submission){.flags = 32}, 1) == 0 && wulgach_selection_fault(&(struct wulgach_submission){.flags = 32}, 2) == -22 && wulgach_selection_fault(&set, 2) == 0, "a provided buffer");
+    demand(wulgach_form_flags(255) == 94, "the core's flags");
+}
+
+int main(void)
+{
+    take_positions();
+    choose();
+    post();
+    search_and_update();
+    copy_pieces();
+    printf("taking: as called for\n");
+    return 0;
+}

@@ -1,0 +1,56 @@
+-- What goes on next, and what is copied of an entry, in words that C can read.
+use Rattle.std.specs.Prelude.{ℕ, Option, Some, None}
+use Rattle.uring_enter.specs.declared.taking.Onward.{Onward}
+use Rattle.uring_enter.specs.declared.taking.Onward.TheVariants.{Takes, IsFull, HasEnded}
+use Rattle.uring_enter.specs.declared.ways.Way.{Way}
+use Rattle.uring_enter.specs.declared.ways.Way.TheVariants.{Finish, Issue, Return}
+use Rattle.uring_enter.specs.declared.update.Removal.{Removal}
+use Rattle.uring_enter.specs.declared.update.Removal.TheVariants.{Cancel, Update, UpdateLinked}
+use Rattle.uring_enter.specs.declared.piece.What.{What}
+use Rattle.uring_enter.specs.declared.piece.What.TheVariants.{Buffer, Vectors, Path, SecondPath, How, Time, Value, Message, Address}
+use Rattle.uring_enter.specs.declared.piece.Piece.{Piece}
+use Rattle.uring_enter.specs.Pieces.{fault_of}
+use Rattle.uring_c.specs.declared.piece_exports.PieceWords.{PieceWords}
+
+-- kinds count in the order of `Onward`, from 0. Our own rule
+abbrev pub word_of_next : Onward → ℕ
+word_of_next (Takes _) = 0
+word_of_next IsFull = 1
+word_of_next HasEnded = 2
+
+abbrev pub cell_of_next : Onward → ℕ → ℕ
+cell_of_next (Takes cell) old = cell
+cell_of_next _ old = old
+
+-- kinds count in the order of `Way`, from 1; 0 where there is none. Our own rule
+abbrev pub word_of_way : Option Way → ℕ
+word_of_way None = 0
+word_of_way (Some (Finish _)) = 1
+word_of_way (Some (Issue _)) = 2
+word_of_way (Some Return) = 3
+
+abbrev pub place_of_way : Option Way → ℕ
+place_of_way (Some (Finish place)) = place
+place_of_way (Some (Issue place)) = place
+place_of_way _ = 0
+
+-- kinds count in the order of `Removal`, from 0. Our own rule
+abbrev pub word_of_removal : Removal → ℕ
+word_of_removal Cancel = 0
+word_of_removal Update = 1
+word_of_removal UpdateLinked = 2
+
+-- kinds count in the order of `What`, from 0. Our own rule
+abbrev pub word_of_what : What → ℕ
+word_of_what Buffer = 0
+word_of_what Vectors = 1
+word_of_what Path = 2
+word_of_what SecondPath = 3
+word_of_what How = 4
+word_of_what Time = 5
+word_of_what Value = 6
+word_of_what Message = 7
+word_of_what Address = 8
+
+abbrev pub words_of_piece : Piece → PieceWords
+words_of_piece p = record { what = word_of_what p.what; fault = fault_of p; from = p.from; size = p.size }

@@ -1,0 +1,134 @@
+//! Which positions a call takes, and what goes on next, for C: functions of `c/wulgach_enter.h`.
+ghost use Rattle.std.specs.Prelude.{◌≡◌, ◌+◌, ◌<◌, ◌^◌, false, List, [], ◌∷◌};
+ghost use Rattle.uring_enter.specs.Takings.{KeepsTaking, most, next_of, has_ended};
+ghost use Rattle.uring_enter.specs.Ways.{way_of, count_of};
+ghost use Rattle.uring_enter.specs.Drainings.{Drainage, Accepted, Ended, KeepsDrains, outstanding, may_post};
+ghost use Rattle.uring_c.specs.TakingForm.{word_of_next, cell_of_next, word_of_way, place_of_way};
+
+use uring_enter::{Drains, Item, Onward, Submitting, Taking, Way, Ways};
+
+/// Begins a call that has taken nothing, and writes the cell of its first position. Returns how many it takes at most: where that is 0, the cell stays as it was.
+#[unsafe(no_mangle)]
+pub extern "C" fn wulgach_taking_begin(
+    taking: &mut Taking,
+    asked: &Submitting,
+    cell: &mut u32,
+) -> u32
+    ensures begins { KeepsTaking asked.now [] taking.new }
+    ensures most { result ≡ most asked.now }
+    ensures cell { cell.new ≡ cell_of_next (next_of asked.now []) cell.old }
+{
+    *taking = Taking::begin(*asked);
+    *cell = next_cell(taking.first(), *cell);
+    taking.left
+}
+
+/// The call has taken a position. Returns how it goes on, and writes the cell of its next position, if it takes one more.
+#[unsafe(no_mangle)]
+pub extern "C" fn wulgach_taking_took(taking: &mut Taking, item: &Item, cell: &mut u32) -> u32
+    ensures next { (asked : Submitting) (taken : List Item) → KeepsTaking asked taken taking.old
+        → has_ended asked.submits_all taken ≡ false → result ≡ word_of_next (next_of asked (item.now ∷ taken)) }
+    ensures cell { (asked : Submitting) (taken : List Item) → KeepsTaking asked taken taking.old
+        → has_ended asked.submits_all taken ≡ false
+        → cell.new ≡ cell_of_next (next_of asked (item.now ∷ taken)) cell.old }
+    ensures after { (asked : Submitting) (taken : List Item) → KeepsTaking asked taken taking.old
+        → KeepsTaking asked (item.now ∷ taken) taking.new }
+{
+    let next = taking.took(*item);
+    *cell = next_cell(next, *cell);
+    next_word(next)
+}
+
+fn next_word(next: Onward) -> u32
+    ensures { result ≡ word_of_next next }
+{
+    match next {
+        Onward::Takes(_) => 0,
+        Onward::IsFull => 1,
+        Onward::HasEnded => 2,
+    }
+}
+
+fn next_cell(next: Onward, old: u32) -> u32
+    ensures { result ≡ cell_of_next next old }
+{
+    match next {
+        Onward::Takes(cell) => cell,
+        _ => old,
+    }
+}
+
+/// How many ways a choice has.
+#[unsafe(no_mangle)]
+pub extern "C" fn wulgach_ways_count(ways: &Ways) -> u32
+    ensures { result ≡ count_of ways.now }
+{
+    ways.count()
+}
+
+/// Returns the kind of the way of this number, and writes its place among those of its kind, or 0.
+#[unsafe(no_mangle)]
+pub extern "C" fn wulgach_ways_at(ways: &Ways, number: u32, place: &mut u32) -> u32
+    ensures kind { result ≡ word_of_way (way_of ways.now.ready ways.now.issuable ways.now.may_return number) }
+    ensures place { place.new ≡ place_of_way (way_of ways.now.ready ways.now.issuable ways.now.may_return number) }
+{
+    let way = ways.at(number);
+    *place = way_place(way);
+    way_word(way)
+}
+
+fn way_word(way: Option<Way>) -> u32
+    ensures { result ≡ word_of_way way }
+{
+    match way {
+        None => 0,
+        Some(Way::Finish(_)) => 1,
+        Some(Way::Issue(_)) => 2,
+        Some(Way::Return) => 3,
+    }
+}
+
+fn way_place(way: Option<Way>) -> u32
+    ensures { result ≡ place_of_way way }
+{
+    match way {
+        Some(Way::Finish(place)) => place,
+        Some(Way::Issue(place)) => place,
+        _ => 0,
+    }
+}
+
+/// No request was accepted.
+#[unsafe(no_mangle)]
+pub extern "C" fn wulgach_drains_begin(drains: &mut Drains)
+    ensures { KeepsDrains [] drains.new }
+{
+    *drains = Drains::begin();
+}
+
+/// A chain of so many requests was accepted, of which one has IOSQE_IO_DRAIN or none. Says whether they drain.
+#[unsafe(no_mangle)]
+pub extern "C" fn wulgach_drains_accept(drains: &mut Drains, members: u32, has_drain: bool) -> bool
+    ensures drains { result ≡ has_drain }
+    ensures after { (log : List Drainage) → KeepsDrains log drains.old
+        → outstanding log + members < 2 ^ 64 → KeepsDrains (Accepted members has_drain ∷ log) drains.new }
+{
+    drains.accept(members, has_drain)
+}
+
+/// A request has ended, which drains or doesn't.
+#[unsafe(no_mangle)]
+pub extern "C" fn wulgach_drains_end(drains: &mut Drains, is_draining: bool)
+    ensures { (log : List Drainage) → KeepsDrains log drains.old
+        → KeepsDrains (Ended is_draining ∷ log) drains.new }
+{
+    drains.end(is_draining);
+}
+
+/// Whether a completion may be posted that belongs to no end of a request, where so many positions are staged and not taken.
+#[unsafe(no_mangle)]
+pub extern "C" fn wulgach_drains_may_post(drains: &Drains, staged: u64) -> bool
+    ensures { (log : List Drainage) → KeepsDrains log drains.now → result ≡ may_post log staged }
+{
+    drains.may_post(staged)
+}

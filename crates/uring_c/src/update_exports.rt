@@ -1,0 +1,50 @@
+//! What an update makes of a poll or of a timeout, for C: functions of `c/wulgach_cancel.h`.
+ghost use Rattle.std.specs.Prelude.{◌≡◌};
+ghost use Rattle.uring_enter.specs.Updates as spec;
+ghost use Rattle.uring_c.specs.TakingForm.{word_of_removal};
+
+use uring_enter::{
+    Poll, Removal, Submission, poll_removal, timeout_removal, updated_flags, updated_poll,
+};
+
+/// What the removal of a poll does.
+#[unsafe(no_mangle)]
+pub extern "C" fn wulgach_poll_removal(entry: &Submission) -> u32
+    ensures { result ≡ word_of_removal (spec.poll_removal entry.now) }
+{
+    removal_word(poll_removal(entry))
+}
+
+/// What the removal of a timeout does.
+#[unsafe(no_mangle)]
+pub extern "C" fn wulgach_timeout_removal(entry: &Submission) -> u32
+    ensures { result ≡ word_of_removal (spec.timeout_removal entry.now) }
+{
+    removal_word(timeout_removal(entry))
+}
+
+fn removal_word(removal: Removal) -> u32
+    ensures { result ≡ word_of_removal removal }
+{
+    match removal {
+        Removal::Cancel => 0,
+        Removal::Update => 1,
+        Removal::UpdateLinked => 2,
+    }
+}
+
+/// Changes a poll as this entry updates it.
+#[unsafe(no_mangle)]
+pub extern "C" fn wulgach_updated_poll(poll: &mut Poll, entry: &Submission)
+    ensures { poll.new ≡ spec.updated_poll poll.old entry.now }
+{
+    *poll = updated_poll(*poll, entry);
+}
+
+/// The flags of a timeout behind an update by this entry.
+#[unsafe(no_mangle)]
+pub extern "C" fn wulgach_updated_flags(flags: u32, entry: &Submission) -> u32
+    ensures { result ≡ spec.updated_flags flags entry.now }
+{
+    updated_flags(flags, entry)
+}

@@ -1,0 +1,100 @@
+-- What is copied of what an entry points to when it is submitted, in order, and which faults it has: the first ends the request. io_uring_setup(2), IORING_FEAT_SUBMIT_STABLE; io_uring_enter(2), CQE ERRORS. The order is what the kernel does.
+use Rattle.std.specs.Prelude.{ℕ, ℤ, pos, ◌+◌, ◌*◌, Bool, not, ◌&&◌, ◌||◌, ◌==◌, nat_le, Option, Some, None, if◌then◌else◌}
+use Rattle.std.specs.Int.RustNames.{bit_and}
+use Rattle.uring_enter.specs.declared.submission.Submission.{Submission}
+use Rattle.uring_enter.specs.declared.piece.What.{What}
+use Rattle.uring_enter.specs.declared.piece.What.TheVariants.{Buffer, Vectors, Path, SecondPath, How, Time, Value, Message, Address}
+use Rattle.uring_enter.specs.declared.piece.Piece.{Piece}
+use Rattle.uring_enter.specs.Clocks.{has_some}
+use Rattle.uring_enter.specs.Forms.{is_below}
+use Rattle.uring_enter.specs.Replies.{error}
+
+abbrev pub stands : What → ℕ → ℕ → Option Piece
+stands what from size = Some (record { what = what; from = from; size = size })
+
+abbrev pub unless : Bool → What → ℕ → ℕ → Option Piece
+unless is_none what from size = if is_none then None else stands what from size
+
+-- the value of an attribute that is set
+abbrev pub value_of : Submission → Option Piece
+value_of e = unless (e.len == 0) Value e.off e.len
+
+-- the address that a SEND_ZC may name, whose length stands in 16 bits of `file_index`
+abbrev pub address_of : Submission → Option Piece
+address_of e = unless (e.off == 0) Address e.off (bit_and e.file_index 65535)
+
+-- what is copied first; of one buffer nothing is. A vector has 16 bytes, a message 56, a time 16 and an event of an epoll instance 12; how long an address is a connect says in `off`
+abbrev pub first_of : Submission → Option Piece
+first_of e =
+    -- READV and WRITEV
+    if e.opcode == 1 || e.opcode == 2 then unless (e.len == 0) Vectors e.addr (e.len * 16) else
+    -- READ_FIXED, WRITE_FIXED, READ, WRITE, SEND, RECV and SEND_ZC
+    if e.opcode == 4 || e.opcode == 5 || e.opcode == 22 || e.opcode == 23 || e.opcode == 26 || e.opcode == 27 || e.opcode == 47 then stands Buffer e.addr e.len else
+    -- SENDMSG, RECVMSG and SENDMSG_ZC
+    if e.opcode == 9 || e.opcode == 10 || e.opcode == 48 then stands Message e.addr 56 else
+    -- TIMEOUT and LINK_TIMEOUT; TIMEOUT_REMOVE, if it is an update
+    if e.opcode == 11 || e.opcode == 15 then stands Time e.addr 16 else
+    if e.opcode == 12 then unless (e.op_flags == 0) Time e.off 16 else
+    -- CONNECT
+    if e.opcode == 16 then stands Address e.addr e.off else
+    -- OPENAT, OPENAT2, RENAMEAT, UNLINKAT, MKDIRAT, SYMLINKAT and LINKAT
+    if e.opcode == 18 || e.opcode == 28 || nat_le 35 e.opcode && nat_le e.opcode 39 then stands Path e.addr 0 else
+    -- STATX, which with AT_EMPTY_PATH may have none
+    if e.opcode == 21 then unless (e.addr == 0) Path e.addr 0 else
+    -- EPOLL_CTL, but for EPOLL_CTL_DEL
+    if e.opcode == 29 then unless (e.len == 2) Value e.addr 12 else
+    -- FSETXATTR, SETXATTR, FGETXATTR and GETXATTR: the attribute's name
+    if nat_le 41 e.opcode && nat_le e.opcode 44 then stands SecondPath e.addr 0 else None
+
+-- what is copied second
+abbrev pub second_of : Submission → Option Piece
+second_of e =
+    -- OPENAT2, if the structure has the size that is known
+    if e.opcode == 28 then unless (not (e.len == 24)) How e.off 24 else
+    -- RENAMEAT, SYMLINKAT and LINKAT
+    if e.opcode == 35 || e.opcode == 38 || e.opcode == 39 then stands SecondPath e.off 0 else
+    -- FSETXATTR
+    if e.opcode == 41 then value_of e else
+    -- SETXATTR and GETXATTR: the file's path
+    if e.opcode == 42 || e.opcode == 44 then stands Path e.addr3 0 else
+    -- SEND_ZC
+    if e.opcode == 47 then address_of e else None
+
+-- and third: SETXATTR
+abbrev pub third_of : Submission → Option Piece
+third_of e = if e.opcode == 42 then value_of e else None
+
+abbrev pub piece_of : Submission → ℕ → Option Piece
+piece_of e place =
+    if place == 0 then first_of e else
+    if place == 1 then second_of e else
+    if place == 2 then third_of e else None
+
+-- an address of more than 128 bytes is -22 (EINVAL), an attribute's value of more than 65,536 -7 (E2BIG), before either is copied
+abbrev pub fault_by : What → ℕ → ℤ
+fault_by Address size = if nat_le size 128 then pos 0 else error 22
+fault_by Value size = if nat_le size 65536 then pos 0 else error 7
+fault_by _ size = pos 0
+
+abbrev pub fault_of : Piece → ℤ
+fault_of p = fault_by p.what p.size
+
+-- a time may not be negative
+abbrev pub time_fault : ℤ → ℤ → ℤ
+time_fault seconds nanoseconds =
+    if is_below seconds || is_below nanoseconds then error 22 else pos 0
+
+-- more than 1,024 vectors are -90 (EMSGSIZE)
+abbrev pub message_fault : ℕ → ℤ
+message_fault vectors = if nat_le vectors 1024 then pos 0 else error 90
+
+-- a RECVMSG that goes on puts 16 bytes, the address and the control data in front of the bytes of each message: -75 (EOVERFLOW) where no number of 31 bits says how many
+abbrev pub room_fault : Submission → ℕ → ℕ → ℤ
+room_fault e name control =
+    if not (e.opcode == 10) || not (has_some e.ioprio 2) then pos 0 else
+    if not (nat_le name 2147483647) then error 22 else
+    if not (nat_le control 2147483647) || not (nat_le (16 + name + control) 2147483647) then error 75 else pos 0
+
+-- what takes a provided buffer (32) has one vector
+abbrev pub selection_fault : Submission → ℕ → ℤ
+selection_fault e vectors = if has_some e.flags 32 && not (vectors == 1) then error 22 else pos 0

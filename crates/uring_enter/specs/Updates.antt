@@ -1,0 +1,30 @@
+-- What an update makes of a poll, and of a timeout's flags. io_uring_enter(2), IORING_OP_POLL_REMOVE and IORING_OP_TIMEOUT_REMOVE.
+use Rattle.std.specs.Prelude.{ℕ, if◌then◌else◌}
+use Rattle.std.specs.Int.RustNames.{bit_and, bit_or}
+use Rattle.uring_enter.specs.declared.submission.Submission.{Submission}
+use Rattle.uring_enter.specs.declared.update.Poll.{Poll}
+use Rattle.uring_enter.specs.declared.update.Removal.{Removal}
+use Rattle.uring_enter.specs.declared.update.Removal.TheVariants.{Cancel, Update, UpdateLinked}
+use Rattle.uring_enter.specs.Clocks.{has_some}
+
+-- IORING_POLL_UPDATE_EVENTS is 2 and UPDATE_USER_DATA 4
+abbrev pub poll_removal : Submission → Removal
+poll_removal e = if has_some e.len 6 then Update else Cancel
+
+-- IORING_LINK_TIMEOUT_UPDATE is 16 and IORING_TIMEOUT_UPDATE 2
+abbrev pub timeout_removal : Submission → Removal
+timeout_removal e =
+    if has_some e.op_flags 16 then UpdateLinked else
+    if has_some e.op_flags 2 then Update else Cancel
+
+-- a poll keeps what isn't updated; with its events an update says whether it goes on, IORING_POLL_ADD_MULTI, which is 1
+abbrev pub updated_poll : Poll → Submission → Poll
+updated_poll p e = record {
+  user_data = if has_some e.len 4 then e.off else p.user_data;
+  events = if has_some e.len 2 then e.op_flags else p.events;
+  is_multishot = if has_some e.len 2 then has_some e.len 1 else p.is_multishot;
+}
+
+-- whether the new time is absolute, and by which clock, the update says: IORING_TIMEOUT_ABS (1), BOOTTIME (4) and REALTIME (8), which are 13. Other flags stay, which is all of 32 bits but these
+abbrev pub updated_flags : ℕ → Submission → ℕ
+updated_flags flags e = bit_or (bit_and flags 4294967282) (bit_and e.op_flags 13)

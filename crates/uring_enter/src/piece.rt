@@ -1,0 +1,194 @@
+//! What is copied of what an entry points to when it is submitted, in order, and which faults it has: the first ends the request. io_uring_setup(2), IORING_FEAT_SUBMIT_STABLE.
+
+ghost use Rattle.std.specs.Prelude.{◌≡◌};
+ghost use Rattle.uring_enter.specs.Pieces as spec;
+
+use crate::submission::Submission;
+
+/// What a piece is.
+#[derive(Clone, Copy, Drop)]
+pub enum What {
+    /// One buffer that the entry itself names: nothing is copied.
+    Buffer,
+
+    /// The vectors of a transfer.
+    Vectors,
+
+    /// The path that is acted on.
+    Path,
+
+    /// The second path, or the name of an attribute.
+    SecondPath,
+
+    /// How a file is opened.
+    How,
+
+    /// A time.
+    Time,
+
+    /// Bytes that the operation reads.
+    Value,
+
+    /// A message, and behind it its vectors.
+    Message,
+
+    /// The address of a socket.
+    Address,
+}
+
+/// A piece of the application's memory.
+#[derive(Clone, Copy, Drop)]
+pub struct Piece {
+    pub what: What,
+
+    /// Where it begins.
+    pub from: u64,
+
+    /// How many bytes it has. A path ends by itself, and has 0 here.
+    pub size: u64,
+}
+
+/// The piece of this place that is copied of an entry, counted from 0. `None`: there are no more.
+pub fn piece_of(entry: &Submission, place: u32) -> Option<Piece>
+    ensures { result ≡ spec.piece_of entry.now place }
+{
+    match place {
+        0 => first_of(entry),
+        1 => second_of(entry),
+        2 => third_of(entry),
+        _ => None,
+    }
+}
+
+fn first_of(entry: &Submission) -> Option<Piece>
+    ensures { result ≡ spec.first_of entry.now }
+{
+    match entry.opcode {
+        1 | 2 => unless(
+            entry.len == 0,
+            What::Vectors,
+            entry.addr,
+            entry.len as u64 * 16,
+        ),
+        4 | 5 | 22 | 23 | 26 | 27 | 47 => stands(What::Buffer, entry.addr, entry.len as u64),
+        9 | 10 | 48 => stands(What::Message, entry.addr, 56),
+        11 | 15 => stands(What::Time, entry.addr, 16),
+        12 => unless(entry.op_flags == 0, What::Time, entry.off, 16),
+        16 => stands(What::Address, entry.addr, entry.off),
+        18 | 28 | 35..=39 => stands(What::Path, entry.addr, 0),
+        21 => unless(entry.addr == 0, What::Path, entry.addr, 0),
+        29 => unless(entry.len == 2, What::Value, entry.addr, 12),
+        41..=44 => stands(What::SecondPath, entry.addr, 0),
+        _ => None,
+    }
+}
+
+fn second_of(entry: &Submission) -> Option<Piece>
+    ensures { result ≡ spec.second_of entry.now }
+{
+    match entry.opcode {
+        28 => unless(entry.len != 24, What::How, entry.off, 24),
+        35 | 38 | 39 => stands(What::SecondPath, entry.off, 0),
+        41 => value_of(entry),
+        42 | 44 => stands(What::Path, entry.addr3, 0),
+        47 => address_of(entry),
+        _ => None,
+    }
+}
+
+fn third_of(entry: &Submission) -> Option<Piece>
+    ensures { result ≡ spec.third_of entry.now }
+{
+    match entry.opcode {
+        42 => value_of(entry),
+        _ => None,
+    }
+}
+
+/// The address that a send without copies may name.
+fn address_of(entry: &Submission) -> Option<Piece>
+    ensures { result ≡ spec.address_of entry.now }
+{
+    let size = (entry.file_index & 0xffff) as u64;
+    unless(entry.off == 0, What::Address, entry.off, size)
+}
+
+/// The value of an attribute that is set.
+fn value_of(entry: &Submission) -> Option<Piece>
+    ensures { result ≡ spec.value_of entry.now }
+{
+    unless(entry.len == 0, What::Value, entry.off, entry.len as u64)
+}
+
+fn stands(what: What, from: u64, size: u64) -> Option<Piece>
+    ensures { result ≡ spec.stands what from size }
+{
+    Some(Piece { what, from, size })
+}
+
+fn unless(is_none: bool, what: What, from: u64, size: u64) -> Option<Piece>
+    ensures { result ≡ spec.unless is_none what from size }
+{
+    if is_none {
+        None
+    } else {
+        stands(what, from, size)
+    }
+}
+
+impl Piece {
+    /// The fault of a piece that is too long, which comes before it is copied, or 0.
+    pub fn fault(&self) -> i32
+        ensures { result ≡ spec.fault_of self.now }
+    {
+        match self.what {
+            What::Address => { if self.size <= 128 { 0 } else { -22 } }
+            What::Value => { if self.size <= 65536 { 0 } else { -7 } }
+            _ => 0,
+        }
+    }
+}
+
+/// The fault of a time, or 0.
+pub fn time_fault(seconds: i64, nanoseconds: i64) -> i32
+    ensures { result ≡ spec.time_fault seconds nanoseconds }
+{
+    if seconds < 0 || nanoseconds < 0 {
+        -22
+    } else {
+        0
+    }
+}
+
+/// The fault of a message with so many vectors, which comes before these are copied, or 0.
+pub fn message_fault(vectors: u64) -> i32
+    ensures { result ≡ spec.message_fault vectors }
+{
+    if vectors <= 1024 { 0 } else { -90 }
+}
+
+/// The fault of a message that is received again and again, with so many bytes of an address and of control data in each buffer, or 0.
+pub fn room_fault(entry: &Submission, name: u32, control: u64) -> i32
+    ensures { result ≡ spec.room_fault entry.now name control }
+{
+    if entry.opcode != 10 || entry.ioprio & 2 == 0 {
+        0
+    } else if name > 0x7fff_ffff {
+        -22
+    } else if control > 0x7fff_ffff || 16 + name as u64 + control > 0x7fff_ffff {
+        -75
+    } else {
+        0
+    }
+}
+
+/// The fault of an entry that has so many vectors, behind those of its pieces, or 0: one that takes a provided buffer has one.
+pub fn selection_fault(entry: &Submission, vectors: u32) -> i32
+    ensures { result ≡ spec.selection_fault entry.now vectors }
+{
+    if entry.flags & 32 != 0 && vectors != 1 {
+        -22
+    } else {
+        0
+    }
+}

@@ -1,0 +1,87 @@
+//! What an update makes of a poll, and of a timeout's flags. io_uring_enter(2), IORING_OP_POLL_REMOVE and IORING_OP_TIMEOUT_REMOVE.
+
+ghost use Rattle.std.specs.Prelude.{◌≡◌};
+ghost use Rattle.uring_enter.specs.Updates as spec;
+
+use crate::submission::Submission;
+
+/// What an update may change of a poll.
+#[repr(C)]
+#[derive(Clone, Copy, Drop)]
+pub struct Poll {
+    pub user_data: u64,
+
+    /// The events that it waits for.
+    pub events: u32,
+
+    /// It goes on. IORING_POLL_ADD_MULTI.
+    pub is_multishot: bool,
+}
+
+/// What a removal of a poll or of a timeout is to do with the one that it finds.
+#[derive(Clone, Copy, Drop)]
+pub enum Removal {
+    /// It ends.
+    Cancel,
+
+    /// It is changed.
+    Update,
+
+    /// Of timeouts: one that is linked behind a request is changed.
+    UpdateLinked,
+}
+
+/// What the removal of a poll does.
+pub fn poll_removal(entry: &Submission) -> Removal
+    ensures { result ≡ spec.poll_removal entry.now }
+{
+    if entry.len & 6 != 0 {
+        Removal::Update
+    } else {
+        Removal::Cancel
+    }
+}
+
+/// What the removal of a timeout does.
+pub fn timeout_removal(entry: &Submission) -> Removal
+    ensures { result ≡ spec.timeout_removal entry.now }
+{
+    if entry.op_flags & 16 != 0 {
+        Removal::UpdateLinked
+    } else if entry.op_flags & 2 != 0 {
+        Removal::Update
+    } else {
+        Removal::Cancel
+    }
+}
+
+/// A poll behind an update by this entry.
+pub fn updated_poll(poll: Poll, entry: &Submission) -> Poll
+    ensures { result ≡ spec.updated_poll poll entry.now }
+{
+    let has_events = entry.len & 2 != 0;
+    Poll {
+        user_data: if entry.len & 4 != 0 {
+            entry.off
+        } else {
+            poll.user_data
+        },
+        events: if has_events {
+            entry.op_flags
+        } else {
+            poll.events
+        },
+        is_multishot: if has_events {
+            entry.len & 1 != 0
+        } else {
+            poll.is_multishot
+        },
+    }
+}
+
+/// The flags of a timeout behind an update by this entry: the clock of the new time is the update's.
+pub fn updated_flags(flags: u32, entry: &Submission) -> u32
+    ensures { result ≡ spec.updated_flags flags entry.now }
+{
+    flags & !13 | entry.op_flags & 13
+}
