@@ -17,6 +17,7 @@
 #include "rewriting.h"
 #include "run.h"
 
+#include <pthread.h>
 #include <stdatomic.h>
 #include <stdio.h>
 #include <stdlib.h>
@@ -117,6 +118,16 @@ static bool rewrite(const uint8_t *call)
     return is_done;
 }
 
+/* A thread isn't cancelled in a call of the C library's here, as it isn't in the call that was trapped. */
+static bool rewrite_whole(const uint8_t *call)
+{
+    int before;
+    pthread_setcancelstate(PTHREAD_CANCEL_DISABLE, &before);
+    bool is_done = rewrite(call);
+    pthread_setcancelstate(before, NULL);
+    return is_done;
+}
+
 /* The place of a call, among those that are known or as a new one; NULL if there is no room. */
 static struct site *site_of(const uint8_t *call)
 {
@@ -140,7 +151,7 @@ void note_site(const ucontext_t *at)
         is_on = is_wanted();
     struct site *site = is_on ? site_of(behind - 2) : NULL;
     if (site && site->traps < OFTEN && ++site->traps == OFTEN)
-        site->is_rewritten = rewrite(site->call);
+        site->is_rewritten = rewrite_whole(site->call);
     if (site && site->is_rewritten)
         allow_bypass(at);
     atomic_flag_clear(&is_looked_at);
