@@ -6,6 +6,7 @@
  * With another word nothing is to be rewritten. Status 0: all was as it is to be. Else a line says what wasn't.
  */
 #define _GNU_SOURCE
+#include "places.h"
 #include "registers.h"
 
 #include <errno.h>
@@ -32,39 +33,6 @@
 enum { OFTEN = 40, NUMBER_AT = 3, NUMBER = 0xb8, JUMP = 0xe9 };
 
 static bool is_none_wanted;
-
-/* ---- places ---- */
-
-typedef long call_function(long fd, unsigned to_submit, unsigned min_complete, unsigned flags, const void *argument, size_t size);
-
-/* A function that calls io_uring_enter: what is to stand before it, and between the number and the call. */
-#define PLACE(name, before, between)                                                                                   \
-    call_function name;                                                                                                \
-    __asm__(".text\n\t.balign 64\n\t" before "\n.globl " #name "\n.type " #name ", @function\n" #name ":\n\t.cfi_startproc\n\t"       \
-            "mov %rcx, %r10\n\tmov $426, %eax\n\t" between "\n" #name "_call:\n\tsyscall\n\tret\n\t.cfi_endproc\n.size " #name ", .-" #name "\n")
-
-PLACE(plain, "", "");
-PLACE(moved, "", "mov %r10, %rcx\n\txor %r9d, %r9d\n\tmov %rcx, %r10\n\tmov %edx, %edx\n\tmovq $8, %r9\n\tmov $8, %r9d\n\t");
-PLACE(within_line, ".fill 10, 1, 0x90", "");
-PLACE(across_lines, ".fill 58, 1, 0x90", "");
-PLACE(with_flag, "", "stc");
-PLACE(with_jump, "", "jmp 1f\n1:");
-PLACE(with_stack, "", "lea 8(%rsp), %r9");
-
-/* Another instruction has the bytes of the number: lea 426(%r8), %edi. */
-PLACE(within_other, "", "lea -426(%rdi), %r8\n\tlea 426(%r8), %edi\n\txor %r8d, %r8d");
-
-/* Its number is another one. */
-PLACE(of_two_calls, "", "mov %eax, %eax\n\tmov $426, %eax\n\tmov %r11d, %eax\n\tmov $426, %eax\n\t.byte 0x0f, 0x1f, 0x00");
-
-/* Whoever comes from elsewhere to the call. */
-call_function jumped;
-__asm__(".text\n.globl jumped\n.type jumped, @function\njumped:\n\t.cfi_startproc\n\tmov %rcx, %r10\n\tmov $425, %eax\n\tinc %eax\n\tjmp plain_call\n\t.cfi_endproc\n");
-
-static const struct {
-    call_function *call;
-    bool is_rewritten;
-} places[] = {{plain, true}, {moved, true}, {within_line, true}, {across_lines, false}, {with_flag, false}, {with_jump, false}, {with_stack, false}, {within_other, false}, {of_two_calls, false}};
 
 /* ---- rings ---- */
 
@@ -141,7 +109,8 @@ static void try_places(void)
     }
     no_ops(&ring, jumped, OFTEN);
     no_ops(&ring, plain, OFTEN);
-    WANT(plain(-1, 0, 0, 0, NULL, 8) == -EBADF && jumped(-1, 0, 0, 0, NULL, 8) == -EBADF);
+    errno = 5;
+    WANT(plain(-1, 0, 0, 0, NULL, 8) == -EBADF && jumped(-1, 0, 0, 0, NULL, 8) == -EBADF && errno == 5);
     /* Code of the program's own making. */
     uint8_t *made = mmap(NULL, 4096, PROT_READ | PROT_WRITE | PROT_EXEC, MAP_PRIVATE | MAP_ANONYMOUS, -1, 0);
     WANT(made != MAP_FAILED);
@@ -219,17 +188,15 @@ static void every(long microseconds)
     WANT(setitimer(ITIMER_REAL, &time, NULL) == 0);
 }
 
-/* Signals come at any time, and their handlers call too; one ends a call that waits. */
-static void signals(void)
+static void meet_signals(void)
 {
-    const struct sigaction action = {.sa_handler = call_in_handler};
     struct ring ring = set_up();
     sigset_t mask, none;
     int ends[2];
     of_handler = set_up();
     sigemptyset(&none);
     no_ops(&ring, plain, OFTEN);
-    WANT(pipe(ends) == 0 && sigaction(SIGALRM, &action, NULL) == 0);
+    WANT(pipe(ends) == 0 && pthread_sigmask(SIG_SETMASK, &none, NULL) == 0);
     every(200);
     for (uint64_t i = 1; i <= 20000; i++)
         want_registers(&ring, i);
@@ -250,6 +217,39 @@ static void signals(void)
     WANT(handled == 0 && plain(ring.fd, 0, 1, IORING_ENTER_GETEVENTS, &none, 8) == -EINTR && handled == 1);
     WANT(sigprocmask(SIG_SETMASK, NULL, &none) == 0 && sigismember(&none, SIGALRM) && !sigismember(&none, SIGUSR1));
     want_rewritten(plain, true);
+}
+
+/* A stack for signals that come to a thread, which may be small itself: it calls on another. */
+static void give_signal_stack(void)
+{
+    static char stack[1 << 16];
+    const stack_t of_signals = {.ss_sp = stack, .ss_size = sizeof stack};
+    WANT(sigaltstack(&of_signals, NULL) == 0);
+}
+
+static void *meet_signals_beside(void *none)
+{
+    give_signal_stack();
+    meet_signals();
+    return none;
+}
+
+/* Signals come at any time, and their handlers call too; one ends a call that waits. In a thread with a stack for signals they come once
+ * on that one, and once on the one on which it calls. */
+static void signals(void)
+{
+    struct sigaction action = {.sa_handler = call_in_handler};
+    pthread_t started;
+    sigset_t all;
+    WANT(sigaction(SIGALRM, &action, NULL) == 0);
+    meet_signals();
+    sigfillset(&all);
+    pthread_sigmask(SIG_SETMASK, &all, NULL);
+    for (int i = 0; i < 2; i++) {
+        WANT(pthread_create(&started, NULL, meet_signals_beside, NULL) == 0 && pthread_join(started, NULL) == 0);
+        action.sa_flags = SA_ONSTACK;
+        WANT(sigaction(SIGALRM, &action, NULL) == 0);
+    }
 }
 
 static pthread_barrier_t barrier;
@@ -276,12 +276,9 @@ static void threads(void)
     want_rewritten(within_line, true);
 }
 
-/* A thread with a stack for signals calls on another, since its own may be small. */
 static void *call_on_small(void *none)
 {
-    static char stack[1 << 16];
-    const stack_t of_signals = {.ss_sp = stack, .ss_size = sizeof stack};
-    WANT(sigaltstack(&of_signals, NULL) == 0);
+    give_signal_stack();
     struct ring ring = set_up();
     no_ops(&ring, plain, 3 * OFTEN);
     return none;
