@@ -7,25 +7,26 @@
 
 typedef long call_function(long fd, unsigned to_submit, unsigned min_complete, unsigned flags, const void *argument, size_t size);
 
-/* A function that calls io_uring_enter: what is to stand before it, where its flags go first, and what is to stand between the number and the call. */
-#define PLACE(name, before, flags, between)                                                                                   \
+/* A function that calls io_uring_enter: what is to stand before it, its first instruction, which has three bytes, and what is to stand
+ * between the number and the call. */
+#define PLACE(name, before, first, between)                                                                                   \
     call_function name;                                                                                                \
     __asm__(".text\n\t.balign 64\n\t" before "\n.globl " #name "\n.type " #name ", @function\n" #name ":\n\t.cfi_startproc\n\t"       \
-            "mov %rcx, " flags "\n\tmov $426, %eax\n\t" between "\n" #name "_call:\n\tsyscall\n\tret\n\t.cfi_endproc\n.size " #name ", .-" #name "\n")
+            first "\n\tmov $426, %eax\n\t" between "\n" #name "_call:\n\tsyscall\n\tret\n\t.cfi_endproc\n.size " #name ", .-" #name "\n")
 
-PLACE(plain, "", "%r10", "");
-PLACE(moved, "", "%r11", "xor %r9d, %r9d\n\tmov %r11, %r10\n\tmov %edx, %edx\n\tmovq $8, %r9\n\tmov $8, %r9d\n\t");
-PLACE(within_line, ".fill 10, 1, 0x90", "%r10", "");
-PLACE(across_lines, ".fill 58, 1, 0x90", "%r10", "");
-PLACE(with_flag, "", "%r10", "stc");
-PLACE(with_jump, "", "%r10", "jmp 1f\n1:");
-PLACE(with_stack, "", "%r10", "lea 8(%rsp), %r9");
+PLACE(plain, "", "mov %rcx, %r10", "");
+PLACE(moved, "", "not %r10", "xor %r9d, %r9d\n\tmov %rcx, %r10\n\tmov %edx, %edx\n\tmovq $8, %r9\n\tmov $8, %r9d\n\t");
+PLACE(within_line, ".fill 10, 1, 0x90", "mov %rcx, %r10", "");
+PLACE(across_lines, ".fill 58, 1, 0x90", "mov %rcx, %r10", "");
+PLACE(with_flag, "", "mov %rcx, %r10", "stc");
+PLACE(with_jump, "", "mov %rcx, %r10", "jmp 1f\n1:");
+PLACE(with_stack, "", "mov %rcx, %r10", "lea 8(%rsp), %r9");
 
 /* Another instruction has the bytes of the number: lea 426(%r8), %edi. */
-PLACE(within_other, "", "%r10", "lea -426(%rdi), %r8\n\tlea 426(%r8), %edi\n\txor %r8d, %r8d");
+PLACE(within_other, "", "mov %rcx, %r10", "lea -426(%rdi), %r8\n\tlea 426(%r8), %edi\n\txor %r8d, %r8d");
 
 /* Its number comes from elsewhere. */
-PLACE(with_number, "", "%r10", "mov $426, %r11d\n\tmov %r11d, %eax");
+PLACE(with_number, "", "mov %rcx, %r10", "mov $426, %r11d\n\tmov %r11d, %eax");
 
 /* Whoever comes from elsewhere to the call. */
 call_function jumped;
