@@ -22,7 +22,7 @@
 extern char **environ;
 
 /* NAME=PATH as it was when this library came in, with the policy and the like. */
-enum { MOST_VARIABLES = 16 };
+enum { MOST_VARIABLES = 24 };
 static char *variables[MOST_VARIABLES + 1];
 static size_t variable_count;
 

@@ -49,9 +49,9 @@ int real_sigmask(int how, const sigset_t *set, sigset_t *before)
     return call(how, set, before);
 }
 
-/* What a handler returns to. Unwinders know it by these bytes. */
+/* What a handler returns to. Unwinders know it by these bytes, if the byte before them is no function's. */
 void return_from_handler(void);
-__asm__(".text\n.type return_from_handler, @function\nreturn_from_handler:\n\tmov $15, %rax\n\tsyscall\n.size return_from_handler, .-return_from_handler\n");
+__asm__(".text\n.type return_from_handler, @function\n\tnop\nreturn_from_handler:\n\tmov $15, %rax\n\tsyscall\n.size return_from_handler, .-return_from_handler\n");
 
 /* While the handler runs, all signals are blocked but SIGSYS and the two of the C library's own. */
 bool catch_for_good(void (*handler)(int, siginfo_t *, void *))

@@ -3,6 +3,7 @@
  * the program's own signal stack holds the frame that this call returns to.
  */
 #define _GNU_SOURCE
+#include "rewriting.h"
 #include "run.h"
 
 #include <pthread.h>
@@ -11,9 +12,10 @@
 #include <sys/mman.h>
 #include <unistd.h>
 
-enum { STACK = 1 << 20, SIGNAL_STACK = 1 << 17 };
+/* Of a thread's memory the lowest part is for signals, the next for traps, and the last for bypasses. */
+enum { SIGNAL_STACK = 1 << 17, STACK = 1 << 20, WHOLE = SIGNAL_STACK + 2 * STACK };
 
-/* Of a thread: its memory, and whether a call is on it. */
+/* Of a thread: its memory, and whether a trapped call is on it. */
 static __thread char *own;
 static __thread bool is_in_use;
 static pthread_key_t key;
@@ -21,24 +23,31 @@ static pthread_once_t once = PTHREAD_ONCE_INIT;
 
 static void unmap(void *memory)
 {
-    munmap(memory, STACK + SIGNAL_STACK);
+    munmap(memory, WHOLE);
+}
+
+/* A thread that ends has none; if it calls behind this, it is trapped, and has another. */
+static void end_thread(void *memory)
+{
+    own = NULL;
+    bypass_stack = NONE;
+    unmap(memory);
 }
 
 static void make_key(void)
 {
-    pthread_key_create(&key, unmap);
+    pthread_key_create(&key, end_thread);
 }
 
 static char *map(void)
 {
-    void *memory = mmap(NULL, STACK + SIGNAL_STACK, PROT_READ | PROT_WRITE, MAP_PRIVATE | MAP_ANONYMOUS | MAP_NORESERVE, -1, 0);
+    void *memory = mmap(NULL, WHOLE, PROT_READ | PROT_WRITE, MAP_PRIVATE | MAP_ANONYMOUS | MAP_NORESERVE, -1, 0);
     return memory == MAP_FAILED ? NULL : memory;
 }
 
 bool is_on_signal_stack(const ucontext_t *at)
 {
-    uintptr_t here = (uintptr_t)__builtin_frame_address(0), start = (uintptr_t)at->uc_stack.ss_sp;
-    return at->uc_stack.ss_size > 0 && here >= start && here - start < at->uc_stack.ss_size;
+    return at->uc_stack.ss_size > 0 && (uintptr_t)at - (uintptr_t)at->uc_stack.ss_sp < at->uc_stack.ss_size;
 }
 
 struct task {
@@ -66,11 +75,28 @@ static void call_on(char *top, void (*function)(void *), void *argument)
                      : "rbx", "rax", "rcx", "rdx", "rsi", "r8", "r9", "r10", "r11", "xmm0", "xmm1", "xmm2", "xmm3", "xmm4", "xmm5", "xmm6", "xmm7", "xmm8", "xmm9", "xmm10", "xmm11", "xmm12", "xmm13", "xmm14", "xmm15", "memory", "cc");
 }
 
-void call_on_own_stack(const ucontext_t *at, void (*function)(void *), void *argument)
+static void make_own(void)
 {
     pthread_once(&once, make_key);
     if (!own && (own = map()))
         pthread_setspecific(key, own);
+}
+
+/* Once: a bypass that a signal has left by a jump may still be on its stack. */
+void allow_bypass(const ucontext_t *at)
+{
+    static __thread bool is_allowed;
+    if (is_allowed)
+        return;
+    if (is_on_signal_stack(at))
+        make_own();
+    is_allowed = true;
+    bypass_stack = !is_on_signal_stack(at) ? HERE : own ? (uintptr_t)own + WHOLE : NONE;
+}
+
+void call_on_own_stack(const ucontext_t *at, void (*function)(void *), void *argument)
+{
+    make_own();
     /* A signal's handler that calls while its thread is in a call has another. */
     bool is_first = own && !is_in_use;
     char *memory = is_first ? own : map();

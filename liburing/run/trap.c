@@ -11,6 +11,7 @@
 #include "files.h"
 #include "../layer/log.h"
 #include "../layer/passing.h"
+#include "rewriting.h"
 #include "run.h"
 
 #include <errno.h>
@@ -102,8 +103,11 @@ static long serve(long call, const ucontext_t *at)
     const long words[6] = {registers[REG_RDI], registers[REG_RSI], registers[REG_RDX], registers[REG_R10], registers[REG_R8], registers[REG_R9]};
     const sigset_t mask = mask_of(at);
     long result;
-    if (call == SYS_io_uring_enter)
-        return wulgach_blocked_enter(words, &mask);
+    if (call == SYS_io_uring_enter) {
+        result = wulgach_blocked_enter(words, &mask);
+        note_site(at);
+        return result;
+    }
     real_sigmask(SIG_SETMASK, &mask, NULL);
     switch (call) {
     case SYS_io_uring_setup:

@@ -24,7 +24,7 @@ static struct {
                      "mov 1024(%%rbx), %%rdi\n\tmov 1032(%%rbx), %%rsi\n\tmov 1040(%%rbx), %%rdx\n\t"                  \
                      "mov 1048(%%rbx), %%r10\n\tmov 1056(%%rbx), %%r8\n\tmov 1064(%%rbx), %%r9\n\t"                    \
                      "mov %%rbp, 1192(%%rbx)\n\tmov $112, %%r12\n\tmov $113, %%r13\n\tmov $114, %%r14\n\tmov $115, %%r15\n\t"  \
-                     "movq $116, -8(%%rsp)\n\tmovq $117, -128(%%rsp)\n\tmov %[call], %%eax\n\tstc\n\tsyscall\n\t"        \
+                     "movq $116, -8(%%rsp)\n\tmovq $117, -128(%%rsp)\n\tstc\n\tmov %[call], %%eax\n\tsyscall\n\t"        \
                      "mov %%rdi, 1072(%%rbx)\n\tmov %%rsi, 1080(%%rbx)\n\tmov %%rdx, 1088(%%rbx)\n\t"                  \
                      "mov %%r10, 1096(%%rbx)\n\tmov %%r8, 1104(%%rbx)\n\tmov %%r9, 1112(%%rbx)\n\t"                    \
                      "mov %%rbp, 1120(%%rbx)\n\tmov %%r12, 1128(%%rbx)\n\tmov %%r13, 1136(%%rbx)\n\t"                  \

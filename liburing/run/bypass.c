@@ -1,0 +1,178 @@
+/* A bypass: a piece of code beside a call of io_uring_enter that calls the layer as the trap would. It keeps what a system call keeps: all
+ * registers but rax, rcx and r11, those of vectors, the flags, and the 128 bytes below the stack that are the program's.
+ *
+ * Each has what is its own, and goes on to what all have in common, with the call's end in the place of a caller's: so whoever walks
+ * the stack finds the program's function.
+ */
+#define _GNU_SOURCE
+#include "rewriting.h"
+#include "run.h"
+
+#include <cpuid.h>
+#include <errno.h>
+#include <string.h>
+
+long wulgach_blocked_enter(const long words[6], const sigset_t *signals);
+long enter_bypassed(const long words[6]);
+extern const uint8_t bypass_all[];
+__thread uintptr_t bypass_stack;
+
+/* What a bypass saves of vectors: that of x87, of 16, 32 and 64 bytes, and masks; and what of them this processor has. It takes so much
+ * room at most. */
+enum { VECTORS = 0xe7, ROOM = 2560 };
+uint32_t bypassed_vectors __attribute__((visibility("hidden")));
+
+/* All signals are blocked as in the trap, and may come as it ends. */
+__attribute__((used)) long enter_bypassed(const long words[6])
+{
+    int kept = errno;
+    sigset_t all, before;
+    sigemptyset(&before);
+    sigfillset(&all);
+    sigdelset(&all, SIGSYS);
+    real_sigmask(SIG_SETMASK, &all, &before);
+    long result = wulgach_blocked_enter(words, &before);
+    real_sigmask(SIG_SETMASK, &before, NULL);
+    errno = kept;
+    return result;
+}
+
+/* On the stack stand the end of the call and the program's 128 bytes. The flags are put as a handler has them: a program that is stepped
+ * through isn't while signals are blocked. */
+__asm__(".text\n"
+        ".hidden bypass_all\n"
+        ".globl bypass_all\n"
+        ".type bypass_all, @function\n"
+        "bypass_all:\n\t"
+        ".cfi_startproc\n\t"
+        ".cfi_def_cfa %rsp, 136\n\t"
+        ".cfi_offset %rip, -136\n\t"
+        "pushfq\n\t"
+        "pushq $0x202\n\t"
+        "popfq\n\t"
+        "mov bypass_stack@gottpoff(%rip), %rax\n\t"
+        "mov %fs:(%rax), %rcx\n\t"
+        "movq $0, %fs:(%rax)\n\t"
+        "push %r9\n\t"
+        "push %r8\n\t"
+        "push %r10\n\t"
+        "push %rdx\n\t"
+        "push %rsi\n\t"
+        "push %rdi\n\t"
+        "push %rbp\n\t"
+        "mov %rsp, %rbp\n\t"
+        ".cfi_def_cfa %rbp, 200\n\t"
+        ".cfi_offset %rbp, -200\n\t"
+        "push %rcx\n\t"
+        "cmp $1, %rcx\n\t"
+        "cmove %rsp, %rcx\n\t"
+        "and $-64, %rcx\n\t"
+        "lea -2560(%rcx), %rsp\n\t"
+        "xor %eax, %eax\n\t"
+        "mov %rax, 512(%rsp)\n\t"
+        "mov %rax, 520(%rsp)\n\t"
+        "mov %rax, 528(%rsp)\n\t"
+        "mov %rax, 536(%rsp)\n\t"
+        "mov %rax, 544(%rsp)\n\t"
+        "mov %rax, 552(%rsp)\n\t"
+        "mov %rax, 560(%rsp)\n\t"
+        "mov %rax, 568(%rsp)\n\t"
+        "mov bypassed_vectors(%rip), %eax\n\t"
+        "xor %edx, %edx\n\t"
+        "xsavec64 (%rsp)\n\t"
+        "lea 8(%rbp), %rdi\n\t"
+        "call enter_bypassed\n\t"
+        "mov %rax, %r8\n\t"
+        "mov bypassed_vectors(%rip), %eax\n\t"
+        "xor %edx, %edx\n\t"
+        "xrstor64 (%rsp)\n\t"
+        "lea -8(%rbp), %rsp\n\t"
+        "pop %rcx\n\t"
+        "mov bypass_stack@gottpoff(%rip), %rax\n\t"
+        "mov %rcx, %fs:(%rax)\n\t"
+        "mov %r8, %rax\n\t"
+        "pop %rbp\n\t"
+        ".cfi_def_cfa %rsp, 192\n\t"
+        ".cfi_restore %rbp\n\t"
+        "pop %rdi\n\t"
+        "pop %rsi\n\t"
+        "pop %rdx\n\t"
+        "pop %r10\n\t"
+        "pop %r8\n\t"
+        "pop %r9\n\t"
+        ".cfi_def_cfa %rsp, 144\n\t"
+        "mov (%rsp), %r11\n\t"
+        "mov 8(%rsp), %rcx\n\t"
+        "popfq\n\t"
+        ".cfi_def_cfa %rsp, 136\n\t"
+        "lea 136(%rsp), %rsp\n\t"
+        ".cfi_def_cfa %rsp, 0\n\t"
+        ".cfi_register %rip, %rcx\n\t"
+        "jmp *%rcx\n\t"
+        ".cfi_endproc\n"
+        ".size bypass_all, .-bypass_all\n");
+
+/* How much room the vectors of this mask take, as the processor says. */
+static uint32_t room_of(uint32_t vectors)
+{
+    enum { IS_ALIGNED = 2 };
+    uint32_t room = 512 + 64, size, offset, how, none;
+    for (unsigned part = 2; part < 32; part++)
+        if (vectors >> part & 1 && __get_cpuid_count(13, part, &size, &offset, &how, &none))
+            room = (how & IS_ALIGNED ? (room + 63) / 64 * 64 : room) + size;
+    return room;
+}
+
+bool can_bypass(void)
+{
+    enum { SYSTEM_SAVES = 1 << 27, SAVES_COMPACTLY = 2 };
+    uint32_t a, b, c, d, low, high;
+    if (!__get_cpuid(1, &a, &b, &c, &d) || !(c & SYSTEM_SAVES) || !__get_cpuid_count(13, 1, &a, &b, &c, &d) || !(a & SAVES_COMPACTLY))
+        return false;
+    __asm__("xgetbv" : "=a"(low), "=d"(high) : "c"(0));
+    bypassed_vectors = low & VECTORS;
+    return room_of(bypassed_vectors) <= ROOM;
+}
+
+static uint8_t *put(uint8_t *at, const void *bytes, size_t length)
+{
+    memcpy(at, bytes, length);
+    return at + length;
+}
+
+static uint8_t *put_address(uint8_t *at, const char *opcode, const void *address)
+{
+    at = put(at, opcode, 2);
+    return put(at, &address, sizeof address);
+}
+
+uint8_t *put_jump(uint8_t *at, const uint8_t *from, const uint8_t *to)
+{
+    int32_t way = (int32_t)(to - (from + 5));
+    *at = 0xe9;
+    return put(at + 1, &way, sizeof way);
+}
+
+/* Where the thread's stack of bypasses is, from the thread's own register on. */
+static int32_t offset_of_stack(void)
+{
+    uintptr_t thread;
+    __asm__("mov %%fs:0, %0" : "=r"(thread));
+    return (int32_t)((uintptr_t)&bypass_stack - thread);
+}
+
+/* A thread that has no stack for it makes the call itself, and is trapped. */
+void write_bypass(uint8_t *page, const uint8_t *number, const uint8_t *call)
+{
+    int32_t offset = offset_of_stack();
+    uint8_t *at = put(page, number, (size_t)(call - number));
+    at = put(at, "\x64\x48\x8b\x0c\x25", 5);            /* mov %fs:offset, %rcx */
+    at = put(at, &offset, sizeof offset);
+    at = put(at, "\xe3\x1c", 2);                        /* jrcxz: to the last jump */
+    at = put(at, "\x48\x8d\x64\x24\x80", 5);            /* lea -128(%rsp), %rsp */
+    at = put_address(at, "\x48\xb9", call + 2);         /* movabs $behind, %rcx */
+    at = put(at, "\x51", 1);                            /* push %rcx */
+    at = put_address(at, "\x48\xb8", bypass_all);       /* movabs $bypass_all, %rax */
+    at = put(at, "\xff\xe0", 2);                        /* jmp *%rax */
+    put_jump(at, at, call);
+}
