@@ -20,7 +20,7 @@ REASONS = {
     "cancel": "the first cancel notes the user data of all that were accepted since the last one",
     "plays": "a play keeps its whole trace in events of 272 bytes, a step and its answer, since its report promises that trace",
     "rates": "two threads at least hand each request over twice, each turn of the dispatcher is written into the trace, and threads that wait spin",
-    "words": "an entry is 17 words, each stored and loaded by an atomic step of its own: that is what the table of shared words offers",
+    "words": "an entry is 17 words, each stored and loaded by an atomic step of its own; slots of plain memory cost less, and aren't proved (docs/DECISIONS.md)",
 }
 
 

@@ -22,6 +22,7 @@ use crate::standing::{Standing, note_poster};
 use crate::telling::{tell_bad, tell_end, tell_wrong};
 use crate::verdict::Verdict;
 use std::alloc::{AllocError, Global};
+use std::mem;
 use uring_machine::{Setup, Step};
 use uring_text::{KeptLine, TextMemory, push_bytes};
 use uring_trace::read_step_in;
@@ -115,11 +116,25 @@ impl Checker {
         match said {
             Said::Nothing => self.take_next(memory, line),
             Said::Says(setup) => {
-                self.machine = Follower::new(memory, self.alloc, &setup, self.machine.ends())?;
+                self.begin_at(memory, &setup)?;
                 self.take_next(memory, line)
             }
             Said::Misses => self.miss(memory),
         }
+    }
+
+    /// Has a new machine of this set-up in the place of the one at hand.
+    fn begin_at<M: TextMemory>(&mut self, memory: &M, setup: &Setup) -> Result<(), AllocError>
+        ensures begun { OnOk result
+            ((self.new ≡ record self.old { machine = self.new.machine })
+            × (rules_of self.new.machine
+            ≡ record { setup = setup.now; ends = (rules_of self.old.machine).ends })
+            × FitsBy self.new.machine []) }
+        ensures granted { ((n : ℕ) → M.grants memory.now n) → IsOk result }
+    {
+        let begun = Follower::new(memory, self.alloc, setup, self.machine.ends())?;
+        drop(mem::replace(&mut self.machine, begun));
+        Ok(())
     }
 
     /// Finds that the first line says no set-up, though it begins so: it is bad, and no line behind it is looked at.

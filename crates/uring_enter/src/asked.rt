@@ -1,7 +1,7 @@
 //! What a call is asked for.
 
 /// What goes on while a call is made, where more than one thing may.
-#[derive(Clone, Copy, Debug, PartialEq, Eq)]
+#[derive(Clone, Copy)]
 pub enum Policy {
     /// The least request that can go on, until none can. Our own rule.
     InOrder,
@@ -14,7 +14,7 @@ pub enum Policy {
 }
 
 /// The arguments of a call, and the ring that it is made on.
-#[derive(Clone, Copy, Debug, PartialEq, Eq)]
+#[derive(Clone, Copy)]
 pub struct Asked {
     /// How many entries are to be submitted. io_uring_enter(2), to_submit.
     pub to_submit: u32,

@@ -7,7 +7,7 @@ ghost use Rattle.uring_enter.specs.Cancels.{is_of_all, fits, fits_fd, can_be_fou
 
 /// What a cancel looks for, and whether it is content with one.
 #[repr(C)]
-#[derive(Clone, Copy, Debug, PartialEq, Eq, Drop)]
+#[derive(Clone, Copy, Drop)]
 pub struct Sought {
     /// The user data, if it looks by that.
     pub user_data: u64,
@@ -33,7 +33,7 @@ pub struct Sought {
 
 /// A request that hasn't ended, as a cancel sees it.
 #[repr(C)]
-#[derive(Clone, Copy, Debug, PartialEq, Eq, Drop)]
+#[derive(Clone, Copy, Drop)]
 pub struct Outstanding {
     pub user_data: u64,
 
@@ -64,7 +64,7 @@ pub struct Outstanding {
 
 /// A cancel that looks at requests, the oldest first.
 #[repr(C)]
-#[derive(Clone, Copy, Debug, PartialEq, Eq, Drop)]
+#[derive(Clone, Copy, Drop)]
 pub struct Cancel {
     pub sought: Sought,
 

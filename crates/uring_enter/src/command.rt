@@ -1,7 +1,7 @@
 //! What a call wants next.
 
 /// What a call wants of whoever carries it out.
-#[derive(Clone, Copy, Debug, PartialEq, Eq)]
+#[derive(Clone, Copy)]
 pub enum Command {
     /// Hear what the application has reaped, by the completion ring's head. With `true` the completions that have overflowed come into the ring, as far as there is room: io_uring_enter(2), IORING_ENTER_GETEVENTS.
     Hear(bool),

@@ -10,11 +10,11 @@ use crate::command::Command;
 use crate::reply::{Reply, Sight};
 
 /// The reply doesn't answer what the call wants. Nothing changes.
-#[derive(Clone, Copy, Debug, PartialEq, Eq)]
+#[derive(Clone, Copy)]
 pub struct WrongReply;
 
 /// What the last reply was, as far as what comes next depends on it.
-#[derive(Clone, Copy, Debug, PartialEq, Eq)]
+#[derive(Clone, Copy)]
 pub enum Before {
     /// There was none.
     Nothing,
@@ -27,7 +27,7 @@ pub enum Before {
 }
 
 /// One call of io_uring_enter(2): what it was asked for, and what it keeps of what was replied.
-#[derive(Clone, Copy, Debug, PartialEq, Eq)]
+#[derive(Clone, Copy)]
 pub struct Enter {
     pub asked: Asked,
     pub wanted: Command,

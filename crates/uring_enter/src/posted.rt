@@ -39,7 +39,7 @@ pub struct Posted {
 }
 
 /// A request hasn't ended, or the core has posted something else, or there is no room for another completion. Nothing changes.
-#[derive(Clone, Copy, Debug, PartialEq, Eq, Drop)]
+#[derive(Clone, Copy, Drop)]
 pub struct WrongEnd;
 
 impl Shown {

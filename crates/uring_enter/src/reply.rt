@@ -1,7 +1,7 @@
 //! What became of what a call wanted.
 
 /// What a call sees of its ring.
-#[derive(Clone, Copy, Debug, PartialEq, Eq)]
+#[derive(Clone, Copy)]
 pub struct Sight {
     /// How many completions the application can reap.
     pub ready: u32,
@@ -14,7 +14,7 @@ pub struct Sight {
 }
 
 /// What became of what a call wanted, and what is seen then.
-#[derive(Clone, Copy, Debug, PartialEq, Eq)]
+#[derive(Clone, Copy)]
 pub enum Reply {
     /// What the application has reaped was heard.
     Heard(Sight),

@@ -6,7 +6,7 @@ ghost use Rattle.uring_enter.specs.declared.posted.Posted.{Posted as Row};
 ghost use Rattle.uring_enter.specs.Postings.{Posting, Reaped as RowsReaped, KeepsPosted};
 
 /// What is to be stored into ring memory next.
-#[derive(Clone, Copy, Debug, PartialEq, Eq, Drop)]
+#[derive(Clone, Copy, Drop)]
 pub enum Store {
     /// The completion at this place among those that aren't reaped, the oldest first, into the cell of this position.
     Cell(u32, u32),
@@ -17,7 +17,7 @@ pub enum Store {
 
 /// What the application is shown of the completions that were posted and that it hasn't reaped, as far as is known.
 #[repr(C)]
-#[derive(Clone, Copy, Debug, PartialEq, Eq, Drop)]
+#[derive(Clone, Copy, Drop)]
 pub struct Shown {
     /// The completion ring's head.
     pub head: u32,

@@ -6,7 +6,7 @@ ghost use Rattle.uring_enter.specs.Clocks.{clock_of, lasts, are_timeout_flags};
 
 /// A timeout that starts. io_uring_enter(2), IORING_OP_TIMEOUT and IORING_OP_LINK_TIMEOUT.
 #[repr(C)]
-#[derive(Clone, Copy, Debug, PartialEq, Eq, Drop)]
+#[derive(Clone, Copy, Drop)]
 pub struct Start {
     /// The number of its request, in the order in which requests are submitted.
     pub number: u64,
@@ -23,7 +23,7 @@ pub struct Start {
 
 /// A timeout that runs.
 #[repr(C)]
-#[derive(Clone, Copy, Debug, PartialEq, Eq, Drop)]
+#[derive(Clone, Copy, Drop)]
 pub struct Timeout {
     /// The number of its request.
     pub number: u64,

@@ -10,12 +10,12 @@ use crate::timeout::{Start, Timeout, is_reached_by, later};
 use crate::timeout_rows::{next_of, reached_of, row_of, set_expiry, take_out};
 
 /// There is no room for another timeout. Nothing changes.
-#[derive(Clone, Copy, Debug, PartialEq, Eq, Drop)]
+#[derive(Clone, Copy, Drop)]
 pub struct NoRoom;
 
 /// The time of a ring, and how many timeouts run on it. Their rows are the caller's memory: the first `count` of those that each call is given.
 #[repr(C)]
-#[derive(Clone, Copy, Debug, PartialEq, Eq, Drop)]
+#[derive(Clone, Copy, Drop)]
 pub struct Times {
     /// The ring's time, in nanoseconds.
     pub time: u64,

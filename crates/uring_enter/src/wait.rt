@@ -10,7 +10,7 @@ use crate::times::{Times, due_of};
 
 /// By what a call that waits may be woken.
 #[repr(C)]
-#[derive(Clone, Copy, Debug, PartialEq, Eq, Drop)]
+#[derive(Clone, Copy, Drop)]
 pub struct WakeSources {
     /// A request waits for a descriptor.
     pub has_streams: bool,
@@ -23,7 +23,7 @@ pub struct WakeSources {
 }
 
 /// How a call waits.
-#[derive(Clone, Copy, Debug, PartialEq, Eq, Drop)]
+#[derive(Clone, Copy, Drop)]
 pub enum Wait {
     /// It sleeps until then at most, or until it is woken.
     Sleep(Option<u64>),
@@ -36,7 +36,7 @@ pub enum Wait {
 }
 
 /// What has come when a call has waited.
-#[derive(Clone, Copy, Debug, PartialEq, Eq, Drop)]
+#[derive(Clone, Copy, Drop)]
 pub enum Woken {
     /// The time of this timeout is over.
     Over(Timeout),

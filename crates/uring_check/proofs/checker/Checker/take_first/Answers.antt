@@ -1,8 +1,7 @@
-use Rattle.std.proofs.Common.{◌≡◌, ◌∙◌, ap, refl}
+use Rattle.std.proofs.Common.{◌≡◌, refl, subst}
 use Rattle.std.proofs.lemmas.Result.{on_ok_weaker}
 use Rattle.uring_trace.proofs.ExplainLines.{if_ok_both}
-use Rattle.uring_check.specs.Checking.{rules_of}
-use Rattle.uring_check.proofs.FirstLines.{took_first, took_missed, took_setup, with_setup}
+use Rattle.uring_check.proofs.FirstLines.{Goes, took_first, took_missed, took_setup}
 use Rattle.uring_check.proofs.checker.Checker.take_first.Goals as goal
 
 pub returns-in-Nothing-clause-looks : goal.returns-in-Nothing-clause-looks
@@ -11,11 +10,13 @@ returns-in-Nothing-clause-looks g c =
     (λ looks d all lines text e k. took_first d all lines text c.args.self.now c.take_next.new.self c.requires (rw c.in-Nothing.is at (c.in_ok-said.ensures.said text e)) (λ g a ls. looks g a ls text e) k)
     c.take_next.ensures.looks
 
-pub returns-in_ok-self-in-Says-clause-looks : goal.returns-in_ok-self-in-Says-clause-looks
-returns-in_ok-self-in-Says-clause-looks g c =
-    let setup_is : rules_of c.in_ok-self-in-Says.field-0 ≡ with_setup c.in-Says.setup (rules_of c.args.self.now.machine).ends = c.in_ok-self-in-Says.ensures.rules ∙ ap (with_setup c.in-Says.setup) c.ends.ensures in
+pub returns-in_ok-begin_at-in-Says-clause-looks : goal.returns-in_ok-begin_at-in-Says-clause-looks
+returns-in_ok-begin_at-in-Says-clause-looks g c =
+    let begun = c.in_ok-begin_at-in-Says.ensures.begun in
+    let new = c.take_next-in-Says.new.self in
     on_ok_weaker c.take_next-in-Says.result
-    (λ looks d all lines text e k. took_setup d all lines text c.in-Says.setup c.args.self.now c.take_next-in-Says.new.self c.in_ok-self-in-Says.field-0 c.requires (rw c.in-Says.is at (c.in_ok-said.ensures.said text e)) setup_is c.in_ok-self-in-Says.ensures.fits (λ g a ls. looks g a ls text e) k)
+    (λ looks d all lines text e k. took_setup d all lines text c.in-Says.setup c.args.self.now new c.begin_at.new.self.machine c.requires (rw c.in-Says.is at (c.in_ok-said.ensures.said text e)) begun.1 begun.2
+    (subst (λ mid. Goes text mid new) begun.0 (λ g a ls. looks g a ls text e)) k)
     c.take_next-in-Says.ensures.looks
 
 pub returns-in-Misses-clause-looks : goal.returns-in-Misses-clause-looks
