@@ -21,6 +21,7 @@ use Rattle.uring_core.proofs.Running.{running_asks}
 use Rattle.uring_effects.specs.Effects.{Makes, Takes, Timeline, made_in, requests_in, operation_at, files_at, effect_of, TakesEffect, EndsAsTaken, IsTimely, IsLawfulEarly, is_end_of, ends_in_effect, EndsLast, EffectsWait}
 use Rattle.uring_effects.specs.Laws.{IsLawfulLate}
 use Rattle.uring_effects.proofs.Waiting.{early_effects_can_wait}
+use Rattle.uring_timelines.specs.declared.mark.End.{End}
 use Rattle.uring_timelines.specs.declared.mark.Mark.{Mark}
 use Rattle.uring_timelines.specs.declared.mark.Mark.TheVariants.{Starts, Ends, Idle}
 use Rattle.uring_timelines.specs.declared.running.Running.{Running}
@@ -199,12 +200,14 @@ ends_before g (step.Finish k) (answer.Ended res bytes) t later ends so n o taken
   rest : List Mark
   rest = marks_behind g ((step.Finish k, answer.Ended res bytes) ∷ made_in t) later
 
-  by : (b : Bool) → (k == n) ≡ b → FitsEnd (if b then Some (record { res = res; bytes = bytes }) else end_in rest n) o
-  by true same = same_Some (record { res = res; bytes = bytes }) o (sym ends ∙ ap (effect_of t) (eqb-true k n same) ∙ taken)
+  by : (b : Bool) → (k == n) ≡ b → FitsEnd (if b then Some (record { res = res; bytes = Some bytes }) else end_in rest n) o
+  by true same =
+      let is : record { res = res; bytes = bytes } ≡ o = same_Some (record { res = res; bytes = bytes }) o (sym ends ∙ ap (effect_of t) (eqb-true k n same) ∙ taken) in
+      (ap (λ (x : Outcome). x.res) is, ap (λ (x : Outcome). x.bytes) is)
   by false other = so n o taken
 ends_before g (step.Finish k) _ t later ends so n o taken = so n o taken
 ends_before g (step.Issue k) answer.Run t later ends so n o taken =
-    subst (λ (x : Option Outcome). FitsEnd x o) (sym (start_ends k n (operation_running (requests_in g (Makes (step.Issue k, answer.Run) ∷ t)) k) (marks_behind g ((step.Issue k, answer.Run) ∷ made_in t) later))) (so n o taken)
+    subst (λ (x : Option End). FitsEnd x o) (sym (start_ends k n (operation_running (requests_in g (Makes (step.Issue k, answer.Run) ∷ t)) k) (marks_behind g ((step.Issue k, answer.Run) ∷ made_in t) later))) (so n o taken)
 ends_before g (step.Issue k) _ t later ends so n o taken = so n o taken
 ends_before g _ a t later ends so n o taken = so n o taken
 

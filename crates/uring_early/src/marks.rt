@@ -7,8 +7,8 @@ ghost use Rattle.uring_core.specs.StepAnswers.{CalledForApart};
 ghost use Rattle.uring_early.specs.Marks.{mark_by, marks_behind};
 
 use std::alloc::AllocError;
-use uring_core::{Answer, Core, Outcome, Refusal, Step};
-use uring_timelines::Mark;
+use uring_core::{Answer, Core, Refusal, Step};
+use uring_timelines::{End, Mark};
 
 /// Follows these events on a new core, as far as each is called for, with the mark of each, and tells whether all were: then they are a lawful history apart from what operations gave.
 pub(crate) fn add_marks(
@@ -62,7 +62,10 @@ fn mark_of(core: &Core, event: &(Step, Answer)) -> Mark
         },
         (Step::Finish { number }, Answer::Ended { res, bytes }) => Mark::Ends {
             number,
-            outcome: Outcome { res, bytes },
+            end: End {
+                res,
+                bytes: Some(bytes),
+            },
         },
         _ => Mark::Idle,
     }
