@@ -35,20 +35,20 @@ use Rattle.uring_early.specs.Marks.{mark_by, marks_behind, start_mark}
 use Rattle.uring_early.proofs.Standings.{Stands, ends_so, one_of, passes_so, stands_makes, stands_takes, takes_effect}
 
 -- these events, the oldest first, behind a history
-abbrev onto : History → List Event → History
+abbrev pub onto : History → List Event → History
 onto before [] = before
 onto before (e ∷ later) = onto (e ∷ before) later
 
-onto_is : (later : List Event) (before : History) → onto before later ≡ history_of later ++ before
+pub onto_is : (later : List Event) (before : History) → onto before later ≡ history_of later ++ before
 onto_is [] before = refl
 onto_is (e ∷ later) before = onto_is later (e ∷ before) ∙ sym (history_of-cons e later before)
 
-lawful_below : (g : Setup) (later : List Event) (before : History) → IsLawfulApart g (onto before later)
+pub lawful_below : (g : Setup) (later : List Event) (before : History) → IsLawfulApart g (onto before later)
     → IsLawfulApart g before
 lawful_below g [] before lawful = lawful
 lawful_below g ((s, a) ∷ later) before lawful = (lawful_below g later ((s, a) ∷ before) lawful).1
 
-first_stands : (g : Setup) → Stands g [] (at_first g.files)
+pub first_stands : (g : Setup) → Stands g [] (at_first g.files)
 first_stands g = record { files = sym (plain_new g.files); running = λ n. refl }
 
 -- ---- moves are a timeline
@@ -190,7 +190,7 @@ next_by g e [] later timely last = tt
 next_by g e (Makes x ∷ t) later timely last = tt
 next_by g e (Takes m p ∷ t) later timely last = next_by_end e m t later last timely.0.first
 
-start_ends : (n k : ℕ) (o : Option Op) (marks : List Mark) → end_in (start_mark n o ∷ marks) k ≡ end_in marks k
+pub start_ends : (n k : ℕ) (o : Option Op) (marks : List Mark) → end_in (start_mark n o ∷ marks) k ≡ end_in marks k
 start_ends n k None marks = refl
 start_ends n k (Some op) marks = refl
 
