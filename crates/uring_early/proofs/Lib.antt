@@ -15,4 +15,4 @@ pub mod Agreeing
 -- A history with some bytes at its finishes, from moves of a search that knows a part of them:
 pub mod Filling
 -- And such moves, from a history:
--- (pending2)
+pub mod Loosening
