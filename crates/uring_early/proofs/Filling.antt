@@ -23,7 +23,7 @@ use Rattle.uring_timelines.specs.declared.mark.Mark.{Mark}
 use Rattle.uring_timelines.specs.declared.mark.Mark.TheVariants.{Starts, Ends, Idle}
 use Rattle.uring_timelines.specs.declared.running.Running.{Running}
 use Rattle.uring_timelines.specs.Moves.{EndsBy, Goes, IsWalk, MeetsBytes, Move, Pass, Take, Passes, Standing, at_first, passed, taken_by, taken_of, took}
-use Rattle.uring_early.specs.Bare.{AreSameButBytes, IssueMeets, IssuesMeet, IsFoundBare, bare, blank, blank_answer, bytes_at, bytes_reaped, bytes_told, known_by, known_marks, mark_of, posted_in}
+use Rattle.uring_early.specs.Bare.{AreSameButBytes, IssueMeets, IssuesMeet, IsFoundBare, bare, blank, blank_answer, bytes_at, bytes_reaped, bytes_told, known_by, known_marks, known_mark, posted_in}
 use Rattle.uring_early.specs.Marks.{mark_by, start_mark}
 use Rattle.uring_early.specs.declared.decision.Found.TheVariants as found
 use Rattle.uring_early.proofs.Agreeing.{Agree, EndMeets, agree_behind, agree_none, next_has, payloads, posted_bytes, reaped_behind}
@@ -46,7 +46,7 @@ known_blank g known h e =
 start_same : (r : Requests) (n : ℕ) → operation_running (blank_requests r) n ≡ operation_running r n
 start_same r n = ap (λ (b : Bool). if b then Some (operation_of (entry_of r n)) else None) (running_same r n)
 
-mark_blank : (known : Option (List ℕ)) (r : Requests) (e : Event) → mark_of known (blank_requests r) (blank e) ≡ mark_of known r e
+mark_blank : (known : Option (List ℕ)) (r : Requests) (e : Event) → known_mark known (blank_requests r) (blank e) ≡ known_mark known r e
 mark_blank known r (step.Issue n, answer.Run) = ap (start_mark n) (start_same r n)
 mark_blank known r (step.Issue n, _) = refl
 mark_blank known r (step.Finish n, answer.Ended res bytes) = refl
@@ -56,10 +56,10 @@ mark_blank known r (step.Reap, _) = refl
 mark_blank known r (_, a) = refl
 
 pub mark_same : (g : Setup) (known : List (List ℕ)) (h : History) (e : Event)
-    → mark_of (known_by g known (map blank h) (blank e)) (world g (blank e ∷ map blank h)).requests (blank e)
-    ≡ mark_of (known_by g known h e) (world g (e ∷ h)).requests e
+    → known_mark (known_by g known (map blank h) (blank e)) (world g (blank e ∷ map blank h)).requests (blank e)
+    ≡ known_mark (known_by g known h e) (world g (e ∷ h)).requests e
 mark_same g known h e =
-    ap₂ (λ (k : Option (List ℕ)) (w : World). mark_of k w.requests (blank e)) (known_blank g known h e) (world_same g (e ∷ h))
+    ap₂ (λ (k : Option (List ℕ)) (w : World). known_mark k w.requests (blank e)) (known_blank g known h e) (world_same g (e ∷ h))
     ∙ mark_blank (known_by g known h e) (world g (e ∷ h)).requests e
 
 pub known_marks_same : (g : Setup) (known : List (List ℕ)) (h : History) (later : List Event)
@@ -70,7 +70,7 @@ known_marks_same g known h (e ∷ later) =
 
 -- what a mark passes to doesn't depend on the bytes that are known
 pub passed_so : (st : Standing) (known : Option (List ℕ)) (r : Requests) (e : Event)
-    → passed st (mark_of known r e) ≡ passed st (mark_by r e)
+    → passed st (known_mark known r e) ≡ passed st (mark_by r e)
 passed_so st known r (step.Finish n, answer.Ended res bytes) = refl
 passed_so st known r (step.Finish n, _) = refl
 passed_so st known r (_, a) = refl
@@ -105,7 +105,7 @@ effect_so true n op taken e ends = ends
 effect_so false n op taken e ends = absurd ends
 
 fill_event : (g : Setup) (t : Timeline) (st : Standing) (known : Option (List ℕ)) (r : Requests) (s : Step) (a : Answer) → Stands g t st
-    → Passes st.running (mark_of known r (blank (s, a))) → IssueMeets known (blank (s, a)) → Filled t known s a
+    → Passes st.running (known_mark known r (blank (s, a))) → IssueMeets known (blank (s, a)) → Filled t known s a
 fill_event g t st known r (step.Finish n) (answer.Ended res bytes) stands passes meets =
     finish_filled t known n res bytes (effect_of t n) refl
     (effect_so (is_running (requests_in g t) n) n (operation_at g t n) (effect_of t n) (record { res = res; bytes = known }) (subst (λ (x : Option Running). EndsBy (taken_of x) (record { res = res; bytes = known })) (stands.running n) passes))
@@ -129,7 +129,7 @@ record HasBareTimeline (g : Setup) (h : History) : Type 0 where
 
 -- what is left behind an event
 record Rest (g : Setup) (known : List (List ℕ)) (before : History) (later : List Event) (st : Standing) (moves : List Move) (e : Event) : Type 0 where
-  walk : IsWalk (passed st (mark_of (known_by g known before e) (world g (e ∷ before)).requests e)) (known_marks g known (e ∷ before) later) moves
+  walk : IsWalk (passed st (known_mark (known_by g known before e) (world g (e ∷ before)).requests e)) (known_marks g known (e ∷ before) later) moves
   lawful : IsLawfulApart g (onto (e ∷ before) later)
   meet : IssuesMeet g known (e ∷ before) later
 

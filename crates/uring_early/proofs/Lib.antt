@@ -16,3 +16,5 @@ pub mod Agreeing
 pub mod Filling
 -- And such moves, from a history:
 pub mod Loosening
+-- What is known of a history, event by event:
+pub mod Knowing

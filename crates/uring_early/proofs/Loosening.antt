@@ -18,7 +18,7 @@ use Rattle.uring_timelines.specs.declared.mark.Mark.{Mark}
 use Rattle.uring_timelines.specs.declared.mark.Mark.TheVariants.{Starts, Ends, Idle}
 use Rattle.uring_timelines.specs.declared.running.Running.{Running}
 use Rattle.uring_timelines.specs.Moves.{EndsBy, FitsEnd, Goes, IsWalk, MayTake, Meets, MeetsBytes, Move, Pass, Take, Passes, Standing, at_first, awaits, end_in, passed, taken_by, took}
-use Rattle.uring_early.specs.Bare.{AreSameButBytes, IssueMeets, IssuesMeet, bare, blank, bytes_reaped, bytes_told, known_by, known_marks, mark_of}
+use Rattle.uring_early.specs.Bare.{AreSameButBytes, IssueMeets, IssuesMeet, bare, blank, bytes_reaped, bytes_told, known_by, known_marks, known_mark}
 use Rattle.uring_early.specs.Marks.{mark_by, marks_behind, start_mark}
 use Rattle.uring_early.proofs.Agreeing.{Agree, EndMeets, met_behind, posted_bytes, told_agree}
 use Rattle.uring_early.proofs.BlankWorlds.{lawful_blank}
@@ -67,7 +67,7 @@ end_loose (Some o) known e bytes is meets ends =
     (ends.0, subst (MeetsBytes known) (subst (λ (k : Option (List ℕ)). MeetsBytes k o.bytes) is ends.1) meets)
 
 pass_loose : (running : List Running) (known : Option (List ℕ)) (r : Requests) (e : Event) → EndMeets known (end_told_by e)
-    → Passes running (mark_by r e) → Passes running (mark_of known r e)
+    → Passes running (mark_by r e) → Passes running (known_mark known r e)
 pass_loose running known r (step.Finish n, answer.Ended res bytes) meets passes =
     end_loose (taken_by running n) known (record { res = res; bytes = Some bytes }) bytes refl meets passes
 pass_loose running known r (step.Finish n, _) meets passes = passes
@@ -79,7 +79,7 @@ awaits_start running n None marks = refl
 awaits_start running n (Some op) marks = refl
 
 awaits_so : (running : List Running) (known : Option (List ℕ)) (r : Requests) (e : Event) (marks more : List Mark)
-    → awaits running (mark_by r e ∷ marks) ≡ awaits running (mark_of known r e ∷ more)
+    → awaits running (mark_by r e ∷ marks) ≡ awaits running (known_mark known r e ∷ more)
 awaits_so running known r (step.Finish n, answer.Ended res bytes) marks more = refl
 awaits_so running known r (step.Finish n, _) marks more = refl
 awaits_so running known r (step.Issue n, answer.Run) marks more =
@@ -99,7 +99,7 @@ fits_by false known bytes e o x y is meets later fits = later fits
 
 fits_more : (known : Option (List ℕ)) (r : Requests) (e : Event) (k : ℕ) (o : Outcome) (marks more : List Mark) → EndMeets known (end_told_by e)
     → (FitsEnd (end_in marks k) o → FitsEnd (end_in more k) o)
-    → FitsEnd (end_in (mark_by r e ∷ marks) k) o → FitsEnd (end_in (mark_of known r e ∷ more) k) o
+    → FitsEnd (end_in (mark_by r e ∷ marks) k) o → FitsEnd (end_in (known_mark known r e ∷ more) k) o
 fits_more known r (step.Finish n, answer.Ended res bytes) k o marks more meets later fits =
     fits_by (n == k) known bytes (record { res = res; bytes = Some bytes }) o (end_in marks k) (end_in more k) refl meets later fits
 fits_more known r (step.Finish n, _) k o marks more meets later fits = later fits

@@ -74,15 +74,15 @@ abbrev pub known_by : Setup → List (List ℕ) → History → Event → Option
 known_by g known before e = bytes_at known (posted_in g before) (posted_in g (e ∷ before))
 
 -- what an event has of operations, if so much is known of its bytes
-abbrev pub mark_of : Option (List ℕ) → Requests → Event → Mark
-mark_of known r (step.Finish n, answer.Ended res bytes) = Ends n (record { res = res; bytes = known })
-mark_of known r e = mark_by r e
+abbrev pub known_mark : Option (List ℕ) → Requests → Event → Mark
+known_mark known r (step.Finish n, answer.Ended res bytes) = Ends n (record { res = res; bytes = known })
+known_mark known r e = mark_by r e
 
 -- what these events have of operations behind a history, the oldest of them first
 abbrev pub known_marks : Setup → List (List ℕ) → History → List Event → List Mark
 known_marks g known before [] = []
 known_marks g known before (e ∷ later) =
-    mark_of (known_by g known before e) (world g (e ∷ before)).requests e ∷ known_marks g known (e ∷ before) later
+    known_mark (known_by g known before e) (world g (e ∷ before)).requests e ∷ known_marks g known (e ∷ before) later
 
 -- what is known of an issue that ends its request is what it gives
 abbrev pub IssueMeets : Option (List ℕ) → Event → Type 0

@@ -35,7 +35,7 @@ pub(crate) fn add_marks(
 }
 
 /// Follows an event, if it is called for, and tells whether it is.
-fn follow_one(core: &mut Core, event: &(Step, Answer)) -> Result<bool, AllocError>
+pub(crate) fn follow_one(core: &mut Core, event: &(Step, Answer)) -> Result<bool, AllocError>
     ensures setup { core.new.setup ≡ core.old.setup }
     ensures called { IfOk result
         (λ called. called ≡ true → (h : History) → FitsApart core.old h → FitsApart core.new (event.now ∷ h)) }
@@ -51,7 +51,7 @@ fn follow_one(core: &mut Core, event: &(Step, Answer)) -> Result<bool, AllocErro
 }
 
 /// The mark of the event that the core followed last.
-fn mark_of(core: &Core, event: &(Step, Answer)) -> Mark
+pub(crate) fn mark_of(core: &Core, event: &(Step, Answer)) -> Mark
     ensures { (h : History) → FitsApart core.now h
         → result ≡ mark_by (world core.now.setup h).requests event.now }
 {
