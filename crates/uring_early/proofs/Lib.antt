@@ -18,3 +18,5 @@ pub mod Filling
 pub mod Loosening
 -- What is known of a history, event by event:
 pub mod Knowing
+-- What a search comes to that knows a part of the bytes:
+pub mod Deciding
