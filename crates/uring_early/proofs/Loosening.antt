@@ -153,7 +153,7 @@ blank_bare (step.Finish n, answer.Ended res bytes) = refl
 blank_bare (step.Finish n, _) = refl
 blank_bare (_, a) = refl
 
-blanks_bare : (es : List Event) → map blank (map bare es) ≡ map blank es
+pub blanks_bare : (es : List Event) → map blank (map bare es) ≡ map blank es
 blanks_bare [] = refl
 blanks_bare (e ∷ es) = ap₂ (λ (x : Event) (xs : List Event). x ∷ xs) (blank_bare e) (blanks_bare es)
 
