@@ -7,6 +7,7 @@ mod crashing;
 mod fault;
 mod filled;
 mod listing;
+mod moments;
 mod outlet;
 mod paged;
 mod powered;
@@ -17,6 +18,7 @@ use crate::crashing::{asked_of, kind_of, run_crash};
 use crate::fault::Fault;
 use crate::filled::run_fill;
 use crate::listing::{Wanted, claim_of, run_outcomes};
+use crate::moments::run_early;
 use crate::outlet::Outlet;
 use crate::paged::{run_page, run_recorded_page};
 use crate::strict::StrictReader;
@@ -36,10 +38,10 @@ use uring_play::{play, play_shared};
 use uring_trace::{TraceFault, explain, trace};
 
 /// The exit status if all went well.
-const DONE: u8 = 0;
+pub(crate) const DONE: u8 = 0;
 
 /// The exit status if an answer of a recorded trace isn't called for.
-const WRONG: u8 = 3;
+pub(crate) const WRONG: u8 = 3;
 
 /// The exit status if a line of `explain`, `check`, `crash`, `fill` or a strict trace was bad.
 pub(crate) const BAD_LINE: u8 = 4;
@@ -125,6 +127,7 @@ fn run_words<R: Threads + Wait + Copy + Send + 'static>(
             is_apart,
             has_results,
         } => run_check(rt, &setup, is_all, ends_of(is_apart, has_results)),
+        Options::CheckEarly { setup, most } => run_early(rt, &setup, most),
         Options::Explain(setup) => run_explain(rt, &setup),
         Options::Graph { setup, at } => run_graph(rt, &setup, at),
         Options::Timeline(setup) => run_timeline(rt, &setup),

@@ -7,3 +7,16 @@ pub mod Standings
 pub mod Timelines
 -- The marks of a history, one by one:
 pub mod Marking
+-- Requests and worlds, whatever bytes were given:
+pub mod BlankRequests
+pub mod BlankWorlds
+-- The bytes of completions that were posted, and those that are known:
+pub mod Agreeing
+-- A history with some bytes at its finishes, from moves of a search that knows a part of them:
+pub mod Filling
+-- And such moves, from a history:
+pub mod Loosening
+-- What is known of a history, event by event:
+pub mod Knowing
+-- What a search comes to that knows a part of the bytes:
+pub mod Deciding

@@ -21,7 +21,7 @@ use Rattle.uring_early.specs.Marks.{mark_by, start_mark}
 -- whether an operation runs behind a mark, if it did before it or not as told
 abbrev pub runs_behind : Mark → Bool → ℕ → Bool
 runs_behind (Starts m op) b n = b || (m == n)
-runs_behind (Ends m o) b n = b && not (m == n)
+runs_behind (Ends m e) b n = b && not (m == n)
 runs_behind Idle b n = b
 
 -- ---- of Bools

@@ -27,7 +27,7 @@ use Rattle.uring_effects.specs.Effects.{Makes, Takes, Timeline, made_in, request
 use Rattle.uring_timelines.specs.declared.mark.Mark.{Mark}
 use Rattle.uring_timelines.specs.declared.mark.Mark.TheVariants.{Starts, Ends, Idle}
 use Rattle.uring_timelines.specs.declared.running.Running.{Running}
-use Rattle.uring_timelines.specs.Moves.{MayTake, Passes, Standing, look, op_of, passed, plain, taken_by, taken_of, taking, took, with_taken, without}
+use Rattle.uring_timelines.specs.Moves.{EndsBy, MayTake, Passes, Standing, look, op_of, passed, plain, taken_by, taken_of, taking, took, with_taken, without}
 use Rattle.uring_timelines.proofs.Plain.{after_plain, outcome_back}
 use Rattle.uring_early.specs.Marks.{mark_by, start_mark}
 use Rattle.uring_early.proofs.Running.{open_of, runs_behind, runs_by}
@@ -163,7 +163,7 @@ unstarted_free g t n timely lawful idle = by (effect_of t n) refl where
 
 passed_files : (s : Standing) (m : Mark) → (passed s m).files ≡ s.files
 passed_files s (Starts n op) = refl
-passed_files s (Ends n o) = refl
+passed_files s (Ends n e) = refl
 passed_files s Idle = refl
 
 -- a request of the same entry stands as before, if it runs as before
@@ -217,7 +217,7 @@ start_from : (r : Requests) (s : Step) (a : Answer) (k : ℕ) (op : Op) → mark
 start_from r (step.Issue n) answer.Run k op mark = start_by r n k op (operation_running r n) refl mark
 start_from r (step.Issue n) _ k op mark = let f : Idle ≡ Starts k op = mark in absurd cc
 start_from r (step.Finish n) (answer.Ended res bytes) k op mark =
-    let f : Ends n (record { res = res; bytes = bytes }) ≡ Starts k op = mark in absurd cc
+    let f : Ends n (record { res = res; bytes = Some bytes }) ≡ Starts k op = mark in absurd cc
 start_from r (step.Finish n) _ k op mark = let f : Idle ≡ Starts k op = mark in absurd cc
 start_from r _ a k op mark = let f : Idle ≡ Starts k op = mark in absurd cc
 
@@ -299,7 +299,7 @@ module _ (g : Setup) (t : Timeline) (st : Standing) (s : Step) (a : Answer) wher
       → (n : ℕ) → look (passed st m).running n ≡ standing_at (requests_in g (Makes (s, a) ∷ t)) (effect_of t n) n
   behind_mark Idle is timely stands lawful n =
       behind_idle stands lawful (λ k. runs_by g (world g (made_in t)) s a k (change_of g (world g (made_in t)) s a lawful.0) ∙ ap (λ (x : Mark). runs_behind x (is_running (requests_in g t) k) k) is) n
-  behind_mark (Ends m o) is timely stands lawful n =
+  behind_mark (Ends m e) is timely stands lawful n =
       behind_end m stands lawful (λ k. runs_by g (world g (made_in t)) s a k (change_of g (world g (made_in t)) s a lawful.0) ∙ ap (λ (x : Mark). runs_behind x (is_running (requests_in g t) k) k) is) n
   behind_mark (Starts m op) is timely stands lawful n =
       let start : IsStart (requests_in g (Makes (s, a) ∷ t)) s a m op = start_from (requests_in g (Makes (s, a) ∷ t)) s a m op is in
@@ -359,11 +359,16 @@ taken_one_of : (b : Bool) (n : ℕ) (op : Op) (taken : Option Outcome) (o : Outc
 taken_one_of true n op taken o is = is
 taken_one_of false n op taken o is = let f : None ≡ Some o = is in absurd cc
 
+ended_by : (taken : Option Outcome) (res : ℤ) (bytes : List ℕ)
+    → EndsBy taken (record { res = res; bytes = Some bytes }) → taken ≡ Some (record { res = res; bytes = bytes })
+ended_by None res bytes ends = absurd ends
+ended_by (Some o) res bytes ends = λ i. Some (record { res = sym ends.0 i; bytes = sym ends.1 i })
+
 -- what passes the mark of an end ends as it was taken
 pub ends_so : (g : Setup) (t : Timeline) (st : Standing) (s : Step) (a : Answer) → Stands g t st
     → Passes st.running (mark_by (requests_in g (Makes (s, a) ∷ t)) (s, a)) → EndsAsTaken t (s, a)
 ends_so g t st (step.Finish n) (answer.Ended res bytes) stands passes =
-    taken_one_of (is_running (requests_in g t) n) n (operation_at g t n) (effect_of t n) (record { res = res; bytes = bytes }) (ap taken_of (sym (stands.running n)) ∙ passes)
+    taken_one_of (is_running (requests_in g t) n) n (operation_at g t n) (effect_of t n) (record { res = res; bytes = bytes }) (ap taken_of (sym (stands.running n)) ∙ ended_by (taken_by st.running n) res bytes passes)
 ends_so g t st (step.Finish n) _ stands passes = tt
 ends_so g t st _ a stands passes = tt
 
@@ -380,9 +385,11 @@ pub passes_so : (g : Setup) (t : Timeline) (st : Standing) (s : Step) (a : Answe
     → CalledForApart g (world g (made_in t)) s a
     → EndsAsTaken t (s, a) → Passes st.running (mark_by (requests_in g (Makes (s, a) ∷ t)) (s, a))
 passes_so g t st (step.Finish n) (answer.Ended res bytes) stands called ends =
+    let taken : taken_by st.running n ≡ Some (record { res = res; bytes = bytes }) =
     ap taken_of (stands.running n)
     ∙ ap (λ (b : Bool). taken_of (one_of b n (operation_at g t n) (effect_of t n))) (finish_runs (is_running (requests_in g t) n) res bytes called)
-    ∙ ends
+    ∙ ends in
+    subst (λ (o : Option Outcome). EndsBy o (record { res = res; bytes = Some bytes })) (sym taken) (refl, refl)
 passes_so g t st (step.Finish n) _ stands called ends = tt
 passes_so g t st (step.Issue n) answer.Run stands called ends =
     start_passes st.running n (operation_running (requests_in g (Makes (step.Issue n, answer.Run) ∷ t)) n)

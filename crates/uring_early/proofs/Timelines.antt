@@ -21,6 +21,7 @@ use Rattle.uring_core.proofs.Running.{running_asks}
 use Rattle.uring_effects.specs.Effects.{Makes, Takes, Timeline, made_in, requests_in, operation_at, files_at, effect_of, TakesEffect, EndsAsTaken, IsTimely, IsLawfulEarly, is_end_of, ends_in_effect, EndsLast, EffectsWait}
 use Rattle.uring_effects.specs.Laws.{IsLawfulLate}
 use Rattle.uring_effects.proofs.Waiting.{early_effects_can_wait}
+use Rattle.uring_timelines.specs.declared.mark.End.{End}
 use Rattle.uring_timelines.specs.declared.mark.Mark.{Mark}
 use Rattle.uring_timelines.specs.declared.mark.Mark.TheVariants.{Starts, Ends, Idle}
 use Rattle.uring_timelines.specs.declared.running.Running.{Running}
@@ -34,20 +35,20 @@ use Rattle.uring_early.specs.Marks.{mark_by, marks_behind, start_mark}
 use Rattle.uring_early.proofs.Standings.{Stands, ends_so, one_of, passes_so, stands_makes, stands_takes, takes_effect}
 
 -- these events, the oldest first, behind a history
-abbrev onto : History → List Event → History
+abbrev pub onto : History → List Event → History
 onto before [] = before
 onto before (e ∷ later) = onto (e ∷ before) later
 
-onto_is : (later : List Event) (before : History) → onto before later ≡ history_of later ++ before
+pub onto_is : (later : List Event) (before : History) → onto before later ≡ history_of later ++ before
 onto_is [] before = refl
 onto_is (e ∷ later) before = onto_is later (e ∷ before) ∙ sym (history_of-cons e later before)
 
-lawful_below : (g : Setup) (later : List Event) (before : History) → IsLawfulApart g (onto before later)
+pub lawful_below : (g : Setup) (later : List Event) (before : History) → IsLawfulApart g (onto before later)
     → IsLawfulApart g before
 lawful_below g [] before lawful = lawful
 lawful_below g ((s, a) ∷ later) before lawful = (lawful_below g later ((s, a) ∷ before) lawful).1
 
-first_stands : (g : Setup) → Stands g [] (at_first g.files)
+pub first_stands : (g : Setup) → Stands g [] (at_first g.files)
 first_stands g = record { files = sym (plain_new g.files); running = λ n. refl }
 
 -- ---- moves are a timeline
@@ -189,7 +190,7 @@ next_by g e [] later timely last = tt
 next_by g e (Makes x ∷ t) later timely last = tt
 next_by g e (Takes m p ∷ t) later timely last = next_by_end e m t later last timely.0.first
 
-start_ends : (n k : ℕ) (o : Option Op) (marks : List Mark) → end_in (start_mark n o ∷ marks) k ≡ end_in marks k
+pub start_ends : (n k : ℕ) (o : Option Op) (marks : List Mark) → end_in (start_mark n o ∷ marks) k ≡ end_in marks k
 start_ends n k None marks = refl
 start_ends n k (Some op) marks = refl
 
@@ -199,12 +200,14 @@ ends_before g (step.Finish k) (answer.Ended res bytes) t later ends so n o taken
   rest : List Mark
   rest = marks_behind g ((step.Finish k, answer.Ended res bytes) ∷ made_in t) later
 
-  by : (b : Bool) → (k == n) ≡ b → FitsEnd (if b then Some (record { res = res; bytes = bytes }) else end_in rest n) o
-  by true same = same_Some (record { res = res; bytes = bytes }) o (sym ends ∙ ap (effect_of t) (eqb-true k n same) ∙ taken)
+  by : (b : Bool) → (k == n) ≡ b → FitsEnd (if b then Some (record { res = res; bytes = Some bytes }) else end_in rest n) o
+  by true same =
+      let is : record { res = res; bytes = bytes } ≡ o = same_Some (record { res = res; bytes = bytes }) o (sym ends ∙ ap (effect_of t) (eqb-true k n same) ∙ taken) in
+      (ap (λ (x : Outcome). x.res) is, ap (λ (x : Outcome). x.bytes) is)
   by false other = so n o taken
 ends_before g (step.Finish k) _ t later ends so n o taken = so n o taken
 ends_before g (step.Issue k) answer.Run t later ends so n o taken =
-    subst (λ (x : Option Outcome). FitsEnd x o) (sym (start_ends k n (operation_running (requests_in g (Makes (step.Issue k, answer.Run) ∷ t)) k) (marks_behind g ((step.Issue k, answer.Run) ∷ made_in t) later))) (so n o taken)
+    subst (λ (x : Option End). FitsEnd x o) (sym (start_ends k n (operation_running (requests_in g (Makes (step.Issue k, answer.Run) ∷ t)) k) (marks_behind g ((step.Issue k, answer.Run) ∷ made_in t) later))) (so n o taken)
 ends_before g (step.Issue k) _ t later ends so n o taken = so n o taken
 ends_before g _ a t later ends so n o taken = so n o taken
 

@@ -17,7 +17,7 @@ start_mark n None = Idle
 -- what an event has of operations, by the requests behind it
 abbrev pub mark_by : Requests → Event → Mark
 mark_by r (step.Issue n, answer.Run) = start_mark n (operation_running r n)
-mark_by r (step.Finish n, answer.Ended res bytes) = Ends n (record { res = res; bytes = bytes })
+mark_by r (step.Finish n, answer.Ended res bytes) = Ends n (record { res = res; bytes = Some bytes })
 mark_by r event = Idle
 
 -- what these events have of operations behind a history, the oldest of them first

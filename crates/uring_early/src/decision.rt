@@ -65,7 +65,7 @@ fn find_by(
 }
 
 /// What was found, by where the search was.
-fn found_by(fate: Fate) -> Found
+pub(crate) fn found_by(fate: Fate) -> Found
     ensures { result ≡ decided.found_by fate }
 {
     match fate {

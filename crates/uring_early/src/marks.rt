@@ -7,8 +7,8 @@ ghost use Rattle.uring_core.specs.StepAnswers.{CalledForApart};
 ghost use Rattle.uring_early.specs.Marks.{mark_by, marks_behind};
 
 use std::alloc::AllocError;
-use uring_core::{Answer, Core, Outcome, Refusal, Step};
-use uring_timelines::Mark;
+use uring_core::{Answer, Core, Refusal, Step};
+use uring_timelines::{End, Mark};
 
 /// Follows these events on a new core, as far as each is called for, with the mark of each, and tells whether all were: then they are a lawful history apart from what operations gave.
 pub(crate) fn add_marks(
@@ -35,7 +35,7 @@ pub(crate) fn add_marks(
 }
 
 /// Follows an event, if it is called for, and tells whether it is.
-fn follow_one(core: &mut Core, event: &(Step, Answer)) -> Result<bool, AllocError>
+pub(crate) fn follow_one(core: &mut Core, event: &(Step, Answer)) -> Result<bool, AllocError>
     ensures setup { core.new.setup ≡ core.old.setup }
     ensures called { IfOk result
         (λ called. called ≡ true → (h : History) → FitsApart core.old h → FitsApart core.new (event.now ∷ h)) }
@@ -51,7 +51,7 @@ fn follow_one(core: &mut Core, event: &(Step, Answer)) -> Result<bool, AllocErro
 }
 
 /// The mark of the event that the core followed last.
-fn mark_of(core: &Core, event: &(Step, Answer)) -> Mark
+pub(crate) fn mark_of(core: &Core, event: &(Step, Answer)) -> Mark
     ensures { (h : History) → FitsApart core.now h
         → result ≡ mark_by (world core.now.setup h).requests event.now }
 {
@@ -62,7 +62,10 @@ fn mark_of(core: &Core, event: &(Step, Answer)) -> Mark
         },
         (Step::Finish { number }, Answer::Ended { res, bytes }) => Mark::Ends {
             number,
-            outcome: Outcome { res, bytes },
+            end: End {
+                res,
+                bytes: Some(bytes),
+            },
         },
         _ => Mark::Idle,
     }

@@ -8,8 +8,8 @@ use Rattle.clap.specs.declared.parser.matches.ArgMatches.{ArgMatches}
 use Rattle.clap.specs.declared.parser.matches.ArgMatches.TheViews.{out-ArgMatches}
 use Rattle.uring_entry.specs.Setup.{Setup}
 use Rattle.uring_options.specs.declared.answers.Options.{Options}
-use Rattle.uring_options.specs.declared.answers.Options.TheVariants.{Explain, Graph, Timeline, Page, Json, Check, CheckPage, CheckJson, Play, Shared}
-use Rattle.uring_options.specs.CommandLine.{Gives, uring, Explains, Checks, Plays, Numbers, IsGiven, AreWorkers, IsSetupOver, IsTracedOver, IsRunOver}
+use Rattle.uring_options.specs.declared.answers.Options.TheVariants.{Explain, Graph, Timeline, Page, Json, Check, CheckEarly, CheckPage, CheckJson, Play, Shared}
+use Rattle.uring_options.specs.CommandLine.{Gives, uring, Explains, Checks, Plays, Numbers, IsCheckedOver, IsGiven, AreWorkers, IsSetupOver, IsTracedOver, IsRunOver}
 use Rattle.uring_options.proofs.CommandOptions.{uring_is_simple}
 
 -- ---- the command
@@ -74,7 +74,7 @@ explained_over rows n s o false false false false at over graph moment timeline 
 
 -- what is checked over it, as the options of a check say
 checked_by : (rows : List Row) (n : Numbers) (s : Setup) (o : Options) (all apart results pages tells : Bool)
-    → IsTracedOver rows n s → IsGiven rows (codes "all") all → IsGiven rows (codes "apart") apart
+    → IsCheckedOver rows n s → IsGiven rows (codes "all") all → IsGiven rows (codes "apart") apart
     → IsGiven rows (codes "results") results
     → IsGiven rows (codes "page") pages → IsGiven rows (codes "json") tells
     → o ≡ (if all || apart || results then Check s all apart results else if pages then CheckPage s else if tells then CheckJson s else Check s all apart results)
@@ -93,7 +93,7 @@ checked_by rows n s o false false false false false over whole ends gives page j
     subst (IsRunOver Checks rows n) (sym is) (refl, over, whole, ends, gives, (page, json))
 
 pub checked_over : (rows : List Row) (n : Numbers) (s : Setup) (o : Options) (all apart results verdict pages tells : Bool)
-    → IsTracedOver rows n s → IsGiven rows (codes "all") all → IsGiven rows (codes "apart") apart
+    → IsCheckedOver rows n s → IsGiven rows (codes "all") all → IsGiven rows (codes "apart") apart
     → IsGiven rows (codes "results") results
     → IsGiven rows (codes "page") pages → IsGiven rows (codes "json") tells
     → verdict ≡ (all || apart || results)
@@ -102,6 +102,16 @@ pub checked_over : (rows : List Row) (n : Numbers) (s : Setup) (o : Options) (al
 checked_over rows n s o all apart results verdict pages tells over whole ends gives page json same is =
     checked_by rows n s o all apart results pages tells over whole ends gives page json
     (is ∙ ap (λ (b : Bool). if b then Check s all apart results else if pages then CheckPage s else if tells then CheckJson s else Check s all apart results) same)
+
+-- what a check is asked for, with effects at any moment or without
+pub early_over : (rows : List Row) (n : Numbers) (s : Setup) (o plain : Options) (early : Bool) (most : Option ℕ)
+    → IsTracedOver rows n s → IsGiven rows (codes "early-effects") early → Gives rows (codes "most") most
+    → (IsCheckedOver rows n s → IsRunOver Checks rows n plain)
+    → o ≡ (if early then CheckEarly s most else plain) → IsRunOver Checks rows n o
+early_over rows n s o plain true most over given gives others is =
+    subst (IsRunOver Checks rows n) (sym is) (refl, over, given, gives)
+early_over rows n s o plain false most over given gives others is =
+    subst (IsRunOver Checks rows n) (sym is) (others (over, given))
 
 -- what is played over it, as the option for shared words says
 pub played_over : (rows : List Row) (n : Numbers) (s : Setup) (workers : ℕ) (o : Options) (shared : Bool)

@@ -18,7 +18,7 @@ use Rattle.uring_entry.proofs.Powers.{rounded_once}
 use Rattle.uring_options.specs.CommandLine.{uring, command_rows, Gives, Numbers, AreInRange, IsWithin, IsSetupOver, Writes, IsTooSmall, AskFor, AskForTooSmall, IsMemory, IsFaultOf}
 use Rattle.uring_options.specs.OptionRows.{AnswersNamed}
 use Rattle.uring_options.specs.declared.answers.Options.{Options}
-use Rattle.uring_options.specs.declared.answers.Options.TheVariants.{Trace, Explain, Graph, Timeline, Page, Json, Check, CheckPage, CheckJson, Play, Shared, Crash, Outcomes, Fill}
+use Rattle.uring_options.specs.declared.answers.Options.TheVariants.{Trace, Explain, Graph, Timeline, Page, Json, Check, CheckEarly, CheckPage, CheckJson, Play, Shared, Crash, Outcomes, Fill}
 use Rattle.uring_options.specs.declared.answers.OptionsFault.{OptionsFault}
 use Rattle.uring_options.specs.declared.answers.OptionsFault.TheVariants.{Small, Words}
 
@@ -97,11 +97,13 @@ not_both words (Page s) (n, writes, over) small =
 not_both words (Json s) (n, writes, over) small =
     not_over words n (record s { stops = false }) writes over.1.0 small
 not_both words (Check s all apart results) (n, writes, over) small =
+    not_over words n (record s { stops = false }) writes over.1.0.0 small
+not_both words (CheckEarly s most) (n, writes, over) small =
     not_over words n (record s { stops = false }) writes over.1.0 small
 not_both words (CheckPage s) (n, writes, over) small =
-    not_over words n (record s { stops = false }) writes over.1.0 small
+    not_over words n (record s { stops = false }) writes over.1.0.0 small
 not_both words (CheckJson s) (n, writes, over) small =
-    not_over words n (record s { stops = false }) writes over.1.0 small
+    not_over words n (record s { stops = false }) writes over.1.0.0 small
 not_both words (Play s workers) (n, writes, over) small = not_over words n s writes over.1 small
 not_both words (Shared s workers) (n, writes, over) small = not_over words n s writes over.1 small
 not_both words (Crash s file unit at seed is_count is_all most is_holds is_each) (n, writes, over) small =

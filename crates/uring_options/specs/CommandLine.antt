@@ -14,7 +14,7 @@ use Rattle.clap.specs.declared.builder.value_parser.ValueParser.TheVariants.{Sig
 use Rattle.clap.specs.declared.error.kind.ErrorKind.TheVariants.{OutOfMemory}
 use Rattle.uring_entry.specs.Setup.{Setup, IsSetupFor}
 use Rattle.uring_options.specs.declared.answers.Options.{Options}
-use Rattle.uring_options.specs.declared.answers.Options.TheVariants.{Trace, Explain, Graph, Timeline, Page, Json, Check, CheckPage, CheckJson, Play, Shared, Crash, Outcomes, Fill}
+use Rattle.uring_options.specs.declared.answers.Options.TheVariants.{Trace, Explain, Graph, Timeline, Page, Json, Check, CheckEarly, CheckPage, CheckJson, Play, Shared, Crash, Outcomes, Fill}
 use Rattle.uring_options.specs.declared.answers.OptionsFault.{OptionsFault}
 use Rattle.uring_options.specs.declared.answers.OptionsFault.TheVariants.{Small, Words}
 
@@ -52,7 +52,8 @@ own_options Explains = flag (codes "stop") ∷ flag (codes "graph")
     ∷ number (codes "at") 0 4294967295 ∷ flag (codes "timeline")
     ∷ flag (codes "page") ∷ flag (codes "json") ∷ []
 own_options Checks = flag (codes "stop") ∷ flag (codes "all") ∷ flag (codes "apart")
-    ∷ flag (codes "results") ∷ flag (codes "page") ∷ flag (codes "json") ∷ []
+    ∷ flag (codes "results") ∷ flag (codes "page") ∷ flag (codes "json")
+    ∷ flag (codes "early-effects") ∷ number (codes "most") 1 4294967295 ∷ []
 own_options Plays = number (codes "workers") 1 8 ∷ flag (codes "shared") ∷ []
 own_options Crashes = flag (codes "stop") ∷ number (codes "file") 0 63
     ∷ number (codes "unit") 1 65536 ∷ number (codes "at") 0 4294967295
@@ -208,12 +209,16 @@ abbrev pub TellsVerdict : List Row → Bool → Type 0
 TellsVerdict rows true = Unit {0}
 TellsVerdict rows false = IsGiven rows (codes "page") false × IsGiven rows (codes "json") false
 
+-- such a set-up, and a check that is told or drawn: `--early-effects` isn't given
+abbrev pub IsCheckedOver : List Row → Numbers → Setup → Type 0
+IsCheckedOver rows n s = IsTracedOver rows n s × IsGiven rows (codes "early-effects") false
+
 -- a check is drawn: none of `--all`, `--apart` and `--results` is given
 abbrev pub IsDrawnCheck : List Row → Type 0
 IsDrawnCheck rows = IsGiven rows (codes "all") false × IsGiven rows (codes "apart") false
     × IsGiven rows (codes "results") false
 
--- what a command runs, over the set-up that these rows and numbers give: `uring explain` the graph if `--graph` is given, behind the line that `--at` gives, else the timeline if `--timeline` is, else the page if `--page` is, else its data if `--json` is, and else the answers; `uring check` the verdict with `--all`, `--apart` or `--results`, else the page if `--page` is given, else its data if `--json` is, and else the verdict; `uring play` a play over shared words if `--shared` is given, and else one over lanes; `uring crash` what is left of file 0 if none is given, in units of one byte if none is given
+-- what a command runs, over the set-up that these rows and numbers give: `uring explain` the graph if `--graph` is given, behind the line that `--at` gives, else the timeline if `--timeline` is, else the page if `--page` is, else its data if `--json` is, and else the answers; `uring check` whether effects at any moment explain the trace with `--early-effects`, else the verdict with `--all`, `--apart` or `--results`, else the page if `--page` is given, else its data if `--json` is, and else the verdict; `uring play` a play over shared words if `--shared` is given, and else one over lanes; `uring crash` what is left of file 0 if none is given, in units of one byte if none is given
 abbrev pub IsRunOver : Run → List Row → Numbers → Options → Type 0
 IsRunOver run rows n (Trace s echo strict) = (run ≡ Traces) × IsTracedOver rows n s
     × IsGiven rows (codes "echo") echo × IsGiven rows (codes "strict") strict
@@ -230,12 +235,14 @@ IsRunOver run rows n (Page s) = (run ≡ Explains) × IsTracedOver rows n s
 IsRunOver run rows n (Json s) = (run ≡ Explains) × IsTracedOver rows n s
     × IsGiven rows (codes "graph") false × IsGiven rows (codes "timeline") false
     × IsGiven rows (codes "page") false × IsGiven rows (codes "json") true
-IsRunOver run rows n (Check s all apart results) = (run ≡ Checks) × IsTracedOver rows n s
+IsRunOver run rows n (Check s all apart results) = (run ≡ Checks) × IsCheckedOver rows n s
     × IsGiven rows (codes "all") all × IsGiven rows (codes "apart") apart
     × IsGiven rows (codes "results") results × TellsVerdict rows (all || apart || results)
-IsRunOver run rows n (CheckPage s) = (run ≡ Checks) × IsTracedOver rows n s × IsDrawnCheck rows
+IsRunOver run rows n (CheckEarly s most) = (run ≡ Checks) × IsTracedOver rows n s
+    × IsGiven rows (codes "early-effects") true × Gives rows (codes "most") most
+IsRunOver run rows n (CheckPage s) = (run ≡ Checks) × IsCheckedOver rows n s × IsDrawnCheck rows
     × IsGiven rows (codes "page") true
-IsRunOver run rows n (CheckJson s) = (run ≡ Checks) × IsTracedOver rows n s × IsDrawnCheck rows
+IsRunOver run rows n (CheckJson s) = (run ≡ Checks) × IsCheckedOver rows n s × IsDrawnCheck rows
     × IsGiven rows (codes "page") false × IsGiven rows (codes "json") true
 IsRunOver run rows n (Play s workers) =
     (run ≡ Plays) × IsSetupOver n s × AreWorkers rows workers × IsGiven rows (codes "shared") false

@@ -49,6 +49,12 @@ pub enum Options {
         has_results: bool,
     },
 
+    /// `uring check --early-effects`: the check of a recorded trace over this set-up, whose operations may take effect at any moment between issue and finish, in so many moves at most (`--most`).
+    CheckEarly {
+        setup: Setup,
+        most: Option<u32>,
+    },
+
     /// `uring check --page`: the page that draws a recorded trace over this set-up, up to the line at which its check ends.
     CheckPage(Setup),
 

@@ -9,9 +9,9 @@ ghost use Rattle.uring_options.specs.CommandLine.{option_rule, flag_rule, uring}
 
 use crate::helps::{CLAIMS, IMAGES, ITEMS, REASONS, RECORDS, SEEN, STEPS};
 use crate::option_rows::{
-    ALL, ALLOWED, ALWAYS, APART, AT, CONTENTS, COUNT, CQ, EACH, ECHO, FILE, FILES, GRAPH, GRAPH_AT,
-    HISTORIES, HOLDS, JSON, LIST, LISTED, MOST, NEVER, NUMBER, OptionRow, PAGE, POWER, RESULTS,
-    SEED, SHARED, SQ, START, STOP, STRICT, TIMELINE, UNIT, WORKERS,
+    ALL, ALLOWED, ALWAYS, APART, AT, CONTENTS, COUNT, CQ, EACH, EARLY, ECHO, FILE, FILES, GRAPH,
+    GRAPH_AT, HISTORIES, HOLDS, JSON, LIST, LISTED, MOST, MOVES, NEVER, NUMBER, OptionRow, PAGE,
+    POWER, RESULTS, SEED, SHARED, SQ, START, STOP, STRICT, TIMELINE, UNIT, WORKERS,
 };
 use clap::builder::ValueParser;
 use clap::{Arg, ArgAction, Command};
@@ -49,7 +49,9 @@ static CHECK: CommandRow = CommandRow {
     name: "check",
     about: "Read a recorded trace, a step with its answer on each line, and tell whether it is lawful",
     after_help: RECORDS,
-    options: &[SQ, CQ, FILES, START, STOP, ALL, APART, ALLOWED, PAGE, JSON],
+    options: &[
+        SQ, CQ, FILES, START, STOP, ALL, APART, ALLOWED, PAGE, JSON, EARLY, MOVES,
+    ],
 };
 
 /// `uring play`.

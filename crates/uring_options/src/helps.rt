@@ -108,6 +108,12 @@ its operation may give: 0 of a no-op, 0 or an error of an fsync, 0 to the length
 or an error of a read or a write. An error is -1 to -4095, and not -125. What is
 wanted there is of the form: a result of a write of 5.
 
+With --early-effects each operation takes effect at some moment between its issue
+and its finish, and not at the finish alone. Such moments are looked for, so that
+each result, and the data of each completion that is reaped, is what the files
+gave then. If there are none, that is told, and the status is 3. With --most N the
+search gives up after N moves. No other option of a check counts then.
+
 With --page a page of HTML is written in place of this, which draws the lines up
 to the first that is wrong or bad, and with --json its data; --page goes before
 --json. The status stays the same. With --all, --apart or

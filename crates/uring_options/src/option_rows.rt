@@ -99,6 +99,18 @@ pub(crate) const ALLOWED: OptionRow = OptionRow {
     numbers: None,
 };
 
+pub(crate) const EARLY: OptionRow = OptionRow {
+    id: "early-effects",
+    help: "Let operations take effect at any moment between issue and finish",
+    numbers: None,
+};
+
+pub(crate) const MOVES: OptionRow = OptionRow {
+    id: "most",
+    help: "With --early-effects: give up after so many moves [default: never]",
+    numbers: Some((1, 4_294_967_295)),
+};
+
 pub(crate) const WORKERS: OptionRow = OptionRow {
     id: "workers",
     help: "Workers, 1 to 8, each with a thread and files of its own [default: 2]",

@@ -118,7 +118,7 @@ named place z a b c d y bytes e flaw z_is a_is b_is c_is d_is y_is is more =
 -- ---- the first line
 
 -- bytes have a line at least
-some_line : (bytes : List ℕ) (lines : List (List ℕ)) → lines ≡ lines_in bytes
+pub some_line : (bytes : List ℕ) (lines : List (List ℕ)) → lines ≡ lines_in bytes
     → (first : List ℕ) × (rest : List (List ℕ)) × (lines ≡ first ∷ rest)
 some_line bytes [] is =
     let none : 0 ≡ length (lines_in bytes) = ap length is in

@@ -5,3 +5,6 @@ pub mod Looking
 pub mod OneLine
 pub mod HistoryLines
 pub mod Answered
+pub mod WrittenSteps
+pub mod WrittenCompletions
+pub mod WrittenLines

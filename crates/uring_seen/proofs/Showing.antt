@@ -106,19 +106,19 @@ begin_wrong core seen s a text (count, is) no_again lasts other =
     go (answer.Call n) b (inr e) f same = lasts e.0
     go x b e f same = other (ap text_of (e ∙ sym f) ∙ same)
 
-call_again : (n : ℕ) → text_of (answer.Call n) ≡ text_of answer.Again → ⊥
+pub call_again : (n : ℕ) → text_of (answer.Call n) ≡ text_of answer.Again → ⊥
 call_again n e =
     let first : 99 ≡ 97 = ap (λ (l : List ℕ). get_or l 0 0) e in absurd (omega (arith, first))
 
 -- what a Begin is answered if memory is there
-abbrev IsBegun : Answer → Type 0
+abbrev pub IsBegun : Answer → Type 0
 IsBegun (answer.Call n) = Unit {0}
 IsBegun answer.Closed = Unit {0}
 IsBegun answer.InCall = Unit {0}
 IsBegun answer.Spent = Unit {0}
 IsBegun _ = ⊥
 
-begun : (closed opened spent : Bool) (n : ℕ)
+pub begun : (closed opened spent : Bool) (n : ℕ)
     → IsBegun (if closed then answer.Closed else if opened then answer.InCall else if spent then answer.Spent else answer.Call n)
 begun true opened spent n = tt
 begun false true spent n = tt
@@ -126,7 +126,7 @@ begun false false true n = tt
 begun false false false n = tt
 
 -- it never has this text
-again_answer : (x : Answer) → IsBegun x → text_of x ≡ text_of answer.Again → ⊥
+pub again_answer : (x : Answer) → IsBegun x → text_of x ≡ text_of answer.Again → ⊥
 again_answer (answer.Call n) begun text = call_again n text
 again_answer answer.Closed begun text = absurd (let first : 99 ≡ 97 = ap (λ (l : List ℕ). get_or l 0 0) text in omega (arith, first))
 again_answer answer.InCall begun text = absurd (let first : 105 ≡ 97 = ap (λ (l : List ℕ). get_or l 0 0) text in omega (arith, first))

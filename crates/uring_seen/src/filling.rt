@@ -81,7 +81,7 @@ fn fill_all(alloc: Global, setup: &Setup, lines: &[&[u8]], most: u64) -> Result<
 }
 
 /// What the first line says of a set-up.
-fn said_of(alloc: Global, lines: &[&[u8]]) -> Result<Said, AllocError>
+pub(crate) fn said_of(alloc: Global, lines: &[&[u8]]) -> Result<Said, AllocError>
     ensures { IfOk result (SaysFirst (map (λ line. line.now) lines.now)) }
 {
     match lines {

@@ -58,7 +58,7 @@ pub(crate) fn see(alloc: Global, core: &mut Core, line: &[u8]) -> Result<Sight, 
 }
 
 /// What stands before and behind the ` = ` of a line of at most 300 bytes.
-fn split_short(line: &[u8]) -> Option<(&[u8], &[u8])>
+pub(crate) fn split_short(line: &[u8]) -> Option<(&[u8], &[u8])>
     ensures { MatchOption result (IsNoRecord line.now)
         (λ parts. IsSplit line.now parts.0.now parts.1.now × (length line.now ≤ 300)) }
 {
@@ -69,7 +69,7 @@ fn split_short(line: &[u8]) -> Option<(&[u8], &[u8])>
 }
 
 /// What a line shows that is no step with an answer.
-fn sight_of_none(line: &[u8]) -> Sight
+pub(crate) fn sight_of_none(line: &[u8]) -> Sight
     ensures { IsSightOfNone line.now result }
 {
     match line.first() {
@@ -178,7 +178,7 @@ fn sight_of_again(core: &mut Core, step: &Step) -> Result<Sight, AllocError>
 }
 
 /// Whether memory was refused.
-fn is_again(given: &Answer) -> bool
+pub(crate) fn is_again(given: &Answer) -> bool
     ensures { Decides result (given.now ≡ answer.Again) }
 {
     match given {
@@ -239,7 +239,7 @@ fn guess_next(text: &[u8]) -> Option<Answer>
 }
 
 /// Whether this is the text of an answer.
-fn is_text(alloc: Global, given: &Answer, text: &[u8]) -> Result<bool, AllocError>
+pub(crate) fn is_text(alloc: Global, given: &Answer, text: &[u8]) -> Result<bool, AllocError>
     ensures { IfOk result (λ same. Decides same (text_of given.now ≡ text.now)) }
 {
     let mut told = String::new(alloc);

@@ -1,18 +1,19 @@
 -- The operations that may take effect before an end are those that are added for each that runs.
-use Rattle.std.proofs.Common.{◌≡◌, ◌==◌, ◌<◌, ◌≤◌, ◌+◌, ℕ, Bool, true, false, List, [], ◌∷◌, ◌++◌, Option, Some, None, length, drop, get_or, if◌then◌else◌, refl, sym, ap, subst, ◌∙◌, ◌⊎◌, inl, inr, arith, add-one, negsuc, map}
-use Rattle.std.specs.Prelude.{find, Contains, IsTrue, is_some}
+use Rattle.std.proofs.Common.{◌≡◌, ◌==◌, ◌<◌, ◌+◌, ℕ, Bool, true, false, List, [], ◌∷◌, ◌++◌, Option, Some, None, length, drop, get_or, if◌then◌else◌, refl, sym, ap, subst, ◌∙◌, ◌⊎◌, inl, inr, arith, add-one, negsuc, map}
+use Rattle.std.specs.Prelude.{Contains, is_some}
 use Rattle.std.proofs.Math.Seq.{drop-cons}
 use Rattle.std.proofs.lemmas.Bool.{eq-eqb, eqb-true, both_ways}
 use Rattle.std.proofs.lemmas.Option.{same_Some}
-use Rattle.std.proofs.lemmas.List.Elements.{Contains-append_left, Contains-append_right, Contains-append_cases, Contains-push, Contains-push_cases}
+use Rattle.std.proofs.lemmas.List.Elements.{Contains-append_left, Contains-append_right, Contains-push, Contains-push_cases}
 use Rattle.uring_entry.specs.declared.operation.Op.{Op}
 use Rattle.uring_entry.specs.declared.operation.Outcome.{Outcome}
 use Rattle.uring_files.specs.Contents.{FileContents}
 use Rattle.uring_files.specs.Operations.{IsForFiles, IsOutcome, ended_with, is_lengthening, result_of}
+use Rattle.uring_timelines.specs.declared.mark.End.{End}
 use Rattle.uring_timelines.specs.declared.mark.Mark.{Mark}
 use Rattle.uring_timelines.specs.declared.running.Running.{Running}
 use Rattle.uring_timelines.specs.declared.takers.Taker.{Taker}
-use Rattle.uring_timelines.specs.Moves.{FitsEnd, MayTake, Standing, awaits, end_in, look, plain}
+use Rattle.uring_timelines.specs.Moves.{FitsEnd, MayTake, awaits, end_in, look, plain}
 use Rattle.uring_timelines.specs.Search.{Adds, AreTakers}
 use Rattle.uring_timelines.proofs.Plain.{outcome_back, outcome_plain}
 
@@ -164,13 +165,13 @@ may_with files running left n op x ready may = by x.outcome refl (outcome_back f
   by o is (inr e) = inr (e.0, is_with (ended_with (negsuc 11)) (is ∙ e.1))
 
 -- what was added by an end that was looked up
-pub adds_for : (left : List Mark) (n : ℕ) (wanted : Option Outcome) (o p : Outcome) (old new : List Taker)
+pub adds_for : (left : List Mark) (n : ℕ) (wanted : Option End) (o p : Outcome) (old new : List Taker)
     → wanted ≡ end_in left n → o ≡ p
     → Adds (λ x. (x ≡ record { number = n; outcome = o }) × FitsEnd wanted o) old new
     → Adds (IsWith left n p) old new
 adds_for left n wanted o p old new is same adds =
     subst (λ (q : Outcome). Adds (IsWith left n q) old new) same
-    (subst (λ (w : Option Outcome). Adds (λ x. (x ≡ record { number = n; outcome = o }) × FitsEnd w o) old new) is adds)
+    (subst (λ (w : Option End). Adds (λ x. (x ≡ record { number = n; outcome = o }) × FitsEnd w o) old new) is adds)
 
 pub adds_called : (files : List FileContents) (running : List Running) (left : List Mark) (n : ℕ) (op : Op) (old new : List Taker)
     → IsReady running left n op → is_lengthening files op ≡ false

@@ -1,18 +1,17 @@
 -- That a search covers all moves: `passed_one` and `dropped_one` where the next mark is passed or not, and `taken_all` where an operation takes effect first.
-use Rattle.std.proofs.Common.{◌≡◌, ◌<◌, ◌≤◌, ◌+◌, ℕ, Bool, true, false, not, List, [], ◌∷◌, ◌++◌, Option, Some, None, length, map, drop, get_or, is_some, refl, sym, ap, subst, ◌∙◌, ◌⊎◌, inl, inr, arith, add-one, append-nil}
+use Rattle.std.proofs.Common.{◌≡◌, ◌<◌, ◌+◌, ℕ, true, false, not, List, [], ◌∷◌, ◌++◌, Option, Some, None, length, map, drop, is_some, refl, sym, ap, subst, ◌∙◌, inl, inr, arith, add-one, append-nil}
 use Rattle.std.specs.Prelude.{Contains, slice_index_or}
 use Rattle.std.proofs.Math.Seq.{drop-cons}
 use Rattle.std.proofs.lemmas.List.{drop_all, length-replicate}
 use Rattle.std.proofs.lemmas.List.Elements.{Contains-append_left, Contains-append_right, Contains-append_cases, Contains-push, Contains-push_cases}
 use Rattle.uring_entry.specs.declared.operation.Outcome.{Outcome}
-use Rattle.uring_files.specs.Contents.{FileContents}
 use Rattle.uring_timelines.specs.declared.mark.Mark.{Mark}
+use Rattle.uring_timelines.specs.declared.mark.End.{End}
 use Rattle.uring_timelines.specs.declared.mark.Mark.TheVariants.{Starts, Ends, Idle}
 use Rattle.uring_timelines.specs.declared.running.Running.{Running}
-use Rattle.uring_timelines.specs.declared.state.State.{State}
 use Rattle.uring_timelines.specs.declared.takers.Taker.{Taker}
-use Rattle.uring_timelines.specs.Moves.{Goes, IsWalk, MayTake, Move, Pass, Take, Passes, Standing, at_first, awaits, look, op_of, passed, taken_by, took}
-use Rattle.uring_timelines.specs.Search.{AreTakers, GoesOn, HasFate, IsPlaced, IsSearch, MayTakeAt, OneGoes, PassesAt, Replaces, Seat, awaits_at, left_at, passed_at, seat_of, seats_of, took_at}
+use Rattle.uring_timelines.specs.Moves.{EndsBy, Goes, IsWalk, MayTake, Move, Pass, Take, Passes, Standing, at_first, awaits, look, op_of, passed, taken_by, took}
+use Rattle.uring_timelines.specs.Search.{AreTakers, GoesOn, IsPlaced, IsSearch, OneGoes, PassesAt, Replaces, Seat, awaits_at, left_at, passed_at, took_at}
 use Rattle.uring_timelines.proofs.Plain.{after_length}
 
 -- ---- lists
@@ -66,12 +65,12 @@ pub record Takes (s : Standing) (marks : List Mark) : Type 0 where
   pub may : MayTake s marks number outcome
   pub goes : Goes (took s number outcome) marks
 
-awaited_free : (o : Option Outcome) (p : Outcome) → not (is_some o) ≡ true → o ≡ Some p → ⊥
-awaited_free None p free taken = let f : None ≡ Some p = taken in absurd cc
-awaited_free (Some q) p free taken = let f : false ≡ true = free in absurd cc
+awaited_free : (o : Option Outcome) (e : End) → not (is_some o) ≡ true → EndsBy o e → ⊥
+awaited_free None e free ends = ends
+awaited_free (Some q) e free ends = let f : false ≡ true = free in absurd cc
 
 never_passes : (running : List Running) (m : Mark) (marks : List Mark) → awaits running (m ∷ marks) ≡ true → Passes running m → ⊥
-never_passes running (Ends n o) marks waits passes = awaited_free (taken_by running n) o waits passes
+never_passes running (Ends n e) marks waits passes = awaited_free (taken_by running n) e waits passes
 never_passes running (Starts n op) marks waits passes = let f : false ≡ true = waits in absurd cc
 never_passes running Idle marks waits passes = let f : false ≡ true = waits in absurd cc
 
@@ -107,7 +106,7 @@ left_next marks s before =
 
 passed_files : (s : Standing) (m : Mark) → (passed s m).files ≡ s.files
 passed_files s (Starts n op) = refl
-passed_files s (Ends n o) = refl
+passed_files s (Ends n e) = refl
 passed_files s Idle = refl
 
 pub passed_one : (count : ℕ) (marks : List Mark) (s x : Seat) (old new : List Seat) → IsPlaced count marks s

@@ -1,10 +1,11 @@
 -- Glue. Timelines as a search walks over them: past the marks of a history, in order, with effects right before ends.
-use Rattle.std.specs.Prelude.{◌≡◌, ℕ, Bool, true, false, not, is_some, ◌==◌, List, [], ◌∷◌, ◌++◌, map, filter, find, replicate, Option, Some, None, if◌then◌else◌}
+use Rattle.std.specs.Prelude.{◌≡◌, ℕ, Bool, true, false, not, is_some, ◌==◌, List, [], ◌∷◌, ◌++◌, map, filter, find, Option, Some, None, if◌then◌else◌}
 use Rattle.uring_entry.specs.declared.operation.Op.{Op}
 use Rattle.uring_entry.specs.declared.operation.Op.TheVariants.{Nop}
 use Rattle.uring_entry.specs.declared.operation.Outcome.{Outcome}
 use Rattle.uring_files.specs.Contents.{FileContents, empty_files, file_of_bytes}
 use Rattle.uring_files.specs.Operations.{IsForFiles, IsOutcome, after}
+use Rattle.uring_timelines.specs.declared.mark.End.{End}
 use Rattle.uring_timelines.specs.declared.mark.Mark.{Mark}
 use Rattle.uring_timelines.specs.declared.mark.Mark.TheVariants.{Starts, Ends, Idle}
 use Rattle.uring_timelines.specs.declared.running.Running.{Running}
@@ -53,7 +54,7 @@ at_first count = record { files = empty_files count; running = [] }
 abbrev pub passed : Standing → Mark → Standing
 passed s (Starts n op) =
     record s { running = s.running ++ record { number = n; op = op; taken = None } ∷ [] }
-passed s (Ends n o) = record s { running = without s.running n }
+passed s (Ends n e) = record s { running = without s.running n }
 passed s Idle = s
 
 -- behind an effect
@@ -64,28 +65,42 @@ took s n o =
       running = with_taken s.running n o;
     }
 
+-- bytes that are known are these
+abbrev pub MeetsBytes : Option (List ℕ) → List ℕ → Type 0
+MeetsBytes None bytes = Unit {0}
+MeetsBytes (Some known) bytes = known ≡ bytes
+
+-- an operation with this outcome may end so
+abbrev pub Meets : End → Outcome → Type 0
+Meets e o = (e.res ≡ o.res) × MeetsBytes e.bytes o.bytes
+
+-- an operation that took effect so may end like this
+abbrev pub EndsBy : Option Outcome → End → Type 0
+EndsBy None e = ⊥
+EndsBy (Some o) e = Meets e o
+
 -- an operation ends with the outcome with which it took effect
 abbrev pub Passes : List Running → Mark → Type 0
-Passes running (Ends n o) = taken_by running n ≡ Some o
+Passes running (Ends n e) = EndsBy (taken_by running n) e
 Passes running mark = Unit {0}
 
--- the outcome with which the operation of a request ends, if it does
-abbrev pub end_in : List Mark → ℕ → Option Outcome
+-- how the operation of a request ends, if it does
+abbrev pub end_in : List Mark → ℕ → Option End
 end_in [] n = None
-end_in (Ends m o ∷ marks) n = if m == n then Some o else end_in marks n
+end_in (Ends m e ∷ marks) n = if m == n then Some e else end_in marks n
 end_in (mark ∷ marks) n = end_in marks n
 
--- an operation that is to end with this outcome, if with any, may take effect with that one
-abbrev pub FitsEnd : Option Outcome → Outcome → Type 0
+-- an operation that is to end so, if it ends, may take effect with this outcome
+abbrev pub FitsEnd : Option End → Outcome → Type 0
 FitsEnd None o = Unit {0}
-FitsEnd (Some p) o = p ≡ o
+FitsEnd (Some e) o = Meets e o
 
 -- whether the next mark is the end of an operation that has taken no effect
 abbrev pub awaits : List Running → List Mark → Bool
-awaits running (Ends n o ∷ marks) = not (is_some (taken_by running n))
+awaits running (Ends n e ∷ marks) = not (is_some (taken_by running n))
 awaits running marks = false
 
--- An operation may take effect here: it runs and has taken none, the end of one that has taken none is next, the files call for the outcome, and it ends with no other.
+-- An operation may take effect here: it runs and has taken none, the end of one that has taken none is next, the files call for the outcome, and it may end so.
 pub record MayTake (s : Standing) (marks : List Mark) (n : ℕ) (o : Outcome) : Type 0 where
   pub op : Op
   pub runs : look s.running n ≡ Some (record { number = n; op = op; taken = None })

@@ -1,5 +1,5 @@
 -- Glue. A search for moves that lead past all marks: where it is still to go on.
-use Rattle.std.specs.Prelude.{◌≡◌, ◌≤◌, ◌+◌, ℕ, Bool, true, false, List, [], ◌∷◌, ◌++◌, length, map, drop, slice_index_or, Contains, ◌⊎◌}
+use Rattle.std.specs.Prelude.{◌≡◌, ◌≤◌, ◌+◌, ℕ, Bool, List, ◌++◌, length, map, drop, slice_index_or, Contains, ◌⊎◌}
 use Rattle.uring_timelines.specs.declared.mark.Mark.{Mark}
 use Rattle.uring_timelines.specs.declared.mark.Mark.TheVariants.{Idle}
 use Rattle.uring_timelines.specs.declared.search.Fate.{Fate}

@@ -9,6 +9,6 @@ mod search;
 mod state;
 mod takers;
 
-pub use mark::Mark;
+pub use mark::{End, Mark};
 pub use running::Running;
 pub use search::{Fate, explain};

@@ -1,8 +1,9 @@
 //! The operations that run, in the order in which they started.
 
-ghost use Rattle.std.specs.Prelude.{◌≡◌, ◌↔◌, IfOk, IsTrue, Some};
+ghost use Rattle.std.specs.Prelude.{◌≡◌, ◌↔◌, IfOk, IsTrue};
 ghost use Rattle.uring_timelines.specs.Moves as moves;
 
+use crate::mark::End;
 use std::alloc::{AllocError, Global};
 use uring_entry::{Op, Outcome};
 
@@ -31,12 +32,12 @@ pub(crate) fn taken_by(running: &[Running], number: u64) -> Option<Outcome>
     }
 }
 
-/// Whether that of a request runs and took effect with this outcome.
-pub(crate) fn took_effect_so(running: &[Running], number: u64, outcome: &Outcome) -> bool
-    ensures { IsTrue result ↔ (moves.taken_by running.now number ≡ Some outcome.now) }
+/// Whether that of a request runs and took effect so that it may end like this.
+pub(crate) fn took_effect_so(running: &[Running], number: u64, end: &End) -> bool
+    ensures { IsTrue result ↔ moves.EndsBy (moves.taken_by running.now number) end.now }
 {
     match taken_by(running, number) {
-        Some(taken) => taken == *outcome,
+        Some(taken) => end.is_met_by(&taken),
         None => false,
     }
 }

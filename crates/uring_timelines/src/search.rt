@@ -22,7 +22,7 @@ pub enum Fate {
     Open,
 }
 
-/// Looks for moments at which the operations of these marks took effect on so many new files, 1 to 64: each operation takes effect once at most, between its start and its end, with an outcome that the files call for at that moment, and ends with it. Only moments right before the end of an operation that has taken no effect yet are looked at, and there only outcomes with which the operation ends, if it does. It makes so many moves at most, and ends with `Open` if some are left to be tried then.
+/// Looks for moments at which the operations of these marks took effect on so many new files, 1 to 64: each operation takes effect once at most, between its start and its end, with an outcome that the files call for at that moment, and ends with it, as far as the mark of its end tells: with its result, and with its bytes if they are known. Only moments right before the end of an operation that has taken no effect yet are looked at, and there only outcomes with which the operation ends, if it does. It makes so many moves at most, and ends with `Open` if some are left to be tried then.
 ///
 /// `AllocError`: memory was refused.
 pub fn explain(alloc: Global, count: u32, marks: &[Mark], most: u64) -> Result<Fate, AllocError>

@@ -1,6 +1,6 @@
 //! How files and operations stand at a mark, and what may happen there.
 
-ghost use Rattle.std.specs.Prelude.{◌≡◌, ◌<◌, ◌≤◌, ◌↔◌, ◌++◌, ◌∷◌, [], true, false, is_some, length, IfOk, IsTrue, OnOk, List, Some};
+ghost use Rattle.std.specs.Prelude.{◌≡◌, ◌<◌, ◌≤◌, ◌↔◌, ◌++◌, ◌∷◌, [], true, false, is_some, length, IfOk, IsTrue, OnOk, List};
 ghost use Rattle.uring_timelines.specs.Moves as moves;
 ghost use Rattle.uring_timelines.specs.Moves.{Passes, at_first, awaits, passed};
 ghost use Rattle.uring_timelines.specs.declared.mark.Mark.{Mark};
@@ -8,11 +8,11 @@ ghost use Rattle.uring_timelines.specs.Search.{seat_of, took_at, passed_at, left
 
 use crate::apply::carry_out;
 use crate::copies::copied;
-use crate::mark::Mark;
+use crate::mark::{End, Mark};
 use crate::running::{Running, look, taken_by, took_effect_so, with_taken, without};
 use crate::takers::{Taker, takers_of};
 use std::alloc::{AllocError, Global};
-use uring_entry::{Op, Outcome};
+use uring_entry::Op;
 use uring_files::Files;
 
 /// How files and operations stand before the mark of this place.
@@ -114,22 +114,22 @@ impl State {
                 self.start(number, op)?;
                 Ok(true)
             }
-            Mark::Ends { number, outcome } => self.end_so(alloc, number, &outcome),
+            Mark::Ends { number, end } => self.end_so(alloc, number, &end),
             Mark::Idle => Ok(true),
         }
     }
 
-    /// The operation of a request ends, if it took effect with this outcome, and tells whether it did.
-    fn end_so(&mut self, alloc: Global, number: u64, outcome: &Outcome) -> Result<bool, AllocError>
+    /// The operation of a request ends like this, if it took effect so, and tells whether it did.
+    fn end_so(&mut self, alloc: Global, number: u64, end: &End) -> Result<bool, AllocError>
         ensures so { IfOk result
             (λ so. so ≡ true
-            → (moves.taken_by self.old.running.items number ≡ Some outcome.now)
+            → moves.EndsBy (moves.taken_by self.old.running.items number) end.now
             × (self.new.running.items ≡ moves.without self.old.running.items number)) }
         ensures other { IfOk result
-            (λ so. so ≡ false → moves.taken_by self.old.running.items number ≡ Some outcome.now → ⊥) }
+            (λ so. so ≡ false → moves.EndsBy (moves.taken_by self.old.running.items number) end.now → ⊥) }
         ensures kept { OnOk result (self.new ≡ record self.old { running = self.new.running }) }
     {
-        if !took_effect_so(self.running.as_slice(), number, outcome) {
+        if !took_effect_so(self.running.as_slice(), number, end) {
             return Ok(false);
         }
         self.end(alloc, number)?;

@@ -5,7 +5,7 @@ ghost use Rattle.uring_timelines.specs.Moves.{FitsEnd, MayTake, awaits, end_in, 
 ghost use Rattle.uring_timelines.specs.Search.{Adds, AreTakers};
 
 use crate::apply::{called_for, ended_with, is_for_files};
-use crate::mark::Mark;
+use crate::mark::{End, Mark};
 use crate::running::{Running, look};
 use std::alloc::{AllocError, Global};
 use uring_entry::{Outcome, errno};
@@ -69,9 +69,9 @@ fn add_takers(
     Ok(())
 }
 
-/// Adds the operation of a request with this outcome, if it ends with no other.
+/// Adds the operation of a request with this outcome, if it ends in no other way.
 fn add_taker(
-    wanted: &Option<Outcome>,
+    wanted: &Option<End>,
     number: u64,
     outcome: Outcome,
     takers: &mut Vec<Taker>,
@@ -85,30 +85,26 @@ fn add_taker(
     Ok(())
 }
 
-/// The outcome with which the operation of a request ends, if it does.
-fn end_of(left: &[Mark], number: u64) -> Option<Outcome>
+/// How the operation of a request ends, if it does.
+fn end_of(left: &[Mark], number: u64) -> Option<End>
     ensures { result ≡ end_in left.now number }
 {
     for mark in left {
-        if let Mark::Ends {
-            number: ended,
-            outcome,
-        } = *mark
-        {
+        if let Mark::Ends { number: ended, end } = *mark {
             if ended == number {
-                return Some(outcome);
+                return Some(end);
             }
         }
     }
     None
 }
 
-/// Whether an outcome is the one that is wanted, if one is.
-fn fits(wanted: &Option<Outcome>, outcome: &Outcome) -> bool
+/// Whether an operation with this outcome may end as is wanted, if an end is.
+fn fits(wanted: &Option<End>, outcome: &Outcome) -> bool
     ensures { IsTrue result ↔ FitsEnd wanted.now outcome.now }
 {
     match wanted {
-        Some(one) => one == outcome,
+        Some(end) => end.is_met_by(outcome),
         None => true,
     }
 }

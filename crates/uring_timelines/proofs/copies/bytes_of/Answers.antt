@@ -1,4 +1,4 @@
-use Rattle.std.proofs.Common.{◌≡◌, ap, sym, subst, take, vec_len, ◌∙◌, arith, length}
+use Rattle.std.proofs.Common.{ap, vec_len, ◌∙◌, arith}
 use Rattle.std.proofs.lemmas.List.{take_all}
 use Rattle.uring_timelines.proofs.Plain.{read_more, read_none}
 use Rattle.uring_timelines.proofs.copies.bytes_of.Goals as goal

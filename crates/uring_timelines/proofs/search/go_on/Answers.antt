@@ -1,6 +1,5 @@
-use Rattle.std.proofs.Common.{◌≡◌, ◌≤◌, length, arith, rules}
-use Rattle.std.proofs.lemmas.Bool.{not-true, not-false}
-use Rattle.uring_timelines.specs.Search.{IsPlaced, seat_of, seats_of}
+use Rattle.std.proofs.Common.{◌≡◌, length, rules}
+use Rattle.uring_timelines.specs.Search.{seat_of, seats_of}
 use Rattle.uring_timelines.proofs.Searching.{found, goes_on, last_placed}
 use Rattle.uring_timelines.proofs.search.go_on.Goals as goal
 

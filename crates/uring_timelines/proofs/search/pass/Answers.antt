@@ -1,5 +1,4 @@
-use Rattle.std.proofs.Common.{◌≡◌, true, false, ◌∷◌, [], refl, ap, ◌∙◌, rules}
-use Rattle.std.proofs.lemmas.Bool.{not-true, not-false}
+use Rattle.std.proofs.Common.{◌∷◌, [], ap, ◌∙◌, rules}
 use Rattle.std.proofs.lemmas.List.{map-append}
 use Rattle.uring_timelines.specs.Search.{seat_of, seats_of}
 use Rattle.uring_timelines.proofs.Searching.{passed_one, dropped_one}

@@ -1,9 +1,8 @@
-use Rattle.std.proofs.Common.{◌≡◌, ap, map, ◌∙◌, []}
+use Rattle.std.proofs.Common.{ap, map, ◌∙◌}
 use Rattle.uring_files.specs.Contents.{FileContents, empty_files}
 use Rattle.uring_timelines.specs.declared.running.Running.{Running}
 use Rattle.std.proofs.Common.{List}
 use Rattle.uring_timelines.specs.Moves.{plain}
-use Rattle.uring_timelines.specs.Search.{Seat}
 use Rattle.uring_timelines.proofs.Plain.{plain_new}
 use Rattle.uring_timelines.proofs.state.State.new.Goals as goal
 

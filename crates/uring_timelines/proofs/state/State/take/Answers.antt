@@ -1,4 +1,4 @@
-use Rattle.std.proofs.Common.{◌≡◌, List, Some, ap, sym, subst, map, ◌∙◌}
+use Rattle.std.proofs.Common.{List, ap, sym, subst, map, ◌∙◌}
 use Rattle.uring_entry.specs.declared.operation.Op.{Op}
 use Rattle.uring_files.specs.Contents.{FileContents}
 use Rattle.uring_files.specs.Operations.{IsForFiles, IsOutcome, after}

@@ -1,0 +1,239 @@
+-- A history without its bytes makes the world without them, and is lawful apart if the history is; and back, if what is reaped has the bytes that were posted.
+use Rattle.std.proofs.Common.{◌≡◌, ℕ, ℤ, ◌+◌, ◌-◌, ◌==◌, ◌&&◌, nat_lt, pos, Bool, true, false, min, List, [], ◌∷◌, ◌++◌, length, map, Option, Some, None, if◌then◌else◌, refl, sym, ap, ap₂, subst, ◌∙◌}
+use Rattle.std.specs.Prelude.{slice_get}
+use Rattle.std.specs.Option.{option_map}
+use Rattle.std.proofs.lemmas.List.{length-map, map-append}
+use Rattle.std.proofs.lemmas.Option.{slice_get-map, same_Some}
+use Rattle.uring_entry.specs.Completions.{Completions, completion_for, has_room, next_to_reap, put_by_flush, with_end, with_posted}
+use Rattle.uring_entry.specs.IndexWords.{word_of}
+use Rattle.uring_entry.specs.Layout.{Cqe, Sqe}
+use Rattle.uring_entry.specs.Requests.{Ending, Requests, chosen_by, entry_of, is_running, no_bytes}
+use Rattle.uring_entry.specs.Setup.{Setup}
+use Rattle.uring_entry.specs.Submission.{Call}
+use Rattle.uring_entry.specs.Success.{posts_completion}
+use Rattle.uring_core.specs.Histories.{Event, History, world, IsLawfulApart}
+use Rattle.uring_core.specs.StepAnswers.{CalledForApart, FinishesApart, next_answer_of, reap_answer_of}
+use Rattle.uring_core.specs.World.{World, happens, filling, staging, beginning, taking, taking_of, taking_entry_of, ending, ending_of, issuing, finishing, reaping, closing}
+use Rattle.uring_core.specs.declared.step.Step.{Step}
+use Rattle.uring_core.specs.declared.step.Step.TheVariants as step
+use Rattle.uring_core.specs.declared.answer.Answer.{Answer}
+use Rattle.uring_core.specs.declared.answer.Answer.TheVariants as answer
+use Rattle.uring_early.specs.Bare.{blank, blank_answer, blank_completion}
+use Rattle.uring_early.proofs.BlankRequests.{blank_end, blank_requests, chosen_same, issue_same, next_same, running_same}
+
+abbrev pub blank_completions : Completions → Completions
+blank_completions l =
+    record l { posted = map blank_completion l.posted; reaped = map blank_completion l.reaped }
+
+abbrev pub blank_world : World → World
+blank_world w =
+    record w { requests = blank_requests w.requests; completions = blank_completions w.completions }
+
+-- ---- what an event makes
+
+room_same : (size : ℕ) (l : Completions) → has_room size (blank_completions l) ≡ has_room size l
+room_same size l = ap (λ (n : ℕ). (l.put == n) && nat_lt (l.put - l.seen_head) size) (length-map l.posted blank_completion)
+
+posted_same : (size : ℕ) (l : Completions) (e : Sqe) (res : ℤ) (bytes : List ℕ) (posts : Bool)
+    → (if posts then with_posted size (blank_completions l) (completion_for e res no_bytes) else blank_completions l)
+    ≡ blank_completions (if posts then with_posted size l (completion_for e res bytes) else l)
+posted_same size l e res bytes false = refl
+posted_same size l e res bytes true = λ i. record {
+  posted = sym (map-append blank_completion l.posted (completion_for e res bytes ∷ [])) i;
+  put = if room_same size l i then l.put + 1 else l.put;
+  reaped = map blank_completion l.reaped;
+  head = l.head;
+  seen_head = l.seen_head;
+  seen_tail = l.seen_tail;
+}
+
+end_same : (size : ℕ) (l : Completions) (e : Sqe) (res : ℤ) (bytes : List ℕ)
+    → with_end size (blank_completions l) e res no_bytes ≡ blank_completions (with_end size l e res bytes)
+end_same size l e res bytes = posted_same size l e res bytes (posts_completion e res)
+
+ends_same : (es : List Ending) (n : ℕ) (res : ℤ) (bytes : List ℕ)
+    → map blank_end es ++ record { number = n; res = res; bytes = no_bytes } ∷ [] ≡ map blank_end (es ++ record { number = n; res = res; bytes = bytes } ∷ [])
+ends_same es n res bytes =
+    sym (map-append blank_end es (record { number = n; res = res; bytes = bytes } ∷ []))
+
+put_same : (size : ℕ) (l : Completions) → put_by_flush size (blank_completions l) ≡ put_by_flush size l
+put_same size l = ap (λ (n : ℕ). min n (l.head + size)) (length-map l.posted blank_completion)
+
+reap_same : (l : Completions) → next_to_reap (blank_completions l) ≡ option_map blank_completion (next_to_reap l)
+reap_same l =
+    ap (λ (n : ℕ). if n == l.seen_tail then None else slice_get (map blank_completion l.posted) n) (length-map l.reaped blank_completion)
+    ∙ ap (λ (o : Option Cqe). if length l.reaped == l.seen_tail then None else o) (slice_get-map blank_completion l.posted (length l.reaped))
+    ∙ by (length l.reaped == l.seen_tail)
+  where
+    by : (b : Bool) → (if b then None else option_map blank_completion (slice_get l.posted (length l.reaped))) ≡ option_map blank_completion (if b then None else slice_get l.posted (length l.reaped))
+    by true = refl
+    by false = refl
+
+fill_made : (w : World) (slot : ℕ) (entry : Sqe) (a : Answer) → filling (blank_world w) slot entry a ≡ blank_world (filling w slot entry a)
+fill_made w slot entry answer.Filled = refl
+fill_made w slot entry _ = refl
+
+index_made : (w : World) (word : ℕ) (a : Answer) → staging (blank_world w) word a ≡ blank_world (staging w word a)
+index_made w word answer.Staged = refl
+index_made w word _ = refl
+
+begin_made : (w : World) (count : ℕ) (a : Answer) → beginning (blank_world w) count a ≡ blank_world (beginning w count a)
+begin_made w count (answer.Call length) = refl
+begin_made w count _ = refl
+
+taking_made : (w : World) (call : Option Call) → taking_of (blank_world w) call ≡ blank_world (taking_of w call)
+taking_made w None = refl
+taking_made w (Some call) = refl
+
+entry_made : (g : Setup) (w : World) (entry : Sqe) (call : Option Call) → taking_entry_of g (blank_world w) entry call ≡ blank_world (taking_entry_of g w entry call)
+entry_made g w entry None = refl
+entry_made g w entry (Some call) = refl
+
+take_made : (g : Setup) (w : World) (a : Answer) → taking g (blank_world w) a ≡ blank_world (taking g w a)
+take_made g w (answer.Entry entry) = entry_made g w entry w.submission.call
+take_made g w answer.Dropped = taking_made w w.submission.call
+take_made g w _ = refl
+
+ending_made : (w : World) (call : Option Call) → ending_of (blank_world w) call ≡ blank_world (ending_of w call)
+ending_made w None = refl
+ending_made w (Some call) = refl
+
+end_made : (w : World) (a : Answer) → ending (blank_world w) a ≡ blank_world (ending w a)
+end_made w (answer.Taken accepted missed head) = ending_made w w.submission.call
+end_made w _ = refl
+
+issue_made : (g : Setup) (w : World) (n : ℕ) (a : Answer) → issuing g (blank_world w) n a ≡ blank_world (issuing g w n a)
+issue_made g w n answer.Run = refl
+issue_made g w n (answer.Ended res bytes) = λ i. record {
+  submission = w.submission;
+  requests = record { accepted = w.requests.accepted; cuts = w.requests.cuts; started = w.requests.started; cancelled = w.requests.cancelled ++ chosen_same w.requests n res i; ended = ends_same w.requests.ended n res no_bytes i };
+  completions = end_same g.cq w.completions (entry_of w.requests n) res no_bytes i;
+  is_closed = w.is_closed;
+}
+issue_made g w n _ = refl
+
+finish_made : (g : Setup) (w : World) (n : ℕ) (a : Answer)
+    → finishing g (blank_world w) n (blank_answer (step.Finish n) a) ≡ blank_world (finishing g w n a)
+finish_made g w n (answer.Ended res bytes) = λ i. record {
+  submission = w.submission;
+  requests = record { accepted = w.requests.accepted; cuts = w.requests.cuts; started = w.requests.started; cancelled = w.requests.cancelled; ended = ends_same w.requests.ended n res bytes i };
+  completions = end_same g.cq w.completions (entry_of w.requests n) res bytes i;
+  is_closed = w.is_closed;
+}
+finish_made g w n _ = refl
+
+reap_made : (w : World) (a : Answer) → reaping (blank_world w) (blank_answer step.Reap a) ≡ blank_world (reaping w a)
+reap_made w (answer.Reaped c) = λ i. record {
+  submission = w.submission;
+  requests = blank_requests w.requests;
+  completions = record (blank_completions w.completions) { reaped = sym (map-append blank_completion w.completions.reaped (c ∷ [])) i };
+  is_closed = w.is_closed;
+}
+reap_made w _ = refl
+
+close_made : (w : World) (a : Answer) → closing (blank_world w) a ≡ blank_world (closing w a)
+close_made w answer.Shut = refl
+close_made w _ = refl
+
+with_completions : World → Completions → World
+with_completions w l = record w { requests = blank_requests w.requests; completions = l }
+
+pub made_same : (g : Setup) (w : World) (s : Step) (a : Answer)
+    → happens g (blank_world w) s (blank_answer s a) ≡ blank_world (happens g w s a)
+made_same g w (step.Fill slot entry) a = fill_made w slot entry a
+made_same g w (step.Index word) a = index_made w word a
+made_same g w step.StoreTail a = refl
+made_same g w step.LoadHead a = refl
+made_same g w (step.Begin count) a = begin_made w count a
+made_same g w step.Take a = take_made g w a
+made_same g w step.End a = end_made w a
+made_same g w (step.Issue n) a = issue_made g w n a
+made_same g w (step.Finish n) a = finish_made g w n a
+made_same g w step.Flush a = ap (λ (n : ℕ). record w { requests = blank_requests w.requests; completions = record (blank_completions w.completions) { put = n; seen_head = w.completions.head } }) (put_same g.cq w.completions)
+made_same g w step.LoadCqTail a = refl
+made_same g w step.Reap a = reap_made w a
+made_same g w step.StoreCqHead a = ap (λ (n : ℕ). record w { requests = blank_requests w.requests; completions = record (blank_completions w.completions) { head = n } }) (length-map w.completions.reaped blank_completion)
+made_same g w step.Close a = close_made w a
+made_same g w step.Next a = refl
+
+pub world_same : (g : Setup) (h : History) → world g (map blank h) ≡ blank_world (world g h)
+world_same g [] = refl
+world_same g ((s, a) ∷ h) =
+    ap (λ (w : World). happens g w s (blank_answer s a)) (world_same g h) ∙ made_same g (world g h) s a
+
+-- ---- what is called for
+
+-- what is reaped has the bytes that were posted
+abbrev pub ReapMeets : World → Step → Answer → Type 0
+ReapMeets w step.Reap (answer.Reaped c) =
+    (d : Cqe) → next_to_reap w.completions ≡ Some d → c.payload ≡ d.payload
+ReapMeets w s a = Unit {0}
+
+reaped_blank : (o : Option Cqe) → blank_answer step.Reap (reap_answer_of o) ≡ reap_answer_of (option_map blank_completion o)
+reaped_blank None = refl
+reaped_blank (Some c) = refl
+
+finish_blank : (b : Bool) (n : ℕ) (a : Answer) → FinishesApart b a → FinishesApart b (blank_answer (step.Finish n) a)
+finish_blank true n (answer.Ended res bytes) called = called
+finish_blank true n _ called = absurd called
+finish_blank false n a called = ap (blank_answer (step.Finish n)) called
+
+flush_same : (g : Setup) (l : Completions)
+    → answer.Moved (put_by_flush g.cq (blank_completions l) - l.put) ≡ answer.Moved (put_by_flush g.cq l - l.put)
+flush_same g l = ap (λ (n : ℕ). answer.Moved (n - l.put)) (put_same g.cq l)
+
+head_same : (g : Setup) (l : Completions)
+    → answer.Head (word_of g.start (length (map blank_completion l.reaped))) ≡ answer.Head (word_of g.start (length l.reaped))
+head_same g l = ap (λ (n : ℕ). answer.Head (word_of g.start n)) (length-map l.reaped blank_completion)
+
+pub called_blank : (g : Setup) (w : World) (s : Step) (a : Answer) → CalledForApart g w s a
+    → CalledForApart g (blank_world w) s (blank_answer s a)
+called_blank g w (step.Issue n) a called = called ∙ sym (issue_same w (blank_world w) n refl)
+called_blank g w (step.Finish n) a called =
+    subst (λ b. FinishesApart b (blank_answer (step.Finish n) a)) (sym (running_same w.requests n)) (finish_blank (is_running w.requests n) n a called)
+called_blank g w step.Flush a called = called ∙ sym (flush_same g w.completions)
+called_blank g w step.Reap a called =
+    ap (blank_answer step.Reap) called ∙ reaped_blank (next_to_reap w.completions) ∙ ap reap_answer_of (sym (reap_same w.completions))
+called_blank g w step.StoreCqHead a called = called ∙ sym (head_same g w.completions)
+called_blank g w step.Next a called = called ∙ ap next_answer_of (sym (next_same w.requests))
+called_blank g w _ a called = called
+
+finish_back : (b : Bool) (n : ℕ) (a : Answer) → FinishesApart b (blank_answer (step.Finish n) a) → FinishesApart b a
+finish_back true n (answer.Ended res bytes) called = called
+finish_back true n _ called = absurd called
+finish_back false n (answer.Ended res bytes) called = let f : answer.Ended res no_bytes ≡ answer.NotRunning = called in absurd cc
+finish_back false n _ called = called
+
+abbrev completion_of : Answer → Cqe
+completion_of (answer.Reaped c) = c
+completion_of _ = record { user_data = 0; res = pos 0; payload = [] }
+
+reap_back : (o : Option Cqe) (w : World) (a : Answer) → next_to_reap w.completions ≡ o
+    → blank_answer step.Reap a ≡ reap_answer_of (option_map blank_completion o) → ReapMeets w step.Reap a
+    → a ≡ reap_answer_of o
+reap_back (Some d) w (answer.Reaped c) next called meets =
+    let same : blank_completion c ≡ blank_completion d = ap completion_of called in
+    λ i. answer.Reaped (record { user_data = (ap (λ (x : Cqe). x.user_data) same) i; res = (ap (λ (x : Cqe). x.res) same) i; payload = meets d next i })
+reap_back None w (answer.Reaped c) next called meets = let f : answer.Reaped (blank_completion c) ≡ answer.Nothing = called in absurd cc
+reap_back None w _ next called meets = called
+reap_back (Some d) w a next called meets = absurd (none_such a d called)
+  where
+    none_such : (a : Answer) (d : Cqe) → blank_answer step.Reap a ≡ answer.Reaped (blank_completion d) → ⊥
+    none_such a d e = cc
+
+pub called_back : (g : Setup) (w : World) (s : Step) (a : Answer)
+    → CalledForApart g (blank_world w) s (blank_answer s a) → ReapMeets w s a → CalledForApart g w s a
+called_back g w (step.Issue n) a called meets = called ∙ issue_same w (blank_world w) n refl
+called_back g w (step.Finish n) a called meets =
+    finish_back (is_running w.requests n) n a (subst (λ b. FinishesApart b (blank_answer (step.Finish n) a)) (running_same w.requests n) called)
+called_back g w step.Flush a called meets = called ∙ flush_same g w.completions
+called_back g w step.Reap a called meets =
+    reap_back (next_to_reap w.completions) w a refl (called ∙ ap reap_answer_of (reap_same w.completions)) meets
+called_back g w step.StoreCqHead a called meets = called ∙ head_same g w.completions
+called_back g w step.Next a called meets = called ∙ ap next_answer_of (next_same w.requests)
+called_back g w _ a called meets = called
+
+pub lawful_blank : (g : Setup) (h : History) → IsLawfulApart g h → IsLawfulApart g (map blank h)
+lawful_blank g [] lawful = lawful
+lawful_blank g ((s, a) ∷ h) lawful =
+    (subst (λ (w : World). CalledForApart g w s (blank_answer s a)) (sym (world_same g h)) (called_blank g (world g h) s a lawful.0), lawful_blank g h lawful.1)

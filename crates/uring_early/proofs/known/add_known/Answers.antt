@@ -1,0 +1,38 @@
+use Rattle.std.proofs.Common.{◌≡◌, ◌+◌, false, true, length, take, [], ◌∷◌, ◌++◌, List, ap, sym, subst, ◌∙◌, arith, rules}
+use Rattle.std.proofs.lemmas.Bool.{not-true, not-false}
+use Rattle.uring_entry.specs.Setup.{Setup}
+use Rattle.uring_core.specs.Core.{FitsApart}
+use Rattle.uring_core.specs.Histories.{Event, history_of, world}
+use Rattle.uring_core.proofs.Following.{history_of-snoc}
+use Rattle.uring_timelines.specs.declared.mark.Mark.{Mark}
+use Rattle.uring_early.specs.Bare.{IssueMeets, IssuesMeet, known_by, known_mark, known_marks}
+use Rattle.uring_early.proofs.Knowing.{issues_more, known_more, wrong_known}
+use Rattle.uring_early.proofs.Marking.{taken_next}
+use Rattle.uring_early.proofs.known.add_known.Goals as goal
+
+pub loop-event-preserved : goal.loop-event-preserved
+loop-event-preserved c =
+    let made : c.in_ok-add_one.field-0 ≡ true = search (rules, not-false) in
+    let earlier = take c.loop-event.event-index c.args.events.now in
+    let low = c.loop-event-test.true in
+    let e = c.event-item.result in
+    let grown : take (c.loop-event.event-index + 1) c.args.events.now ≡ earlier ++ e ∷ [] = taken_next c.args.events.now c.loop-event.event-index e (omega (arith, low)) c.event-item.is in
+    let fits : FitsApart c.add_one.new.core (e ∷ history_of earlier) = c.in_ok-add_one.ensures.called made (history_of earlier) c.loop-event.invariant.fits in
+    let setup : c.loop-event.core.setup ≡ c.args.core.now.setup = c.loop-event.invariant.setup in
+    record {
+      setup = c.in_ok-add_one.ensures.setup ∙ setup;
+      fits = subst (FitsApart c.add_one.new.core) (sym (ap history_of grown ∙ history_of-snoc earlier e)) fits;
+      meet = subst (IssuesMeet c.args.core.now.setup c.args.told.now []) (sym grown) (issues_more c.args.core.now.setup c.args.told.now earlier e c.loop-event.invariant.meet (subst (λ (s : Setup). IssueMeets (known_by s c.args.told.now (history_of earlier) e) e) setup (c.in_ok-add_one.ensures.meets made (history_of earlier) c.loop-event.invariant.fits)));
+      marks =
+          c.in_ok-add_one.ensures.mark made (history_of earlier) c.loop-event.invariant.fits
+          ∙ ap (λ (ms : List Mark). ms ++ known_mark (known_by c.loop-event.core.setup c.args.told.now (history_of earlier) e) (world c.loop-event.core.setup (e ∷ history_of earlier)).requests e ∷ []) c.loop-event.invariant.marks
+          ∙ ap (λ (s : Setup). known_marks c.args.core.now.setup c.args.told.now [] earlier ++ known_mark (known_by s c.args.told.now (history_of earlier) e) (world s (e ∷ history_of earlier)).requests e ∷ []) setup
+          ∙ sym (known_more c.args.core.now.setup c.args.told.now earlier e)
+          ∙ ap (known_marks c.args.core.now.setup c.args.told.now []) (sym grown);
+    }
+
+pub returns-then-not-branch-clause-wrong : goal.returns-then-not-branch-clause-wrong
+returns-then-not-branch-clause-wrong c = λ is.
+    let made : c.in_ok-add_one.field-0 ≡ false = search (rules, not-true) in
+    wrong_known c.args.core.now.setup c.loop-event.core.setup c.args.told.now c.args.events.now c.loop-event.event-index c.event-item.result (omega arith) c.event-item.is c.loop-event.invariant.setup
+    (c.in_ok-add_one.ensures.wrong made (history_of (take c.loop-event.event-index c.args.events.now)) c.loop-event.invariant.fits)

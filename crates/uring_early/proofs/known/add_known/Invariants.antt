@@ -1,0 +1,14 @@
+use Rattle.std.proofs.Common.{◌≡◌, [], take}
+use Rattle.uring_core.specs.Core.{FitsApart}
+use Rattle.uring_core.specs.Histories.{history_of}
+use Rattle.uring_early.specs.Bare.{IssuesMeet, known_marks}
+use Rattle.uring_early.proofs.known.add_known.Given as goal
+
+-- the events so far are a lawful history, their marks are there, and their issues have the bytes that are known
+abbrev pub invariant-loop-event : goal.invariant-loop-event
+invariant-loop-event l = record {
+  setup : l.core.setup ≡ l.fn.core.setup;
+  fits : FitsApart l.core (history_of (take l.event-index l.events));
+  meet : IssuesMeet l.fn.core.setup l.told [] (take l.event-index l.events);
+  marks : l.marks.items ≡ known_marks l.fn.core.setup l.told [] (take l.event-index l.events);
+}

@@ -1,0 +1,275 @@
+-- What a step with the text of an answer is, of a core that knows no bytes.
+use Rattle.std.proofs.Common.{◌≡◌, ℕ, ℤ, Bool, true, false, List, ◌∷◌, Option, Some, None, drop, is_some, if◌then◌else◌, get_or, refl, sym, ap, subst, ◌∙◌, inl, inr, arith}
+use Rattle.std.proofs.lemmas.Option.{same_Some}
+use Rattle.uring_entry.specs.Layout.{Cqe}
+use Rattle.uring_entry.specs.Requests.{is_running, no_bytes}
+use Rattle.uring_entry.specs.Setup.{Setup}
+use Rattle.uring_entry.specs.Submission.{call_length}
+use Rattle.uring_core.specs.Core.{Core, FitsApart, IsNoFinish}
+use Rattle.uring_core.specs.Histories.{Event, History, world}
+use Rattle.uring_core.specs.StepAnswers.{CalledForApart, FinishesApart, OrAgain, begin_answer, is_spent, reap_answer_of}
+use Rattle.uring_core.specs.World.{World}
+use Rattle.uring_core.specs.declared.answer.Answer.{Answer}
+use Rattle.uring_core.specs.declared.answer.Answer.TheVariants as answer
+use Rattle.uring_core.specs.declared.step.Step.{Step}
+use Rattle.uring_core.specs.declared.step.Step.TheVariants as step
+use Rattle.uring_text.specs.Spelling.{IsFile}
+use Rattle.uring_trace.specs.Text.{text_of}
+use Rattle.uring_check.proofs.SameTexts.{begin_once}
+use Rattle.uring_early.specs.Bare.{bare, blank, blank_answer, blank_completion}
+use Rattle.uring_seen.specs.Written.{CompletesTo, HasText, IsCompleted, IsFinishAnswer, IsFollowed, IsNeverWritten, IsOneStep, IsOnlyWritten, IsSized, IsWrittenAs}
+use Rattle.uring_seen.specs.declared.sight.Sight.{Sight}
+use Rattle.uring_seen.specs.declared.sight.Sight.TheVariants as sight
+use Rattle.uring_seen.proofs.Showing.{again_answer, begun, call_again, IsBegun}
+use Rattle.uring_seen.proofs.Texts.{signed_once}
+use Rattle.uring_seen.proofs.WrittenCompletions.{blank_own}
+
+-- ---- steps to which one answer alone is called for
+
+pub one_no_finish : (s : Step) → IsOneStep s → IsNoFinish s
+one_no_finish (step.Finish n) one = absurd one
+one_no_finish _ one = tt
+
+one_blank : (s : Step) (a : Answer) → IsOneStep s → blank_answer s a ≡ a
+one_blank (step.Begin count) a one = absurd one
+one_blank (step.Finish n) a one = absurd one
+one_blank step.Reap a one = absurd one
+one_blank _ a one = refl
+
+one_sized : (s : Step) (a : Answer) → IsOneStep s → IsSized s a
+one_sized (step.Finish n) a one = absurd one
+one_sized step.Reap a one = absurd one
+one_sized _ a one = tt
+
+one_same : (g : Setup) (w : World) (s : Step) (a b : Answer) → IsOneStep s → CalledForApart g w s a
+    → CalledForApart g w s b → b ≡ a
+one_same g w (step.Begin count) a b one e f = absurd one
+one_same g w (step.Finish n) a b one e f = absurd one
+one_same g w step.Reap a b one e f = absurd one
+one_same g w _ a b one e f = f ∙ sym e
+
+one_is : (core : Core) (h : History) (s : Step) (a b : Answer) → IsOneStep s → FitsApart core ((s, a) ∷ h)
+    → CalledForApart core.setup (world core.setup h) s (blank_answer s b) → b ≡ a
+one_is core h s a b one fits called =
+    one_same core.setup (world core.setup h) s a b one fits.lawful.0 (subst (CalledForApart core.setup (world core.setup h) s) (one_blank s b one) called)
+
+pub one_written : (core : Core) (h : History) (s : Step) (a : Answer) (text : List ℕ) → IsOneStep s → text_of a ≡ text
+    → FitsApart core ((s, a) ∷ h) → IsWrittenAs core h s text (sight.Shown s a)
+one_written core h s a text one same fits = (
+  refl,
+  same,
+  one_sized s a one,
+  λ b called text_is sized. ap (λ (x : Answer). bare (s, x)) (one_is core h s a b one fits called),
+  subst (λ (x : Answer). FitsApart core ((s, x) ∷ h)) (sym (one_blank s a one)) fits,
+)
+
+pub one_never : (core : Core) (h : History) (s : Step) (a : Answer) (text : List ℕ) → IsOneStep s
+    → (text_of a ≡ text → ⊥) → FitsApart core ((s, a) ∷ h) → IsWrittenAs core h s text sight.Wrong
+one_never core h s a text one other fits = λ b called text_is sized.
+    other (sym (ap text_of (one_is core h s a b one fits called)) ∙ text_is)
+
+-- ---- Begin
+
+pub begin_written : (core : Core) (h : History) (s : Step) (a : Answer) (text : List ℕ)
+    → (count : ℕ) × (s ≡ step.Begin count) → text_of a ≡ text → FitsApart core ((s, a) ∷ h)
+    → IsWrittenAs core h s text (sight.Shown s a)
+begin_written core h s a text (count, is) same =
+    subst (λ (t : Step). FitsApart core ((t, a) ∷ h) → IsWrittenAs core h t text (sight.Shown t a)) (sym is)
+    (λ fits. (refl, same, tt, λ b called text_is sized. ap (λ (x : Answer). bare (step.Begin count, x)) (begin_once (begin_answer (world core.setup h) count) b a called fits.lawful.0 (text_is ∙ sym same)), fits))
+
+pub begin_never : (core : Core) (h : History) (s : Step) (a : Answer) (text : List ℕ)
+    → (count : ℕ) × (s ≡ step.Begin count) → (text_of answer.Again ≡ text → ⊥)
+    → (a ≡ answer.Again → ⊥) → (text_of a ≡ text → ⊥) → FitsApart core ((s, a) ∷ h)
+    → IsWrittenAs core h s text sight.Wrong
+begin_never core h s a text (count, is) no_again lasts other =
+    subst (λ (t : Step). FitsApart core ((t, a) ∷ h) → IsNeverWritten core.setup h t text) (sym is)
+    (λ fits b called text_is sized. go (begin_answer (world core.setup h) count) b fits.lawful.0 called text_is)
+  where
+    go : (x b : Answer) → OrAgain x a → OrAgain x b → text_of b ≡ text → ⊥
+    go (answer.Call n) b (inl e) (inl f) same = other (ap text_of (e ∙ sym f) ∙ same)
+    go (answer.Call n) b (inl e) (inr f) same = no_again (ap text_of (sym f.0) ∙ same)
+    go (answer.Call n) b (inr e) f same = lasts e.0
+    go x b e f same = other (ap text_of (e ∙ sym f) ∙ same)
+
+again_called : (x b : Answer) → IsBegun x → OrAgain x b → text_of b ≡ text_of answer.Again → OrAgain x answer.Again
+again_called (answer.Call n) b is (inl e) text = absurd (call_again n (ap text_of (sym e) ∙ text))
+again_called (answer.Call n) b is (inr e) text = inr (refl, e.1)
+again_called x b is e text = absurd (again_answer x is (ap text_of (sym e) ∙ text))
+
+-- memory was refused, if that is called for
+pub again_followed : (core : Core) (h : History) (s : Step) (text : List ℕ) (x : Sight) → (count : ℕ) × (s ≡ step.Begin count)
+    → text_of answer.Again ≡ text → IsFollowed core h s answer.Again x → IsWrittenAs core h s text x
+again_followed core h s text (sight.Shown t b) begins same (t_is, b_is, fits) =
+    subst (λ (u : Step). IsWrittenAs core h s text (sight.Shown u b)) (sym t_is)
+    (subst (λ (y : Answer). IsWrittenAs core h s text (sight.Shown s y)) (sym b_is) (begin_written core h s answer.Again text begins same fits))
+again_followed core h s text sight.Wrong (count, is) same never = λ b called text_is sized.
+    never (subst (λ (t : Step). CalledForApart core.setup (world core.setup h) t answer.Again) (sym is) (again_called (begin_answer (world core.setup h) count) b (begins (world core.setup h)) (subst (λ (t : Step). CalledForApart core.setup (world core.setup h) t (blank_answer t b)) is called) (text_is ∙ sym same)))
+  where
+    begins : (w : World) → IsBegun (begin_answer w count)
+    begins w =
+        begun w.is_closed (is_some w.submission.call) (is_spent w (call_length w.submission count)) (call_length w.submission count)
+again_followed core h s text sight.Passed begins same none = absurd none
+again_followed core h s text sight.Hidden begins same none = absurd none
+again_followed core h s text sight.Bad begins same none = absurd none
+
+-- ---- Finish
+
+ended_other : (res : ℤ) (bytes : List ℕ) → text_of (answer.Ended res bytes) ≡ text_of answer.NotRunning → ⊥
+ended_other res bytes e =
+    let first : 101 ≡ 110 = ap (λ (l : List ℕ). get_or l 0 0) e in absurd (omega (arith, first))
+
+idle_is : (n : ℕ) (b : Answer) → blank_answer (step.Finish n) b ≡ answer.NotRunning → b ≡ answer.NotRunning
+idle_is n (answer.Ended res bytes) e = absurd (let f : answer.Ended res no_bytes ≡ answer.NotRunning = e in cc)
+idle_is n b e = e
+
+finish_once : (n : ℕ) (runs : Bool) (a b : Answer) → IsFinishAnswer a → FinishesApart runs a
+    → FinishesApart runs (blank_answer (step.Finish n) b) → IsSized (step.Finish n) a → IsSized (step.Finish n) b
+    → text_of b ≡ text_of a → ◌≡◌ {A = Event} (bare (step.Finish n, b)) (bare (step.Finish n, a))
+finish_once n true (answer.Ended res bytes) (answer.Ended z more) of called also small sized same =
+    ap (λ (y : ℤ). (step.Finish n, answer.Ended y no_bytes)) (signed_once z res sized small (ap (λ (l : List ℕ). drop 6 l) same))
+finish_once n true (answer.Ended res bytes) b of called also small sized same = absurd also
+finish_once n true a b of called also small sized same = absurd called
+finish_once n false a b of called also small sized same =
+    ap (λ (x : Answer). bare (step.Finish n, x)) (idle_is n b also ∙ sym called)
+
+finish_never : (n : ℕ) (runs : Bool) (a b : Answer) → IsFinishAnswer a → (FinishesApart runs a → ⊥)
+    → FinishesApart runs (blank_answer (step.Finish n) b) → text_of b ≡ text_of a → ⊥
+finish_never n true (answer.Ended res bytes) b of never also same = never tt
+finish_never n true answer.NotRunning (answer.Ended z more) of never also same = ended_other z more same
+finish_never n true answer.NotRunning b of never also same = absurd also
+finish_never n false answer.NotRunning b of never also same = never refl
+finish_never n false (answer.Ended res bytes) b of never also same =
+    ended_other res bytes (sym same ∙ ap text_of (idle_is n b also))
+finish_never n runs a b of never also same = absurd of
+
+finish_blank : (n : ℕ) (a : Answer) → IsFinishAnswer a → blank_answer (step.Finish n) a ≡ a
+finish_blank n (answer.Ended res bytes) of = ap (λ (bs : List ℕ). answer.Ended res bs) (sym of)
+finish_blank n a of = refl
+
+pub finish_followed : (core : Core) (h : History) (n : ℕ) (text : List ℕ) (a : Answer) (x : Sight) → IsFinishAnswer a
+    → text_of a ≡ text → ((m : ℕ) → IsSized (step.Finish m) a) → IsFollowed core h (step.Finish n) a x
+    → IsWrittenAs core h (step.Finish n) text x
+finish_followed core h n text a (sight.Shown t b) of same small (t_is, b_is, fits) =
+    subst (λ (u : Step). IsWrittenAs core h (step.Finish n) text (sight.Shown u b)) (sym t_is)
+    (subst (λ (y : Answer). IsWrittenAs core h (step.Finish n) text (sight.Shown (step.Finish n) y)) (sym b_is) (
+      refl,
+      same,
+      small n,
+      λ c called text_is sized. finish_once n (is_running (world core.setup h).requests n) a c of fits.lawful.0 called (small n) sized (text_is ∙ sym same),
+      subst (λ (y : Answer). FitsApart core ((step.Finish n, y) ∷ h)) (sym (finish_blank n a of)) fits,
+    ))
+finish_followed core h n text a sight.Wrong of same small never = λ c called text_is sized.
+    finish_never n (is_running (world core.setup h).requests n) a c of never called (text_is ∙ sym same)
+finish_followed core h n text a sight.Passed of same small none = absurd none
+finish_followed core h n text a sight.Hidden of same small none = absurd none
+finish_followed core h n text a sight.Bad of same small none = absurd none
+
+no_finish_by : (n : ℕ) (runs : Bool) (text : List ℕ) (b : Answer)
+    → ((a : Answer) → IsFinishAnswer a → text_of a ≡ text → ((m : ℕ) → IsSized (step.Finish m) a) → ⊥)
+    → FinishesApart runs (blank_answer (step.Finish n) b) → text_of b ≡ text → IsSized (step.Finish n) b → ⊥
+no_finish_by n true text (answer.Ended res bytes) none called same sized =
+    none (answer.Ended res no_bytes) refl same (λ m. sized)
+no_finish_by n true text b none called same sized = absurd called
+no_finish_by n false text b none called same sized =
+    none answer.NotRunning tt (ap text_of (sym (idle_is n b called)) ∙ same) (λ m. tt)
+
+-- a text that a finish never has
+pub no_finish : (core : Core) (h : History) (n : ℕ) (text : List ℕ)
+    → ((a : Answer) → IsFinishAnswer a → text_of a ≡ text → ((m : ℕ) → IsSized (step.Finish m) a) → ⊥)
+    → IsWrittenAs core h (step.Finish n) text sight.Wrong
+no_finish core h n text none = λ b called same sized.
+    no_finish_by n (is_running (world core.setup h).requests n) text b none called same sized
+
+-- neither a text of a request that doesn't run, nor of an end
+pub no_answer : (text : List ℕ) → (text_of answer.NotRunning ≡ text → ⊥)
+    → ((res : ℤ) → IsFile res → text_of (answer.Ended res no_bytes) ≡ text → ⊥)
+    → (a : Answer) → IsFinishAnswer a → text_of a ≡ text → ((m : ℕ) → IsSized (step.Finish m) a) → ⊥
+no_answer text idle ended answer.NotRunning of same small = idle same
+no_answer text idle ended (answer.Ended res bytes) of same small = ended res (small 0) same
+no_answer text idle ended a of same small = absurd of
+
+-- ---- Reap
+
+abbrev completion_in : Answer → Option Cqe
+completion_in (answer.Reaped c) = Some c
+completion_in _ = None
+
+reaped_is : (b : Answer) (c : Cqe) → blank_answer step.Reap b ≡ answer.Reaped c
+    → (e : Cqe) × (b ≡ answer.Reaped e) × (blank_completion e ≡ c)
+reaped_is (answer.Reaped e) c is = (e, refl, let f : Some (blank_completion e) ≡ Some c = ap completion_in is in same_Some (blank_completion e) c f)
+reaped_is b c is = absurd cc
+
+has_text : (b : Answer) (c e : Cqe) (text : List ℕ) → b ≡ answer.Reaped e → blank_completion e ≡ c → text_of b ≡ text
+    → IsSized step.Reap b → HasText c text e
+has_text b c e text is same text_is sized = record {
+  same = ap blank_completion same;
+  sized = subst (IsSized step.Reap) is sized;
+  text_is = ap text_of (sym is) ∙ text_is;
+}
+
+pub reap_written : (core : Core) (h : History) (c : Cqe) (text : List ℕ) (x : Sight) → FitsApart core ((step.Reap, answer.Reaped c) ∷ h)
+    → IsCompleted c text x → IsWrittenAs core h step.Reap text x
+reap_written core h c text (sight.Shown s a) fits (d, s_is, a_is, same, has, only) =
+    subst (λ (u : Step). IsWrittenAs core h step.Reap text (sight.Shown u a)) (sym s_is)
+    (subst (λ (y : Answer). IsWrittenAs core h step.Reap text (sight.Shown step.Reap y)) (sym a_is) (
+      refl,
+      has.text_is,
+      has.sized,
+      λ b called text_is sized.
+          let e = reaped_is b c (called ∙ sym fits.lawful.0) in
+          ap (λ (y : Answer). bare (step.Reap, y)) (e.1 ∙ ap (λ (k : Cqe). answer.Reaped k) (only e.0 (has_text b c e.0 text e.1 e.2 text_is sized))),
+      subst (λ (k : Cqe). FitsApart core ((step.Reap, answer.Reaped k) ∷ h)) (sym same) fits,
+    ))
+reap_written core h c text sight.Wrong fits never = λ b called text_is sized.
+    let e = reaped_is b c (called ∙ sym fits.lawful.0) in
+    never e.0 e.2 (has_text b c e.0 text e.1 e.2 text_is sized)
+reap_written core h c text sight.Passed fits none = absurd none
+reap_written core h c text sight.Hidden fits none = absurd none
+reap_written core h c text sight.Bad fits none = absurd none
+
+abbrev IsNone : Answer → Type 0
+IsNone a = (c : Cqe) → a ≡ answer.Reaped c → ⊥
+
+none_blank : (a : Answer) → IsNone a → blank_answer step.Reap a ≡ a
+none_blank (answer.Reaped c) none = absurd (none c refl)
+none_blank a none = refl
+
+none_sized : (a : Answer) → IsNone a → IsSized step.Reap a
+none_sized (answer.Reaped c) none = absurd (none c refl)
+none_sized a none = tt
+
+none_is : (a b : Answer) → IsNone a → blank_answer step.Reap b ≡ a → b ≡ a
+none_is a (answer.Reaped c) none is = absurd (none (blank_completion c) (sym is))
+none_is a b none is = is
+
+pub none_written : (core : Core) (h : History) (a : Answer) (text : List ℕ) → ((c : Cqe) → a ≡ answer.Reaped c → ⊥)
+    → text_of a ≡ text → FitsApart core ((step.Reap, a) ∷ h) → IsWrittenAs core h step.Reap text (sight.Shown step.Reap a)
+none_written core h a text none same fits = (
+  refl,
+  same,
+  none_sized a none,
+  λ b called text_is sized. ap (λ (y : Answer). bare (step.Reap, y)) (none_is a b none (called ∙ sym fits.lawful.0)),
+  subst (λ (y : Answer). FitsApart core ((step.Reap, y) ∷ h)) (sym (none_blank a none)) fits,
+)
+
+pub none_never : (core : Core) (h : History) (a : Answer) (text : List ℕ) → ((c : Cqe) → a ≡ answer.Reaped c → ⊥)
+    → (text_of a ≡ text → ⊥) → FitsApart core ((step.Reap, a) ∷ h) → IsWrittenAs core h step.Reap text sight.Wrong
+none_never core h a text none other fits = λ b called text_is sized.
+    other (ap text_of (sym (none_is a b none (called ∙ sym fits.lawful.0))) ∙ text_is)
+
+-- what a text comes to behind which a completion without bytes is reaped
+pub completed_shown : (c d : Cqe) (text : List ℕ) → c.payload ≡ no_bytes → CompletesTo c text d
+    → text_of (answer.Reaped d) ≡ text → IsCompleted c text (sight.Shown step.Reap (answer.Reaped d))
+completed_shown c d text none to same =
+    (d, refl, refl, to.same ∙ blank_own c none, record { same = to.same; sized = to.sized; text_is = same }, to.only)
+
+pub completed_wrong : (c d : Cqe) (text : List ℕ) → CompletesTo c text d → (text_of (answer.Reaped d) ≡ text → ⊥)
+    → IsCompleted c text sight.Wrong
+completed_wrong c d text to other = λ e same has.
+    other (ap (λ (x : Cqe). text_of (answer.Reaped x)) (sym (to.only e has)) ∙ has.text_is)
+
+pub completed_full : (c : Cqe) (text : List ℕ) → (c.payload ≡ no_bytes → ⊥) → IsCompleted c text sight.Wrong
+completed_full c text full = λ e same has. full (ap (λ (x : Cqe). x.payload) (sym same))
+
+pub completed_none : (c : Cqe) (text : List ℕ) → ((e : Cqe) → HasText c text e → ⊥) → IsCompleted c text sight.Wrong
+completed_none c text none = λ e same has. none e has

@@ -1,0 +1,74 @@
+//! The bytes of a completion, by the token that has them.
+
+ghost use Rattle.std.specs.Bool.{Decides};
+ghost use Rattle.std.specs.Prelude.{◌≡◌, ◌≤◌, codes, drop, length, take, MatchOption, None, Some};
+ghost use Rattle.std.specs.List.{list_any};
+ghost use Rattle.uring_entry.specs.Requests.{no_bytes};
+ghost use Rattle.uring_text.specs.Reading.{data_of, hex_of, is_capital};
+ghost use Rattle.uring_seen.specs.Written.{IsPadded};
+
+/// The bytes of a completion.
+const SIZE: usize = 64;
+
+/// The bytes that a token spells without the zeros at their end: `-` for none, else 1 to 64 bytes.
+pub(crate) fn payload_of(token: &[u8]) -> Option<[u8; 64]>
+    ensures { MatchOption result (data_of token.now ≡ None)
+        (λ room. IsPadded (data_of token.now) room) }
+{
+    if is_dash(token) {
+        return Some(zeros());
+    }
+    let count = token.len() / 2;
+    if count == 0 {
+        return None;
+    }
+    if count > SIZE {
+        return None;
+    }
+    decoded(token, count)
+}
+
+/// No bytes.
+fn zeros() -> [u8; 64]
+    ensures { result ≡ no_bytes }
+{
+    [0; SIZE]
+}
+
+/// Whether a token spells no bytes.
+fn is_dash(token: &[u8]) -> bool
+    ensures { Decides result (token.now ≡ codes "-") }
+{
+    token == b"-".as_slice()
+}
+
+/// So many bytes that a token spells, and zeros behind them.
+fn decoded(token: &[u8], count: usize) -> Option<[u8; 64]>
+    requires { count ≤ 64 }
+    ensures { MatchOption result (hex_of count token.now ≡ None)
+        (λ room. (hex_of count token.now ≡ Some (take count room))
+        × (drop count room ≡ drop count no_bytes)) }
+{
+    let mut room = [0; SIZE];
+    decode(token, &mut room[..count])?;
+    Some(room)
+}
+
+/// Puts the bytes that a token spells into `bytes`, which they must fill.
+#[tactic(auto, unfolding(uring_text::specs::Reading::hex_of))]
+fn decode(token: &[u8], bytes: &mut [u8]) -> Option<()>
+    ensures { MatchOption result (hex_of (length bytes.old) token.now ≡ None)
+        (λ _. hex_of (length bytes.old) token.now ≡ Some bytes.new) }
+{
+    if has_capitals(token) {
+        return None;
+    }
+    hex::decode_to_slice(token, bytes).ok()
+}
+
+/// Whether a token has a capital letter.
+fn has_capitals(token: &[u8]) -> bool
+    ensures { result ≡ list_any is_capital token.now }
+{
+    token.iter().any(|digit| digit.is_ascii_uppercase())
+}
