@@ -1,17 +1,17 @@
 -- A history without its bytes makes the world without them, and is lawful apart if the history is; and back, if what is reaped has the bytes that were posted.
-use Rattle.std.proofs.Common.{◌≡◌, ℕ, ℤ, ◌+◌, ◌-◌, ◌==◌, ◌&&◌, nat_lt, pos, Bool, true, false, min, List, [], ◌∷◌, ◌++◌, length, map, Option, Some, None, if◌then◌else◌, refl, sym, ap, ap₂, subst, ◌∙◌}
+use Rattle.std.proofs.Common.{◌≡◌, ℕ, ℤ, ◌+◌, ◌-◌, ◌==◌, ◌&&◌, nat_lt, pos, Bool, true, false, min, List, [], ◌∷◌, ◌++◌, length, map, Option, Some, None, if◌then◌else◌, refl, sym, ap, subst, ◌∙◌}
 use Rattle.std.specs.Prelude.{slice_get}
 use Rattle.std.specs.Option.{option_map}
 use Rattle.std.proofs.lemmas.List.{length-map, map-append}
-use Rattle.std.proofs.lemmas.Option.{slice_get-map, same_Some}
+use Rattle.std.proofs.lemmas.Option.{slice_get-map}
 use Rattle.uring_entry.specs.Completions.{Completions, completion_for, has_room, next_to_reap, put_by_flush, with_end, with_posted}
 use Rattle.uring_entry.specs.IndexWords.{word_of}
 use Rattle.uring_entry.specs.Layout.{Cqe, Sqe}
-use Rattle.uring_entry.specs.Requests.{Ending, Requests, chosen_by, entry_of, is_running, no_bytes}
+use Rattle.uring_entry.specs.Requests.{Ending, entry_of, is_running, no_bytes}
 use Rattle.uring_entry.specs.Setup.{Setup}
 use Rattle.uring_entry.specs.Submission.{Call}
 use Rattle.uring_entry.specs.Success.{posts_completion}
-use Rattle.uring_core.specs.Histories.{Event, History, world, IsLawfulApart}
+use Rattle.uring_core.specs.Histories.{History, world, IsLawfulApart}
 use Rattle.uring_core.specs.StepAnswers.{CalledForApart, FinishesApart, next_answer_of, reap_answer_of}
 use Rattle.uring_core.specs.World.{World, happens, filling, staging, beginning, taking, taking_of, taking_entry_of, ending, ending_of, issuing, finishing, reaping, closing}
 use Rattle.uring_core.specs.declared.step.Step.{Step}

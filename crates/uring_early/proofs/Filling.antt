@@ -1,11 +1,8 @@
 -- Moves of a search that knows some of the bytes at finishes are a timeline of a history that has these, and others at the rest.
-use Rattle.std.proofs.Common.{◌≡◌, ℕ, ℤ, ◌==◌, Bool, true, false, List, [], ◌∷◌, ◌++◌, length, map, Option, Some, None, if◌then◌else◌, refl, sym, ap, ap₂, subst, ◌∙◌, append-nil, append_assoc}
-use Rattle.std.proofs.lemmas.List.{length-map, reverse-append}
-use Rattle.std.specs.Prelude.{reverse}
-use Rattle.uring_entry.specs.Completions.{next_to_reap}
-use Rattle.uring_entry.specs.Layout.{Cqe}
+use Rattle.std.proofs.Common.{◌≡◌, ℕ, ℤ, Bool, true, false, List, [], ◌∷◌, ◌++◌, length, map, Option, Some, None, if◌then◌else◌, refl, sym, ap, ap₂, subst, ◌∙◌, append-nil, append_assoc}
+use Rattle.std.proofs.lemmas.List.{length-map}
 use Rattle.uring_entry.specs.Preparation.{operation_of}
-use Rattle.uring_entry.specs.Requests.{Requests, entry_of, is_running, no_bytes, operation_running}
+use Rattle.uring_entry.specs.Requests.{Requests, entry_of, is_running, operation_running}
 use Rattle.uring_entry.specs.Setup.{Setup}
 use Rattle.uring_entry.specs.declared.operation.Op.{Op}
 use Rattle.uring_entry.specs.declared.operation.Outcome.{Outcome}
@@ -17,18 +14,17 @@ use Rattle.uring_core.specs.declared.step.Step.{Step}
 use Rattle.uring_core.specs.declared.step.Step.TheVariants as step
 use Rattle.uring_core.specs.declared.answer.Answer.{Answer}
 use Rattle.uring_core.specs.declared.answer.Answer.TheVariants as answer
-use Rattle.uring_effects.specs.Effects.{Makes, Takes, Timeline, made_in, requests_in, operation_at, effect_of, TakesEffect, EndsAsTaken, IsTimely, IsLawfulEarly}
+use Rattle.uring_effects.specs.Effects.{Makes, Takes, Timeline, made_in, requests_in, operation_at, effect_of, TakesEffect, EndsAsTaken, IsTimely}
 use Rattle.uring_timelines.specs.declared.mark.End.{End}
 use Rattle.uring_timelines.specs.declared.mark.Mark.{Mark}
-use Rattle.uring_timelines.specs.declared.mark.Mark.TheVariants.{Starts, Ends, Idle}
 use Rattle.uring_timelines.specs.declared.running.Running.{Running}
-use Rattle.uring_timelines.specs.Moves.{EndsBy, Goes, IsWalk, MeetsBytes, Move, Pass, Take, Passes, Standing, at_first, passed, taken_by, taken_of, took}
+use Rattle.uring_timelines.specs.Moves.{EndsBy, Goes, IsWalk, Move, Pass, Take, Passes, Standing, at_first, passed, taken_of, took}
 use Rattle.uring_early.specs.Bare.{AreSameButBytes, IssueMeets, IssuesMeet, IsFoundBare, bare, blank, blank_answer, bytes_at, bytes_reaped, bytes_told, known_by, known_marks, known_mark, posted_in}
 use Rattle.uring_early.specs.Marks.{mark_by, start_mark}
 use Rattle.uring_early.specs.declared.decision.Found.TheVariants as found
 use Rattle.uring_early.proofs.Agreeing.{Agree, EndMeets, agree_behind, agree_none, next_has, payloads, posted_bytes, reaped_behind}
 use Rattle.uring_early.proofs.BlankRequests.{blank_requests, running_same}
-use Rattle.uring_early.proofs.BlankWorlds.{ReapMeets, blank_world, called_back, world_same}
+use Rattle.uring_early.proofs.BlankWorlds.{ReapMeets, called_back, world_same}
 use Rattle.uring_early.proofs.Standings.{Stands, one_of, stands_makes, stands_takes, takes_effect}
 use Rattle.uring_early.proofs.Timelines.{first_stands, lawful_below, onto, onto_is}
 

@@ -1,21 +1,18 @@
 -- A history that is lawful by early effects gives moves to a search that knows a part of its bytes.
-use Rattle.std.proofs.Common.{◌≡◌, ℕ, ◌==◌, Bool, true, false, not, is_some, List, [], ◌∷◌, ◌++◌, map, Option, Some, None, if◌then◌else◌, refl, sym, ap, ap₂, subst, ◌∙◌}
+use Rattle.std.proofs.Common.{◌≡◌, ℕ, ◌==◌, Bool, true, false, List, [], ◌∷◌, ◌++◌, map, Option, Some, None, if◌then◌else◌, refl, sym, ap, ap₂, subst, ◌∙◌}
 use Rattle.std.specs.Prelude.{reverse}
 use Rattle.std.proofs.lemmas.List.{map-append, reverse-append, reverse-reverse}
-use Rattle.uring_entry.specs.Requests.{Requests, no_bytes, operation_running}
+use Rattle.uring_entry.specs.Requests.{Requests, operation_running}
 use Rattle.uring_entry.specs.Setup.{Setup}
 use Rattle.uring_entry.specs.declared.operation.Op.{Op}
 use Rattle.uring_entry.specs.declared.operation.Outcome.{Outcome}
 use Rattle.uring_core.specs.Events.{end_told_by}
 use Rattle.uring_core.specs.Histories.{Event, History, world, history_of, IsLawfulApart}
-use Rattle.uring_core.specs.declared.step.Step.{Step}
 use Rattle.uring_core.specs.declared.step.Step.TheVariants as step
-use Rattle.uring_core.specs.declared.answer.Answer.{Answer}
 use Rattle.uring_core.specs.declared.answer.Answer.TheVariants as answer
 use Rattle.uring_effects.specs.Effects.{IsLawfulEarly}
 use Rattle.uring_timelines.specs.declared.mark.End.{End}
 use Rattle.uring_timelines.specs.declared.mark.Mark.{Mark}
-use Rattle.uring_timelines.specs.declared.mark.Mark.TheVariants.{Starts, Ends, Idle}
 use Rattle.uring_timelines.specs.declared.running.Running.{Running}
 use Rattle.uring_timelines.specs.Moves.{EndsBy, FitsEnd, Goes, IsWalk, MayTake, Meets, MeetsBytes, Move, Pass, Take, Passes, Standing, at_first, awaits, end_in, passed, taken_by, took}
 use Rattle.uring_early.specs.Bare.{AreSameButBytes, IssueMeets, IssuesMeet, bare, blank, bytes_reaped, bytes_told, known_by, known_marks, known_mark}

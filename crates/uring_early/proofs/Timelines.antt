@@ -1,17 +1,16 @@
 -- A search's moves are a timeline of the history, and a timeline whose effects wait is moves of the search.
-use Rattle.std.proofs.Common.{◌≡◌, ◌==◌, ℕ, ℤ, Bool, true, false, not, is_some, List, [], ◌∷◌, ◌++◌, map, Option, Some, None, if◌then◌else◌, refl, sym, ap, subst, ◌∙◌, append-nil}
+use Rattle.std.proofs.Common.{◌≡◌, ◌==◌, ℕ, ℤ, Bool, true, false, not, is_some, List, [], ◌∷◌, ◌++◌, Option, Some, None, if◌then◌else◌, refl, sym, ap, subst, ◌∙◌, append-nil}
 use Rattle.std.specs.Prelude.{reverse}
 use Rattle.std.proofs.lemmas.Bool.{eq-eqb, eqb-true}
 use Rattle.std.proofs.lemmas.List.{reverse-reverse}
 use Rattle.std.proofs.lemmas.Option.{same_Some}
-use Rattle.uring_entry.specs.Preparation.{operation_of}
-use Rattle.uring_entry.specs.Requests.{Requests, entry_of, is_running, operation_running}
+use Rattle.uring_entry.specs.Requests.{is_running, operation_running}
 use Rattle.uring_entry.specs.Setup.{Setup}
 use Rattle.uring_entry.specs.declared.operation.Op.{Op}
 use Rattle.uring_entry.specs.declared.operation.Outcome.{Outcome}
-use Rattle.uring_files.specs.Contents.{FileContents, empty_files}
+use Rattle.uring_files.specs.Contents.{FileContents}
 use Rattle.uring_files.specs.Operations.{IsOutcome}
-use Rattle.uring_core.specs.Histories.{Event, History, world, history_of, IsLawfulApart}
+use Rattle.uring_core.specs.Histories.{Event, History, history_of, IsLawfulApart}
 use Rattle.uring_core.specs.declared.step.Step.{Step}
 use Rattle.uring_core.specs.declared.step.Step.TheVariants as step
 use Rattle.uring_core.specs.declared.answer.Answer.{Answer}
@@ -23,9 +22,8 @@ use Rattle.uring_effects.specs.Laws.{IsLawfulLate}
 use Rattle.uring_effects.proofs.Waiting.{early_effects_can_wait}
 use Rattle.uring_timelines.specs.declared.mark.End.{End}
 use Rattle.uring_timelines.specs.declared.mark.Mark.{Mark}
-use Rattle.uring_timelines.specs.declared.mark.Mark.TheVariants.{Starts, Ends, Idle}
 use Rattle.uring_timelines.specs.declared.running.Running.{Running}
-use Rattle.uring_timelines.specs.Moves.{FitsEnd, Goes, IsWalk, MayTake, Move, Pass, Take, Passes, Standing, at_first, awaits, end_in, look, passed, plain, taken_of, took}
+use Rattle.uring_timelines.specs.Moves.{FitsEnd, Goes, IsWalk, MayTake, Move, Pass, Take, Passes, Standing, at_first, awaits, end_in, passed, taken_of, took}
 use Rattle.uring_timelines.proofs.Plain.{outcome_plain, plain_new}
 use Rattle.uring_timelines.specs.declared.search.Fate.{Fate}
 use Rattle.uring_timelines.specs.declared.search.Fate.TheVariants as fate

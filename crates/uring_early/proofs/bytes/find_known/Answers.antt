@@ -1,7 +1,7 @@
-use Rattle.std.proofs.Common.{◌≡◌, [], ℕ, List, map, true, false, ap, sym, subst, ◌∙◌, rules}
+use Rattle.std.proofs.Common.{◌≡◌, [], ℕ, List, true, false, ap, sym, subst, ◌∙◌, rules}
 use Rattle.std.proofs.lemmas.Bool.{not-true, not-false}
 use Rattle.uring_entry.specs.Setup.{Setup}
-use Rattle.uring_core.specs.Histories.{Event, history_of, IsLawfulApart}
+use Rattle.uring_core.specs.Histories.{history_of, IsLawfulApart}
 use Rattle.uring_timelines.specs.declared.mark.Mark.{Mark}
 use Rattle.uring_timelines.specs.Search.{IsFated}
 use Rattle.uring_early.specs.Bare.{IsFoundBare, IssuesMeet, known_marks}

@@ -1,4 +1,4 @@
-use Rattle.std.proofs.Common.{◌≡◌, ◌+◌, length, take, [], ◌∷◌, ◌++◌, List, ℕ, ap, sym, ◌∙◌, arith}
+use Rattle.std.proofs.Common.{◌≡◌, ◌+◌, take, [], ◌∷◌, ◌++◌, List, ℕ, ap, sym, ◌∙◌, arith}
 use Rattle.uring_early.specs.Bare as bare
 use Rattle.uring_early.specs.Bare.{bytes_reaped}
 use Rattle.uring_early.proofs.Knowing.{told_more}

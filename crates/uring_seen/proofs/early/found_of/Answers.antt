@@ -1,4 +1,4 @@
-use Rattle.std.proofs.Common.{◌≡◌, map, sym, subst}
+use Rattle.std.proofs.Common.{map, sym, subst}
 use Rattle.std.specs.Prelude.{reverse}
 use Rattle.uring_seen.specs.Written.{IsEarlyOf}
 use Rattle.uring_seen.proofs.WrittenLines.{early_found}

@@ -1,4 +1,4 @@
-use Rattle.std.proofs.Common.{◌≡◌, ◌≤◌, ◌<◌, ◌/◌, length, refl, sym, ◌∙◌, arith}
+use Rattle.std.proofs.Common.{◌/◌, length, refl, sym, ◌∙◌, arith}
 use Rattle.std.proofs.lemmas.Bool.{false≢true}
 use Rattle.uring_seen.proofs.WrittenCompletions.{dash_padded, data_digits, data_few, data_many, decoded_padded}
 use Rattle.uring_seen.proofs.payload.payload_of.Goals as goal

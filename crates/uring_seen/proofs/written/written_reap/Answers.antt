@@ -1,4 +1,3 @@
-use Rattle.std.proofs.Common.{sym}
 use Rattle.std.proofs.lemmas.Result.{IfOk-weaker}
 use Rattle.uring_seen.proofs.WrittenSteps.{reap_written}
 use Rattle.uring_seen.proofs.written.written_reap.Goals as goal
