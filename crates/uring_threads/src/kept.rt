@@ -15,13 +15,14 @@ use crate::take_result::take_result;
 use std::alloc::{AllocError, Global};
 use std::marker::Model;
 use uring_core::{Answer, Core, Counts, Cqe, Op, Outcome, Setup, Step};
+use uring_events::Events;
 use uring_memory::Memory;
 
 /// A core with the trace of all its steps and their answers, the oldest first. The core always fits this trace: no step is left out, and none made up. Its calls don't stop behind an entry with a fault.
 #[derive(Drop)]
 pub struct Kept {
     core: Core,
-    trace: Vec<(Step, Answer)>,
+    trace: Events,
 }
 
 impl Model for Kept {
@@ -29,12 +30,12 @@ impl Model for Kept {
 
     ghost Value = { Kept };
 
-    ghost use Rattle.std.specs.Prelude.{◌≡◌, false, vec_capacity};
+    ghost use Rattle.std.specs.Prelude.{◌≡◌, false};
     ghost use Rattle.uring_entry.specs.Setup.{IsWithinLimits};
     ghost use Rattle.uring_core.specs.Core.{FitsApart};
     ghost use Rattle.uring_core.specs.Histories.{history_of};
 
-    ghost view = { λ k. record { trace = k.trace.items; room = vec_capacity k.trace; setup = k.core.setup } };
+    ghost view = { λ k. record { trace = k.trace.items; room = k.trace.room; setup = k.core.setup } };
 
     ghost invariant = { λ k. IsWithinLimits k.core.setup
         × FitsApart k.core (history_of k.trace.items) × (k.core.setup.stops ≡ false) };
@@ -53,7 +54,7 @@ impl Kept {
     {
         Ok(Kept {
             core: Core::new_in(memory, alloc, setup)?,
-            trace: Vec::new(alloc),
+            trace: Events::new(alloc),
         })
     }
 
@@ -71,7 +72,7 @@ impl Kept {
         ensures granted { (n : ℕ) → M.grants memory.now n → length self.old.trace + count ≤ n
             → IsOk result }
     {
-        memory.reserve(&mut self.trace, count)
+        self.trace.reserve(memory, count)
     }
 
     /// Makes one step on the core and records it. Conditions: room for it was asked for, and it is no `Finish`, which is a call of its own. Of these steps only `Begin` asks for memory.
@@ -96,7 +97,7 @@ impl Kept {
         let made = step;
         let answer = self.core.step_in(memory, step);
         let told = answer;
-        self.trace.push_reserved((made, told));
+        self.trace.push_reserved(made, told);
         answer
     }
 
@@ -157,8 +158,8 @@ impl Kept {
     }
 
     /// The trace, the oldest event first.
-    pub fn trace(&self) -> &[(Step, Answer)]
-        ensures { result.now ≡ self.now.trace }
+    pub fn trace(&self) -> &Events
+        ensures { result.now.items ≡ self.now.trace }
     {
         &self.trace
     }

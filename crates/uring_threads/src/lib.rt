@@ -28,6 +28,7 @@ pub use report::Report;
 pub use settle_ends::{NotSettled, settle, settle_in};
 pub use turns::Turn;
 pub use uring_core::{Answer, Core, Counts, Cqe, Fault, Op, Outcome, Setup, Sqe, SqeFlags, Step};
+pub use uring_events::Events;
 pub use uring_memory::Memory;
 pub use uring_ports::{
     AppEnd, AppLanes, AppPort, CloseRefusal, Item, KernelLanes, KernelPort, LaneMemory, Pulled,

@@ -16,7 +16,8 @@ use crate::settle_work::settle_workers;
 use crate::worker_files;
 use std::alloc::{AllocError, Global};
 use std::marker::Model;
-use uring_core::{Answer, Counts, Cqe, Setup, Step};
+use uring_core::{Counts, Cqe, Setup};
+use uring_events::Events;
 use uring_files::FileState;
 use uring_laws::reaped_begin_posted;
 use uring_memory::Memory;
@@ -102,8 +103,8 @@ impl<G: Gate> Report<G> {
     }
 
     /// The steps that the dispatcher made, each with its answer, the oldest first.
-    pub fn trace(&self) -> &[(Step, Answer)]
-        ensures { result.now ≡ self.now.trace }
+    pub fn trace(&self) -> &Events
+        ensures { result.now.items ≡ self.now.trace }
     {
         self.kept.trace()
     }

@@ -1,5 +1,5 @@
 //! The dispatcher's step on a result that came from a worker.
-ghost use Rattle.std.specs.Prelude.{◌≡◌, ℕ, ◌+◌, ◌++◌, ◌∷◌, [], ◌<◌, ◌≤◌, length, IfOk, IsOk, OnErr, vec_capacity};
+ghost use Rattle.std.specs.Prelude.{◌≡◌, ℕ, ◌+◌, ◌++◌, ◌∷◌, [], ◌<◌, ◌≤◌, length, IfOk, IsOk, OnErr};
 ghost use Rattle.uring_core.specs.Core.{FitsApart, HasNoLessMemory, IsFinished};
 ghost use Rattle.uring_core.specs.Histories.{History, world};
 ghost use Rattle.uring_core.specs.declared.answer.Answer.TheVariants as answer;
@@ -7,6 +7,7 @@ ghost use Rattle.uring_core.specs.declared.step.Step.TheVariants as step;
 
 use std::alloc::AllocError;
 use uring_core::{Answer, Core, Outcome, Step};
+use uring_events::Events;
 use uring_memory::Memory;
 
 /// Ends the request of this number with this outcome, and records that behind the trace: answers as `Core::finish`.
@@ -14,7 +15,7 @@ use uring_memory::Memory;
 /// Any number and any outcome may come. A number that isn't running is answered `NotRunning`, which is recorded too, and nothing else changes. Room in the trace is asked for first: at `AllocError` nothing changes.
 pub fn take_result(
     core: &mut Core,
-    trace: &mut Vec<(Step, Answer)>,
+    trace: &mut Events,
     number: u64,
     outcome: Outcome,
 ) -> Result<Answer, AllocError>
@@ -34,11 +35,11 @@ pub fn take_result(
     ensures memory { HasNoLessMemory core.old core.new }
 
     // It fails only if the trace had no room for one event more.
-    ensures room { vec_capacity trace.old ≤ vec_capacity trace.new }
-    ensures succeeds { length trace.old.items < vec_capacity trace.old → IsOk result }
+    ensures room { trace.old.room ≤ trace.new.room }
+    ensures succeeds { length trace.old.items < trace.old.room → IsOk result }
     ensures err { OnErr result
         ((core.new ≡ core.old) × (trace.new.items ≡ trace.old.items)
-        × (vec_capacity trace.new ≡ vec_capacity trace.old)) }
+        × (trace.new.room ≡ trace.old.room)) }
 {
     let memory = core.allocator();
     take_result_in(&memory, core, trace, number, outcome)
@@ -48,7 +49,7 @@ pub fn take_result(
 pub fn take_result_in<M: Memory>(
     memory: &M,
     core: &mut Core,
-    trace: &mut Vec<(Step, Answer)>,
+    trace: &mut Events,
     number: u64,
     outcome: Outcome,
 ) -> Result<Answer, AllocError>
@@ -64,17 +65,17 @@ pub fn take_result_in<M: Memory>(
     ensures not_running { IfOk result
         (λ a. a ≡ answer.NotRunning → (h : History) → FitsApart core.old h → FitsApart core.new h) }
     ensures memory { HasNoLessMemory core.old core.new }
-    ensures room { vec_capacity trace.old ≤ vec_capacity trace.new }
-    ensures succeeds { length trace.old.items < vec_capacity trace.old → IsOk result }
+    ensures room { trace.old.room ≤ trace.new.room }
+    ensures succeeds { length trace.old.items < trace.old.room → IsOk result }
     ensures err { OnErr result
         ((core.new ≡ core.old) × (trace.new.items ≡ trace.old.items)
-        × (vec_capacity trace.new ≡ vec_capacity trace.old)) }
+        × (trace.new.room ≡ trace.old.room)) }
     ensures granted { (n : ℕ) → M.grants memory.now n → length trace.old.items + 1 ≤ n
         → IsOk result }
 {
-    memory.reserve(trace, 1)?;
+    trace.reserve(memory, 1)?;
     let answer = core.finish(number, outcome);
     let told = answer;
-    trace.push_reserved((Step::Finish { number }, told));
+    trace.push_reserved(Step::Finish { number }, told);
     Ok(answer)
 }

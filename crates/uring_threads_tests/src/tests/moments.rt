@@ -1,7 +1,7 @@
 //! What settling reports at one moment, with something on its way between any two ends.
 
 use super::ends::{Ends, Ports, new_ends};
-use super::replay::replays;
+use super::replay::{has_events, replays};
 use super::told::{Told, tell};
 use super::{nop, turn};
 use std::alloc::Global;
@@ -84,7 +84,7 @@ fn wanted_trace() -> [(Step, Answer); 22] {
 
 /// Whether the trace is that of the moment.
 fn has_trace(report: &Report<Open>) -> bool {
-    report.trace() == wanted_trace().as_slice()
+    has_events(report.trace(), &wanted_trace())
 }
 
 /// Whether one item was not taken, one completion was delivered, and one waits.

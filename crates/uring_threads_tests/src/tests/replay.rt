@@ -3,7 +3,7 @@
 use std::alloc::Global;
 use std::test::Fail;
 use uring_machine::{Answer, Machine, Step};
-use uring_threads::{Gate, Report};
+use uring_threads::{Events, Gate, Report};
 
 /// Whether a new machine answers the steps of the trace as the trace says, and has the files of the report then.
 pub fn replays<G: Gate>(alloc: Global, report: &Report<G>) -> Result<bool, Fail> {
@@ -14,13 +14,26 @@ pub fn replays<G: Gate>(alloc: Global, report: &Report<G>) -> Result<bool, Fail>
 }
 
 /// Whether a machine answers the steps of a trace as the trace says.
-fn answers_as(machine: &mut Machine, trace: &[(Step, Answer)]) -> bool {
-    for event in trace {
-        if machine.step(event.0) != event.1 {
+fn answers_as(machine: &mut Machine, trace: &Events) -> bool {
+    for place in 0..trace.len() {
+        let Some((step, answer)) = trace.get(place) else {
+            return false;
+        };
+        if machine.step(step) != answer {
             return false;
         }
     }
     true
+}
+
+/// Whether the events are these.
+pub fn has_events(trace: &Events, wanted: &[(Step, Answer)]) -> bool {
+    for place in 0..wanted.len() {
+        if trace.get(place) != Some(wanted[place]) {
+            return false;
+        }
+    }
+    trace.len() == wanted.len()
 }
 
 fn has_files_of<G: Gate>(machine: &Machine, report: &Report<G>) -> bool {

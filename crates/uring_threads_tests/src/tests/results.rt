@@ -1,12 +1,12 @@
 //! Results that the dispatcher takes in, of requests of every standing.
 
+use super::replay::has_events;
 use std::alloc::Global;
 use std::test::Fail;
 use uring_entry::{Outcome, Setup, Sqe};
 use uring_machine::{Answer, Core, Step};
+use uring_threads::Events;
 use uring_threads::laws::take_result;
-
-type Event = (Step, Answer);
 
 /// What an operation that gave no bytes ends with.
 const DONE: Outcome = Outcome {
@@ -26,7 +26,7 @@ fn accept(core: &mut Core, slot: u32) {
 }
 
 /// Takes in a result of each of four requests: one never accepted, one that waits, one that runs, and that one once more.
-fn take_all(core: &mut Core, trace: &mut Vec<Event>) -> Result<(), Fail> {
+fn take_all(core: &mut Core, trace: &mut Events) -> Result<(), Fail> {
     accept(core, 0);
     accept(core, 1);
     core.step(Step::Issue { number: 0 });
@@ -38,7 +38,7 @@ fn take_all(core: &mut Core, trace: &mut Vec<Event>) -> Result<(), Fail> {
 }
 
 /// Whether only the one that runs ends, and only once.
-fn is_right(trace: &[Event]) -> bool {
+fn is_right(trace: &Events) -> bool {
     let ended = Answer::Ended {
         res: 0,
         bytes: [0; 64],
@@ -49,12 +49,12 @@ fn is_right(trace: &[Event]) -> bool {
         (Step::Finish { number: 0 }, ended),
         (Step::Finish { number: 0 }, Answer::NotRunning),
     ];
-    trace == wanted.as_slice()
+    has_events(trace, &wanted)
 }
 
 /// Whether the trace of it on this core says so.
 fn are_right(alloc: Global, core: &mut Core) -> Result<bool, Fail> {
-    let mut trace = Vec::new(alloc);
+    let mut trace = Events::new(alloc);
     let taken = take_all(core, &mut trace);
     let right = is_right(&trace);
     drop(trace);

@@ -5,8 +5,7 @@ use super::{Made, make, settle};
 use std::alloc::{AllocError, Global};
 use std::test::Fail;
 use uring_entry::{Cqe, Sqe};
-use uring_machine::Step;
-use uring_threads::{Answer, Counts, FileState, Item, KernelLanes, Open, Report};
+use uring_threads::{Answer, Counts, Events, FileState, Item, KernelLanes, Open, Report};
 
 /// All ends over lanes.
 type Lanes = Made<KernelLanes>;
@@ -151,15 +150,17 @@ impl Traced {
 }
 
 /// What a trace tells of.
-fn told(trace: &[(Step, Answer)]) -> Traced {
+fn told(trace: &Events) -> Traced {
     let mut traced = Traced {
         accepted: 0,
         ended: 0,
         reaped: 0,
         refused: 0,
     };
-    for event in trace {
-        traced.add(&event.1);
+    for place in 0..trace.len() {
+        if let Some((_, answer)) = trace.get(place) {
+            traced.add(&answer);
+        }
     }
     traced
 }

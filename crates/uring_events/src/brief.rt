@@ -1,0 +1,76 @@
+//! Steps and answers without what is long in them.
+
+/// An event: a step with its answer, as it is kept.
+#[derive(Clone, Copy)]
+pub(crate) struct Brief {
+    pub(crate) step: BriefStep,
+    pub(crate) answer: BriefAnswer,
+}
+
+/// A `Step`, with the place of its entry instead of the entry.
+#[derive(Clone, Copy)]
+pub(crate) enum BriefStep {
+    Fill { slot: u32, entry: usize },
+    Index { word: u32 },
+    StoreTail,
+    LoadHead,
+    Begin { count: u32 },
+    Take,
+    End,
+    Issue { number: u64 },
+    Finish { number: u64 },
+    Flush,
+    LoadCqTail,
+    Reap,
+    StoreCqHead,
+    Close,
+    Next,
+}
+
+/// An `Answer`, with the place of its entry or of its bytes instead of these.
+#[derive(Clone, Copy)]
+pub(crate) enum BriefAnswer {
+    Filled,
+    NoSlot,
+    Busy,
+    Staged,
+    Full,
+    Tail(u32),
+    Head(u32),
+    Call(u32),
+    Closed,
+    InCall,
+    Spent,
+    Again,
+    /// An entry that a step filled.
+    Entry(usize),
+    /// Another entry.
+    Other(usize),
+    Dropped,
+    NoMore,
+    NoCall,
+    Taken {
+        accepted: u32,
+        dropped: u32,
+        head: u32,
+    },
+    NotAll,
+    Run,
+    Ended {
+        res: i32,
+        bytes: usize,
+    },
+    NotReady,
+    Running,
+    Unknown,
+    NotRunning,
+    Moved(u64),
+    Reaped {
+        res: i32,
+        user_data: u64,
+        bytes: usize,
+    },
+    Nothing,
+    Shut,
+    Next(u64),
+}
