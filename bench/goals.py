@@ -18,7 +18,7 @@ REASONS = {
     "begin": "it asks for the memory of the whole call at once, for each of five lists; the unproved program asks as it goes, and ends if memory is refused",
     "whole": "of a no-op, an issue and a finish stay calls of their own, each some 330 instructions dearer through C than in Rattle",
     "cancel": "the first cancel notes the user data of all that were accepted since the last one",
-    "plays": "a play keeps its whole trace in events of 272 bytes, a step and its answer, since its report promises that trace",
+    "plays": "a play keeps its whole trace, since its report promises that: an event takes 40 bytes, and an entry 128 more",
     "rates": "two threads at least hand each request over twice, each turn of the dispatcher is written into the trace, and threads that wait spin",
     "words": "an entry is 17 words, each stored and loaded by an atomic step of its own; slots of plain memory cost less, and aren't proved (docs/DECISIONS.md)",
 }
