@@ -1,4 +1,5 @@
 pub mod Places
+pub mod Slots
 pub mod Sides
 pub mod Submission
 pub mod Completion
