@@ -1,0 +1,27 @@
+use Rattle.std.proofs.Common.{◌≡◌, false, [], ◌∷◌, ◌++◌, length, arith, sym, ap, ◌∙◌, subst, length-append}
+use Rattle.uring_ports.specs.Ports.{with_close}
+use Rattle.uring_words.specs.Submission.Calls.{AreWhole, put_of, has_close_mark}
+use Rattle.uring_words.specs.Submission.Ends.{End}
+use Rattle.uring_words.proofs.CallLemmas.{Holding, holds_close, places}
+use Rattle.uring_words.proofs.submission.writer.CallWriter.put_close.Goals as goal
+
+pub returns-then-not-has_room-clause-put : goal.returns-then-not-has_room-clause-put
+returns-then-not-has_room-clause-put c = (
+  ap (λ (e : End). put_of e.knows.app.published) c.has_room.ensures.is,
+  omega (arith, places false c.args.self.now.knows.app.published c.requires.rests, c.if-not-has_room.ensures.room),
+)
+
+pub publish-requires-clause-whole : goal.publish-requires-clause-whole
+publish-requires-clause-whole c =
+    let h = c.has_room.ensures.is in
+    rw h (holds_close c.args.self.now.knows.app.published c.requires.rests c.requires.open).whole
+
+pub returns-clause-rests : goal.returns-clause-rests
+returns-clause-rests c =
+    let h = c.has_room.ensures.is in
+    rw (c.publish.ensures, h) (holds_close c.args.self.now.knows.app.published c.requires.rests c.requires.open).whole
+
+pub returns-clause-put : goal.returns-clause-put
+returns-clause-put c =
+    let h = c.has_room.ensures.is in
+    rw (c.publish.ensures, h) (holds_close c.args.self.now.knows.app.published c.requires.rests c.requires.open).is
