@@ -1,21 +1,26 @@
 -- Calls as they are written, published, read and taken.
-use Rattle.std.proofs.Common.{◌≡◌, ℕ, ◌+◌, ◌<◌, ◌≤◌, true, List, [], ◌∷◌, ◌++◌, drop, length, refl, sym, ◌∙◌, ap, subst, arith, length-append}
+use Rattle.std.proofs.Common.{◌≡◌, ℕ, ◌+◌, ◌<◌, ◌≤◌, true, false, List, [], ◌∷◌, ◌++◌, drop, take, length, refl, sym, ◌∙◌, ap, subst, arith, length-append, length-take-le, take_all, take-append-drop}
 use mathlib.Core.Option.{none}
-use Rattle.atomic_table.specs.Table.{Allows, rest, step}
+use Rattle.atomic_table.specs.Table.{Allows, rest, step, turned}
 use Rattle.uring_entry.specs.IndexWords.{word_of}
 use Rattle.uring_ports.specs.declared.item.Item.{Item}
+use Rattle.uring_ports.specs.declared.pulled.Pulled.{Pulled}
+use Rattle.uring_ports.specs.declared.pulled.Pulled.TheVariants as pulled
+use Rattle.uring_ports.specs.Ports.{Pulls, with_call}
 use Rattle.uring_words.specs.Places.{place_of}
 use Rattle.uring_words.specs.Slots.{held_from}
-use Rattle.uring_words.specs.Submission.Calls.{AreWhole, all_more}
+use Rattle.uring_words.specs.Submission.Calls.{AreWhole, all_more, has_close_mark, items_of, put_of}
+use Rattle.uring_words.specs.Submission.Ends.{AreRead, ReaderRests, ReadsCall}
 use Rattle.uring_words.specs.Submission.Rule.{BothAgree}
-use Rattle.uring_words.specs.Submission.Steps.{Holder, with_first_behind, tail_stored, StoresTail}
+use Rattle.uring_words.specs.Submission.Steps.{Holder, with_first_behind, head_stored, tail_stored, StoresHead, StoresTail}
 use Rattle.uring_words.specs.declared.sides.View.{View}
 use Rattle.uring_words.specs.declared.submission.view.AppSide.{AppSide}
 use Rattle.uring_words.specs.declared.submission.view.KernelSide.{KernelSide}
 use Rattle.uring_words.specs.declared.submission.view.Position.{Position}
-use Rattle.uring_words.proofs.CallLemmas.{more-length}
-use Rattle.uring_words.proofs.Plays.{stores_tail}
-use Rattle.uring_words.proofs.Turning.{part_done, stands_first, goes_behind}
+use Rattle.uring_words.specs.declared.submission.view.Position.TheVariants as position
+use Rattle.uring_words.proofs.CallLemmas.{holds_call, holds_close, more-length, more-append, never_open, close_is_first}
+use Rattle.uring_words.proofs.Plays.{stores_head, stores_tail}
+use Rattle.uring_words.proofs.Turning.{part_done, next_of, stands_first, is_next, goes_behind, turns_behind}
 
 -- The application's seat, whose places begin with these values, has written the items of a front. v is what it knows.
 module _ (v : View AppSide KernelSide) (blank : List Position) (front : List Item) (last : Position) where
@@ -62,3 +67,111 @@ pub tail_published : (slots : ℕ) (m after : Holder) (word : ℕ) (v : View App
 tail_published slots m after word v blank written is is_word told =
     let P : Holder → Type 0 = λ x. StoresTail (step slots 0 word 0 none) x word after in
     subst P is told blank written refl is_word
+
+-- the items that positions hold, one position more
+items_more : (ps qs : List Position) → items_of (ps ++ qs) ≡ items_of ps ++ items_of qs
+items_more [] qs = refl
+items_more (position.More x ∷ ps) qs = ap (λ l. x ∷ l) (items_more ps qs)
+items_more (position.Last x ∷ ps) qs = ap (λ l. x ∷ l) (items_more ps qs)
+items_more (position.Close ∷ ps) qs = items_more ps qs
+
+-- The dispatcher's seat, which holds what it knows, has read k positions of that, and then reads one more, x. b is the seat before.
+module _ (b : Holder) (k place : ℕ) (m after : Holder) (x : Position)
+    (is : m ≡ (b.0, part_done b.0.kernel.start b.0.kernel.size (length b.0.kernel.taken) k b.0.kernel.known (take k b.0.kernel.known)))
+    (below : k < length b.0.kernel.known) (at : place ≡ place_of b.0.kernel.start b.0.kernel.size (length b.0.kernel.taken + k))
+    (read : m.1 ≡ (place, x) ∷ rest m.1) (moved : after ≡ (m.0, turned m.1)) where
+  pub one_read : after ≡ (b.0, part_done b.0.kernel.start b.0.kernel.size (length b.0.kernel.taken) (k + 1) b.0.kernel.known (take (k + 1) b.0.kernel.known))
+  one_read =
+      let d = b.0.kernel in
+      turns_behind d.start d.size (length d.taken) k place d.known (take k d.known) m b.0 is below at x after refl (sym (length-take-le k d.known (omega arith))) read moved
+
+  pub read_next : (drop k b.0.kernel.known ≡ x ∷ drop (k + 1) b.0.kernel.known) × (take (k + 1) b.0.kernel.known ≡ take k b.0.kernel.known ++ x ∷ [])
+  read_next =
+      let d = b.0.kernel in
+      let n = next_of k d.known below in
+      let same : x ≡ n.0 = is_next d.start d.size (length d.taken) k place d.known (take k d.known) m b.0 is below at x read in
+      (n.1 ∙ ap (λ y. y ∷ drop (k + 1) d.known) (sym same), n.2 ∙ ap (λ y. take k d.known ++ y ∷ []) (sym same))
+
+  pub read_items_more : items_of (take (k + 1) b.0.kernel.known) ≡ items_of (take k b.0.kernel.known) ++ items_of (x ∷ [])
+  read_items_more = ap items_of read_next.1 ∙ items_more (take k b.0.kernel.known) (x ∷ [])
+
+  module _ (items : List Item) (front : take k b.0.kernel.known ≡ all_more items) where
+    pub front_more : (item : Item) → x ≡ position.More item → take (k + 1) b.0.kernel.known ≡ all_more (items ++ item ∷ [])
+    front_more item same = read_next.1 ∙ (λ i. front i ++ same i ∷ []) ∙ sym (more-append items (item ∷ []))
+
+    all_read : after ≡ (b.0, with_first_behind b.0.kernel.start b.0.kernel.size (length b.0.kernel.taken) (drop (k + 1) b.0.kernel.known) (take (k + 1) b.0.kernel.known))
+    all_read =
+        let d = b.0.kernel in
+        let many : k + 1 ≡ length (take (k + 1) d.known) = sym (length-take-le (k + 1) d.known (omega arith)) in
+        one_read ∙ ap (λ (j : ℕ). (b.0, held_from d.start d.size (length d.taken + j) (drop (k + 1) d.known) ++ held_from d.start d.size (length d.taken) (take (k + 1) d.known))) many
+
+    -- the last item of a call
+    pub reads_last : (item : Item) (all : List Item) (next : ℕ) → x ≡ position.Last item → all ≡ items ++ item ∷ []
+        → next ≡ word_of b.0.kernel.start (length b.0.kernel.taken + (k + 1)) → ReadsCall b after pulled.Call all next
+    reads_last item all next same is_all behind = record {
+      read = take (k + 1) b.0.kernel.known;
+      others = drop (k + 1) b.0.kernel.known;
+      known = sym (take-append-drop (k + 1) b.0.kernel.known);
+      is = all_read;
+      holds = (items, item, is_all, read_next.1 ∙ (λ i. front i ++ same i ∷ []));
+      next_word = behind ∙ ap (λ (j : ℕ). word_of b.0.kernel.start (length b.0.kernel.taken + j)) (sym (length-take-le (k + 1) b.0.kernel.known (omega arith)));
+    }
+
+    -- the close mark, in front of which is no item
+    pub reads_close : (next : ℕ) → x ≡ position.Close → AreWhole b.0.kernel.known
+        → next ≡ word_of b.0.kernel.start (length b.0.kernel.taken + (k + 1)) → ReadsCall b after pulled.Close items next
+    reads_close next same whole behind =
+        let d = b.0.kernel in
+        let parts : d.known ≡ all_more items ++ position.Close ∷ drop (k + 1) d.known = sym (take-append-drop k d.known) ∙ (λ i. front i ++ read_next.0 i) ∙ ap (λ y. all_more items ++ y ∷ drop (k + 1) d.known) same in
+        let first : items ≡ [] = close_is_first items (drop (k + 1) d.known) (subst AreWhole parts whole) in
+        record {
+          read = take (k + 1) d.known;
+          others = drop (k + 1) d.known;
+          known = sym (take-append-drop (k + 1) d.known);
+          is = all_read;
+          holds = (first, read_next.1 ∙ (λ i. front i ++ same i ∷ []) ∙ ap (λ l. all_more l ++ position.Close ∷ []) first);
+          next_word = behind ∙ ap (λ (j : ℕ). word_of d.start (length d.taken + j)) (sym (length-take-le (k + 1) d.known (omega arith)));
+        }
+
+-- what is known ends a call
+pub call_ends : (known : List Position) (k : ℕ) (items : List Item) → AreWhole known → 0 < length known
+    → length known ≤ k → take k known ≡ all_more items → ⊥
+call_ends known k items whole some all front =
+    let same : known ≡ all_more items = sym (take_all k known all) ∙ front in
+    never_open items (omega (arith, ap length same, more-length items)) (subst AreWhole same whole)
+
+-- the head is stored behind what was read
+pub head_allowed : (slots id : ℕ) (b m : Holder) (what : Pulled) (items : List Item) (next : ℕ) → ReadsCall b m what items next
+    → b.0.is_kernel ≡ true → length b.0.kernel.known ≤ 4096
+    → Allows BothAgree slots id m 1 (λ _. next) (λ _. StoresHead (step slots 1 next 0 none) m next)
+head_allowed slots id b m what items next r is_kernel few =
+    let d = b.0.kernel in
+    let P : Holder → Type 0 = λ x. Allows BothAgree slots id x 1 (λ _. next) (λ _. StoresHead (step slots 1 next 0 none) x next) in
+    subst P (sym r.is) (stores_head slots id (b.0, with_first_behind d.start d.size (length d.taken) r.others r.read) next r.others r.read is_kernel refl r.known few r.next_word)
+
+-- and with it that is taken
+pub head_taken : (slots : ℕ) (b m after : Holder) (what : Pulled) (items : List Item) (next : ℕ) → (r : ReadsCall b m what items next)
+    → StoresHead (step slots 1 next 0 none) m next after
+    → after ≡ (record b.0 { kernel = head_stored b.0.kernel r.read r.others }, held_from b.0.kernel.start b.0.kernel.size (length b.0.kernel.taken + length r.read) r.others)
+head_taken slots b m after what items next r told =
+    let P : Holder → Type 0 = λ x. StoresHead (step slots 1 next 0 none) x next after in
+    subst P r.is told r.others r.read refl r.known r.next_word
+
+-- which is one call or the close mark
+pub pulls : (d : KernelSide) (what : Pulled) (items : List Item) (read others : List Position) → ReaderRests d
+    → has_close_mark d.taken ≡ false → length d.known ≤ d.size → d.known ≡ read ++ others
+    → AreRead what items read
+    → Pulls d.size (put_of d.taken) what items (put_of (d.taken ++ read)) × AreWhole (d.taken ++ read)
+pulls d pulled.Call items read others rests open' few known h =
+    let holding = holds_call d.taken h.0 h.1 rests.whole open' in
+    let many : length items ≤ d.size = omega (arith, ap length h.2, length-append h.0 (h.1 ∷ []), ap length h.3, length-append (all_more h.0) (position.Last h.1 ∷ []), more-length h.0, ap length known, length-append read others) in
+    let some : 0 < length items = omega (arith, ap length h.2, length-append h.0 (h.1 ∷ [])) in (
+      (some, many, open', ap (λ l. put_of (d.taken ++ l)) h.3 ∙ holding.is ∙ ap (with_call (put_of d.taken)) (sym h.2)),
+      subst (λ l. AreWhole (d.taken ++ l)) (sym h.3) holding.whole,
+    )
+pulls d pulled.Close items read others rests open' few known h =
+    let holding = holds_close d.taken rests.whole open' in (
+      (h.0, open', ap (λ l. put_of (d.taken ++ l)) h.1 ∙ holding.is),
+      subst (λ l. AreWhole (d.taken ++ l)) (sym h.1) holding.whole,
+    )
+pulls d pulled.Nothing items read others rests open' few known h = absurd h

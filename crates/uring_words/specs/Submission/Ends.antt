@@ -80,13 +80,15 @@ AreRead pulled.Call items read = (front : List Item) × (last : Item)
 AreRead pulled.Close items read = (items ≡ []) × (read ≡ position.Close ∷ [])
 AreRead pulled.Nothing items read = ⊥
 
--- Of the places that a dispatcher's seat holds, the first were read, of one call or the close mark, and went behind the others.
-pub record ReadsCall (before after : Holder) (what : Pulled) (items : List Item) : Type 0 where
+-- Of the places that a dispatcher's seat holds, the first were read, of one call or the close mark, and went behind the others. next: the index word of the place behind them
+pub record ReadsCall (before after : Holder) (what : Pulled) (items : List Item) (next : ℕ) : Type 0 where
   pub read : List Position
   pub others : List Position
   pub known : before.0.kernel.known ≡ read ++ others
-  pub is : after ≡ (before.0, with_first_behind before.0.kernel.start before.0.kernel.size (length before.0.kernel.taken) others read)
+  pub is : after
+      ≡ (before.0, with_first_behind before.0.kernel.start before.0.kernel.size (length before.0.kernel.taken) others read)
   pub holds : AreRead what items read
+  pub next_word : next ≡ word_of before.0.kernel.start (length before.0.kernel.taken + length read)
 
 -- It knew of no position that isn't taken, it loaded the tail, and it knows of none.
 pub record FindsNone (before after : End) : Type 0 where

@@ -54,7 +54,7 @@ fn read_first(words: &Words, seat: &mut Seat, place: usize) -> Position
     position
 }
 
-/// Reads one whole call, or the close mark, from the place of this index word on: so many positions are known to be there, and their places are this seat's.
+/// Reads one whole call, or the close mark, from the place of this index word on: so many positions are known to be there, and their places are this seat's. The index word of the place behind them comes too.
 fn read_call(
     words: &Words,
     seat: &mut Seat,
@@ -62,7 +62,7 @@ fn read_call(
     head: u32,
     known: u32,
     items: &mut Vec<Item>,
-) -> Pulled
+) -> (Pulled, u32)
     requires table { seat.old.table_id ≡ words.now.table_id }
     requires size { (seat.old.me.0.kernel.size ≡ size) × IsPowerOfTwo size }
     requires head { head
@@ -75,7 +75,7 @@ fn read_call(
     requires empty { items.old.items ≡ [] }
     requires room { size ≤ vec_capacity items.old }
     ensures table { seat.new.table_id ≡ seat.old.table_id }
-    ensures read { ReadsCall seat.old.me seat.new.me result items.new.items }
+    ensures read { ReadsCall seat.old.me seat.new.me result.0 items.new.items result.1 }
     ensures room { vec_capacity items.new ≡ vec_capacity items.old }
 {
     let mut next = head;
@@ -86,9 +86,9 @@ fn read_call(
             Position::More(item) => items.push_reserved(item),
             Position::Last(item) => {
                 items.push_reserved(item);
-                return Pulled::Call;
+                return (Pulled::Call, next);
             }
-            Position::Close => return Pulled::Close,
+            Position::Close => return (Pulled::Close, next),
         }
     }
     unreachable!()
@@ -191,14 +191,9 @@ impl CallReader {
         let known = self.waiting();
         let words = &self.ring.shared;
         let seat = &mut self.seat;
-        let pulled = read_call(words, seat, self.size, self.head, known, items);
-        let read = if pulled == Pulled::Close {
-            1
-        } else {
-            items.len() as u32
-        };
-        self.head = self.head.wrapping_add(read);
-        words.store::<StoreHead>(seat, 1, self.head as u64);
+        let (pulled, next) = read_call(words, seat, self.size, self.head, known, items);
+        self.head = next;
+        words.store::<StoreHead>(seat, 1, next as u64);
         pulled
     }
 

@@ -1,4 +1,4 @@
-use Rattle.std.proofs.Common.{◌≡◌, ◌+◌, List, ◌++◌, drop, length, take, vec_capacity}
+use Rattle.std.proofs.Common.{◌≡◌, ◌+◌, List, ◌++◌, drop, length, take, vec_capacity, vec_len}
 use Rattle.uring_entry.specs.IndexWords.{word_of}
 use Rattle.uring_words.specs.Slots.{held_from}
 use Rattle.uring_words.specs.Submission.Calls.{all_more}
@@ -10,5 +10,6 @@ invariant-loop l = let d = l.fn.seat.me.0.kernel in record {
   next : l.next ≡ word_of d.start (length d.taken + l.counter);
   read : l.seat.me ≡ (l.fn.seat.me.0, held_from d.start d.size (length d.taken + l.counter) (drop l.counter d.known) ++ held_from d.start d.size (length d.taken) (take l.counter d.known));
   goes_on : take l.counter d.known ≡ all_more l.items.items;
+  many : vec_len l.items ≡ l.counter;
   room : vec_capacity l.items ≡ vec_capacity l.fn.items;
 }

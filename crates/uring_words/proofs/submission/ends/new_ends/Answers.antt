@@ -1,0 +1,23 @@
+use Rattle.std.proofs.Common.{◌≡◌, rules, refl, sym, ap, ◌∙◌, arith, length}
+use Rattle.uring_words.specs.Sides.{app_part}
+use Rattle.uring_words.specs.Submission.Ends.{End, has_loaded}
+use Rattle.uring_words.specs.Submission.Rule.{at_first}
+use Rattle.uring_words.specs.Submission.Steps.{Holder}
+use Rattle.uring_words.specs.declared.submission.view.Position.TheVariants as position
+use Rattle.uring_words.proofs.FirstTable.{opens}
+use Rattle.uring_words.proofs.SlotSeats.{splits}
+use Rattle.uring_words.proofs.submission.ends.new_ends.Goals as goal
+
+pub new_slot_table-requires-clause-opens : goal.new_slot_table-requires-clause-opens
+new_slot_table-requires-clause-opens g c =
+    rw c.in_ok-places.ensures.items (opens c.args.shape position.Close c.requires.power c.requires.limit (search rules))
+
+pub new_slot_table-requires-clause-cuts : goal.new_slot_table-requires-clause-cuts
+new_slot_table-requires-clause-cuts g c = λ id. splits id _ refl refl
+
+pub returns-clause-app : goal.returns-clause-app
+returns-clause-app g c =
+    let me = c.in_ok-app.ensures.app.2 in
+    let l = c.load_head.ensures in
+    let end : c.load_head.new.self.knows.app.end ≡ c.args.shape.size = omega (arith, l.least, l.most, ap (λ (m : Holder). m.0.app.size) me, ap (λ (m : Holder). length m.0.app.published) me) in
+    ap (λ (e : End). e.knows) l.is ∙ ap (λ (m : Holder). has_loaded m.0 c.load_head.new.self.knows.app.end) me ∙ ap (has_loaded (app_part (at_first c.args.shape))) end
