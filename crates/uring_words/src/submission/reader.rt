@@ -9,7 +9,9 @@ ghost use Rattle.uring_words.specs.Submission.Calls.{items_of, put_of, has_close
 ghost use Rattle.uring_words.specs.Submission.Ends.{kernel_knows, FindsNone, ReadsCall, ReaderRests, WriterRests};
 ghost use Rattle.uring_words.specs.declared.submission.view.Position.{Position};
 
-use crate::submission::table::{BothSides, LoadTail, Ring, Seat, StoreHead, Words};
+use crate::submission::table::{
+    BothSides, HEAD, LoadTail, Ring, Seat, StoreHead, TAIL, Words,
+};
 use crate::submission::view::Position;
 use crate::submission::writer::CallWriter;
 use std::alloc::Global;
@@ -152,10 +154,7 @@ impl CallReader {
             → self.old.knows.app.published
             ≡ self.old.knows.kernel.taken ++ self.new.knows.kernel.known }
     {
-        self.tail = self
-            .ring
-            .shared
-            .load::<LoadTail>(&mut self.seat, 0) as u32;
+        self.tail = self.ring.shared.load::<LoadTail>(&mut self.seat, TAIL) as u32;
     }
 
     /// Loads the tail if nothing is known to be there.
@@ -193,7 +192,7 @@ impl CallReader {
         let seat = &mut self.seat;
         let (pulled, next) = read_call(words, seat, self.size, self.head, known, items);
         self.head = next;
-        words.store::<StoreHead>(seat, 1, next as u64);
+        words.store::<StoreHead>(seat, HEAD, next as u64);
         pulled
     }
 

@@ -5,6 +5,12 @@ use crate::submission::view::{AppSide, KernelSide, Position};
 use atomic_table::{Join, Play, Shared, Table, TableRule};
 use std::alloc::Global;
 
+/// The index of the tail's word.
+pub const TAIL: usize = 0;
+
+/// The index of the head's word.
+pub const HEAD: usize = 1;
+
 /// What a seat knows.
 type Known = View<AppSide, KernelSide>;
 

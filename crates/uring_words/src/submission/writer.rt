@@ -1,5 +1,5 @@
 //! The application's end of the submission ring: it puts one call or the close mark, all or nothing.
-ghost use Rattle.std.specs.Prelude.{◌≡◌, ◌+◌, ◌<◌, ◌≤◌, false, List, [], ◌∷◌, ◌++◌, drop, length, MatchBool};
+ghost use Rattle.std.specs.Prelude.{◌≡◌, ◌+◌, ◌<◌, ◌≤◌, true, false, List, [], ◌∷◌, ◌++◌, drop, length, MatchBool};
 ghost use Rattle.std.specs.Int.{IsPowerOfTwo};
 ghost use Rattle.atomic_table.specs.Table.{rest};
 ghost use Rattle.uring_entry.specs.IndexWords.{word_of};
@@ -10,7 +10,9 @@ ghost use Rattle.uring_words.specs.Submission.Ends.{app_knows, WriterRests, Look
 ghost use Rattle.uring_words.specs.Submission.Steps.{all_given, head_loaded, tail_stored};
 ghost use Rattle.uring_words.specs.declared.submission.view.Position.{Position};
 
-use crate::submission::table::{GiveAll, LoadHead, Ring, Seat, StoreTail, Words};
+use crate::submission::table::{
+    GiveAll, HEAD, LoadHead, Ring, Seat, StoreTail, TAIL, Words,
+};
 use crate::submission::view::Position;
 use std::alloc::Global;
 use std::marker::Model;
@@ -84,7 +86,7 @@ impl CallWriter {
         ensures most { self.new.knows.app.end
             ≤ length self.old.knows.app.published + self.old.knows.app.size }
     {
-        let head = self.ring.shared.load::<LoadHead>(&mut self.seat, 1) as u32;
+        let head = self.ring.shared.load::<LoadHead>(&mut self.seat, HEAD) as u32;
         self.end = head.wrapping_add(self.size);
     }
 
@@ -125,7 +127,7 @@ impl CallWriter {
         let next = write_front(words, seat, self.size, self.tail, front);
         write_first(words, seat, (next % self.size) as usize, last);
         self.tail = next.wrapping_add(1);
-        words.store::<StoreTail>(seat, 0, self.tail as u64);
+        words.store::<StoreTail>(seat, TAIL, self.tail as u64);
     }
 
     /// Puts the items as one call, if there is room for all of them.
@@ -179,6 +181,7 @@ impl CallWriter {
     /// Gives back all its places, and ends: its seat, which holds none.
     pub(super) fn give_all(self) -> Seat
         ensures table { result.table_id ≡ self.table }
+        ensures side { result.me.0.is_app ≡ true }
         ensures knows { result.me ≡ (record self.knows { app = all_given self.knows.app }, []) }
     {
         let CallWriter {
@@ -188,7 +191,7 @@ impl CallWriter {
             tail: _,
             end: _,
         } = self;
-        ring.shared.load::<GiveAll>(&mut seat, 1);
+        ring.shared.load::<GiveAll>(&mut seat, HEAD);
         seat
     }
 }
