@@ -3,6 +3,8 @@ mod AppSteps
 mod KernelSteps
 mod CompletionSteps
 pub mod Seats
+pub mod SlotSeats
+pub mod SlotActs
 pub mod Plays
 pub mod CompletionPlays
 pub mod CallLemmas

@@ -9,7 +9,7 @@ use Rattle.uring_words.specs.Sides.{Knows, AgreeBy, both_know, with_app, with_ke
 use Rattle.uring_words.specs.declared.sides.View.{View}
 
 -- a view at a place of a longer list is there in the shorter one, or is the last
-at_longer : {A : Type 0} (l : List A) (a b : A) (j : ℕ) → get_elem? (l ++ a ∷ []) j ≡ some b
+pub at_longer : {A : Type 0} (l : List A) (a b : A) (j : ℕ) → get_elem? (l ++ a ∷ []) j ≡ some b
     → (get_elem? l j ≡ some b) ⊎ ((j ≡ length l) × (a ≡ b))
 at_longer [] a b zero e = inr (refl, some-injective a b e)
 at_longer [] a b (suc j) e = absurd (some-ne-none b (sym e))
@@ -17,14 +17,14 @@ at_longer (x ∷ xs) a b zero e = inl e
 at_longer (x ∷ xs) a b (suc j) e =
     ⊎_elim (λ t. inl t) (λ t. inr (ap suc t.0, t.1)) (at_longer xs a b j e)
 
-only_seat : {V : Type 0} (v w : V) (seat : ℕ) → get_elem? (v ∷ []) seat ≡ some w
+pub only_seat : {V : Type 0} (v w : V) (seat : ℕ) → get_elem? (v ∷ []) seat ≡ some w
     → (seat ≡ 0) × (v ≡ w)
 only_seat v w zero e = (refl, some-injective v w e)
 only_seat v w (suc seat) e = absurd (some-ne-none w (sym e))
 
 module _ {A D : Type 0} where
   -- each seat knows its side after a step of the application's seat
-  app_seats : (views : List (View A D)) (id app_seat kernel_seat : ℕ) (a b : A) (d : D) (me : View A D) → me.is_app ≡ true → get_elem? views id ≡ some me
+  pub app_seats : (views : List (View A D)) (id app_seat kernel_seat : ℕ) (a b : A) (d : D) (me : View A D) → me.is_app ≡ true → get_elem? views id ≡ some me
       → ((seat : ℕ) (v : View A D) → get_elem? views seat ≡ some v → Knows app_seat kernel_seat a d seat v)
       → (seat : ℕ) (v : View A D) → get_elem? (set views id (record me { app = b })) seat ≡ some v → Knows app_seat kernel_seat b d seat v
   app_seats views id app_seat kernel_seat a b d me is_app at seats seat v there =
@@ -39,7 +39,7 @@ module _ {A D : Type 0} where
       (at_set views id seat (record me { app = b }) v there)
 
   -- and after one of the dispatcher's seat
-  kernel_seats : (views : List (View A D)) (id app_seat kernel_seat : ℕ) (a : A) (d e : D) (me : View A D) → me.is_kernel ≡ true → get_elem? views id ≡ some me
+  pub kernel_seats : (views : List (View A D)) (id app_seat kernel_seat : ℕ) (a : A) (d e : D) (me : View A D) → me.is_kernel ≡ true → get_elem? views id ≡ some me
       → ((seat : ℕ) (v : View A D) → get_elem? views seat ≡ some v → Knows app_seat kernel_seat a d seat v)
       → (seat : ℕ) (v : View A D) → get_elem? (set views id (record me { kernel = e })) seat ≡ some v → Knows app_seat kernel_seat a e seat v
   kernel_seats views id app_seat kernel_seat a d e me is_kernel at seats seat v there =

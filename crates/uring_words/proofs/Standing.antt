@@ -2,11 +2,12 @@
 use Rattle.std.proofs.Common.{◌≡◌, ◌≢◌, ℕ, ◌+◌, ◌%◌, ◌^◌, ◌<◌, ◌≤◌, Bool, true, false, List, [], ◌∷◌, ◌++◌, length, get_or, set, if◌then◌else◌, refl, sym, ◌∙◌, ap, subst, ⊎_elim, arith, length-append, get_or-set_other}
 use Rattle.std.proofs.lemmas.Bool.{cases_eq}
 use Rattle.std.proofs.lemmas.List.{get_or_append_left}
+use Rattle.std.proofs.Math.Nat.{add-mod_right}
 use Rattle.std.proofs.Math.Seq.{get_or-append_seam}
 use Rattle.std.proofs.lemmas.Nat.{mod_below, pow_pos}
 use Rattle.std.specs.Int.{IsPowerOfTwo}
 use Rattle.uring_entry.specs.IndexWords.{word_of}
-use Rattle.uring_rings.proofs.Counts.{same_cell}
+use Rattle.uring_rings.proofs.Counts.{cell_of_count, same_cell}
 use Rattle.uring_words.specs.Places.{place_of}
 use Rattle.uring_words.specs.Submission.Layout.{entry_index, array_index, has_entry, IsPosition, StandsAt}
 use Rattle.uring_words.specs.declared.submission.view.Position.{Position}
@@ -40,6 +41,16 @@ apart start size j k power fits before near e =
     let ordered : j ≤ k = omega arith in
     let one : j ≡ k = same_cell size start j k power fits ordered near e in
     omega arith
+
+-- a count one turn of the ring on has the same place
+pub next_turn : (start size k : ℕ) → IsPowerOfTwo size → size ≤ 2 ^ 32
+    → place_of start size (k + size) ≡ place_of start size k
+next_turn start size k power fits =
+    let behind : start + (k + size) ≡ (start + k) + size = omega arith in
+    cell_of_count size start (k + size) power fits
+        ∙ ap (λ (n : ℕ). n % size) behind
+        ∙ add-mod_right (start + k) size
+        ∙ sym (cell_of_count size start k power fits)
 
 pub stands_elsewhere : (words : List ℕ) (size place i w : ℕ) (p : Position)
     → i ≢ array_index size place → ((k : ℕ) → k < length p.entry → i ≢ entry_index place k)
