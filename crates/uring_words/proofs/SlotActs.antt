@@ -4,7 +4,7 @@ use Rattle.std.proofs.lemmas.Bool.{cases_lt}
 use Rattle.std.specs.Int.{IsPowerOfTwo}
 use mathlib.Core.Option.{Option, none, some}
 use lib.ListN.{get_elem?}
-use Rattle.atomic_table.specs.Table.{Act, keeps, takes, gives, chain, homes_after, carried_after, Valid}
+use Rattle.atomic_table.specs.Table.{Act, keeps, takes, gives, chain, homes_after, carried_after, Valid, rest}
 use Rattle.atomic_table.proofs.Lists.{set_here, set_else}
 use Rattle.uring_entry.specs.IndexWords.{word_of}
 use Rattle.uring_words.specs.Places.{place_of}
@@ -209,3 +209,8 @@ first_held start size own count word held (x ∷ ys) is power at holds positive 
       holds ∙ ap (λ (p : ℕ). (p, x) ∷ held_from start own (count + 1) ys) (sym there.0),
       there.0,
     )
+
+-- a seat's first slot, as `slot_mut` asks for it
+pub is_first : {S : Type 0} (held others : List (ℕ × S)) (x : ℕ × S) → held ≡ x ∷ others
+    → held ≡ x ∷ rest held
+is_first held others x is = is ∙ ap (λ l. x ∷ rest l) (sym is)

@@ -1,5 +1,5 @@
 //! The dispatcher's end of the completion ring: it asks for room, puts completions, and stores the dropped word.
-ghost use Rattle.std.specs.Prelude.{◌≡◌, ◌+◌, ◌<◌, ◌≤◌, [], ◌∷◌, ◌++◌, length};
+ghost use Rattle.std.specs.Prelude.{◌≡◌, ◌+◌, ◌<◌, ◌≤◌, true, [], ◌∷◌, ◌++◌, length};
 ghost use Rattle.uring_words.specs.Completion.Ends.{kernel_knows};
 ghost use Rattle.uring_words.specs.Completion.Steps.{all_given, head_loaded, dropped_stored};
 
@@ -87,6 +87,7 @@ impl CompletionWriter {
     /// Gives back all its cells, and ends: its seat, which holds none.
     pub(super) fn give_all(self) -> Seat
         ensures table { result.table_id ≡ self.table }
+        ensures side { result.me.0.is_kernel ≡ true }
         ensures knows { result.me ≡ (record self.knows { kernel = all_given self.knows.kernel }, []) }
     {
         let CompletionWriter {
