@@ -77,7 +77,7 @@ module _ {S : Type 0} where
       → length (taken_more start size homes k xs ys) ≡ length homes
   more-length start size homes k xs ys =
       with_taken-length (with_given homes (held_from start size k xs)) (held_from start size k (xs ++ ys))
-          ∙ with_given-length homes (held_from start size k xs)
+      ∙ with_given-length homes (held_from start size k xs)
 
   -- the act of such a seat, which is told what it holds and what it is to hold
   abbrev pub changes : List (ℕ × S) → List (ℕ × S) → Act S
@@ -129,8 +129,8 @@ module _ {S : Type 0} (start size : ℕ) (power : IsPowerOfTwo size) (fits : siz
   stands_given homes j k [] xs clear s = s
   stands_given homes j k (y ∷ ys) xs clear s =
       stands_given (set homes (place_of start size j) (some y)) (j + 1) k ys xs
-          (λ a b l m n o. clear a b (omega arith) (omega arith) n o)
-          (stands_else homes j k (some y) xs (λ a b l m n o. clear a b l (omega arith) n o) s)
+      (λ a b l m n o. clear a b (omega arith) (omega arith) n o)
+      (stands_else homes j k (some y) xs (λ a b l m n o. clear a b l (omega arith) n o) s)
 
   -- and while others are taken
   pub stands_taken : (homes : List (Option S)) (j k : ℕ) (ys xs : List S)
@@ -139,8 +139,8 @@ module _ {S : Type 0} (start size : ℕ) (power : IsPowerOfTwo size) (fits : siz
   stands_taken homes j k [] xs clear s = s
   stands_taken homes j k (y ∷ ys) xs clear s =
       stands_else (with_taken homes (held_from start size (j + 1) ys)) j k none xs
-          (λ a b l m n o. clear a b l (omega arith) n o)
-          (stands_taken homes (j + 1) k ys xs (λ a b l m n o. clear a b (omega arith) (omega arith) n o) s)
+      (λ a b l m n o. clear a b l (omega arith) n o)
+      (stands_taken homes (j + 1) k ys xs (λ a b l m n o. clear a b (omega arith) (omega arith) n o) s)
 
   -- what was given back is at home
   pub given_stand : (homes : List (Option S)) (j : ℕ) (ys : List S) → length homes ≡ size
@@ -191,7 +191,7 @@ module _ {S : Type 0} (start size : ℕ) (power : IsPowerOfTwo size) (fits : siz
   more_stands homes k m xs ys zs clear s =
       let long = length-append xs ys in
       stands_taken (with_given homes (held_from start size k xs)) k m (xs ++ ys) zs clear
-          (stands_given homes k m xs zs (λ a b l n n' o. clear a b l (omega arith) n' o) s)
+      (stands_given homes k m xs zs (λ a b l n n' o. clear a b l (omega arith) n' o) s)
 
 -- the first slot of a seat that holds some, in a ring of this size, at this index word
 pub first_held : {S : Type 0} (start size own count word : ℕ) (held : List (ℕ × S)) (xs : List S)

@@ -48,9 +48,9 @@ pub next_turn : (start size k : ℕ) → IsPowerOfTwo size → size ≤ 2 ^ 32
 next_turn start size k power fits =
     let behind : start + (k + size) ≡ (start + k) + size = omega arith in
     cell_of_count size start (k + size) power fits
-        ∙ ap (λ (n : ℕ). n % size) behind
-        ∙ add-mod_right (start + k) size
-        ∙ sym (cell_of_count size start k power fits)
+    ∙ ap (λ (n : ℕ). n % size) behind
+    ∙ add-mod_right (start + k) size
+    ∙ sym (cell_of_count size start k power fits)
 
 pub stands_elsewhere : (words : List ℕ) (size place i w : ℕ) (p : Position)
     → i ≢ array_index size place → ((k : ℕ) → k < length p.entry → i ≢ entry_index place k)

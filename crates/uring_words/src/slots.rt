@@ -29,7 +29,13 @@ pub fn new_slot_table<
     words: &[u64],
     slots: Vec<S>,
     shape: &Shape,
-) -> Result<(SlotHold<S, App, Kernel, Rule>, SlotHold<S, App, Kernel, Rule>), AllocError>
+) -> Result<
+    (
+        SlotHold<S, App, Kernel, Rule>,
+        SlotHold<S, App, Kernel, Rule>,
+    ),
+    AllocError,
+>
     requires some { 0 < length words.now }
     requires opens { Rule.holds shape.now
         (opening words.now slots.items (Rule.first shape.now)) }

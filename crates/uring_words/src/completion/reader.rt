@@ -6,7 +6,9 @@ ghost use Rattle.uring_ports.specs.Ports.{LeavesCompletions};
 ghost use Rattle.uring_words.specs.Completion.Ends.{app_knows, FindsNone, GetsOne};
 ghost use Rattle.uring_words.specs.Completion.Steps.{dropped_loaded};
 
-use crate::completion::table::{BothSides, LoadDropped, LoadTail, Ring, Seat, StoreHead};
+use crate::completion::table::{
+    BothSides, DROPPED, HEAD, LoadDropped, LoadTail, Ring, Seat, StoreHead, TAIL,
+};
 use crate::completion::writer::CompletionWriter;
 use std::alloc::Global;
 use std::marker::Model;
@@ -63,10 +65,7 @@ impl CompletionReader {
         ensures dropped { self.old.knows.is_kernel ≡ true
             → WereHad (0 ∷ self.old.knows.kernel.dropped) self.old.knows.app.dropped }
     {
-        self.tail = self
-            .ring
-            .shared
-            .load::<LoadTail>(&mut self.seat, 0) as u32;
+        self.tail = self.ring.shared.load::<LoadTail>(&mut self.seat, TAIL) as u32;
     }
 
     /// Loads the tail if nothing is known to be there.
@@ -90,7 +89,7 @@ impl CompletionReader {
         let words = &self.ring.shared;
         let completion = *self.seat.slot_mut(words, (self.head % self.size) as usize);
         self.head = self.head.wrapping_add(1);
-        words.store::<StoreHead>(&mut self.seat, 1, self.head as u64);
+        words.store::<StoreHead>(&mut self.seat, HEAD, self.head as u64);
         completion
     }
 
@@ -118,7 +117,7 @@ impl CompletionReader {
     {
         self.ring
             .shared
-            .load::<LoadDropped>(&mut self.seat, 2) as u32
+            .load::<LoadDropped>(&mut self.seat, DROPPED) as u32
     }
 
     /// Takes the completions that are known to be there.

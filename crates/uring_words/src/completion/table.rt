@@ -2,9 +2,18 @@
 
 use crate::completion::view::{AppSide, KernelSide};
 use crate::sides::{Shape, View};
-use atomic_table::{Join, Play, Shared, Table, TableRule};
+use atomic_table::{Join, Play, Table, TableRule};
 use std::alloc::Global;
 use uring_entry::Cqe;
+
+/// Where the tail stands among the words of the table.
+pub const TAIL: usize = 0;
+
+/// Where the head stands.
+pub const HEAD: usize = 1;
+
+/// Where the dropped word stands.
+pub const DROPPED: usize = 2;
 
 /// What a seat knows.
 type Known = View<AppSide, KernelSide>;
@@ -22,9 +31,6 @@ impl TableRule<Cqe, Known, Shape> for RingRule {
 
 /// The table of the completion ring, before its seats are taken.
 pub type Ring = Table<Cqe, Known, Shape, RingRule, Global>;
-
-/// The words and cells of the completion ring, as both sides share them.
-pub type Words = Shared<Cqe, Known, Shape, RingRule>;
 
 /// What one side may do to the words and cells, what it knows of them, and the cells that it holds.
 pub type Seat = atomic_table::Seat<Cqe, Known>;

@@ -3,7 +3,9 @@ ghost use Rattle.std.specs.Prelude.{◌≡◌, ◌+◌, ◌<◌, ◌≤◌, true
 ghost use Rattle.uring_words.specs.Completion.Ends.{kernel_knows};
 ghost use Rattle.uring_words.specs.Completion.Steps.{all_given, head_loaded, dropped_stored};
 
-use crate::completion::table::{GiveAll, LoadHead, Ring, Seat, StoreDropped, StoreTail};
+use crate::completion::table::{
+    DROPPED, GiveAll, HEAD, LoadHead, Ring, Seat, StoreDropped, StoreTail, TAIL,
+};
 use std::alloc::Global;
 use std::marker::Model;
 use std::sync::Arc;
@@ -41,7 +43,7 @@ impl CompletionWriter {
         ensures most { self.new.knows.kernel.end
             ≤ length self.old.knows.kernel.put + self.old.knows.kernel.size }
     {
-        let head = self.ring.shared.load::<LoadHead>(&mut self.seat, 1) as u32;
+        let head = self.ring.shared.load::<LoadHead>(&mut self.seat, HEAD) as u32;
         self.end = head.wrapping_add(self.size);
     }
 
@@ -72,7 +74,7 @@ impl CompletionWriter {
         let words = &self.ring.shared;
         *self.seat.slot_mut(words, (self.tail % self.size) as usize) = completion;
         self.tail = self.tail.wrapping_add(1);
-        words.store::<StoreTail>(&mut self.seat, 0, self.tail as u64);
+        words.store::<StoreTail>(&mut self.seat, TAIL, self.tail as u64);
     }
 
     /// Stores the dropped word.
@@ -81,7 +83,7 @@ impl CompletionWriter {
     {
         self.ring
             .shared
-            .store::<StoreDropped>(&mut self.seat, 2, dropped as u64);
+            .store::<StoreDropped>(&mut self.seat, DROPPED, dropped as u64);
     }
 
     /// Gives back all its cells, and ends: its seat, which holds none.
@@ -97,7 +99,7 @@ impl CompletionWriter {
             tail: _,
             end: _,
         } = self;
-        ring.shared.load::<GiveAll>(&mut seat, 1);
+        ring.shared.load::<GiveAll>(&mut seat, HEAD);
         seat
     }
 }
