@@ -1,8 +1,8 @@
 -- What each step of a seat of the completion ring's table asks.
-use Rattle.std.proofs.Common.{◌≡◌, ℕ, ◌+◌, ◌^◌, ◌<◌, ◌≤◌, true, List, [], ◌∷◌, ◌++◌, length, get_or, set, refl, sym, ◌∙◌, ap, ap₂, subst, arith, length-append}
+use Rattle.std.proofs.Common.{◌≡◌, ℕ, ◌+◌, ◌^◌, ◌<◌, true, List, ◌∷◌, ◌++◌, length, get_or, set, refl, sym, ◌∙◌, ap, ap₂, subst, arith, length-append}
 use Rattle.std.proofs.lemmas.List.{set-get_or}
-use mathlib.Core.Option.{Option, none, some}
-use Rattle.atomic_table.specs.Table.{step, keeps, gives, Act, Valid, put_back, homes_after, carried_after, Allows}
+use mathlib.Core.Option.{Option, none}
+use Rattle.atomic_table.specs.Table.{step, keeps, gives, Valid, put_back, homes_after, Allows}
 use Rattle.uring_entry.specs.IndexWords.{word_of}
 use Rattle.uring_entry.specs.Layout.{Cqe}
 use Rattle.uring_ports.specs.Dropped.{WereHad}
@@ -14,7 +14,7 @@ use Rattle.uring_words.specs.Slots.{held_from, app_has, kernel_has}
 use Rattle.uring_words.specs.declared.completion.view.AppSide.{AppSide}
 use Rattle.uring_words.specs.declared.completion.view.KernelSide.{KernelSide}
 use Rattle.uring_words.proofs.CompletionSteps.{put_many, few_cells, keeps-tail_stored, keeps-dropped_stored, keeps-head_loaded, keeps-all_given, keeps-tail_loaded, keeps-dropped_loaded, keeps-head_stored}
-use Rattle.uring_words.proofs.SlotActs.{with_given, with_taken, gives_all, gives_all-homes, gives_all-carried, gives_all-valid, changes, changes-homes, changes-carried, takes_all, more_valid}
+use Rattle.uring_words.proofs.SlotActs.{with_given, gives_all, gives_all-homes, gives_all-carried, gives_all-valid, changes, changes-homes, changes-carried, takes_all, more_valid}
 use Rattle.uring_words.proofs.SlotSeats.{app_step, kernel_step}
 
 -- the tail is stored

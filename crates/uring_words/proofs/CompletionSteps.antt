@@ -1,5 +1,5 @@
 -- The steps of the completion ring's table keep the agreement.
-use Rattle.std.proofs.Common.{◌≡◌, ◌≢◌, ℕ, ◌+◌, ◌^◌, ◌<◌, ◌≤◌, List, [], ◌∷◌, ◌++◌, length, get_or, set, refl, sym, ◌∙◌, ap, subst, arith, append_assoc, append-nil, length-append, length-set, get_or-set_other, get_or-set_same}
+use Rattle.std.proofs.Common.{◌≡◌, ℕ, ◌+◌, ◌^◌, ◌<◌, ◌≤◌, List, [], ◌∷◌, ◌++◌, length, set, refl, sym, ◌∙◌, ap, subst, arith, append_assoc, append-nil, length-append, length-set, get_or-set_other, get_or-set_same}
 use mathlib.Core.Option.{Option, some}
 use Rattle.atomic_table.proofs.Lists.{set_here}
 use Rattle.uring_entry.specs.IndexWords.{word_of}
@@ -12,7 +12,7 @@ use Rattle.uring_words.specs.Places.{place_of}
 use Rattle.uring_words.specs.Slots.{held_from, StandFrom}
 use Rattle.uring_words.specs.declared.completion.view.AppSide.{AppSide}
 use Rattle.uring_words.specs.declared.completion.view.KernelSide.{KernelSide}
-use Rattle.uring_words.proofs.SlotActs.{Clear, with_given, with_given-length, stands_else, stands_given, given_stand, stand_both, taken_more, more-length, more_stands}
+use Rattle.uring_words.proofs.SlotActs.{with_given, with_given-length, stands_else, stands_given, given_stand, stand_both, taken_more, more-length, more_stands}
 use Rattle.uring_words.proofs.Standing.{some_size, place_below, next_turn}
 
 -- the sizes of the table after a store

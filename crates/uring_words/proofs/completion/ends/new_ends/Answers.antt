@@ -1,4 +1,4 @@
-use Rattle.std.proofs.Common.{[], length, arith, rules, refl, sym}
+use Rattle.std.proofs.Common.{[], arith, rules, refl}
 use Rattle.uring_words.proofs.CompletionFirst.{opens}
 use Rattle.uring_words.proofs.FirstTable.{start_word}
 use Rattle.uring_words.proofs.SlotSeats.{splits}

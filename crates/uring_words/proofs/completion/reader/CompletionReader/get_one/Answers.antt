@@ -1,4 +1,4 @@
-use Rattle.std.proofs.Common.{◌≡◌, ℕ, ◌+◌, ◌%◌, ◌<◌, ◌∷◌, ◌++◌, [], length, arith, refl, sym, ap, ◌∙◌, subst, length-append}
+use Rattle.std.proofs.Common.{◌<◌, length, arith, refl, sym, ◌∙◌, subst}
 use Rattle.uring_words.specs.Completion.Ends.{End}
 use Rattle.uring_words.proofs.CompletionPlays.{stores_head}
 use Rattle.uring_words.proofs.SlotActs.{first_held, is_first}

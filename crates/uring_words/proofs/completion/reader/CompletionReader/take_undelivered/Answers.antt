@@ -1,4 +1,4 @@
-use Rattle.std.proofs.Common.{length, arith, refl, sym, ap, ◌∙◌}
+use Rattle.std.proofs.Common.{arith, sym, ap, ◌∙◌}
 use Rattle.uring_words.specs.Completion.Ends.{End}
 use Rattle.uring_words.specs.Completion.Steps.{Holder}
 use Rattle.uring_words.proofs.SlotSeats.{app_joins}

@@ -1,7 +1,6 @@
-use Rattle.std.proofs.Common.{◌≡◌, ℕ, ◌+◌, ◌%◌, ◌<◌, ◌∷◌, ◌++◌, [], length, arith, refl, sym, ap, ◌∙◌, subst, length-append}
+use Rattle.std.proofs.Common.{◌≡◌, ℕ, ◌+◌, ◌<◌, ◌∷◌, ◌++◌, [], length, arith, refl, sym, ap, ◌∙◌, subst, length-append}
 use Rattle.atomic_table.specs.Table.{rest}
 use Rattle.uring_words.specs.Completion.Ends.{End}
-use Rattle.uring_words.specs.Completion.Steps.{Holder}
 use Rattle.uring_words.specs.Slots.{held_from}
 use Rattle.uring_words.proofs.CompletionPlays.{stores_tail}
 use Rattle.uring_words.proofs.SlotActs.{first_held, is_first}
