@@ -2,37 +2,23 @@
 use Rattle.std.proofs.Common.{◌≡◌, ℕ, suc, ◌+◌, ◌%◌, ◌^◌, ◌<◌, ◌≤◌, List, [], ◌∷◌, ◌++◌, map, length, take, drop, set, refl, sym, ◌∙◌, ap, ap₂, subst, arith, length-append}
 use Rattle.std.proofs.Math.Seq.{take-append_seam, drop-append_seam}
 use mathlib.Core.List.{map-append}
-use Rattle.std.proofs.Math.Nat.{add-mod_right}
 use Rattle.std.specs.Int.{IsPowerOfTwo}
 use mathlib.Core.Option.{Option, some}
 use lib.ListN.{get_elem?}
-use Rattle.atomic_table.specs.Table.{Act, carried_after, homes_after, Valid}
-use Rattle.uring_rings.proofs.Counts.{cell_of_count}
-use Rattle.uring_words.specs.Places.{place_of}
+use Rattle.atomic_table.specs.Table.{homes_after, Valid}
 use Rattle.uring_words.specs.Slots.{held_from, StandFrom}
-use Rattle.uring_words.proofs.SlotActs.{gives_all, takes_all, with_given, with_taken, gives_all-homes, gives_all-carried, gives_all-valid, takes_all-homes, takes_all-carried, with_given-length, with_taken-length, Clear, stands_given, stands_taken, given_stand, taken_valid, stand_both}
+use Rattle.uring_words.proofs.SlotActs.{takes_all, changes, changes-homes, with_given, with_taken, gives_all-valid, with_given-length, with_taken-length, Clear, stands_given, stands_taken, given_stand, taken_valid, more_valid, more_stands}
+use Rattle.uring_words.proofs.Standing.{next_turn}
 
 module _ {S : Type 0} where
-  -- all of the old slots are given, and then the new ones taken
-  abbrev pub changes : List (ℕ × S) → List (ℕ × S) → Act S
-  changes old new = gives_all old (takes_all new)
-
-  -- what is at home then
+  -- what is at home once all of the old slots are given, and then the new ones taken
   abbrev pub after : List (Option S) → List (ℕ × S) → List (ℕ × S) → List (Option S)
   after homes old new = homes_after homes old (changes old new)
-
-  pub after-held : (old new : List (ℕ × S)) → carried_after old (changes old new) ≡ new
-  after-held old new = gives_all-carried old (takes_all new) ∙ takes_all-carried new
-
-  after-homes : (homes : List (Option S)) (old new : List (ℕ × S))
-      → after homes old new ≡ with_taken (with_given homes old) new
-  after-homes homes old new =
-      gives_all-homes homes old (takes_all new) ∙ takes_all-homes (with_given homes old) new
 
   pub after-length : (homes : List (Option S)) (old new : List (ℕ × S))
       → length (after homes old new) ≡ length homes
   after-length homes old new =
-      ap length (after-homes homes old new) ∙ with_taken-length (with_given homes old) new ∙ with_given-length homes old
+      ap length (changes-homes homes old new) ∙ with_taken-length (with_given homes old) new ∙ with_given-length homes old
 
   -- one part is given behind another
   given_both : (homes : List (Option S)) (xs ys : List (ℕ × S))
@@ -46,17 +32,15 @@ module _ {S : Type 0} (start size : ℕ) (power : IsPowerOfTwo size) (fits : siz
       → StandFrom start size homes count xs → StandFrom start size homes (count + size) xs
   stand_later homes count [] h = tt
   stand_later homes count (x ∷ xs) h =
-      let whole : (start + count) + size ≡ start + (count + size) = omega arith in
-      let again : place_of start size (count + size) ≡ place_of start size count = cell_of_count size start (count + size) power fits ∙ ap (λ n. n % size) (sym whole) ∙ add-mod_right (start + count) size ∙ sym (cell_of_count size start count power fits) in
       let next : (count + 1) + size ≡ (count + size) + 1 = omega arith in (
-        ap (λ p. get_elem? homes p) again ∙ h.0,
+        ap (λ p. get_elem? homes p) (next_turn start size count power fits) ∙ h.0,
         subst (λ n. StandFrom start size homes n xs) next (stand_later homes (count + 1) xs h.1),
       )
 
   stand_after : (homes : List (Option S)) (old new : List (ℕ × S)) (count : ℕ) (xs : List S)
       → StandFrom start size (with_taken (with_given homes old) new) count xs
       → StandFrom start size (after homes old new) count xs
-  stand_after homes old new count xs = subst (λ hs. StandFrom start size hs count xs) (sym (after-homes homes old new))
+  stand_after homes old new count xs = subst (λ hs. StandFrom start size hs count xs) (sym (changes-homes homes old new))
 
   -- More slots are taken, behind those that the seat holds.
   module _ (homes : List (Option S)) (long : length homes ≡ size) (count : ℕ) (held more : List S) where
@@ -70,17 +54,13 @@ module _ {S : Type 0} (start size : ℕ) (power : IsPowerOfTwo size) (fits : siz
         → Valid homes old (changes old new)
     take_valid few h =
         let both = length-append held more in
-        let here = given_stand start size power fits homes count held long (omega arith) in
-        let there = stands_given start size power fits homes count (count + length held) held more (λ a b l m n o. ((λ e. omega arith), omega arith, omega arith)) h in
-        gives_all-valid homes old (takes_all new) (taken_valid start size power fits (with_given homes old) count (held ++ more) (omega arith) (stand_both start size power fits (with_given homes old) count (count + length held) held more (λ i. count + length held) here there))
+        gives_all-valid homes old (takes_all new) (more_valid start size power fits homes count (count + length held) held more long refl (omega arith) h)
 
     pub take_others : (other : ℕ) (xs : List S) → Clear size count (length held + length more) other (length xs)
         → StandFrom start size homes other xs → StandFrom start size (after homes old new) other xs
     take_others other xs clear h =
         let both = length-append held more in
-        stand_after homes old new other xs
-        (stands_taken start size power fits (with_given homes old) count other (held ++ more) xs (λ a b l m n o. clear a b l (omega arith) n o)
-        (stands_given start size power fits homes count other held xs (λ a b l m n o. clear a b l (omega arith) n o) h))
+        stand_after homes old new other xs (more_stands start size power fits homes count other held more xs (λ a b l m n o. clear a b l (omega arith) n o) h)
 
   -- The slots that stand behind the others, with values of earlier counts, are given, and the others kept.
   module _ (homes : List (Option S)) (long : length homes ≡ size) (count : ℕ) (kept done : List S) where

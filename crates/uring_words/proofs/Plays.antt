@@ -14,7 +14,8 @@ use Rattle.uring_words.specs.declared.submission.view.KernelSide.{KernelSide}
 use Rattle.uring_words.specs.declared.submission.view.Position.{Position}
 use Rattle.uring_words.proofs.AppSteps.{all_published, keeps-head_loaded, keeps-tail_stored, keeps-all_given}
 use Rattle.uring_words.proofs.KernelSteps.{keeps-tail_loaded, keeps-head_stored}
-use Rattle.uring_words.proofs.Handing.{changes, after, after-held, take_valid, give_valid, all_valid, held-length, same_parts, same_slots}
+use Rattle.uring_words.proofs.Handing.{after, take_valid, give_valid, all_valid, held-length, same_parts, same_slots}
+use Rattle.uring_words.proofs.SlotActs.{changes, changes-carried}
 use Rattle.uring_words.proofs.SlotSeats.{app_step, kernel_step}
 
 abbrev Slots : Type 0
@@ -49,7 +50,7 @@ stores_tail slots id me word blank written is_app holds many few limit is_word w
     held-length a.start a.size (n + length written') blank', held-length a.start a.size n written', held-length a.start a.size (n + length written) blank, held-length a.start a.size n written) in
     let count : length written ≡ length written' = same_count a.start n (length written) (length written') (omega arith) (omega arith) (sym is_word ∙ found) in
     let parts = same_slots a.start a.size (n + length written) n (n + length written') n blank written blank' written' count (sym holds ∙ same) in
-    ap (app_has me (tail_stored a written)) (after-held old new) ∙ (λ i. app_has me (tail_stored a (parts.1 i)) (held_from a.start a.size (n + length (parts.1 i)) (parts.0 i))) in
+    ap (app_has me (tail_stored a written)) (changes-carried old new) ∙ (λ i. app_has me (tail_stored a (parts.1 i)) (held_from a.start a.size (n + length (parts.1 i)) (parts.0 i))) in
     let r = subst P (sym holds) (give_valid a.start a.size h.sized.power fits homes h.sized.places n blank written few, keeps-tail_stored words homes a d word blank written h many few is_word whole, told) in
     (tail_stored a written, act, r.0, r.1, r.2))
 
@@ -77,7 +78,7 @@ loads_head slots id me blank is_app holds many =
     let told : Then (app_has me b (carried_after old act)) = (
       length d.taken,
       blank ++ h.free,
-      ap (app_has me b) (after-held old new),
+      ap (app_has me b) (changes-carried old new),
       record { head = h.head; published_before = omega arith; later = omega (arith, h.all); many = omega (arith, h.all) },
       refl,
     ) in
@@ -100,7 +101,7 @@ gives_all_places slots id me blank is_app holds many few =
     let P : Slots → Type 0 = λ c. Valid homes c act × Agree (set words 1 (get_or words 1 0)) (homes_after homes c act) b d × Then (app_has me b (carried_after c act)) in
     let fits : a.size ≤ 2 ^ 32 = omega (arith, h.sized.limit) in
     let kept = subst (λ ws. Agree ws (after homes old []) b d) (sym (set-get_or words 1 0)) (keeps-all_given words homes a d blank h many few) in
-    let r = subst P (sym holds) (all_valid a.start a.size h.sized.power fits homes n blank, kept, ap (app_has me b) (after-held old [])) in
+    let r = subst P (sym holds) (all_valid a.start a.size h.sized.power fits homes n blank, kept, ap (app_has me b) (changes-carried old [])) in
     (b, act, r.0, r.1, r.2))
 
 -- the tail is loaded
@@ -125,7 +126,7 @@ loads_tail slots id me is_kernel holds =
     let holds' : me.1 ≡ old = holds ∙ (λ i. held_from (s.start i) (s.size i) n d.known) in
     let told : Then (kernel_has me e (carried_after old act)) = (
       h.rest,
-      ap (kernel_has me e) (after-held old new) ∙ (λ i. kernel_has me e (held_from (sym s.start i) (sym s.size i) n (d.known ++ h.rest))),
+      ap (kernel_has me e) (changes-carried old new) ∙ (λ i. kernel_has me e (held_from (sym s.start i) (sym s.size i) n (d.known ++ h.rest))),
       record {
         tail = h.tail ∙ ap (λ k. word_of k (length a.published)) (sym s.start) ∙ ap (word_of d.start) count;
         whole = subst AreWhole h.begins h.whole;
@@ -163,7 +164,7 @@ stores_head slots id me word others read is_kernel holds known few is_word =
     let parts' : length d.known ≡ length read' + length others' = ap length known' ∙ length-append read' others' in
     let count : length read ≡ length read' = same_count d.start n (length read) (length read') (omega arith) (omega arith) (sym is_word ∙ found) in
     let halves = same_parts read others read' others' (omega arith) (sym known ∙ known') in
-    ap (kernel_has me e) (after-held old new) ∙ (λ i. kernel_has me (head_stored d (halves.0 i) (halves.1 i)) (held_from (sym s.start i) (sym s.size i) (n + length (halves.0 i)) (halves.1 i))) in
+    ap (kernel_has me e) (changes-carried old new) ∙ (λ i. kernel_has me (head_stored d (halves.0 i) (halves.1 i)) (held_from (sym s.start i) (sym s.size i) (n + length (halves.0 i)) (halves.1 i))) in
     let r = subst P (sym holds') (
       give_valid a.start a.size s.power fits homes s.places n others read (omega (arith, h.all, h.room)),
       keeps-head_stored words homes a d word others read h known (is_word ∙ ap (λ k. word_of k (n + length read)) s.start),

@@ -1,5 +1,5 @@
 -- A step that keeps the agreement keeps the rule, and so do the cutting of the first seat and the joining of two: of any table whose slots the two sides hand to each other.
-use Rattle.std.proofs.Common.{◌≡◌, ◌≢◌, ℕ, true, List, [], ◌∷◌, ◌++◌, length, get_or, map, set, refl, sym, ◌∙◌, subst, ⊎_elim}
+use Rattle.std.proofs.Common.{◌≡◌, ◌≢◌, ℕ, true, List, length, get_or, map, set, refl, sym, ◌∙◌, subst, ⊎_elim}
 use Rattle.std.proofs.lemmas.Bool.{false≢true}
 use mathlib.Core.Option.{Option, some}
 use lib.ListN.{get_elem?}

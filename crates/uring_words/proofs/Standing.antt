@@ -1,9 +1,10 @@
 -- The places of counts.
-use Rattle.std.proofs.Common.{◌≡◌, ◌≢◌, ℕ, ◌+◌, ◌%◌, ◌^◌, ◌<◌, ◌≤◌, ◌∙◌, ap, arith, sym}
+use Rattle.std.proofs.Common.{◌≡◌, ◌≢◌, ℕ, ◌+◌, ◌%◌, ◌^◌, ◌<◌, ◌≤◌, sym, ◌∙◌, ap, arith}
+use Rattle.std.proofs.Math.Nat.{add-mod_right}
 use Rattle.std.proofs.lemmas.Nat.{mod_below, pow_pos}
 use Rattle.std.specs.Int.{IsPowerOfTwo}
 use Rattle.uring_entry.specs.IndexWords.{word_of}
-use Rattle.uring_rings.proofs.Counts.{same_cell}
+use Rattle.uring_rings.proofs.Counts.{cell_of_count, same_cell}
 use Rattle.uring_words.specs.Places.{place_of}
 
 pub some_size : (size : ℕ) → IsPowerOfTwo size → 0 < size
@@ -27,3 +28,13 @@ apart start size j k power fits before near e =
     let ordered : j ≤ k = omega arith in
     let one : j ≡ k = same_cell size start j k power fits ordered near e in
     omega arith
+
+-- a count one turn of the ring on has the same place
+pub next_turn : (start size k : ℕ) → IsPowerOfTwo size → size ≤ 2 ^ 32
+    → place_of start size (k + size) ≡ place_of start size k
+next_turn start size k power fits =
+    let behind : start + (k + size) ≡ (start + k) + size = omega arith in
+    cell_of_count size start (k + size) power fits
+    ∙ ap (λ (n : ℕ). n % size) behind
+    ∙ add-mod_right (start + k) size
+    ∙ sym (cell_of_count size start k power fits)

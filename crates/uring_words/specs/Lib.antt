@@ -1,6 +1,6 @@
 pub mod Places
-pub mod Slots
 pub mod Sides
+pub mod Slots
 pub mod Submission
 pub mod Completion
 pub mod PortViews

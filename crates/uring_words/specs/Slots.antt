@@ -44,10 +44,9 @@ module _ {S A D : Type 0} where
   abbrev pub kernel_has : Me S (View A D) → D → List (ℕ × S) → Me S (View A D)
   kernel_has m d held = (record m.0 { kernel = d }, held)
 
-module _ {A D : Type 0} where
-  -- an application's seat that takes in a dispatcher's
-  abbrev pub parts_of_both : View A D → View A D → View A D
-  parts_of_both v w = record v { is_kernel = true; kernel = w.kernel }
+-- an application's seat that takes in a dispatcher's
+abbrev pub parts_of_both : {A D : Type 0} → View A D → View A D → View A D
+parts_of_both v w = record v { is_kernel = true; kernel = w.kernel }
 
 -- A seat of this table, in a ring of this size, a power of two, at most the limit.
 pub record SlotsFit (seat table : TableId) (words limit size known_size : ℕ) : Type 0 where

@@ -53,7 +53,7 @@ pub fn new_slot_table<
     ensures granted { (n : ℕ) → M.grants memory.now n → length words.now ≤ n
         → length slots.items ≤ n → IsOk result }
 {
-    let (table, mut seat) = memory.table_of(alloc, words, slots, shape)?;
+    let (table, mut seat) = memory.table(alloc, words, slots, shape)?;
     let kernel_seat = table.shared.split_seat::<Sides>(&mut seat);
     let (app_ring, kernel_ring) = memory.shared(alloc, table)?;
     let app = SlotHold {
