@@ -24,11 +24,11 @@ app_knows e a = record e { knows = record e.knows { app = a } }
 abbrev pub kernel_knows : End → KernelSide → End
 kernel_knows e d = record e { knows = record e.knows { kernel = d } }
 
--- what a dispatcher's seat knows once it has loaded the head, and its cells end at this count
+-- what a dispatcher's seat knows once it has loaded the head, and the cells that it holds end at this count
 abbrev pub has_loaded : View AppSide KernelSide → ℕ → View AppSide KernelSide
 has_loaded v end = record v { kernel = head_loaded v.kernel end }
 
--- The dispatcher's end: its seat of this table, what it knows, the cells that it holds, whatever stands there, the ring's size, and its index words of the tail and of the end of its cells.
+-- The dispatcher's end: its seat of this table, what it knows, the cells that it holds, whatever stands there, the ring's size, and its index words of the tail and of the count at which these cells end.
 pub record IsWriter (seat table : TableId) (v : View AppSide KernelSide) (held : List (ℕ × Cqe)) (size tail end : ℕ) : Type 0 where
   pub fits : SlotsFit seat table word_count 8192 size v.kernel.size
   pub is_kernel : v.is_kernel ≡ true

@@ -22,7 +22,7 @@ abbrev pub put_first : KernelSide → List (ℕ × Cqe) → KernelSide
 put_first d [] = d
 put_first d (x ∷ xs) = record d { put = d.put ++ x.1 ∷ [] }
 
--- the tail is stored: what stands in the first cell that the seat holds is put, and the cell is no longer the dispatcher's
+-- the tail is stored: what stands in the first cell that the seat held is put, and the cell goes home
 abbrev pub StoresTail : Step Cqe → Holder → ℕ → Holder → Type 0
 StoresTail st before found after =
     after ≡ kernel_has before (put_first before.0.kernel before.1) (rest before.1)
@@ -35,11 +35,11 @@ abbrev pub StoresDropped : Step Cqe → Holder → ℕ → Holder → Type 0
 StoresDropped st before found after =
     after ≡ kernel_has before (dropped_stored before.0.kernel found) before.1
 
--- the head is loaded, and the cells up to this count are the dispatcher's
+-- the head is loaded, and the cells that the dispatcher holds end at this count
 abbrev pub head_loaded : KernelSide → ℕ → KernelSide
 head_loaded d end = record d { end = end; looks = d.looks + 1 }
 
--- What the load of the head tells, which found this count: the seat holds the cells from the tail on, as many as the ring has above the head, whatever stands there.
+-- What the load of the head tells, which found this count: the seat holds the cells from the tail on, as far as the ring goes above the head, whatever stands there.
 pub record HeadTold (d : KernelSide) (found count : ℕ) (blank : List Cqe) : Type 0 where
   pub head : found ≡ word_of d.start count
   pub put_before : count ≤ length d.put
@@ -51,7 +51,7 @@ LoadsHead st before found after = let d = before.0.kernel in (count : ℕ) × (b
     × (after ≡ kernel_has before (head_loaded d (count + d.size)) (held_from d.start d.size (length d.put) blank))
     × HeadTold d found count blank × (st.word ≡ head_index)
 
--- the head is loaded, and the dispatcher gives back all its cells
+-- the head is loaded, and the dispatcher gives back the cells that it holds
 abbrev pub all_given : KernelSide → KernelSide
 all_given d = record d { end = length d.put }
 
@@ -78,7 +78,7 @@ LoadsTail st before found after = let a = before.0.app in (more : List Cqe)
     × (after ≡ app_has before (tail_loaded a more) (held_from a.start a.size (length a.got) (a.known ++ more)))
     × TailTold before.0 found more × (st.word ≡ tail_index)
 
--- the head is stored: the first of the known completions is got, and its cell is no longer the application's
+-- the head is stored: the first of the known completions is got, and its cell goes home
 abbrev pub got_first : AppSide → List Cqe → AppSide
 got_first a [] = a
 got_first a (c ∷ cs) = record a { got = a.got ++ c ∷ []; known = cs }

@@ -16,7 +16,7 @@ use crate::slots::{SlotHold, new_slot_table};
 use std::alloc::{AllocError, Global};
 use uring_entry::Cqe;
 
-/// The application's end and the dispatcher's end of a new completion ring of this shape. The dispatcher's has loaded the head, and so all cells are its own.
+/// The application's end and the dispatcher's end of a new completion ring of this shape. The dispatcher's has loaded the head, and so holds all cells.
 pub fn new_ends<M: TableMemory>(
     memory: &M,
     alloc: Global,

@@ -35,7 +35,7 @@ pub type Ring = Table<Cqe, Known, Shape, RingRule, Global>;
 /// What one side may do to the words and cells, what it knows of them, and the cells that it holds.
 pub type Seat = atomic_table::Seat<Cqe, Known>;
 
-/// The dispatcher stores the tail, with which a completion is put and its cell given up.
+/// The dispatcher stores the tail, with which a completion is put and its cell goes home.
 pub struct StoreTail;
 
 impl Play<Cqe, Known> for StoreTail {
@@ -89,7 +89,7 @@ impl Play<Cqe, Known> for LoadDropped {
     ghost then = { LoadsDropped };
 }
 
-/// The application stores the head, with which a completion is got and its cell given back.
+/// The application stores the head, with which a completion is got and its cell goes home.
 pub struct StoreHead;
 
 impl Play<Cqe, Known> for StoreHead {

@@ -29,7 +29,7 @@ pub struct KernelSide {
     /// The completions that it put, oldest first.
     pub put: LinkedList<Cqe>,
 
-    /// The count at which its cells end: it holds those from the tail up to there.
+    /// The count at which the cells that it holds end: they are those from the tail up to there.
     pub end: u64,
 
     /// How often it loaded the head.

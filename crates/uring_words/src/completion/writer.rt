@@ -17,7 +17,7 @@ pub struct CompletionWriter {
     pub(super) ring: Arc<Ring, Global>,
     pub(super) seat: Seat,
     pub(super) size: u32,
-    // The index words of the tail, and of the count at which its cells end.
+    // The index words of the tail, and of the count at which the cells that it holds end.
     pub(super) tail: u32,
     pub(super) end: u32,
 }
@@ -35,7 +35,7 @@ impl Model for CompletionWriter {
 }
 
 impl CompletionWriter {
-    /// Loads the head, with which all free cells are this end's.
+    /// Loads the head, with which this end takes the cells that are free.
     pub(super) fn load_head(&mut self)
         ensures is { self.new
             ≡ kernel_knows self.old (head_loaded self.old.knows.kernel self.new.knows.kernel.end) }
@@ -47,7 +47,7 @@ impl CompletionWriter {
         self.end = head.wrapping_add(self.size);
     }
 
-    /// How many cells are this end's.
+    /// How many cells this end holds.
     fn free(&self) -> usize
         ensures { result + length self.now.knows.kernel.put ≡ self.now.knows.kernel.end }
     {
@@ -65,7 +65,7 @@ impl CompletionWriter {
         self.free()
     }
 
-    /// Puts a completion in the next cell, which is this end's.
+    /// Puts a completion in the next cell, which this end holds.
     pub fn put(&mut self, completion: Cqe)
         requires { length self.old.knows.kernel.put < self.old.knows.kernel.end }
         ensures { self.new
@@ -86,7 +86,7 @@ impl CompletionWriter {
             .store::<StoreDropped>(&mut self.seat, DROPPED, dropped as u64);
     }
 
-    /// Gives back all its cells, and ends: its seat, which holds none.
+    /// Gives back the cells that it holds, and ends: its seat, which holds none.
     pub(super) fn give_all(self) -> Seat
         ensures table { result.table_id ≡ self.table }
         ensures side { result.me.0.is_kernel ≡ true }
