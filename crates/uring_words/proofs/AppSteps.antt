@@ -1,8 +1,8 @@
 -- The application's steps keep the agreement.
-use Rattle.std.proofs.Common.{◌≡◌, ℕ, ◌+◌, ◌<◌, ◌≤◌, ◌^◌, List, [], ◌∷◌, ◌++◌, length, set, refl, sym, ◌∙◌, ap, arith, append_assoc, length-append, length-set, get_or-set_other, get_or-set_same}
+use Rattle.std.proofs.Common.{◌≡◌, ℕ, ◌+◌, ◌≤◌, ◌^◌, List, [], ◌++◌, length, set, sym, ◌∙◌, ap, arith, append_assoc, length-append, length-set, get_or-set_other, get_or-set_same}
 use mathlib.Core.Option.{Option}
 use Rattle.uring_entry.specs.IndexWords.{word_of}
-use Rattle.uring_words.specs.Slots.{held_from, StandFrom}
+use Rattle.uring_words.specs.Slots.{held_from}
 use Rattle.uring_words.specs.Submission.Calls.{AreWhole}
 use Rattle.uring_words.specs.Submission.Rule.{Agree}
 use Rattle.uring_words.specs.Submission.Steps.{with_first_behind, tail_stored, head_loaded, all_given}

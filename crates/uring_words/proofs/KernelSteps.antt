@@ -1,5 +1,5 @@
 -- The dispatcher's steps keep the agreement.
-use Rattle.std.proofs.Common.{◌≡◌, ℕ, ◌+◌, ◌<◌, ◌≤◌, ◌^◌, List, [], ◌∷◌, ◌++◌, length, set, refl, sym, ◌∙◌, ap, arith, append_assoc, append-nil, length-append, length-set, get_or-set_other, get_or-set_same, subst}
+use Rattle.std.proofs.Common.{◌≡◌, ℕ, ◌+◌, ◌≤◌, ◌^◌, List, [], ◌++◌, length, set, sym, ◌∙◌, ap, arith, append_assoc, append-nil, length-append, length-set, get_or-set_other, get_or-set_same, subst}
 use mathlib.Core.Option.{Option}
 use Rattle.uring_entry.specs.IndexWords.{word_of}
 use Rattle.uring_words.specs.Slots.{held_from, StandFrom}

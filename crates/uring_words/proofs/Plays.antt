@@ -1,16 +1,14 @@
 -- What each step of a seat asks.
-use Rattle.std.proofs.Common.{◌≡◌, ℕ, ◌+◌, ◌<◌, ◌≤◌, ◌^◌, ◌%◌, true, List, [], ◌∷◌, ◌++◌, length, get_or, set, refl, sym, ◌∙◌, ap, subst, arith, length-append}
+use Rattle.std.proofs.Common.{◌≡◌, ℕ, ◌+◌, ◌≤◌, ◌^◌, true, List, [], ◌++◌, length, get_or, set, refl, sym, ◌∙◌, ap, subst, arith, length-append}
 use Rattle.std.proofs.lemmas.List.{set-get_or}
 use Rattle.atomic_table.specs.Table.{Act, step, Allows, Valid, homes_after, carried_after}
-use mathlib.Core.Option.{Option, none}
+use mathlib.Core.Option.{none}
 use Rattle.uring_entry.specs.IndexWords.{word_of}
 use Rattle.uring_words.specs.Slots.{app_has, held_from, kernel_has, StandFrom}
 use Rattle.uring_words.specs.Submission.Calls.{AreWhole}
-use Rattle.uring_words.specs.Submission.Layout.{tail_index, head_index}
-use Rattle.uring_words.specs.Submission.Rule.{tail_seen, Agree, BothAgree}
+use Rattle.uring_words.specs.Submission.Rule.{Agree, BothAgree}
 use Rattle.uring_words.specs.Submission.Steps.{Holder, with_first_behind, tail_stored, head_loaded, all_given, tail_loaded, head_stored, StoresTail, LoadsHead, GivesAll, LoadsTail, StoresHead}
 use Rattle.uring_words.specs.declared.submission.view.AppSide.{AppSide}
-use Rattle.uring_words.specs.declared.submission.view.KernelSide.{KernelSide}
 use Rattle.uring_words.specs.declared.submission.view.Position.{Position}
 use Rattle.uring_words.proofs.AppSteps.{all_published, keeps-head_loaded, keeps-tail_stored, keeps-all_given}
 use Rattle.uring_words.proofs.KernelSteps.{keeps-tail_loaded, keeps-head_stored}

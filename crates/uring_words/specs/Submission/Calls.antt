@@ -1,5 +1,5 @@
 -- What positions hold: items, call by call, and the close mark behind all calls. Our own rule.
-use Rattle.std.specs.Prelude.{◌≡◌, ℕ, Bool, true, false, List, [], ◌∷◌}
+use Rattle.std.specs.Prelude.{◌≡◌, Bool, true, false, List, [], ◌∷◌}
 use Rattle.uring_ports.specs.declared.item.Item.{Item}
 use Rattle.uring_ports.specs.Messages.{with_first}
 use Rattle.uring_ports.specs.Ports.{Put}

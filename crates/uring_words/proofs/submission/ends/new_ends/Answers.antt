@@ -1,4 +1,4 @@
-use Rattle.std.proofs.Common.{◌≡◌, rules, refl, sym, ap, ◌∙◌, arith, length}
+use Rattle.std.proofs.Common.{◌≡◌, rules, refl, ap, ◌∙◌, arith, length}
 use Rattle.uring_words.specs.Sides.{app_part}
 use Rattle.uring_words.specs.Submission.Ends.{End, has_loaded}
 use Rattle.uring_words.specs.Submission.Rule.{at_first}

@@ -1,4 +1,4 @@
-use Rattle.std.proofs.Common.{◌≡◌, ℕ, ◌+◌, ◌%◌, ◌<◌, length, take, drop, arith, refl, sym, ap, ◌∙◌, length-take-le, rules}
+use Rattle.std.proofs.Common.{ℕ, ◌+◌, ◌%◌, ◌<◌, length, take, arith, sym, ap, ◌∙◌, rules}
 use Rattle.uring_words.specs.Submission.Calls.{all_more}
 use Rattle.uring_words.proofs.Copying.{one_read, front_more, reads_last, reads_close, call_ends}
 use Rattle.uring_words.proofs.Standing.{at_place}

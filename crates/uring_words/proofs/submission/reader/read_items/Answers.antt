@@ -1,4 +1,4 @@
-use Rattle.std.proofs.Common.{◌≡◌, ℕ, ◌+◌, ◌-◌, ◌%◌, ◌<◌, ◌≤◌, [], ◌∷◌, ◌++◌, List, length, take, drop, arith, refl, sym, ap, ◌∙◌, append_assoc, append-nil, take_all, rules, vec_len, vec_capacity, ⊎_elim}
+use Rattle.std.proofs.Common.{◌≡◌, ℕ, ◌+◌, ◌%◌, ◌<◌, [], ◌∷◌, ◌++◌, List, length, take, arith, sym, ap, ◌∙◌, append_assoc, append-nil, ⊎_elim}
 use Rattle.uring_ports.specs.declared.item.Item.{Item}
 use Rattle.uring_words.specs.Submission.Calls.{items_of}
 use Rattle.uring_words.proofs.Copying.{one_read, read_items_more}

@@ -1,9 +1,6 @@
-use Rattle.std.proofs.Common.{◌≡◌, ℕ, ◌+◌, ◌%◌, ◌≤◌, List, [], ◌∷◌, ◌++◌, drop, take, length, arith, sym, ap, ◌∙◌, take_all, length-take-le}
+use Rattle.std.proofs.Common.{◌≡◌, ℕ, ◌+◌, ◌%◌, [], ◌∷◌, ◌++◌, take, length, arith, sym, ap, ◌∙◌, take_all, length-take-le}
 use Rattle.std.proofs.lemmas.List.{take_more}
-use Rattle.uring_words.specs.Slots.{held_from}
 use Rattle.uring_words.specs.Submission.Calls.{all_more}
-use Rattle.uring_words.specs.Submission.Steps.{Holder, with_first_behind}
-use Rattle.uring_words.specs.declared.submission.view.Position.{Position}
 use Rattle.uring_words.specs.declared.submission.view.Position.TheVariants as position
 use Rattle.uring_words.proofs.CallLemmas.{more-length, more-append}
 use Rattle.uring_words.proofs.Handing.{held-length}

@@ -1,4 +1,4 @@
-use Rattle.std.proofs.Common.{◌≡◌, ℕ, ◌+◌, ◌%◌, ◌^◌, ◌≤◌, List, [], ◌∷◌, ◌++◌, drop, length, arith, refl, sym, ap, ◌∙◌, subst, length-append}
+use Rattle.std.proofs.Common.{◌≡◌, ℕ, ◌+◌, ◌%◌, ◌^◌, ◌≤◌, List, [], ◌∷◌, ◌++◌, drop, length, arith, sym, ap, ◌∙◌, subst, length-append}
 use Rattle.std.proofs.lemmas.List.{length-drop}
 use Rattle.uring_entry.specs.IndexWords.{word_of}
 use Rattle.uring_words.specs.Slots.{held_from}

@@ -1,8 +1,8 @@
-use Rattle.std.proofs.Common.{◌≡◌, false, [], ◌∷◌, ◌++◌, length, arith, sym, ap, ◌∙◌, subst, length-append}
+use Rattle.std.proofs.Common.{false, arith, sym, ap, ◌∙◌}
 use Rattle.uring_ports.specs.Ports.{with_call}
-use Rattle.uring_words.specs.Submission.Calls.{AreWhole, put_of, has_close_mark}
+use Rattle.uring_words.specs.Submission.Calls.{put_of}
 use Rattle.uring_words.specs.Submission.Ends.{End}
-use Rattle.uring_words.proofs.CallLemmas.{Holding, holds_call, places}
+use Rattle.uring_words.proofs.CallLemmas.{holds_call, places}
 use Rattle.uring_words.proofs.submission.writer.CallWriter.put_call.Goals as goal
 
 pub returns-then-not-has_room-clause-put : goal.returns-then-not-has_room-clause-put
