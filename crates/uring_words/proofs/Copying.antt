@@ -32,7 +32,7 @@ module _ (v : View AppSide KernelSide) (blank : List Position) (front : List Ite
 
   -- The place behind them is first, and is written too.
   module _ (place : ℕ) (m : Holder) (is : m ≡ (v, with_first_behind v.app.start v.app.size (length v.app.published) (drop (length (all_more front)) blank) (all_more front)))
-    (room : length front + 1 ≤ length blank) (at : place ≡ place_of v.app.start v.app.size (length v.app.published + length front)) where
+      (room : length front + 1 ≤ length blank) (at : place ≡ place_of v.app.start v.app.size (length v.app.published + length front)) where
     here : place ≡ place_of v.app.start v.app.size (length v.app.published + length (all_more front))
     here = at ∙ ap (λ (k : ℕ). place_of v.app.start v.app.size (length v.app.published + k)) (sym (more-length front))
 

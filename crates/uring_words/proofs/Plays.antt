@@ -44,8 +44,16 @@ stores_tail slots id me word blank written is_app holds many few limit is_word w
     let told : Then (app_has me (tail_stored a written) (carried_after old act)) =
     λ blank' written' same found.
     let all : length blank' + length written' ≡ length blank + length written =
-    omega (arith, ap length (sym same ∙ holds), length-append (held_from a.start a.size (n + length written') blank') (held_from a.start a.size n written'), length-append new (held_from a.start a.size n written),
-    held-length a.start a.size (n + length written') blank', held-length a.start a.size n written', held-length a.start a.size (n + length written) blank, held-length a.start a.size n written) in
+    omega (
+      arith,
+      ap length (sym same ∙ holds),
+      length-append (held_from a.start a.size (n + length written') blank') (held_from a.start a.size n written'),
+      length-append new (held_from a.start a.size n written),
+      held-length a.start a.size (n + length written') blank',
+      held-length a.start a.size n written',
+      held-length a.start a.size (n + length written) blank,
+      held-length a.start a.size n written,
+    ) in
     let count : length written ≡ length written' = same_count a.start n (length written) (length written') (omega arith) (omega arith) (sym is_word ∙ found) in
     let parts = same_slots a.start a.size (n + length written) n (n + length written') n blank written blank' written' count (sym holds ∙ same) in
     ap (app_has me (tail_stored a written)) (changes-carried old new) ∙ (λ i. app_has me (tail_stored a (parts.1 i)) (held_from a.start a.size (n + length (parts.1 i)) (parts.0 i))) in

@@ -42,9 +42,9 @@ module _ {S : Type 0} where
         let n = next_of k all below in
         let later : (count + k) + 1 ≡ count + (k + 1) = omega arith in
         ap (λ (m : V × List (ℕ × S)). m.1) is
-            ∙ ap (λ l. held_from start size (count + k) l ++ held_from start size count done) n.1
-            ∙ ap (λ (m : ℕ). (place_of start size (count + k), n.0) ∷ (held_from start size m (drop (k + 1) all) ++ held_from start size count done)) later
-            ∙ ap (λ (p : ℕ). (p, n.0) ∷ (held_from start size (count + (k + 1)) (drop (k + 1) all) ++ held_from start size count done)) (sym at)
+        ∙ ap (λ l. held_from start size (count + k) l ++ held_from start size count done) n.1
+        ∙ ap (λ (m : ℕ). (place_of start size (count + k), n.0) ∷ (held_from start size m (drop (k + 1) all) ++ held_from start size count done)) later
+        ∙ ap (λ (p : ℕ). (p, n.0) ∷ (held_from start size (count + (k + 1)) (drop (k + 1) all) ++ held_from start size count done)) (sym at)
 
     -- the next one is first
     pub stands_first : (x : S) × (me.1 ≡ (place, x) ∷ rest me.1)
@@ -60,9 +60,9 @@ module _ {S : Type 0} where
     goes_behind x after many moved =
         let ahead = held_from start size (count + (k + 1)) (drop (k + 1) all) in
         moved ∙ (λ i. ((is i).0, ap rest first i ++ (at i, x) ∷ []))
-            ∙ ap (λ l. (v, l)) (append_assoc ahead (held_from start size count done) ((place_of start size (count + k), x) ∷ [])
-            ∙ ap (λ (m : ℕ). ahead ++ (held_from start size count done ++ (place_of start size (count + m), x) ∷ [])) many
-            ∙ ap (λ l. ahead ++ l) (sym (held_more start size count done x)))
+        ∙ ap (λ l. (v, l)) (append_assoc ahead (held_from start size count done) ((place_of start size (count + k), x) ∷ [])
+        ∙ ap (λ (m : ℕ). ahead ++ (held_from start size count done ++ (place_of start size (count + m), x) ∷ [])) many
+        ∙ ap (λ l. ahead ++ l) (sym (held_more start size count done x)))
 
     -- with the value that it had
     pub turns_behind : (x : S) (after : V × List (ℕ × S)) → done ≡ take k all → k ≡ length done
@@ -71,4 +71,4 @@ module _ {S : Type 0} where
     turns_behind x after same many read moved =
         let n = next_of k all below in
         goes_behind x after many (moved ∙ ap (λ l. (me.0, turned l)) read)
-            ∙ ap (λ l. (v, part_done start size count (k + 1) all l)) (ap (λ l. l ++ x ∷ []) same ∙ ap (λ y. take k all ++ y ∷ []) (is_next x read) ∙ sym n.2)
+        ∙ ap (λ l. (v, part_done start size count (k + 1) all l)) (ap (λ l. l ++ x ∷ []) same ∙ ap (λ y. take k all ++ y ∷ []) (is_next x read) ∙ sym n.2)

@@ -9,9 +9,7 @@ ghost use Rattle.uring_words.specs.Submission.Calls.{items_of, put_of, has_close
 ghost use Rattle.uring_words.specs.Submission.Ends.{kernel_knows, FindsNone, ReadsCall, ReaderRests, WriterRests};
 ghost use Rattle.uring_words.specs.declared.submission.view.Position.{Position};
 
-use crate::submission::table::{
-    BothSides, HEAD, LoadTail, Ring, Seat, StoreHead, TAIL, Words,
-};
+use crate::submission::table::{BothSides, HEAD, LoadTail, Ring, Seat, StoreHead, TAIL, Words};
 use crate::submission::view::Position;
 use crate::submission::writer::CallWriter;
 use std::alloc::Global;

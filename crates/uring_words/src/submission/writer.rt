@@ -10,9 +10,7 @@ ghost use Rattle.uring_words.specs.Submission.Ends.{app_knows, WriterRests, Look
 ghost use Rattle.uring_words.specs.Submission.Steps.{all_given, head_loaded, tail_stored};
 ghost use Rattle.uring_words.specs.declared.submission.view.Position.{Position};
 
-use crate::submission::table::{
-    GiveAll, HEAD, LoadHead, Ring, Seat, StoreTail, TAIL, Words,
-};
+use crate::submission::table::{GiveAll, HEAD, LoadHead, Ring, Seat, StoreTail, TAIL, Words};
 use crate::submission::view::Position;
 use std::alloc::Global;
 use std::marker::Model;

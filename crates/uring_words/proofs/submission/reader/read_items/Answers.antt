@@ -38,23 +38,23 @@ loop-preserved c =
     let part = items_of (take k d.known) in
     let more = items_of (take (k + 1) d.known) in
     elim c.match-position.branch [
-      in-Close w ↦
-        let none : items_of (x ∷ []) ≡ [] = ap (λ y. items_of (y ∷ [])) w.in-Close.is in
-        rw w.items-is (record {
-          table = table;
-          next = omega (arith, inv.next);
-          read = read;
-          items = longer c.loop.items.items c.loop.items.items first more [] part inv.items (sym (append-nil c.loop.items.items)) (parts ∙ ap (λ l. part ++ l) none);
-          room = omega (arith, inv.room, below);
-        })
-    | in-More2 w ↦
-        let item = w.in-More.item in
-        let one : items_of (x ∷ []) ≡ item ∷ [] = ⊎_elim (λ e. ap (λ y. items_of (y ∷ [])) e) (λ e. ap (λ y. items_of (y ∷ [])) e) w.in-More.is in
-        rw w.items-is (record {
-          table = table;
-          next = omega (arith, inv.next);
-          read = read;
-          items = longer c.loop.items.items w.push_reserved.new.self.items first more (item ∷ []) part inv.items w.push_reserved.ensures.items (parts ∙ ap (λ l. part ++ l) one);
-          room = omega (arith, inv.room, below, w.push_reserved.ensures.len, w.push_reserved.ensures.capacity);
-        })
+      | in-Close w ↦
+          let none : items_of (x ∷ []) ≡ [] = ap (λ y. items_of (y ∷ [])) w.in-Close.is in
+          rw w.items-is (record {
+            table = table;
+            next = omega (arith, inv.next);
+            read = read;
+            items = longer c.loop.items.items c.loop.items.items first more [] part inv.items (sym (append-nil c.loop.items.items)) (parts ∙ ap (λ l. part ++ l) none);
+            room = omega (arith, inv.room, below);
+          })
+      | in-More2 w ↦
+          let item = w.in-More.item in
+          let one : items_of (x ∷ []) ≡ item ∷ [] = ⊎_elim (λ e. ap (λ y. items_of (y ∷ [])) e) (λ e. ap (λ y. items_of (y ∷ [])) e) w.in-More.is in
+          rw w.items-is (record {
+            table = table;
+            next = omega (arith, inv.next);
+            read = read;
+            items = longer c.loop.items.items w.push_reserved.new.self.items first more (item ∷ []) part inv.items w.push_reserved.ensures.items (parts ∙ ap (λ l. part ++ l) one);
+            room = omega (arith, inv.room, below, w.push_reserved.ensures.len, w.push_reserved.ensures.capacity);
+          })
     ]

@@ -34,7 +34,7 @@ loop-item-preserved c =
       written = λ blank holds.
           let all : length room.0 ≡ length blank = sym (held-length a.start a.size n room.0) ∙ ap length (sym room.1 ∙ holds) ∙ held-length a.start a.size n blank in
           goes_behind a.start a.size n k (c.loop-item.next % c.args.size) blank (all_more (take k items)) c.loop-item.seat.me c.args.seat.now.me.0 (inv.written blank holds) (omega (arith, room.2, c.loop-item-test.true)) at.0 (position.More x) c.write_first.new.seat.me many c.write_first.ensures.written
-              ∙ ap (λ ps. (c.args.seat.now.me.0, part_done a.start a.size n (k + 1) blank ps)) longer;
+          ∙ ap (λ ps. (c.args.seat.now.me.0, part_done a.start a.size n (k + 1) blank ps)) longer;
     }
 
 pub returns-clause-written : goal.returns-clause-written
