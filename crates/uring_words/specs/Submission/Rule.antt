@@ -27,7 +27,7 @@ pub record AreSized (words : List ℕ) (homes : List (Option Position)) (a : App
   pub many : length words ≡ word_count
   pub places : length homes ≡ a.size
 
--- What the application and the dispatcher know of the table, between any two steps. The places at the counts from the head to the tail seen are the dispatcher's: it knows what stands there. From there to the tail they are at home, and hold what the application published there (rest). From the tail to the end they are the application's, and from there on they are free again (free): no more than the ring has above the head. What the dispatcher took, and then what it knows, begins what was published, which is whole calls.
+-- What the application and the dispatcher know of the table, between any two steps. The places at the counts from the tail seen to the tail are at home, and hold what the application published there (rest). From the end of the application's places on they are at home again, as far as the ring goes above the head (free). The others may be out: of the dispatcher those from the head to the tail seen, of the application those from the tail to their end. What the dispatcher took, and then what it knows, begins what was published, which is whole calls.
 pub record Agree (words : List ℕ) (homes : List (Option Position)) (a : AppSide) (d : KernelSide) : Type 0 where
   pub sized : AreSized words homes a d
   pub room : length a.published ≤ a.end

@@ -26,14 +26,14 @@ with_first_behind start size count others first =
 abbrev pub tail_stored : AppSide → List Position → AppSide
 tail_stored a written = record a { published = a.published ++ written }
 
--- What was written is published, as many positions as the word stored says, and its places are no longer the application's.
+-- What was written is published, as many positions as the word stored says, and the seat holds their places no longer.
 abbrev pub StoresTail : Step Position → Holder → ℕ → Holder → Type 0
 StoresTail st before found after = let a = before.0.app in (blank written : List Position)
     → before.1 ≡ with_first_behind a.start a.size (length a.published) blank written
     → found ≡ word_of a.start (length a.published + length written)
     → after ≡ app_has before (tail_stored a written) (held_from a.start a.size (length a.published + length written) blank)
 
--- the head is loaded, and the places up to this count are the application's
+-- the head is loaded, and the seat holds the places up to this count
 abbrev pub head_loaded : AppSide → ℕ → AppSide
 head_loaded a end = record a { end = end; looks = a.looks + 1 }
 
@@ -81,7 +81,7 @@ LoadsTail st before found after = let d = before.0.kernel in (more : List Positi
 abbrev pub head_stored : KernelSide → List Position → List Position → KernelSide
 head_stored d read others = record d { taken = d.taken ++ read; known = others }
 
--- What was read is taken, as many positions as the word stored says, and its places are no longer the dispatcher's.
+-- What was read is taken, as many positions as the word stored says, and the seat holds their places no longer.
 abbrev pub StoresHead : Step Position → Holder → ℕ → Holder → Type 0
 StoresHead st before found after = let d = before.0.kernel in (others read : List Position)
     → before.1 ≡ with_first_behind d.start d.size (length d.taken) others read
