@@ -1,180 +1,167 @@
 -- What positions more do to the calls that positions hold.
-use Rattle.std.proofs.Common.{◌≡◌, ◌+◌, Bool, true, false, ◌||◌, not, List, [], ◌∷◌, ◌++◌, map, length, if◌then◌else◌, MatchBool, refl, sym, ◌∙◌, ap, subst, arith, append-nil}
-use Rattle.std.proofs.Math.Bool.{or_assoc}
-use Rattle.std.proofs.lemmas.Bool.{false≢true, or_parts}
+use Rattle.std.proofs.Common.{◌≡◌, ◌<◌, Bool, true, false, List, [], ◌∷◌, ◌++◌, length, refl, sym, ◌∙◌, ap, subst, arith, append-nil}
+use Rattle.std.proofs.lemmas.Bool.{false≢true}
 use Rattle.uring_ports.specs.declared.item.Item.{Item}
 use Rattle.uring_ports.specs.Messages.{with_first}
 use Rattle.uring_ports.specs.Ports.{Put, items_of_calls, places_of, with_call, with_close, LeavesItems}
-use Rattle.uring_words.specs.Submission.Calls.{item_of, with_item, calls_of, has_close_mark, put_of, items_of, AreWholeFrom, AreWhole, AllGoOn}
-use Rattle.uring_words.specs.Submission.Layout.{closes, ends_call}
+use Rattle.uring_words.specs.Submission.Calls.{calls_of, has_close_mark, put_of, items_of, AreWholeFrom, AreWhole, all_more}
 use Rattle.uring_words.specs.declared.submission.view.Position.{Position}
+use Rattle.uring_words.specs.declared.submission.view.Position.TheVariants as position
 
-pub close_mark-append : (xs ys : List Position)
-    → has_close_mark (xs ++ ys) ≡ has_close_mark xs || has_close_mark ys
-close_mark-append [] ys = refl
-close_mark-append (x ∷ xs) ys = ap (λ b. closes x.mark || b) (close_mark-append xs ys) ∙ sym (or_assoc (closes x.mark) (has_close_mark xs) (has_close_mark ys))
+pub more-length : (xs : List Item) → length (all_more xs) ≡ length xs
+more-length [] = refl
+more-length (x ∷ xs) = let n = more-length xs in omega arith
 
--- one position more that goes on
-pub goes_on-snoc : (ps : List Position) (p : Position) → AllGoOn ps → closes p.mark ≡ false
-    → ends_call p.mark ≡ false → AllGoOn (ps ++ p ∷ [])
-goes_on-snoc [] p all open' on = (open', on, tt)
-goes_on-snoc (q ∷ qs) p all open' on = (all.0, all.1, goes_on-snoc qs p all.2 open' on)
+pub more-append : (xs ys : List Item) → all_more (xs ++ ys) ≡ all_more xs ++ all_more ys
+more-append [] ys = refl
+more-append (x ∷ xs) ys = ap (λ ps. position.More x ∷ ps) (more-append xs ys)
+
+close_mark-append : (xs ys : List Position) → has_close_mark xs ≡ false
+    → has_close_mark (xs ++ ys) ≡ has_close_mark ys
+close_mark-append [] ys none = refl
+close_mark-append (position.More x ∷ ps) ys none = close_mark-append ps ys none
+close_mark-append (position.Last x ∷ ps) ys none = close_mark-append ps ys none
+close_mark-append (position.Close ∷ ps) ys none = absurd (false≢true (sym none))
 
 -- whole calls behind whole calls are whole
-pub whole-append : (b : Bool) (xs ys : List Position) → AreWholeFrom b xs
+whole-append : (b : Bool) (xs ys : List Position) → AreWholeFrom b xs
     → has_close_mark xs ≡ false → AreWhole ys → AreWholeFrom b (xs ++ ys)
 whole-append b [] ys h none w = let P : Bool → Type 0 = λ c. AreWholeFrom c ys in subst P (sym h) w
-whole-append b (p ∷ ps) ys h none w =
-    let c = or_parts (closes p.mark) (has_close_mark ps) none in
-    let h' = rw c.0 at h in
-    rw c.0 (whole-append (not (ends_call p.mark)) ps ys h' c.1 w)
+whole-append b (position.More x ∷ ps) ys h none w = whole-append true ps ys h none w
+whole-append b (position.Last x ∷ ps) ys h none w = whole-append false ps ys h none w
+whole-append b (position.Close ∷ ps) ys h none w = absurd (false≢true (sym none))
 
 -- what is behind whole calls is whole
 pub whole_rest : (b : Bool) (xs ys : List Position) → AreWholeFrom b xs → has_close_mark xs ≡ false
     → AreWholeFrom b (xs ++ ys) → AreWhole ys
 whole_rest b [] ys h none w = let P : Bool → Type 0 = λ c. AreWholeFrom c ys in subst P h w
-whole_rest b (p ∷ ps) ys h none w =
-    let c = or_parts (closes p.mark) (has_close_mark ps) none in
-    let h' = rw c.0 at h in
-    let w' = rw c.0 at w in
-    whole_rest (not (ends_call p.mark)) ps ys h' c.1 w'
+whole_rest b (position.More x ∷ ps) ys h none w = whole_rest true ps ys h none w
+whole_rest b (position.Last x ∷ ps) ys h none w = whole_rest false ps ys h none w
+whole_rest b (position.Close ∷ ps) ys h none w = absurd (false≢true (sym none))
 
-first_append : (e : Bool) (x y : Item) (cs ds : List (List Item))
-    → with_first x (with_item e y cs ++ ds) ≡ with_first x (with_item e y cs) ++ ds
-first_append true x y cs ds = refl
-first_append false x y [] ds = refl
-first_append false x y (c ∷ cs) ds = refl
+two_first : (x y : Item) (cs ds : List (List Item))
+    → with_first x (with_first y cs ++ ds) ≡ with_first x (with_first y cs) ++ ds
+two_first x y [] ds = refl
+two_first x y (c ∷ cs) ds = refl
 
-item_append : (e : Bool) (x : Item) (ps : List Position) (ds : List (List Item))
-    → AreWholeFrom (not e) ps → has_close_mark ps ≡ false
-    → with_item e x (calls_of ps ++ ds) ≡ with_item e x (calls_of ps) ++ ds
-item_append true x ps ds h none = refl
-item_append false x [] ds h none = absurd (false≢true (sym h))
-item_append false x (p ∷ ps) ds h none =
-    let c = or_parts (closes p.mark) (has_close_mark ps) none in
-    rw c.0 (first_append (ends_call p.mark) x (item_of p) (calls_of ps) ds)
+first_append : (x : Item) (ps : List Position) (ds : List (List Item)) → AreWholeFrom true ps
+    → has_close_mark ps ≡ false
+    → with_first x (calls_of ps ++ ds) ≡ with_first x (calls_of ps) ++ ds
+first_append x [] ds h none = absurd (false≢true (sym h))
+first_append x (position.More y ∷ ps) ds h none = two_first x y (calls_of ps) ds
+first_append x (position.Last y ∷ ps) ds h none = refl
+first_append x (position.Close ∷ ps) ds h none = absurd (false≢true (sym none))
 
-pub calls-append : (b : Bool) (xs ys : List Position) → AreWholeFrom b xs
+calls-append : (b : Bool) (xs ys : List Position) → AreWholeFrom b xs
     → has_close_mark xs ≡ false → calls_of (xs ++ ys) ≡ calls_of xs ++ calls_of ys
 calls-append b [] ys h none = refl
-calls-append b (p ∷ ps) ys h none =
-    let c = or_parts (closes p.mark) (has_close_mark ps) none in
-    let h' = rw c.0 at h in
-    rw c.0 (ap (with_item (ends_call p.mark) (item_of p)) (calls-append (not (ends_call p.mark)) ps ys h' c.1) ∙ item_append (ends_call p.mark) (item_of p) ps (calls_of ys) h' c.1)
+calls-append b (position.More x ∷ ps) ys h none =
+    ap (with_first x) (calls-append true ps ys h none) ∙ first_append x ps (calls_of ys) h none
+calls-append b (position.Last x ∷ ps) ys h none =
+    ap (λ cs. (x ∷ []) ∷ cs) (calls-append false ps ys h none)
+calls-append b (position.Close ∷ ps) ys h none = absurd (false≢true (sym none))
 
 -- the positions of one call
-pub one_call : (ps : List Position) (p : Position) → AllGoOn ps → closes p.mark ≡ false
-    → ends_call p.mark ≡ true → calls_of (ps ++ p ∷ []) ≡ map item_of (ps ++ p ∷ []) ∷ []
-one_call [] p all open' ends = rw (open', ends) refl
-one_call (q ∷ qs) p all open' ends =
-    rw (all.0, all.1) (ap (with_first (item_of q)) (one_call qs p all.2 open' ends))
+one_call : (front : List Item) (last : Item)
+    → calls_of (all_more front ++ position.Last last ∷ []) ≡ (front ++ last ∷ []) ∷ []
+one_call [] last = refl
+one_call (x ∷ xs) last = ap (with_first x) (one_call xs last)
 
-pub call_is_whole : (b : Bool) (ps : List Position) (p : Position) → AllGoOn ps
-    → closes p.mark ≡ false → ends_call p.mark ≡ true → AreWholeFrom b (ps ++ p ∷ [])
-call_is_whole b [] p all open' ends = rw (open', ends) refl
-call_is_whole b (q ∷ qs) p all open' ends =
-    rw (all.0, all.1) (call_is_whole true qs p all.2 open' ends)
+call_is_whole : (b : Bool) (front : List Item) (last : Item)
+    → AreWholeFrom b (all_more front ++ position.Last last ∷ [])
+call_is_whole b [] last = refl
+call_is_whole b (x ∷ xs) last = call_is_whole true xs last
 
-pub call_is_open : (ps : List Position) (p : Position) → AllGoOn ps → closes p.mark ≡ false
-    → has_close_mark (ps ++ p ∷ []) ≡ false
-call_is_open [] p all open' = rw open' refl
-call_is_open (q ∷ qs) p all open' = rw all.0 (call_is_open qs p all.2 open')
+call_is_open : (front : List Item) (last : Item)
+    → has_close_mark (all_more front ++ position.Last last ∷ []) ≡ false
+call_is_open [] last = refl
+call_is_open (x ∷ xs) last = call_is_open xs last
 
 -- these positions hold this, whole calls
 pub record Holding (ps : List Position) (put : Put) : Type 0 where
   pub is : put_of ps ≡ put
   pub whole : AreWhole ps
 
--- a call more
-pub holds_call : (xs ps : List Position) (p : Position) → AreWhole xs → has_close_mark xs ≡ false
-    → AllGoOn ps → closes p.mark ≡ false → ends_call p.mark ≡ true
-    → Holding (xs ++ (ps ++ p ∷ [])) (with_call (put_of xs) (map item_of (ps ++ p ∷ [])))
-holds_call xs ps p whole none all open' ends =
-    let call = ps ++ p ∷ [] in
-    let is_open : has_close_mark call ≡ false = call_is_open ps p all open' in
+-- one call behind all calls
+pub holds_call : (xs : List Position) (front : List Item) (last : Item) → AreWhole xs
+    → has_close_mark xs ≡ false
+    → Holding (xs ++ (all_more front ++ position.Last last ∷ [])) (with_call (put_of xs) (front ++ last ∷ []))
+holds_call xs front last whole none =
+    let call = all_more front ++ position.Last last ∷ [] in
     record {
       is = λ i. record {
-        calls = (calls-append false xs call whole none ∙ ap (λ cs. calls_of xs ++ cs) (one_call ps p all open' ends)) i;
-        closed = (close_mark-append xs call ∙ ap (λ b. has_close_mark xs || b) is_open ∙ ap (λ b. b || false) none ∙ sym none) i;
+        calls = (calls-append false xs call whole none ∙ ap (λ cs. calls_of xs ++ cs) (one_call front last)) i;
+        closed = (close_mark-append xs call none ∙ call_is_open front last ∙ sym none) i;
       };
-      whole = whole-append false xs call whole none (call_is_whole false ps p all open' ends);
+      whole = whole-append false xs call whole none (call_is_whole false front last);
     }
 
 -- the close mark behind all calls
-pub holds_close : (xs : List Position) (p : Position) → AreWhole xs → has_close_mark xs ≡ false
-    → closes p.mark ≡ true → Holding (xs ++ p ∷ []) (with_close (put_of xs))
-holds_close xs p whole none closing =
-    let mark : calls_of (p ∷ []) ≡ [] = rw closing refl in
-    let closed : has_close_mark (p ∷ []) ≡ true = rw closing refl in
-    let end : AreWhole (p ∷ []) = rw closing (refl, refl) in
+pub holds_close : (xs : List Position) → AreWhole xs → has_close_mark xs ≡ false
+    → Holding (xs ++ position.Close ∷ []) (with_close (put_of xs))
+holds_close xs whole none =
+    let mark = position.Close ∷ [] in
     record {
       is = λ i. record {
-        calls = (calls-append false xs (p ∷ []) whole none ∙ ap (λ cs. calls_of xs ++ cs) mark ∙ append-nil (calls_of xs)) i;
-        closed = (close_mark-append xs (p ∷ []) ∙ ap (λ b. has_close_mark xs || b) closed ∙ ap (λ b. b || true) none) i;
+        calls = (calls-append false xs mark whole none ∙ append-nil (calls_of xs)) i;
+        closed = close_mark-append xs mark none i;
       };
-      whole = whole-append false xs (p ∷ []) whole none end;
+      whole = whole-append false xs mark whole none (refl, refl);
     }
 
-items-with_item : (e : Bool) (x : Item) (calls : List (List Item))
-    → items_of_calls (with_item e x calls) ≡ x ∷ items_of_calls calls
-items-with_item true x calls = refl
-items-with_item false x [] = refl
-items-with_item false x (c ∷ cs) = refl
-
-closing_items : (c : Bool) (b e : Bool) (x : Item) (ps : List Position)
-    → MatchBool c ((b ≡ false) × (ps ≡ [])) (AreWholeFrom (not e) ps)
-    → (AreWholeFrom (not e) ps → items_of ps ≡ items_of_calls (calls_of ps))
-    → (if c then items_of ps else x ∷ items_of ps)
-    ≡ items_of_calls (if c then [] else with_item e x (calls_of ps))
-closing_items true b e x ps h next = ap items_of h.1
-closing_items false b e x ps h next =
-    ap (λ xs. x ∷ xs) (next h) ∙ sym (items-with_item e x (calls_of ps))
+items-with_first : (x : Item) (calls : List (List Item))
+    → items_of_calls (with_first x calls) ≡ x ∷ items_of_calls calls
+items-with_first x [] = refl
+items-with_first x (c ∷ cs) = refl
 
 -- the items that positions hold are those of their calls
-pub items-calls_of : (b : Bool) (ps : List Position) → AreWholeFrom b ps
+items-calls_of : (b : Bool) (ps : List Position) → AreWholeFrom b ps
     → items_of ps ≡ items_of_calls (calls_of ps)
 items-calls_of b [] h = refl
-items-calls_of b (p ∷ ps) h = closing_items (closes p.mark) b (ends_call p.mark) (item_of p) ps h (items-calls_of (not (ends_call p.mark)) ps)
-
-closing_places : (c : Bool) (b e : Bool) (x : Item) (ps : List Position)
-    → MatchBool c ((b ≡ false) × (ps ≡ [])) (AreWholeFrom (not e) ps)
-    → (AreWholeFrom (not e) ps → places_of (put_of ps) ≡ length ps)
-    → places_of (record { calls = if c then [] else with_item e x (calls_of ps); closed = c || has_close_mark ps })
-    ≡ length ps + 1
-closing_places true b e x ps h next = omega (arith, ap length h.1)
-closing_places false b e x ps h next =
-    let n = next h in omega (arith, ap length (items-with_item e x (calls_of ps)))
+items-calls_of b (position.More x ∷ ps) h =
+    ap (λ xs. x ∷ xs) (items-calls_of true ps h) ∙ sym (items-with_first x (calls_of ps))
+items-calls_of b (position.Last x ∷ ps) h = ap (λ xs. x ∷ xs) (items-calls_of false ps h)
+items-calls_of b (position.Close ∷ ps) h = ap items_of h.1
 
 -- whole calls take as many places as there are of them
 pub places : (b : Bool) (ps : List Position) → AreWholeFrom b ps → places_of (put_of ps) ≡ length ps
 places b [] h = refl
-places b (p ∷ ps) h = let n = closing_places (closes p.mark) b (ends_call p.mark) (item_of p) ps h (places (not (ends_call p.mark)) ps) in omega arith
+places b (position.More x ∷ ps) h =
+    let n = places true ps h in omega (arith, ap length (items-with_first x (calls_of ps)))
+places b (position.Last x ∷ ps) h = let n = places false ps h in omega arith
+places b (position.Close ∷ ps) h = omega (arith, ap length h.1)
 
-after_mark : (c : Bool) (b e : Bool) (ps ys : List Position)
-    → MatchBool c ((b ≡ false) × (ps ++ ys ≡ [])) (AreWholeFrom (not e) (ps ++ ys))
-    → c || has_close_mark ps ≡ true
-    → (AreWholeFrom (not e) (ps ++ ys) → has_close_mark ps ≡ true → ys ≡ []) → ys ≡ []
-after_mark true b e [] ys h closed next = h.1
-after_mark true b e (p ∷ ps) ys h closed next = absurd (omega (arith, ap length h.1))
-after_mark false b e ps ys h closed next = next h closed
+none_of_both : (xs ys : List Position) → xs ++ ys ≡ [] → ys ≡ []
+none_of_both [] ys none = none
+none_of_both (x ∷ xs) ys none = absurd (omega (arith, ap length none))
 
 -- nothing is behind the close mark
-pub nothing_behind : (b : Bool) (xs ys : List Position) → AreWholeFrom b (xs ++ ys)
+nothing_behind : (b : Bool) (xs ys : List Position) → AreWholeFrom b (xs ++ ys)
     → has_close_mark xs ≡ true → ys ≡ []
 nothing_behind b [] ys h closed = absurd (false≢true closed)
-nothing_behind b (p ∷ ps) ys h closed = after_mark (closes p.mark) b (ends_call p.mark) ps ys h closed (nothing_behind (not (ends_call p.mark)) ps ys)
+nothing_behind b (position.More x ∷ ps) ys h closed = nothing_behind true ps ys h closed
+nothing_behind b (position.Last x ∷ ps) ys h closed = nothing_behind false ps ys h closed
+nothing_behind b (position.Close ∷ ps) ys h closed = none_of_both ps ys h.1
 
--- positions that go on aren't whole calls
-pub not_whole : (ps : List Position) → AllGoOn ps → AreWholeFrom true ps → ⊥
-not_whole [] all h = false≢true (sym h)
-not_whole (p ∷ ps) all h = let h' = rw (all.0, all.1) at h in not_whole ps all.2 h'
+-- items that others follow aren't whole calls
+not_whole : (xs : List Item) → AreWholeFrom true (all_more xs) → ⊥
+not_whole [] h = false≢true (sym h)
+not_whole (x ∷ xs) h = not_whole xs h
+
+pub never_open : (xs : List Item) → 0 < length xs → AreWhole (all_more xs) → ⊥
+never_open [] some h = omega arith
+never_open (x ∷ xs) some h = not_whole xs h
 
 -- inside a call there is no close mark
-pub no_mark_inside : (ps : List Position) (p : Position) (rest : List Position) → AllGoOn ps
-    → closes p.mark ≡ true → AreWholeFrom true (ps ++ p ∷ rest) → ⊥
-no_mark_inside [] p rest all closing h = let h' = rw closing at h in false≢true (sym h'.0)
-no_mark_inside (q ∷ qs) p rest all closing h =
-    let h' = rw (all.0, all.1) at h in no_mark_inside qs p rest all.2 closing h'
+no_mark_inside : (xs : List Item) (rest : List Position)
+    → AreWholeFrom true (all_more xs ++ position.Close ∷ rest) → ⊥
+no_mark_inside [] rest h = false≢true (sym h.0)
+no_mark_inside (x ∷ xs) rest h = no_mark_inside xs rest h
+
+pub close_is_first : (xs : List Item) (rest : List Position)
+    → AreWhole (all_more xs ++ position.Close ∷ rest) → xs ≡ []
+close_is_first [] rest h = refl
+close_is_first (x ∷ xs) rest h = absurd (no_mark_inside xs rest h)
 
 leaves_either : (b : Bool) (all old new : List Position) → all ≡ old ++ new → AreWhole all
     → AreWhole old → has_close_mark old ≡ b → LeavesItems (put_of all) (put_of old) (items_of new)

@@ -1,99 +1,84 @@
 -- The steps of the completion ring's table keep the agreement.
-use Rattle.std.specs.Prelude.{◌==◌, if◌then◌else◌}
-use Rattle.std.proofs.Common.{◌≡◌, ◌≢◌, ℕ, ◌+◌, ◌^◌, ◌<◌, ◌≤◌, true, false, List, [], ◌∷◌, ◌++◌, length, get_or, set, refl, sym, ◌∙◌, ap, subst, arith, append_assoc, append-nil, length-append, length-set, get_or-set_other, get_or-set_same}
-use Rattle.std.proofs.Math.Seq.{get_or-append_seam}
+use Rattle.std.proofs.Common.{◌≡◌, ℕ, ◌+◌, ◌^◌, ◌<◌, ◌≤◌, List, [], ◌∷◌, ◌++◌, length, set, refl, sym, ◌∙◌, ap, subst, arith, append_assoc, append-nil, length-append, length-set, get_or-set_other, get_or-set_same}
+use mathlib.Core.Option.{Option, some}
+use Rattle.atomic_table.proofs.Lists.{set_here}
 use Rattle.uring_entry.specs.IndexWords.{word_of}
+use Rattle.uring_entry.specs.Layout.{Cqe}
 use Rattle.uring_ports.specs.Dropped.{WereHad}
-use Rattle.uring_words.specs.Completion.Layout.{cell_index, tail_index, head_index, dropped_index, IsCell, StandsAt}
-use Rattle.uring_words.specs.Completion.Rule.{last_of, AreSized, Agree}
-use Rattle.uring_words.specs.Completion.Steps.{word_stored, tail_stored, dropped_stored, head_loaded, tail_loaded, word_loaded, dropped_loaded}
+use Rattle.uring_words.specs.Completion.Layout.{tail_index, head_index, dropped_index}
+use Rattle.uring_words.specs.Completion.Rule.{last_of, tail_seen, AreSized, Agree}
+use Rattle.uring_words.specs.Completion.Steps.{dropped_stored, head_loaded, all_given, tail_loaded, dropped_loaded}
 use Rattle.uring_words.specs.Places.{place_of}
+use Rattle.uring_words.specs.Slots.{held_from, StandFrom}
 use Rattle.uring_words.specs.declared.completion.view.AppSide.{AppSide}
 use Rattle.uring_words.specs.declared.completion.view.KernelSide.{KernelSide}
-use Rattle.uring_words.proofs.Standing.{some_size, place_below, apart, one_more}
+use Rattle.uring_words.proofs.SlotActs.{with_given, with_given-length, stands_else, stands_given, given_stand, stand_both, taken_more, more-length, more_stands}
+use Rattle.uring_words.proofs.Standing.{some_size, place_below, next_turn}
 
 -- the sizes of the table after a store
-resized : (words : List ℕ) (i w : ℕ) (a b : AppSide) (d e : KernelSide) → b.start ≡ a.start
-    → b.size ≡ a.size → e.start ≡ d.start → e.size ≡ d.size → AreSized words a d
-    → AreSized (set words i w) b e
-resized words i w a b d e start size start' size' s = record {
+resized : (words : List ℕ) (homes homes' : List (Option Cqe)) (i w : ℕ) (a b : AppSide) (d e : KernelSide)
+    → b.start ≡ a.start → b.size ≡ a.size → e.start ≡ d.start → e.size ≡ d.size
+    → length homes' ≡ length homes → AreSized words homes a d → AreSized (set words i w) homes' b e
+resized words homes homes' i w a b d e start size start' size' same s = record {
   start = start ∙ s.start ∙ sym start';
   size = size ∙ s.size ∙ sym size';
   power = rw size' s.power;
   limit = rw size' s.limit;
-  many = length-set words i w ∙ rw size' s.many;
+  many = length-set words i w ∙ s.many;
+  cells = same ∙ s.cells ∙ sym size';
 }
 
--- a store elsewhere leaves a cell as it was
-stands_elsewhere : (words : List ℕ) (cell i w : ℕ) (c : List ℕ)
-    → ((k : ℕ) → k < 10 → cell_index cell k ≢ i) → StandsAt words cell c
-    → StandsAt (set words i w) cell c
-stands_elsewhere words cell i w c other s k below =
-    get_or-set_other words i (cell_index cell k) w 0 (other k below) ∙ s k below
+-- and where no word is stored
+rehomed : (words : List ℕ) (homes homes' : List (Option Cqe)) (a b : AppSide) (d e : KernelSide)
+    → b.start ≡ a.start → b.size ≡ a.size → e.start ≡ d.start → e.size ≡ d.size
+    → length homes' ≡ length homes → AreSized words homes a d → AreSized words homes' b e
+rehomed words homes homes' a b d e start size start' size' same s = record {
+  start = start ∙ s.start ∙ sym start';
+  size = size ∙ s.size ∙ sym size';
+  power = rw size' s.power;
+  limit = rw size' s.limit;
+  many = s.many;
+  cells = same ∙ s.cells ∙ sym size';
+}
 
--- a cell word is stored in the next cell
-pub keeps-word_stored : (words : List ℕ) (a : AppSide) (d : KernelSide) (w : ℕ) → Agree words a d
-    → length d.put < d.head_seen + d.size → length d.cell < 10
-    → Agree (set words (cell_index (place_of d.start d.size (length d.put)) (length d.cell)) w) a (word_stored d w)
-keeps-word_stored words a d w h room few =
+-- how many were put
+pub put_many : (words : List ℕ) (homes : List (Option Cqe)) (a : AppSide) (d : KernelSide)
+    → (h : Agree words homes a d) → length d.put ≡ tail_seen a + length h.rest
+put_many words homes a d h = omega (arith, ap length h.begins, length-append (a.got ++ a.known) h.rest, length-append a.got a.known)
+
+pub few_cells : (words : List ℕ) (homes : List (Option Cqe)) (a : AppSide) (d : KernelSide)
+    → Agree words homes a d → d.size ≤ 2 ^ 32
+few_cells words homes a d h = omega (arith, h.sized.limit)
+
+-- the tail is stored, and the first cell that the dispatcher held goes home
+pub keeps-tail_stored : (words : List ℕ) (homes : List (Option Cqe)) (a : AppSide) (d : KernelSide) (w : ℕ) (c : Cqe)
+    → Agree words homes a d → length d.put < d.end → w ≡ word_of d.start (length d.put + 1)
+    → Agree (set words tail_index w) (set homes (place_of d.start d.size (length d.put)) (some c)) a (record d { put = d.put ++ c ∷ [] })
+keeps-tail_stored words homes a d w c h room is_word =
     let n : ℕ = length d.put in
-    let size : ℕ = d.size in
-    let place : ℕ = place_of d.start size n in
-    let index : ℕ = cell_index place (length d.cell) in
-    let seen = h.head_seen in
-    let some : 0 < size = some_size size h.sized.power in
-    let below : place < size = place_below d.start size n some in
+    let place : ℕ = place_of d.start d.size n in
+    let homes' : List (Option Cqe) = set homes place (some c) in
+    let fits = few_cells words homes a d h in
+    let many : length (d.put ++ c ∷ []) ≡ n + 1 = length-append d.put (c ∷ []) in
+    let put = put_many words homes a d h in
+    let all = h.all in
     let long = h.sized.many in
+    let below : place < length homes = rw h.sized.cells (place_below d.start d.size n (some_size d.size h.sized.power)) in
     record {
-      sized = resized words index w a a d (word_stored d w) refl refl refl refl h.sized;
-      head_seen = h.head_seen;
-      room = h.room;
-      tail = get_or-set_other words index (tail_index size) w 0 (λ e. omega arith) ∙ h.tail;
-      head = get_or-set_other words index (head_index size) w 0 (λ e. omega arith) ∙ h.head;
-      dropped = get_or-set_other words index (dropped_index size) w 0 (λ e. omega arith) ∙ h.dropped;
-      small = h.small;
-      whole = h.whole;
-      stand = λ k e low within.
-          let there : place_of d.start size k < size = place_below d.start size k some in
-          let near : n < k + size = omega arith in
-          let other : place_of d.start size k ≢ place = apart d.start size k n h.sized.power (omega (arith, h.sized.limit)) within near in
-          stands_elsewhere words (place_of d.start size k) index w (get_or d.put k e) (λ j inside is. other (omega arith)) (h.stand k e low within);
-      writing = one_more (λ k x. get_or (set words index w) (cell_index place k) 0 ≡ x) d.cell w 0
-          (λ k inside. get_or-set_other words index (cell_index place k) w 0 (λ e. omega arith) ∙ h.writing k inside) (get_or-set_same words index w 0 (omega arith));
-      few = omega (arith, length-append d.cell (w ∷ []));
-      rest = h.rest;
-      begins = h.begins;
-      loaded = h.loaded;
-    }
-
--- the tail is stored behind the next cell, which is written whole
-pub keeps-tail_stored : (words : List ℕ) (a : AppSide) (d : KernelSide) (w : ℕ) → Agree words a d
-    → length d.put < d.head_seen + d.size → IsCell d.cell
-    → w ≡ word_of d.start (length d.put + 1)
-    → Agree (set words (tail_index d.size) w) a (tail_stored d)
-keeps-tail_stored words a d w h room cell is_word =
-    let size : ℕ = d.size in
-    let index : ℕ = tail_index size in
-    let some : 0 < size = some_size size h.sized.power in
-    let long = h.sized.many in
-    let many : length (d.put ++ d.cell ∷ []) ≡ length d.put + 1 = length-append d.put (d.cell ∷ []) in
-    record {
-      sized = resized words index w a a d (tail_stored d) refl refl refl refl h.sized;
-      head_seen = h.head_seen;
+      sized = resized words homes homes' tail_index w a a d (record d { put = d.put ++ c ∷ [] }) refl refl refl refl (length-set homes place (some c)) h.sized;
       room = omega arith;
-      tail = get_or-set_same words index w 0 (omega arith) ∙ is_word ∙ ap (word_of d.start) (sym many);
-      head = get_or-set_other words index (head_index size) w 0 (λ e. omega arith) ∙ h.head;
-      dropped = get_or-set_other words index (dropped_index size) w 0 (λ e. omega arith) ∙ h.dropped;
+      tail = get_or-set_same words tail_index w 0 (omega arith) ∙ is_word ∙ ap (word_of d.start) (sym many);
+      head = get_or-set_other words tail_index head_index w 0 (λ e. omega arith) ∙ h.head;
+      dropped = get_or-set_other words tail_index dropped_index w 0 (λ e. omega arith) ∙ h.dropped;
       small = h.small;
-      whole = λ k e. one_more (λ j x. IsCell x) d.put d.cell e (λ j inside. h.whole j e inside) cell k;
-      stand = λ k e low within.
-          let there : place_of d.start size k < size = place_below d.start size k some in
-          stands_elsewhere words (place_of d.start size k) index w (get_or (d.put ++ d.cell ∷ []) k e) (λ j inside is. omega arith)
-          (one_more (λ j x. length a.got ≤ j → StandsAt words (place_of d.start size j) x) d.put d.cell e (λ j inside low'. h.stand j e low' inside) (λ _ j inside. h.writing j (omega (arith, cell.many))) k within low);
-      writing = λ k none. absurd (omega arith);
-      few = omega arith;
-      rest = h.rest ++ d.cell ∷ [];
-      begins = ap (λ l. l ++ d.cell ∷ []) h.begins ∙ append_assoc (a.got ++ a.known) h.rest (d.cell ∷ []);
+      rest = h.rest ++ c ∷ [];
+      begins = ap (λ l. l ++ c ∷ []) h.begins ∙ append_assoc (a.got ++ a.known) h.rest (c ∷ []);
+      stand = stand_both d.start d.size h.sized.power fits homes' (tail_seen a) n h.rest (c ∷ []) put
+          (stands_else d.start d.size h.sized.power fits homes n (tail_seen a) (some c) h.rest (λ x y l m o q. ((λ e. omega arith), omega arith, omega arith)) h.stand)
+          (set_here homes place (some c) below, tt);
+      free = h.free;
+      all = h.all;
+      stand_free = stands_else d.start d.size h.sized.power fits homes n d.end (some c) h.free (λ x y l m o q. ((λ e. omega arith), omega arith, omega arith)) h.stand_free;
       loaded = h.loaded;
     }
 
@@ -126,145 +111,168 @@ had_last v vs (w ∷ ws) h =
     (h.0, h.1, h.2, subst P (sym (last-behind 0 h.0 w h.1) ∙ sym (ap (last_of 0) h.2)) rest)
 
 -- the dropped word is stored
-pub keeps-dropped_stored : (words : List ℕ) (a : AppSide) (d : KernelSide) (w : ℕ) → Agree words a d
-    → w < 2 ^ 32 → Agree (set words (dropped_index d.size) w) a (dropped_stored d w)
-keeps-dropped_stored words a d w h is_small =
-    let size : ℕ = d.size in
-    let index : ℕ = dropped_index size in
-    let some : 0 < size = some_size size h.sized.power in
+pub keeps-dropped_stored : (words : List ℕ) (homes : List (Option Cqe)) (a : AppSide) (d : KernelSide) (w : ℕ)
+    → Agree words homes a d → w < 2 ^ 32 → Agree (set words dropped_index w) homes a (dropped_stored d w)
+keeps-dropped_stored words homes a d w h is_small =
     let long = h.sized.many in
-    let few = h.few in
-    let next : place_of d.start size (length d.put) < size = place_below d.start size (length d.put) some in
     record {
-      sized = resized words index w a a d (dropped_stored d w) refl refl refl refl h.sized;
-      head_seen = h.head_seen;
+      sized = resized words homes homes dropped_index w a a d (dropped_stored d w) refl refl refl refl refl h.sized;
       room = h.room;
-      tail = get_or-set_other words index (tail_index size) w 0 (λ e. omega arith) ∙ h.tail;
-      head = get_or-set_other words index (head_index size) w 0 (λ e. omega arith) ∙ h.head;
-      dropped = get_or-set_same words index w 0 (omega arith) ∙ sym (last-snoc 0 d.dropped w);
+      tail = get_or-set_other words dropped_index tail_index w 0 (λ e. omega arith) ∙ h.tail;
+      head = get_or-set_other words dropped_index head_index w 0 (λ e. omega arith) ∙ h.head;
+      dropped = get_or-set_same words dropped_index w 0 (omega arith) ∙ sym (last-snoc 0 d.dropped w);
       small = rw (last-snoc 0 d.dropped w) is_small;
-      whole = h.whole;
-      stand = λ k e low within.
-          let there : place_of d.start size k < size = place_below d.start size k some in
-          stands_elsewhere words (place_of d.start size k) index w (get_or d.put k e) (λ j inside is. omega arith) (h.stand k e low within);
-      writing = λ k inside. get_or-set_other words index (cell_index (place_of d.start size (length d.put)) k) w 0 (λ e. omega arith) ∙ h.writing k inside;
-      few = h.few;
       rest = h.rest;
       begins = h.begins;
+      stand = h.stand;
+      free = h.free;
+      all = h.all;
+      stand_free = h.stand_free;
       loaded = had_more (0 ∷ d.dropped) (w ∷ []) a.dropped h.loaded;
     }
 
--- the head is loaded
-pub keeps-head_loaded : (words : List ℕ) (a : AppSide) (d : KernelSide) → Agree words a d
-    → Agree words a (head_loaded d (length a.got))
-keeps-head_loaded words a d h = record {
-  sized = record { start = h.sized.start; size = h.sized.size; power = h.sized.power; limit = h.sized.limit; many = h.sized.many };
-  head_seen = omega arith;
-  room = omega (arith, h.room, h.head_seen);
+-- the head is loaded, and the dispatcher takes what is free
+pub keeps-head_loaded : (words : List ℕ) (homes : List (Option Cqe)) (a : AppSide) (d : KernelSide) (blank : List Cqe)
+    → (h : Agree words homes a d) → length d.put + length blank ≡ d.end
+    → Agree words (taken_more d.start d.size homes (length d.put) blank h.free) a (head_loaded d (length a.got + d.size))
+keeps-head_loaded words homes a d blank h ends =
+    let fits = few_cells words homes a d h in
+    let power = h.sized.power in
+    let n : ℕ = length d.put in
+    let homes' : List (Option Cqe) = taken_more d.start d.size homes n blank h.free in
+    let put = put_many words homes a d h in
+    let all = h.all in
+    let room = h.room in
+    let long = length-append blank h.free in
+    record {
+      sized = rehomed words homes homes' a a d (head_loaded d (length a.got + d.size)) refl refl refl refl (more-length d.start d.size homes n blank h.free) h.sized;
+      room = omega arith;
+      tail = h.tail;
+      head = h.head;
+      dropped = h.dropped;
+      small = h.small;
+      rest = h.rest;
+      begins = h.begins;
+      stand = more_stands d.start d.size power fits homes n (tail_seen a) blank h.free h.rest (λ x y l m o q. ((λ e. omega arith), omega arith, omega arith)) h.stand;
+      free = [];
+      all = omega arith;
+      stand_free = tt;
+      loaded = h.loaded;
+    }
+
+-- the dispatcher gives back its cells
+pub keeps-all_given : (words : List ℕ) (homes : List (Option Cqe)) (a : AppSide) (d : KernelSide) (blank : List Cqe)
+    → Agree words homes a d → length d.put + length blank ≡ d.end
+    → Agree words (with_given homes (held_from d.start d.size (length d.put) blank)) a (all_given d)
+keeps-all_given words homes a d blank h ends =
+    let fits = few_cells words homes a d h in
+    let power = h.sized.power in
+    let n : ℕ = length d.put in
+    let held = held_from d.start d.size n blank in
+    let put = put_many words homes a d h in
+    let all = h.all in
+    let long = length-append blank h.free in
+    record {
+      sized = rehomed words homes (with_given homes held) a a d (all_given d) refl refl refl refl (with_given-length homes held) h.sized;
+      room = omega arith;
+      tail = h.tail;
+      head = h.head;
+      dropped = h.dropped;
+      small = h.small;
+      rest = h.rest;
+      begins = h.begins;
+      stand = stands_given d.start d.size power fits homes n (tail_seen a) blank h.rest (λ x y l m o q. ((λ e. omega arith), omega arith, omega arith)) h.stand;
+      free = blank ++ h.free;
+      all = omega arith;
+      stand_free = stand_both d.start d.size power fits (with_given homes held) n d.end blank h.free (sym ends)
+          (given_stand d.start d.size power fits homes n blank h.sized.cells (omega arith))
+          (stands_given d.start d.size power fits homes n d.end blank h.free (λ x y l m o q. ((λ e. omega arith), omega arith, omega arith)) h.stand_free);
+      loaded = h.loaded;
+    }
+
+-- the tail is loaded, and the application takes all that was put
+pub keeps-tail_loaded : (words : List ℕ) (homes : List (Option Cqe)) (a : AppSide) (d : KernelSide)
+    → (h : Agree words homes a d)
+    → Agree words (taken_more d.start d.size homes (length a.got) a.known h.rest) (tail_loaded a h.rest) d
+keeps-tail_loaded words homes a d h =
+    let fits = few_cells words homes a d h in
+    let power = h.sized.power in
+    let b : AppSide = tail_loaded a h.rest in
+    let n : ℕ = length a.got in
+    let homes' : List (Option Cqe) = taken_more d.start d.size homes n a.known h.rest in
+    let put = put_many words homes a d h in
+    let all = h.all in
+    let room = h.room in
+    let long = length-append a.known h.rest in
+    record {
+      sized = rehomed words homes homes' a b d d refl refl refl refl (more-length d.start d.size homes n a.known h.rest) h.sized;
+      room = h.room;
+      tail = h.tail;
+      head = h.head;
+      dropped = h.dropped;
+      small = h.small;
+      rest = [];
+      begins = h.begins ∙ append_assoc a.got a.known h.rest ∙ sym (append-nil (a.got ++ (a.known ++ h.rest)));
+      stand = tt;
+      free = h.free;
+      all = h.all;
+      stand_free = more_stands d.start d.size power fits homes n d.end a.known h.rest h.free (λ x y l m o q. ((λ e. omega arith), omega arith, omega arith)) h.stand_free;
+      loaded = h.loaded;
+    }
+
+-- the dropped word is loaded
+pub keeps-dropped_loaded : (words : List ℕ) (homes : List (Option Cqe)) (a : AppSide) (d : KernelSide)
+    → Agree words homes a d → Agree words homes (dropped_loaded a (last_of 0 d.dropped)) d
+keeps-dropped_loaded words homes a d h = record {
+  sized = rehomed words homes homes a (dropped_loaded a (last_of 0 d.dropped)) d d refl refl refl refl refl h.sized;
+  room = h.room;
   tail = h.tail;
   head = h.head;
   dropped = h.dropped;
   small = h.small;
-  whole = h.whole;
-  stand = h.stand;
-  writing = h.writing;
-  few = h.few;
   rest = h.rest;
   begins = h.begins;
-  loaded = h.loaded;
+  stand = h.stand;
+  free = h.free;
+  all = h.all;
+  stand_free = h.stand_free;
+  loaded = had_last 0 d.dropped a.dropped h.loaded;
 }
 
--- What the application knows changed, but for what it got: it is still what was put, and the dropped words that it loaded were had.
-known_changes : (words : List ℕ) (a b : AppSide) (d : KernelSide) (rest : List (List ℕ))
-    → Agree words a d → b.start ≡ a.start → b.size ≡ a.size → b.got ≡ a.got
-    → d.put ≡ (b.got ++ b.known) ++ rest → WereHad (0 ∷ d.dropped) b.dropped → Agree words b d
-known_changes words a b d rest h start size got begins loaded = record {
-  sized = record { start = start ∙ h.sized.start; size = size ∙ h.sized.size; power = h.sized.power; limit = h.sized.limit; many = h.sized.many };
-  head_seen = rw got h.head_seen;
-  room = h.room;
-  tail = h.tail;
-  head = rw got h.head;
-  dropped = h.dropped;
-  small = h.small;
-  whole = h.whole;
-  stand = rw got h.stand;
-  writing = h.writing;
-  few = h.few;
-  rest = rest;
-  begins = begins;
-  loaded = loaded;
-}
-
--- the tail is loaded: all that was put is known
-pub keeps-tail_loaded : (words : List ℕ) (a : AppSide) (d : KernelSide) → (h : Agree words a d)
-    → Agree words (tail_loaded a h.rest) d
-keeps-tail_loaded words a d h =
-    known_changes words a (tail_loaded a h.rest) d [] h refl refl refl (h.begins ∙ append_assoc a.got a.known h.rest ∙ sym (append-nil (a.got ++ (a.known ++ h.rest)))) h.loaded
-
--- a word of a cell is loaded
-pub keeps-word_loaded : (words : List ℕ) (a : AppSide) (d : KernelSide) (i : ℕ) → Agree words a d
-    → Agree words (word_loaded a i) d
-keeps-word_loaded words a d i h =
-    elim (i == cell_index (place_of a.start a.size (length a.got)) a.loaded) as (λ b. Agree words (if b then record a { loaded = a.loaded + 1 } else a) d) [
-      | true ↦ known_changes words a (record a { loaded = a.loaded + 1 }) d h.rest h refl refl refl h.begins h.loaded
-      | false ↦ h
-    ]
-
--- the dropped word is loaded
-pub keeps-dropped_loaded : (words : List ℕ) (a : AppSide) (d : KernelSide) → (h : Agree words a d)
-    → Agree words (dropped_loaded a (last_of 0 d.dropped)) d
-keeps-dropped_loaded words a d h = known_changes words a (dropped_loaded a (last_of 0 d.dropped)) d h.rest h refl refl refl h.begins (had_last 0 d.dropped a.dropped h.loaded)
-
--- the first of the known completions is the next that was put
-known_at : (words : List ℕ) (a : AppSide) (d : KernelSide) (c : List ℕ) (cs : List (List ℕ))
-    → (h : Agree words a d) → a.known ≡ c ∷ cs
-    → (get_or d.put (length a.got) c ≡ c) × (length a.got < length d.put)
-known_at words a d c cs h is =
-    let all : d.put ≡ a.got ++ c ∷ (cs ++ h.rest) = h.begins ∙ append_assoc a.got a.known h.rest ∙ ap (λ l. a.got ++ (l ++ h.rest)) is in (
-      ap (λ l. get_or l (length a.got) c) all ∙ get_or-append_seam a.got c (cs ++ h.rest) c,
-      omega (arith, ap length all, length-append a.got (c ∷ (cs ++ h.rest))),
-    )
-
--- so its words stand, and are ten
-pub known_stands : (words : List ℕ) (a : AppSide) (d : KernelSide) (c : List ℕ) (cs : List (List ℕ))
-    → Agree words a d → a.known ≡ c ∷ cs
-    → StandsAt words (place_of a.start a.size (length a.got)) c × (length c ≡ 10)
-known_stands words a d c cs h is =
-    let at = known_at words a d c cs h is in
-    rw (h.sized.start, h.sized.size) (
-      subst (λ (x : List ℕ). StandsAt words (place_of d.start d.size (length a.got)) x) at.0 (h.stand (length a.got) c (omega arith) at.1),
-      subst (λ (x : List ℕ). length x ≡ 10) at.0 (h.whole (length a.got) c at.1).many,
-    )
-
--- the head is stored behind the first of the known completions, which is then got
-pub keeps-head_stored : (words : List ℕ) (a : AppSide) (d : KernelSide) (w : ℕ) (c : List ℕ) (cs : List (List ℕ))
-    → Agree words a d → a.known ≡ c ∷ cs → w ≡ word_of a.start (length a.got + 1)
-    → Agree (set words (head_index a.size) w) (record a { got = a.got ++ c ∷ []; known = cs; loaded = 0 }) d
-keeps-head_stored words a d w c cs h is is_word =
-    let size : ℕ = d.size in
-    let index : ℕ = head_index size in
-    let b : AppSide = record a { got = a.got ++ c ∷ []; known = cs; loaded = 0 } in
-    let some : 0 < size = some_size size h.sized.power in
+-- the head is stored, and the first cell that the application held goes home
+pub keeps-head_stored : (words : List ℕ) (homes : List (Option Cqe)) (a : AppSide) (d : KernelSide) (w : ℕ) (c : Cqe) (cs : List Cqe)
+    → Agree words homes a d → a.known ≡ c ∷ cs → w ≡ word_of d.start (length a.got + 1)
+    → Agree (set words head_index w) (set homes (place_of d.start d.size (length a.got)) (some c)) (record a { got = a.got ++ c ∷ []; known = cs }) d
+keeps-head_stored words homes a d w c cs h is is_word =
+    let fits = few_cells words homes a d h in
+    let power = h.sized.power in
+    let n : ℕ = length a.got in
+    let place : ℕ = place_of d.start d.size n in
+    let homes' : List (Option Cqe) = set homes place (some c) in
+    let b : AppSide = record a { got = a.got ++ c ∷ []; known = cs } in
+    let many : length (a.got ++ c ∷ []) ≡ n + 1 = length-append a.got (c ∷ []) in
+    let known : length a.known ≡ length cs + 1 = omega (arith, ap length is) in
+    let put = put_many words homes a d h in
+    let all = h.all in
+    let room = h.room in
     let long = h.sized.many in
-    let few = h.few in
-    let next : place_of d.start size (length d.put) < size = place_below d.start size (length d.put) some in
-    let many : length (a.got ++ c ∷ []) ≡ length a.got + 1 = length-append a.got (c ∷ []) in
-    let P : ℕ → Type 0 = λ s. Agree (set words (head_index s) w) b d in
-    subst P (sym h.sized.size) (record {
-      sized = resized words index w a b d d refl refl refl refl h.sized;
-      head_seen = omega (arith, h.head_seen);
+    let below : place < length homes = rw h.sized.cells (place_below d.start d.size n (some_size d.size power)) in
+    let seen : tail_seen a ≡ tail_seen b = omega arith in
+    record {
+      sized = resized words homes homes' head_index w a b d d refl refl refl refl (length-set homes place (some c)) h.sized;
       room = h.room;
-      tail = get_or-set_other words index (tail_index size) w 0 (λ e. omega arith) ∙ h.tail;
-      head = get_or-set_same words index w 0 (omega arith) ∙ is_word ∙ ap (λ s. word_of s (length a.got + 1)) h.sized.start ∙ ap (word_of d.start) (sym many);
-      dropped = get_or-set_other words index (dropped_index size) w 0 (λ e. omega arith) ∙ h.dropped;
+      tail = get_or-set_other words head_index tail_index w 0 (λ e. omega arith) ∙ h.tail;
+      head = get_or-set_same words head_index w 0 (omega arith) ∙ is_word ∙ ap (word_of d.start) (sym many);
+      dropped = get_or-set_other words head_index dropped_index w 0 (λ e. omega arith) ∙ h.dropped;
       small = h.small;
-      whole = h.whole;
-      stand = λ k e low within.
-          let there : place_of d.start size k < size = place_below d.start size k some in
-          stands_elsewhere words (place_of d.start size k) index w (get_or d.put k e) (λ j inside is. omega arith) (h.stand k e (omega arith) within);
-      writing = λ k inside. get_or-set_other words index (cell_index (place_of d.start size (length d.put)) k) w 0 (λ e. omega arith) ∙ h.writing k inside;
-      few = h.few;
       rest = h.rest;
       begins = h.begins ∙ ap (λ l. l ++ h.rest) (ap (λ l. a.got ++ l) is ∙ sym (append_assoc a.got (c ∷ []) cs));
+      stand = subst (λ (k : ℕ). StandFrom d.start d.size homes' k h.rest) seen
+          (stands_else d.start d.size power fits homes n (tail_seen a) (some c) h.rest (λ x y l m o q. ((λ e. omega arith), omega arith, omega arith)) h.stand);
+      free = h.free ++ c ∷ [];
+      all = omega (arith, length-append h.free (c ∷ []));
+      stand_free = stand_both d.start d.size power fits homes' d.end (n + d.size) h.free (c ∷ []) (sym all)
+          (stands_else d.start d.size power fits homes n d.end (some c) h.free (λ x y l m o q. ((λ e. omega arith), omega arith, omega arith)) h.stand_free)
+          (rw (next_turn d.start d.size n power fits) (set_here homes place (some c) below), tt);
       loaded = h.loaded;
-    })
+    }

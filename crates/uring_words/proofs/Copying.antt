@@ -1,164 +1,177 @@
--- Calls as they are staged, published and copied.
-use Rattle.std.proofs.Common.{◌≡◌, ℕ, ◌+◌, ◌<◌, ◌≤◌, true, false, List, [], ◌∷◌, ◌++◌, map, length, get_or, refl, sym, ◌∙◌, ap, subst, arith, append_assoc, append-nil, length-append}
-use Rattle.std.proofs.lemmas.List.{length-map, nil_from_length, get_or_append_left}
-use mathlib.Core.List.{map-append}
-use Rattle.std.proofs.Math.Seq.{get_or-append_seam}
-use Rattle.uring_entry.specs.Submission.{Published, IsItem}
+-- Calls as they are written, published, read and taken.
+use Rattle.std.proofs.Common.{◌≡◌, ℕ, ◌+◌, ◌<◌, ◌≤◌, true, false, List, [], ◌∷◌, ◌++◌, drop, take, length, refl, sym, ◌∙◌, ap, subst, arith, length-append, length-take-le, take_all, take-append-drop}
+use mathlib.Core.Option.{none}
+use Rattle.atomic_table.specs.Table.{Allows, rest, step, turned}
+use Rattle.uring_entry.specs.IndexWords.{word_of}
 use Rattle.uring_ports.specs.declared.item.Item.{Item}
-use Rattle.uring_ports.specs.Items.{AreItems, published_as}
+use Rattle.uring_ports.specs.declared.pulled.Pulled.{Pulled}
 use Rattle.uring_ports.specs.declared.pulled.Pulled.TheVariants as pulled
-use Rattle.uring_ports.specs.Ports.{Put, Pulls, with_call, with_close}
-use Rattle.uring_words.specs.Submission.Calls.{item_of, put_of, has_close_mark, AreWhole, AllGoOn}
-use Rattle.uring_words.specs.Submission.Ends.{End, app_knows, kernel_knows, StagesCall, ReaderRests, CopiesOne, InCall, Copies}
-use Rattle.uring_words.specs.Submission.Layout.{close_mark, closes}
-use Rattle.uring_words.specs.Submission.Rule.{stored}
-use Rattle.uring_words.specs.declared.submission.reader.Copied.{Copied}
-use Rattle.uring_words.specs.declared.submission.reader.Copied.TheVariants as copied
+use Rattle.uring_ports.specs.Ports.{Pulls, with_call}
+use Rattle.uring_words.specs.Places.{place_of}
+use Rattle.uring_words.specs.Slots.{held_from}
+use Rattle.uring_words.specs.Submission.Calls.{AreWhole, all_more, has_close_mark, items_of, put_of}
+use Rattle.uring_words.specs.Submission.Ends.{AreRead, ReaderRests, ReadsCall}
+use Rattle.uring_words.specs.Submission.Rule.{BothAgree}
+use Rattle.uring_words.specs.Submission.Steps.{Holder, with_first_behind, head_stored, tail_stored, StoresHead, StoresTail}
+use Rattle.uring_words.specs.declared.sides.View.{View}
+use Rattle.uring_words.specs.declared.submission.view.AppSide.{AppSide}
+use Rattle.uring_words.specs.declared.submission.view.KernelSide.{KernelSide}
 use Rattle.uring_words.specs.declared.submission.view.Position.{Position}
-use Rattle.uring_words.proofs.CallLemmas.{Holding, holds_call, holds_close, goes_on-snoc, whole_rest, not_whole, no_mark_inside}
+use Rattle.uring_words.specs.declared.submission.view.Position.TheVariants as position
+use Rattle.uring_words.proofs.CallLemmas.{holds_call, holds_close, more-length, more-append, never_open, close_is_first}
+use Rattle.uring_words.proofs.Plays.{stores_head, stores_tail}
+use Rattle.uring_words.proofs.Turning.{part_done, next_of, stands_first, is_next, goes_behind, turns_behind}
 
--- a call was staged behind whole calls
-pub staged_call : (before after : End) (items : List Item) → StagesCall before after items
-    → AreWhole before.knows.app.published → has_close_mark before.knows.app.published ≡ false
-    → Holding (stored after.knows.app) (with_call (put_of before.knows.app.published) items)
-staged_call before after items s whole open' =
-    let put = put_of before.knows.app.published in
-    let holding = holds_call before.knows.app.published s.front s.last whole open' s.goes_on s.open_ s.ends in
-    let P : List Position → Type 0 = λ ps. Holding ps (with_call put items) in
-    subst P (sym (ap (λ (e : End). stored e.knows.app) s.is)) (record { is = holding.is ∙ ap (with_call put) s.holds; whole = holding.whole })
+-- The application's seat, whose places begin with these values, has written the items of a front. v is what it knows.
+module _ (v : View AppSide KernelSide) (blank : List Position) (front : List Item) (last : Position) where
+  abbrev written : List Position
+  written = all_more front ++ last ∷ []
 
--- the close mark was staged behind whole calls
-pub staged_close : (before after : End)
-    → after
-    ≡ app_knows before (record before.knows.app { staged = before.knows.app.staged ++ (record { mark = close_mark; entry = [] }) ∷ [] })
-    → before.knows.app.staged ≡ [] → AreWhole before.knows.app.published
-    → has_close_mark before.knows.app.published ≡ false
-    → Holding (stored after.knows.app) (with_close (put_of before.knows.app.published))
-staged_close before after is none whole open' =
-    let p : Position = record { mark = close_mark; entry = [] } in
-    let all : stored after.knows.app ≡ before.knows.app.published ++ p ∷ [] = ap (λ (e : End). stored e.knows.app) is ∙ ap (λ l. before.knows.app.published ++ (l ++ p ∷ [])) none in
-    let P : List Position → Type 0 = λ ps. Holding ps (with_close (put_of before.knows.app.published)) in
-    subst P (sym all) (holds_close before.knows.app.published p whole open' refl)
+  abbrev left : List Position
+  left = drop (length (all_more front) + 1) blank
 
-copies : (before now after : End) (n : ℕ) (items : List Item) (what : Copied)
-    → (call : InCall before now n items) → (one : CopiesOne now after what)
-    → (after
-    ≡ kernel_knows before (record before.knows.kernel { copied = before.knows.kernel.copied ++ (call.part ++ one.position ∷ []); known = after.knows.kernel.known }))
-    × ((call.part ++ one.position ∷ []) ++ after.knows.kernel.known ≡ before.knows.kernel.known)
-copies before now after n items what call one =
-    let d = before.knows.kernel in
-    let p = one.position in
-    let known : after.knows.kernel.known ≡ one.others = ap (λ (e : End). e.knows.kernel.known) one.is in
-    let longer = append_assoc d.copied call.part (p ∷ []) in (
-      one.is ∙ ap (λ (e : End). kernel_knows e (record e.knows.kernel { copied = e.knows.kernel.copied ++ p ∷ []; known = one.others })) call.is
-          ∙ (λ i. kernel_knows before (record d { copied = longer i; known = sym known i })),
-      append_assoc call.part (p ∷ []) after.knows.kernel.known ∙ ap (λ l. call.part ++ p ∷ l) known ∙ ap (λ l. call.part ++ l) (sym one.known) ∙ call.rest,
-    )
+  -- The place behind them is first, and is written too.
+  module _ (place : ℕ) (m : Holder) (is : m ≡ (v, with_first_behind v.app.start v.app.size (length v.app.published) (drop (length (all_more front)) blank) (all_more front)))
+      (room : length front + 1 ≤ length blank) (at : place ≡ place_of v.app.start v.app.size (length v.app.published + length front)) where
+    here : place ≡ place_of v.app.start v.app.size (length v.app.published + length (all_more front))
+    here = at ∙ ap (λ (k : ℕ). place_of v.app.start v.app.size (length v.app.published + k)) (sym (more-length front))
 
--- one position more of the call that is copied
-pub in_call_more : (before now after : End) (n : ℕ) (items : List Item) (what : Copied) (x : Item)
-    → InCall before now n items → CopiesOne now after what → what ≡ copied.More x
-    → InCall before after (n + 1) (items ++ x ∷ [])
-in_call_more before now after n items what x call one is =
-    let h = rw is at one.holds in
-    let p = one.position in
-    let c = copies before now after n items what call one in
-    record {
-      part = call.part ++ p ∷ [];
-      is = c.0;
-      rest = c.1;
-      goes_on = goes_on-snoc call.part p call.goes_on h.0 h.1;
-      holds = map-append item_of call.part (p ∷ []) ∙ ap (λ l. l ++ item_of p ∷ []) call.holds ∙ ap (λ y. items ++ y ∷ []) h.2;
-      many = omega (arith, length-append call.part (p ∷ []), call.many);
+    pub last_stands_first : (x : Position) × (m.1 ≡ (place, x) ∷ rest m.1)
+    last_stands_first = stands_first v.app.start v.app.size (length v.app.published) (length (all_more front)) place blank (all_more front) m v is (omega (arith, more-length front)) here
+
+    pub last_goes_behind : (after : Holder) → after ≡ (m.0, rest m.1 ++ (place, last) ∷ [])
+        → after ≡ (v, with_first_behind v.app.start v.app.size (length v.app.published) left written)
+    last_goes_behind after moved =
+        let many : length (all_more front) + 1 ≡ length written = sym (length-append (all_more front) (last ∷ [])) in
+        goes_behind v.app.start v.app.size (length v.app.published) (length (all_more front)) place blank (all_more front) m v is (omega (arith, more-length front)) here last after refl moved
+        ∙ ap (λ (k : ℕ). (v, held_from v.app.start v.app.size (length v.app.published + k) left ++ held_from v.app.start v.app.size (length v.app.published) written)) many
+
+-- the tail is stored behind what was written
+pub tail_allowed : (slots id : ℕ) (m : Holder) (word : ℕ) (v : View AppSide KernelSide) (blank written : List Position)
+    → m ≡ (v, with_first_behind v.app.start v.app.size (length v.app.published) blank written)
+    → v.is_app ≡ true → length v.app.published + (length written + length blank) ≡ v.app.end
+    → length written + length blank ≤ v.app.size → v.app.size ≤ 4096
+    → word ≡ word_of v.app.start (length v.app.published + length written)
+    → AreWhole (v.app.published ++ written)
+    → Allows BothAgree slots id m 0 (λ _. word) (λ _. StoresTail (step slots 0 word 0 none) m word)
+tail_allowed slots id m word v blank written is is_app many few limit is_word whole =
+    let P : Holder → Type 0 = λ x. Allows BothAgree slots id x 0 (λ _. word) (λ _. StoresTail (step slots 0 word 0 none) x word) in
+    subst P (sym is) (stores_tail slots id (v, with_first_behind v.app.start v.app.size (length v.app.published) blank written) word blank written is_app refl many few limit is_word whole)
+
+-- and with it that is published
+pub tail_published : (slots : ℕ) (m after : Holder) (word : ℕ) (v : View AppSide KernelSide) (blank written : List Position)
+    → m ≡ (v, with_first_behind v.app.start v.app.size (length v.app.published) blank written)
+    → word ≡ word_of v.app.start (length v.app.published + length written)
+    → StoresTail (step slots 0 word 0 none) m word after
+    → after ≡ (record v { app = tail_stored v.app written }, held_from v.app.start v.app.size (length v.app.published + length written) blank)
+tail_published slots m after word v blank written is is_word told =
+    let P : Holder → Type 0 = λ x. StoresTail (step slots 0 word 0 none) x word after in
+    subst P is told blank written refl is_word
+
+-- the items that positions hold, one position more
+items_more : (ps qs : List Position) → items_of (ps ++ qs) ≡ items_of ps ++ items_of qs
+items_more [] qs = refl
+items_more (position.More x ∷ ps) qs = ap (λ l. x ∷ l) (items_more ps qs)
+items_more (position.Last x ∷ ps) qs = ap (λ l. x ∷ l) (items_more ps qs)
+items_more (position.Close ∷ ps) qs = items_more ps qs
+
+-- The dispatcher's seat, which holds what it knows, has read k positions of that, and then reads one more, x. b is the seat before.
+module _ (b : Holder) (k place : ℕ) (m after : Holder) (x : Position)
+    (is : m ≡ (b.0, part_done b.0.kernel.start b.0.kernel.size (length b.0.kernel.taken) k b.0.kernel.known (take k b.0.kernel.known)))
+    (below : k < length b.0.kernel.known) (at : place ≡ place_of b.0.kernel.start b.0.kernel.size (length b.0.kernel.taken + k))
+    (read : m.1 ≡ (place, x) ∷ rest m.1) (moved : after ≡ (m.0, turned m.1)) where
+  pub one_read : after ≡ (b.0, part_done b.0.kernel.start b.0.kernel.size (length b.0.kernel.taken) (k + 1) b.0.kernel.known (take (k + 1) b.0.kernel.known))
+  one_read =
+      let d = b.0.kernel in
+      turns_behind d.start d.size (length d.taken) k place d.known (take k d.known) m b.0 is below at x after refl (sym (length-take-le k d.known (omega arith))) read moved
+
+  pub read_next : (drop k b.0.kernel.known ≡ x ∷ drop (k + 1) b.0.kernel.known) × (take (k + 1) b.0.kernel.known ≡ take k b.0.kernel.known ++ x ∷ [])
+  read_next =
+      let d = b.0.kernel in
+      let n = next_of k d.known below in
+      let same : x ≡ n.0 = is_next d.start d.size (length d.taken) k place d.known (take k d.known) m b.0 is below at x read in
+      (n.1 ∙ ap (λ y. y ∷ drop (k + 1) d.known) (sym same), n.2 ∙ ap (λ y. take k d.known ++ y ∷ []) (sym same))
+
+  pub read_items_more : items_of (take (k + 1) b.0.kernel.known) ≡ items_of (take k b.0.kernel.known) ++ items_of (x ∷ [])
+  read_items_more = ap items_of read_next.1 ∙ items_more (take k b.0.kernel.known) (x ∷ [])
+
+  module _ (items : List Item) (front : take k b.0.kernel.known ≡ all_more items) where
+    pub front_more : (item : Item) → x ≡ position.More item → take (k + 1) b.0.kernel.known ≡ all_more (items ++ item ∷ [])
+    front_more item same = read_next.1 ∙ (λ i. front i ++ same i ∷ []) ∙ sym (more-append items (item ∷ []))
+
+    all_read : after ≡ (b.0, with_first_behind b.0.kernel.start b.0.kernel.size (length b.0.kernel.taken) (drop (k + 1) b.0.kernel.known) (take (k + 1) b.0.kernel.known))
+    all_read =
+        let d = b.0.kernel in
+        let many : k + 1 ≡ length (take (k + 1) d.known) = sym (length-take-le (k + 1) d.known (omega arith)) in
+        one_read ∙ ap (λ (j : ℕ). (b.0, held_from d.start d.size (length d.taken + j) (drop (k + 1) d.known) ++ held_from d.start d.size (length d.taken) (take (k + 1) d.known))) many
+
+    -- the last item of a call
+    pub reads_last : (item : Item) (all : List Item) (next : ℕ) → x ≡ position.Last item → all ≡ items ++ item ∷ []
+        → next ≡ word_of b.0.kernel.start (length b.0.kernel.taken + (k + 1)) → ReadsCall b after pulled.Call all next
+    reads_last item all next same is_all behind = record {
+      read = take (k + 1) b.0.kernel.known;
+      others = drop (k + 1) b.0.kernel.known;
+      known = sym (take-append-drop (k + 1) b.0.kernel.known);
+      is = all_read;
+      holds = (items, item, is_all, read_next.1 ∙ (λ i. front i ++ same i ∷ []));
+      next_word = behind ∙ ap (λ (j : ℕ). word_of b.0.kernel.start (length b.0.kernel.taken + j)) (sym (length-take-le (k + 1) b.0.kernel.known (omega arith)));
     }
 
--- what was copied with this position holds all this
-copies_all : (before now after : End) (n : ℕ) (items : List Item) (what : Copied) (put : Put)
-    → (call : InCall before now n items) → (one : CopiesOne now after what)
-    → Holding (before.knows.kernel.copied ++ (call.part ++ one.position ∷ [])) put
-    → Copies before after × (put_of after.knows.kernel.copied ≡ put)
-copies_all before now after n items what put call one holding =
-    let c = copies before now after n items what call one in
-    let d = before.knows.kernel in
-    let part = call.part ++ one.position ∷ [] in
-    let copied = ap (λ (e : End). e.knows.kernel.copied) c.0 in (
-      record {
-        is = c.0 ∙ ap (λ l. kernel_knows before (record d { copied = l; known = after.knows.kernel.known })) (sym copied);
-        same = ap (λ l. l ++ after.knows.kernel.known) copied ∙ append_assoc d.copied part after.knows.kernel.known ∙ ap (λ l. d.copied ++ l) c.1;
-        whole = subst AreWhole (sym copied) holding.whole;
-      },
-      ap put_of copied ∙ holding.is,
-    )
-
--- the last position of a call is copied
-pub in_call_last : (before now after : End) (n : ℕ) (items : List Item) (what : Copied) (x : Item)
-    → ReaderRests before.knows.kernel → has_close_mark before.knows.kernel.copied ≡ false
-    → length before.knows.kernel.known ≤ before.knows.kernel.size
-    → InCall before now n items → CopiesOne now after what → what ≡ copied.Last x
-    → Copies before after
-    × Pulls before.knows.kernel.size (put_of before.knows.kernel.copied) pulled.Call (items ++ x ∷ []) (put_of after.knows.kernel.copied)
-in_call_last before now after n items what x rests open' few call one is =
-    let h = rw is at one.holds in
-    let p = one.position in
-    let put = put_of before.knows.kernel.copied in
-    let c = copies before now after n items what call one in
-    let holding = holds_call before.knows.kernel.copied call.part p rests.whole open' call.goes_on h.0 h.1 in
-    let all : map item_of (call.part ++ p ∷ []) ≡ items ++ x ∷ [] = map-append item_of call.part (p ∷ []) ∙ ap (λ l. l ++ item_of p ∷ []) call.holds ∙ ap (λ y. items ++ y ∷ []) h.2 in
-    let r = copies_all before now after n items what (with_call put (items ++ x ∷ [])) call one (record { is = holding.is ∙ ap (with_call put) all; whole = holding.whole }) in
-    let many : length (items ++ x ∷ []) ≤ length before.knows.kernel.known = omega (arith, ap length all, length-map (call.part ++ p ∷ []) item_of, ap length c.1, length-append (call.part ++ p ∷ []) after.knows.kernel.known) in
-    (r.0, (omega (arith, length-append items (x ∷ [])), omega (arith, many, few), open', r.1))
-
-close_is_first : (part : List Position) (p : Position) (others : List Position)
-    → AreWhole (part ++ p ∷ others) → AllGoOn part → closes p.mark ≡ true → part ≡ []
-close_is_first [] p others whole goes_on closing = refl
-close_is_first (q ∷ qs) p others whole goes_on closing = let whole' = rw (goes_on.0, goes_on.1) at whole in absurd (no_mark_inside qs p others goes_on.2 closing whole')
-
--- the close mark is copied, which is no part of a call
-pub in_call_close : (before now after : End) (n : ℕ) (items : List Item) (what : Copied)
-    → ReaderRests before.knows.kernel → has_close_mark before.knows.kernel.copied ≡ false
-    → InCall before now n items → CopiesOne now after what → what ≡ copied.Close
-    → Copies before after
-    × Pulls before.knows.kernel.size (put_of before.knows.kernel.copied) pulled.Close items (put_of after.knows.kernel.copied)
-in_call_close before now after n items what rests open' call one is =
-    let h = rw is at one.holds in
-    let p = one.position in
-    let d = before.knows.kernel in
-    let rest : AreWhole d.known = whole_rest false d.copied d.known rests.whole open' rests.known in
-    let first : call.part ≡ [] = close_is_first call.part p one.others (subst AreWhole (sym call.rest ∙ ap (λ l. call.part ++ l) one.known) rest) call.goes_on h in
-    let P : List Position → Type 0 = λ l. Holding (d.copied ++ (l ++ p ∷ [])) (with_close (put_of d.copied)) in
-    let r = copies_all before now after n items what (with_close (put_of d.copied)) call one (subst P (sym first) (holds_close d.copied p rests.whole open' h)) in
-    (r.0, (sym call.holds ∙ ap (map item_of) first, open', r.1))
-
-never_open : (ps : List Position) → 0 < length ps → AllGoOn ps → AreWhole ps → ⊥
-never_open [] some goes_on whole = omega arith
-never_open (p ∷ ps) some goes_on whole =
-    let whole' = rw (goes_on.0, goes_on.1) at whole in not_whole ps goes_on.2 whole'
+    -- the close mark, in front of which is no item
+    pub reads_close : (next : ℕ) → x ≡ position.Close → AreWhole b.0.kernel.known
+        → next ≡ word_of b.0.kernel.start (length b.0.kernel.taken + (k + 1)) → ReadsCall b after pulled.Close items next
+    reads_close next same whole behind =
+        let d = b.0.kernel in
+        let parts : d.known ≡ all_more items ++ position.Close ∷ drop (k + 1) d.known = sym (take-append-drop k d.known) ∙ (λ i. front i ++ read_next.0 i) ∙ ap (λ y. all_more items ++ y ∷ drop (k + 1) d.known) same in
+        let first : items ≡ [] = close_is_first items (drop (k + 1) d.known) (subst AreWhole parts whole) in
+        record {
+          read = take (k + 1) d.known;
+          others = drop (k + 1) d.known;
+          known = sym (take-append-drop (k + 1) d.known);
+          is = all_read;
+          holds = (first, read_next.1 ∙ (λ i. front i ++ same i ∷ []) ∙ ap (λ l. all_more l ++ position.Close ∷ []) first);
+          next_word = behind ∙ ap (λ (j : ℕ). word_of d.start (length d.taken + j)) (sym (length-take-le (k + 1) d.known (omega arith)));
+        }
 
 -- what is known ends a call
-pub call_ends : (before now : End) (n : ℕ) (items : List Item) → ReaderRests before.knows.kernel
-    → has_close_mark before.knows.kernel.copied ≡ false → 0 < length before.knows.kernel.known
-    → n ≡ length before.knows.kernel.known → InCall before now n items → ⊥
-call_ends before now n items rests open' some all call =
-    let d = before.knows.kernel in
-    let rest : AreWhole d.known = whole_rest false d.copied d.known rests.whole open' rests.known in
-    let none : now.knows.kernel.known ≡ [] = nil_from_length now.knows.kernel.known (omega (arith, ap length call.rest, length-append call.part now.knows.kernel.known, call.many)) in
-    let same : call.part ≡ d.known = sym (append-nil call.part) ∙ ap (λ l. call.part ++ l) (sym none) ∙ call.rest in
-    never_open call.part (omega (arith, ap length same)) call.goes_on (subst AreWhole (sym same) rest)
+pub call_ends : (known : List Position) (k : ℕ) (items : List Item) → AreWhole known → 0 < length known
+    → length known ≤ k → take k known ≡ all_more items → ⊥
+call_ends known k items whole some all front =
+    let same : known ≡ all_more items = sym (take_all k known all) ∙ front in
+    never_open items (omega (arith, ap length same, more-length items)) (subst AreWhole same whole)
 
--- the items of a call but the last
-pub front_items : (size : ℕ) (items front : List Item) (last : Item) → items ≡ front ++ last ∷ []
-    → AreItems size items → AreItems size front
-front_items size items front last is all k d below =
-    let both = ap (map published_as) is ∙ map-append published_as front (last ∷ []) in
-    let within : k < length (map published_as items) = omega (arith, ap length both, length-append (map published_as front) (map published_as (last ∷ []))) in
-    subst (λ (x : Published). IsItem size x) (ap (λ l. get_or l k d) both ∙ get_or_append_left (map published_as front) (map published_as (last ∷ [])) d k below) (all k d within)
+-- the head is stored behind what was read
+pub head_allowed : (slots id : ℕ) (b m : Holder) (what : Pulled) (items : List Item) (next : ℕ) → ReadsCall b m what items next
+    → b.0.is_kernel ≡ true → length b.0.kernel.known ≤ 4096
+    → Allows BothAgree slots id m 1 (λ _. next) (λ _. StoresHead (step slots 1 next 0 none) m next)
+head_allowed slots id b m what items next r is_kernel few =
+    let d = b.0.kernel in
+    let P : Holder → Type 0 = λ x. Allows BothAgree slots id x 1 (λ _. next) (λ _. StoresHead (step slots 1 next 0 none) x next) in
+    subst P (sym r.is) (stores_head slots id (b.0, with_first_behind d.start d.size (length d.taken) r.others r.read) next r.others r.read is_kernel refl r.known few r.next_word)
 
--- and the last
-pub last_item : (size : ℕ) (items front : List Item) (last : Item) → items ≡ front ++ last ∷ []
-    → AreItems size items → IsItem size (published_as last)
-last_item size items front last is all =
-    let n : ℕ = length (map published_as front) in
-    let x : Published = published_as last in
-    let both = ap (map published_as) is ∙ map-append published_as front (last ∷ []) in
-    let within : n < length (map published_as items) = omega (arith, ap length both, length-append (map published_as front) (map published_as (last ∷ []))) in
-    subst (λ (y : Published). IsItem size y) (ap (λ l. get_or l n x) both ∙ get_or-append_seam (map published_as front) x [] x) (all n x within)
+-- and with it that is taken
+pub head_taken : (slots : ℕ) (b m after : Holder) (what : Pulled) (items : List Item) (next : ℕ) → (r : ReadsCall b m what items next)
+    → StoresHead (step slots 1 next 0 none) m next after
+    → after ≡ (record b.0 { kernel = head_stored b.0.kernel r.read r.others }, held_from b.0.kernel.start b.0.kernel.size (length b.0.kernel.taken + length r.read) r.others)
+head_taken slots b m after what items next r told =
+    let P : Holder → Type 0 = λ x. StoresHead (step slots 1 next 0 none) x next after in
+    subst P r.is told r.others r.read refl r.known r.next_word
+
+-- which is one call or the close mark
+pub pulls : (d : KernelSide) (what : Pulled) (items : List Item) (read others : List Position) → ReaderRests d
+    → has_close_mark d.taken ≡ false → length d.known ≤ d.size → d.known ≡ read ++ others
+    → AreRead what items read
+    → Pulls d.size (put_of d.taken) what items (put_of (d.taken ++ read)) × AreWhole (d.taken ++ read)
+pulls d pulled.Call items read others rests open' few known h =
+    let holding = holds_call d.taken h.0 h.1 rests.whole open' in
+    let many : length items ≤ d.size = omega (arith, ap length h.2, length-append h.0 (h.1 ∷ []), ap length h.3, length-append (all_more h.0) (position.Last h.1 ∷ []), more-length h.0, ap length known, length-append read others) in
+    let some : 0 < length items = omega (arith, ap length h.2, length-append h.0 (h.1 ∷ [])) in (
+      (some, many, open', ap (λ l. put_of (d.taken ++ l)) h.3 ∙ holding.is ∙ ap (with_call (put_of d.taken)) (sym h.2)),
+      subst (λ l. AreWhole (d.taken ++ l)) (sym h.3) holding.whole,
+    )
+pulls d pulled.Close items read others rests open' few known h =
+    let holding = holds_close d.taken rests.whole open' in (
+      (h.0, open', ap (λ l. put_of (d.taken ++ l)) h.1 ∙ holding.is),
+      subst (λ l. AreWhole (d.taken ++ l)) (sym h.1) holding.whole,
+    )
+pulls d pulled.Nothing items read others rests open' few known h = absurd h

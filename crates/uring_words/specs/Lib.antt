@@ -1,5 +1,6 @@
 pub mod Places
 pub mod Sides
+pub mod Slots
 pub mod Submission
 pub mod Completion
 pub mod PortViews

@@ -1,10 +1,9 @@
 -- Glue. What callers see of the two ports over shared words.
-use Rattle.std.specs.Prelude.{ℕ, ◌+◌, ◌-◌, nat_lt, List, ◌∷◌, ◌++◌, length, Some}
+use Rattle.std.specs.Prelude.{ℕ, ◌-◌, nat_lt, List, ◌∷◌, ◌++◌, length, Some}
 use Rattle.atomic_table.specs.Seated.{TableId}
 use Rattle.uring_entry.specs.Layout.{Cqe}
 use Rattle.uring_ports.specs.Ports.{Sizes, Put}
 use Rattle.uring_ports.specs.Seen.{SeenRoom, SeenCompletions, SeenCalls}
-use Rattle.uring_words.specs.Completion.Ends.{completions_of}
 use Rattle.uring_words.specs.Completion.Ends.{End as Completions}
 use Rattle.uring_words.specs.Submission.Calls.{put_of}
 use Rattle.uring_words.specs.Submission.Ends.{End as Calls}
@@ -47,9 +46,9 @@ app_words calls completions =
       pairing = numbers_of_tables calls.table completions.table;
       sizes = record { sq = a.size; cq = c.size };
       put = put_of a.published;
-      got = completions_of c.got;
-      saw_room = record { places = a.head_seen + a.size - length a.published; looks = Some a.looks };
-      saw_completions = record { waiting = completions_of c.known; looks = Some c.looks };
+      got = c.got;
+      saw_room = record { places = a.end - length a.published; looks = Some a.looks };
+      saw_completions = record { waiting = c.known; looks = Some c.looks };
       dropped = c.dropped;
     }
 
@@ -61,10 +60,10 @@ kernel_words calls completions =
     record {
       pairing = numbers_of_tables calls.table completions.table;
       sizes = record { sq = d.size; cq = c.size };
-      pulled = put_of d.copied;
+      pulled = put_of d.taken;
       saw_calls = record { waits = nat_lt 0 (length d.known); looks = Some d.looks };
-      delivered = completions_of c.put;
-      free = c.head_seen + c.size - length c.put;
+      delivered = c.put;
+      free = c.end - length c.put;
       room_looks = c.looks;
       dropped = c.dropped;
     }

@@ -5,6 +5,7 @@ mod completion;
 mod memory;
 mod ports;
 mod sides;
+mod slots;
 mod submission;
 
 pub use memory::TableMemory;

@@ -1,17 +1,19 @@
 -- Glue. What callers see of an end of the submission ring's table, and what its fields are between two calls.
-use Rattle.std.specs.Prelude.{◌≡◌, ℕ, ◌+◌, ◌<◌, ◌≤◌, Bool, true, false, List, [], ◌∷◌, ◌++◌, length, map}
+use Rattle.std.specs.Prelude.{◌≡◌, ℕ, ◌+◌, ◌<◌, ◌≤◌, true, List, [], ◌∷◌, ◌++◌, drop, length}
 use Rattle.atomic_table.specs.Seated.{TableId}
 use Rattle.uring_entry.specs.IndexWords.{word_of}
 use Rattle.uring_ports.specs.declared.item.Item.{Item}
-use Rattle.uring_words.specs.Submission.Calls.{item_of, AreWhole, AllGoOn}
-use Rattle.uring_words.specs.Submission.Layout.{closes, ends_call, word_count}
-use Rattle.uring_words.specs.Submission.Rule.{stored, tail_seen}
-use Rattle.uring_words.specs.Sides.{Hands, Fits}
-use Rattle.uring_words.specs.declared.submission.reader.Copied.{Copied}
-use Rattle.uring_words.specs.declared.submission.reader.Copied.TheVariants as copied
+use Rattle.uring_ports.specs.declared.pulled.Pulled.{Pulled}
+use Rattle.uring_ports.specs.declared.pulled.Pulled.TheVariants as pulled
+use Rattle.uring_words.specs.Slots.{SlotsFit, held_from}
+use Rattle.uring_words.specs.Submission.Calls.{AreWhole, all_more}
+use Rattle.uring_words.specs.Submission.Layout.{word_count}
+use Rattle.uring_words.specs.Submission.Rule.{tail_seen}
+use Rattle.uring_words.specs.Submission.Steps.{Holder, with_first_behind, head_loaded}
 use Rattle.uring_words.specs.declared.submission.view.AppSide.{AppSide}
 use Rattle.uring_words.specs.declared.submission.view.KernelSide.{KernelSide}
 use Rattle.uring_words.specs.declared.submission.view.Position.{Position}
+use Rattle.uring_words.specs.declared.submission.view.Position.TheVariants as position
 use Rattle.uring_words.specs.declared.sides.View.{View}
 
 -- an end: its table, and what its seat knows
@@ -27,100 +29,69 @@ app_knows e a = record e { knows = record e.knows { app = a } }
 abbrev pub kernel_knows : End → KernelSide → End
 kernel_knows e d = record e { knows = record e.knows { kernel = d } }
 
--- The application's end, with no entry word of the next position stored: its seat of this table, what it knows, what it carries, the ring's size, and its index words of the head that it last saw and of the next place.
-pub record IsWriter (seat table : TableId) (v : View AppSide KernelSide) (carried : Hands) (size head tail : ℕ) : Type 0 where
-  pub fits : Fits seat table carried (word_count size) 4096 size v.app.size
-  pub is_app : v.is_app ≡ true
-  pub entry : v.app.entry ≡ []
-  pub tail_word : tail ≡ word_of v.app.start (length (stored v.app))
-  pub head_word : head ≡ word_of v.app.start v.app.head_seen
-  pub below : v.app.head_seen ≤ length v.app.published
-  pub room : length (stored v.app) ≤ v.app.head_seen + size
+-- what an application's seat knows once it has loaded the head, and its places end at this count
+abbrev pub has_loaded : View AppSide KernelSide → ℕ → View AppSide KernelSide
+has_loaded v end = record v { app = head_loaded v.app end }
 
--- between two calls: nothing is staged
-pub record WriterRests (a : AppSide) : Type 0 where
-  pub staged : a.staged ≡ []
-  pub whole : AreWhole a.published
+-- The application's end: its seat of this table, what it knows, the places that it holds, whatever stands there, the ring's size, and its index words of the tail and of the end of its places.
+pub record IsWriter (seat table : TableId) (v : View AppSide KernelSide) (held : List (ℕ × Position)) (size tail end : ℕ) : Type 0 where
+  pub fits : SlotsFit seat table word_count 4096 size v.app.size
+  pub is_app : v.is_app ≡ true
+  pub tail_word : tail ≡ word_of v.app.start (length v.app.published)
+  pub end_word : end ≡ word_of v.app.start v.app.end
+  pub blank : List Position
+  pub holds : held ≡ held_from v.app.start v.app.size (length v.app.published) blank
+  pub many : length v.app.published + length blank ≡ v.app.end
+  pub few : length blank ≤ size
+
+-- between two calls: whole calls are published
+abbrev pub WriterRests : AppSide → Type 0
+WriterRests a = AreWhole a.published
 
 -- It loaded the head, above which fewer than so many places are free.
 pub record LooksInVain (before after : End) (count : ℕ) : Type 0 where
   pub looked : before.knows.app.looks < after.knows.app.looks
-  pub room : after.knows.app.head_seen + after.knows.app.size
-      < length after.knows.app.published + count
+  pub room : after.knows.app.end < length after.knows.app.published + count
 
--- A position more was staged, which holds this item, and ends its call or not.
-pub record StagesItem (before after : End) (x : Item) (last : Bool) : Type 0 where
-  pub position : Position
-  pub is : after
-      ≡ app_knows before (record before.knows.app { staged = before.knows.app.staged ++ position ∷ [] })
-  pub item : item_of position ≡ x
-  pub ends : ends_call position.mark ≡ last
-  pub open_ : closes position.mark ≡ false
+-- Of the places that an application's seat holds, the first were written, and went behind the others.
+abbrev pub Writes : Holder → Holder → List Position → Type 0
+Writes before after written = let a = before.0.app in (blank : List Position)
+    → before.1 ≡ held_from a.start a.size (length a.published) blank
+    → after ≡ (before.0, with_first_behind a.start a.size (length a.published) (drop (length written) blank) written)
 
--- Positions were staged that hold these items, and are one call.
-pub record StagesCall (before after : End) (items : List Item) : Type 0 where
-  pub front : List Position
-  pub last : Position
-  pub is : after ≡ app_knows before (record before.knows.app { staged = front ++ last ∷ [] })
-  pub goes_on : AllGoOn front
-  pub ends : ends_call last.mark ≡ true
-  pub open_ : closes last.mark ≡ false
-  pub holds : map item_of (front ++ last ∷ []) ≡ items
-
--- The dispatcher's end, with no word of the next position loaded, and its index words of the tail that it last saw and of the place that it copies next.
-pub record IsReader (seat table : TableId) (v : View AppSide KernelSide) (carried : Hands) (size tail head : ℕ) : Type 0 where
-  pub fits : Fits seat table carried (word_count size) 4096 size v.kernel.size
+-- The dispatcher's end: the places that it holds are those of the positions that it knows; its index words of the tail that it last saw and of the head.
+pub record IsReader (seat table : TableId) (v : View AppSide KernelSide) (held : List (ℕ × Position)) (size tail head : ℕ) : Type 0 where
+  pub fits : SlotsFit seat table word_count 4096 size v.kernel.size
   pub is_kernel : v.is_kernel ≡ true
-  pub loaded : v.kernel.loaded ≡ 0
+  pub holds : held ≡ held_from v.kernel.start v.kernel.size (length v.kernel.taken) v.kernel.known
   pub tail_word : tail ≡ word_of v.kernel.start (tail_seen v.kernel)
-  pub head_word : head ≡ word_of v.kernel.start (length v.kernel.copied)
+  pub head_word : head ≡ word_of v.kernel.start (length v.kernel.taken)
   pub few : length v.kernel.known ≤ size
 
--- between two calls: all that was copied is taken, which is whole calls, and what is known behind it too
+-- between two calls: what was taken is whole calls, and what is known behind it too
 pub record ReaderRests (d : KernelSide) : Type 0 where
-  pub taken : d.taken ≡ length d.copied
-  pub known : AreWhole (d.copied ++ d.known)
-  pub whole : AreWhole d.copied
+  pub known : AreWhole (d.taken ++ d.known)
+  pub whole : AreWhole d.taken
 
--- what was copied is what this position holds
-abbrev pub HoldsAs : Copied → Position → Type 0
-HoldsAs copied.Close p = closes p.mark ≡ true
-HoldsAs (copied.Last x) p = (closes p.mark ≡ false) × (ends_call p.mark ≡ true) × (item_of p ≡ x)
-HoldsAs (copied.More x) p = (closes p.mark ≡ false) × (ends_call p.mark ≡ false) × (item_of p ≡ x)
+-- the positions that were read if this was pulled
+abbrev pub AreRead : Pulled → List Item → List Position → Type 0
+AreRead pulled.Call items read = (front : List Item) × (last : Item)
+    × (items ≡ front ++ last ∷ []) × (read ≡ all_more front ++ position.Last last ∷ [])
+AreRead pulled.Close items read = (items ≡ []) × (read ≡ position.Close ∷ [])
+AreRead pulled.Nothing items read = ⊥
 
--- the first known position, p, was copied
-abbrev pub copied_one : KernelSide → Position → List Position → KernelSide
-copied_one d p ps = record d { copied = d.copied ++ p ∷ []; known = ps; loaded = 0 }
-
--- The first known position was copied, and this is what it holds.
-pub record CopiesOne (before after : End) (what : Copied) : Type 0 where
-  pub position : Position
+-- Of the places that a dispatcher's seat holds, the first were read, of one call or the close mark, and went behind the others. next: the index word of the place behind them
+pub record ReadsCall (before after : Holder) (what : Pulled) (items : List Item) (next : ℕ) : Type 0 where
+  pub read : List Position
   pub others : List Position
-  pub known : before.knows.kernel.known ≡ position ∷ others
+  pub known : before.0.kernel.known ≡ read ++ others
   pub is : after
-      ≡ kernel_knows before (record before.knows.kernel { copied = before.knows.kernel.copied ++ position ∷ []; known = others })
-  pub holds : HoldsAs what position
+      ≡ (before.0, with_first_behind before.0.kernel.start before.0.kernel.size (length before.0.kernel.taken) others read)
+  pub holds : AreRead what items read
+  pub next_word : next ≡ word_of before.0.kernel.start (length before.0.kernel.taken + length read)
 
--- It knew of no position that isn't copied, it loaded the tail, and it knows of none.
+-- It knew of no position that isn't taken, it loaded the tail, and it knows of none.
 pub record FindsNone (before after : End) : Type 0 where
   pub before_none : length before.knows.kernel.known ≡ 0
   pub looked : before.knows.kernel.looks < after.knows.kernel.looks
   pub after_none : length after.knows.kernel.known ≡ 0
-
--- As a call is copied: these positions of it were, none of which ends it, and these are their items.
-pub record InCall (before now : End) (copied_count : ℕ) (items : List Item) : Type 0 where
-  pub part : List Position
-  pub is : now
-      ≡ kernel_knows before (record before.knows.kernel { copied = before.knows.kernel.copied ++ part; known = now.knows.kernel.known })
-  pub rest : part ++ now.knows.kernel.known ≡ before.knows.kernel.known
-  pub goes_on : AllGoOn part
-  pub holds : map item_of part ≡ items
-  pub many : length part ≡ copied_count
-
--- Known positions were copied, and what was copied is whole calls.
-pub record Copies (before after : End) : Type 0 where
-  pub is : after
-      ≡ kernel_knows before (record before.knows.kernel { copied = after.knows.kernel.copied; known = after.knows.kernel.known })
-  pub same : after.knows.kernel.copied ++ after.knows.kernel.known
-      ≡ before.knows.kernel.copied ++ before.knows.kernel.known
-  pub whole : AreWhole after.knows.kernel.copied

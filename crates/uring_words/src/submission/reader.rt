@@ -1,22 +1,20 @@
 //! The dispatcher's end of the submission ring: it pulls one whole call, the close mark, or nothing.
-ghost use Rattle.std.specs.Prelude.{◌≡◌, ◌≢◌, ℕ, ◌+◌, ◌*◌, ◌<◌, ◌≤◌, true, false, List, [], ◌∷◌, ◌++◌, length, vec_capacity, vec_len};
+ghost use Rattle.std.specs.Prelude.{◌≡◌, ◌≢◌, ◌+◌, ◌<◌, ◌≤◌, true, false, List, [], ◌∷◌, ◌++◌, length, vec_capacity, vec_len};
+ghost use Rattle.std.specs.Int.{IsPowerOfTwo};
+ghost use Rattle.atomic_table.specs.Table.{rest, turned};
+ghost use Rattle.uring_entry.specs.IndexWords.{word_of};
 ghost use Rattle.uring_ports.specs.Ports.{LeavesItems, Pulls};
-ghost use Rattle.uring_words.specs.Places.{place_of};
-ghost use Rattle.uring_words.specs.Sides.{with_kernel};
-ghost use Rattle.uring_words.specs.Submission.Calls.{item_of, items_of, put_of, has_close_mark};
-ghost use Rattle.uring_words.specs.Submission.Ends.{copied_one, kernel_knows, Copies, CopiesOne, FindsNone, HoldsAs, ReaderRests, WriterRests};
-ghost use Rattle.uring_words.specs.Submission.Layout.{closes, has_entry};
-ghost use Rattle.uring_words.specs.Submission.Steps.{head_stored};
+ghost use Rattle.uring_words.specs.Slots.{held_from};
+ghost use Rattle.uring_words.specs.Submission.Calls.{items_of, put_of, has_close_mark, AreWhole};
+ghost use Rattle.uring_words.specs.Submission.Ends.{kernel_knows, FindsNone, ReadsCall, ReaderRests, WriterRests};
 ghost use Rattle.uring_words.specs.declared.submission.view.Position.{Position};
 
-use crate::submission::table::{
-    BothSides, LoadMark, LoadTail, LoadWord, Ring, Seat, StoreHead, Words,
-};
-use crate::submission::writer::{CLOSE_MARK, CallWriter, LAST_OF_CALL};
+use crate::submission::table::{BothSides, HEAD, LoadTail, Ring, Seat, StoreHead, TAIL, Words};
+use crate::submission::view::Position;
+use crate::submission::writer::CallWriter;
 use std::alloc::Global;
 use std::marker::Model;
 use std::sync::Arc;
-use uring_entry::Sqe;
 use uring_ports::{Item, Pulled};
 
 /// The dispatcher's end of the submission ring.
@@ -25,7 +23,7 @@ pub struct CallReader {
     pub(super) ring: Arc<Ring, Global>,
     pub(super) seat: Seat,
     pub(super) size: u32,
-    // The index words of the tail that it last saw, and of the place that is copied next.
+    // The index words of the tail that it last saw, and of the head.
     pub(super) tail: u32,
     pub(super) head: u32,
 }
@@ -42,58 +40,88 @@ impl Model for CallReader {
     ghost invariant = { λ e. IsReader e.seat.table_id (arc_value e.ring).shared.table_id e.seat.me.0 e.seat.me.1 e.size e.tail e.head };
 }
 
-/// What a position holds.
-#[derive(Clone, Copy)]
-pub enum Copied {
-    /// An item that others of its call follow.
-    More(Item),
-
-    /// The last item of a call.
-    Last(Item),
-
-    /// The close mark.
-    Close,
-}
-
-/// Whether an array word is that of an entry.
-fn is_of_entry(size: u32, mark: u64) -> bool
-    ensures { result ≡ has_entry size mark }
-{
-    mark != CLOSE_MARK && mark % LAST_OF_CALL < size as u64
-}
-
-/// What a position with this array word holds, if not the close mark.
-fn copied_item(mark: u64, item: Item) -> Copied
-    ensures { (p : Position) → p.mark ≡ mark → closes mark ≡ false → item_of p ≡ item
-        → HoldsAs result p }
-{
-    if mark >> 32 == 1 {
-        Copied::Last(item)
-    } else {
-        Copied::More(item)
-    }
-}
-
-/// Loads the entry words of the first known position, from the word `first` on, once its array word is loaded. It is then copied.
-fn load_entry(words: &Words, seat: &mut Seat, first: usize) -> [u64; 16]
+/// Reads the first place that the seat holds, which goes behind the others.
+fn read_first(words: &Words, seat: &mut Seat, place: usize) -> Position
     requires table { seat.old.table_id ≡ words.now.table_id }
-    requires within { first + 16 ≤ words.now.table_id.words }
-    requires kernel { (seat.old.me.0.is_kernel ≡ true) × (seat.old.me.0.kernel.loaded ≡ 1) }
-    requires known { (p : Position) × (ps : List Position) × (seat.old.me.0.kernel.known ≡ p ∷ ps)
-        × (length p.entry ≡ 16) }
-    requires first { first
-        ≡ 16
-        * place_of seat.old.me.0.kernel.start seat.old.me.0.kernel.size (length seat.old.me.0.kernel.copied) }
+    requires first { (position : Position)
+        × (seat.old.me.1 ≡ (place, position) ∷ rest seat.old.me.1) }
     ensures table { seat.new.table_id ≡ seat.old.table_id }
-    ensures copied { (p : Position) (ps : List Position) → seat.old.me.0.kernel.known ≡ p ∷ ps
-        → (result ≡ p.entry)
-        × (seat.new.me ≡ with_kernel seat.old.me (copied_one seat.old.me.0.kernel p ps)) }
+    ensures read { seat.old.me.1 ≡ (place, result) ∷ rest seat.old.me.1 }
+    ensures turned { seat.new.me ≡ (seat.old.me.0, turned seat.old.me.1) }
 {
-    let mut entry = [0; 16];
-    for k in 0..16 {
-        entry[k] = words.load::<LoadWord>(seat, first + k);
+    let position = *seat.slot_mut(words, place);
+    seat.turn();
+    position
+}
+
+/// Reads one whole call, or the close mark, from the place of this index word on: so many positions are known to be there, and their places are this seat's. The index word of the place behind them comes too.
+fn read_call(
+    words: &Words,
+    seat: &mut Seat,
+    size: u32,
+    head: u32,
+    known: u32,
+    items: &mut Vec<Item>,
+) -> (Pulled, u32)
+    requires table { seat.old.table_id ≡ words.now.table_id }
+    requires size { (seat.old.me.0.kernel.size ≡ size) × IsPowerOfTwo size }
+    requires head { head
+        ≡ word_of seat.old.me.0.kernel.start (length seat.old.me.0.kernel.taken) }
+    requires known { (known ≡ length seat.old.me.0.kernel.known) × (known ≤ size) }
+    requires holds { seat.old.me.1
+        ≡ held_from seat.old.me.0.kernel.start seat.old.me.0.kernel.size (length seat.old.me.0.kernel.taken) seat.old.me.0.kernel.known }
+    requires whole { AreWhole seat.old.me.0.kernel.known }
+    requires some { 0 < known }
+    requires empty { items.old.items ≡ [] }
+    requires room { size ≤ vec_capacity items.old }
+    ensures table { seat.new.table_id ≡ seat.old.table_id }
+    ensures read { ReadsCall seat.old.me seat.new.me result.0 items.new.items result.1 }
+    ensures room { vec_capacity items.new ≡ vec_capacity items.old }
+{
+    let mut next = head;
+    for _ in 0..known {
+        let position = read_first(words, seat, (next % size) as usize);
+        next = next.wrapping_add(1);
+        match position {
+            Position::More(item) => items.push_reserved(item),
+            Position::Last(item) => {
+                items.push_reserved(item);
+                return (Pulled::Call, next);
+            }
+            Position::Close => return (Pulled::Close, next),
+        }
     }
-    entry
+    unreachable!()
+}
+
+/// Reads the items that stand from the place of this index word on, up to the close mark: so many positions are known to be there, and their places are this seat's.
+fn read_items(
+    words: &Words,
+    seat: &mut Seat,
+    size: u32,
+    head: u32,
+    known: u32,
+    items: &mut Vec<Item>,
+)
+    requires table { seat.old.table_id ≡ words.now.table_id }
+    requires size { (seat.old.me.0.kernel.size ≡ size) × IsPowerOfTwo size }
+    requires head { head
+        ≡ word_of seat.old.me.0.kernel.start (length seat.old.me.0.kernel.taken) }
+    requires known { known ≡ length seat.old.me.0.kernel.known }
+    requires holds { seat.old.me.1
+        ≡ held_from seat.old.me.0.kernel.start seat.old.me.0.kernel.size (length seat.old.me.0.kernel.taken) seat.old.me.0.kernel.known }
+    requires room { vec_len items.old + known ≤ vec_capacity items.old }
+    ensures { items.new.items ≡ items.old.items ++ items_of seat.old.me.0.kernel.known }
+{
+    let mut next = head;
+    for _ in 0..known {
+        let position = read_first(words, seat, (next % size) as usize);
+        next = next.wrapping_add(1);
+        match position {
+            Position::More(item) | Position::Last(item) => items.push_reserved(item),
+            Position::Close => {}
+        }
+    }
 }
 
 impl CallReader {
@@ -122,12 +150,9 @@ impl CallReader {
         ensures few { length self.new.knows.kernel.known ≤ self.old.knows.kernel.size }
         ensures all { self.old.knows.is_app ≡ true
             → self.old.knows.app.published
-            ≡ self.old.knows.kernel.copied ++ self.new.knows.kernel.known }
+            ≡ self.old.knows.kernel.taken ++ self.new.knows.kernel.known }
     {
-        self.tail = self
-            .ring
-            .shared
-            .load::<LoadTail>(&mut self.seat, 17 * self.size as usize) as u32;
+        self.tail = self.ring.shared.load::<LoadTail>(&mut self.seat, TAIL) as u32;
     }
 
     /// Loads the tail if nothing is known to be there.
@@ -144,75 +169,43 @@ impl CallReader {
         }
     }
 
-    /// Copies the first known position.
-    fn copy_one(&mut self) -> Copied
-        requires { 0 < length self.old.knows.kernel.known }
-        ensures { CopiesOne self.old self.new result }
-    {
-        let place = (self.head % self.size) as usize;
-        let words = &self.ring.shared;
-        let seat = &mut self.seat;
-        let mark = words.load::<LoadMark>(seat, 16 * self.size as usize + place);
-        self.head = self.head.wrapping_add(1);
-        if mark == CLOSE_MARK {
-            return Copied::Close;
-        }
-        if is_of_entry(self.size, mark) {
-            let entry = load_entry(words, seat, 16 * place);
-            return copied_item(mark, Item::Entry(Sqe::from_words(entry)));
-        }
-        copied_item(mark, Item::Bad((mark % LAST_OF_CALL) as u32))
-    }
-
-    /// Stores the head, with which all that was copied is taken.
-    fn store_head(&mut self)
-        ensures { self.new ≡ kernel_knows self.old (head_stored self.old.knows.kernel) }
-    {
-        self.ring.shared.store::<StoreHead>(
-            &mut self.seat,
-            17 * self.size as usize + 1,
-            self.head as u64,
-        );
-    }
-
-    /// Copies one whole call, or the close mark, which is known to be there.
-    fn copy_call(&mut self, items: &mut Vec<Item>) -> Pulled
+    /// Takes one whole call, or the close mark, which is known to be there.
+    fn take_call(&mut self, items: &mut Vec<Item>) -> Pulled
         requires rests { ReaderRests self.old.knows.kernel }
         requires some { 0 < length self.old.knows.kernel.known }
-        requires open { has_close_mark self.old.knows.kernel.copied ≡ false }
+        requires open { has_close_mark self.old.knows.kernel.taken ≡ false }
         requires empty { items.old.items ≡ [] }
         requires room { self.old.knows.kernel.size ≤ vec_capacity items.old }
-        ensures copies { Copies self.old self.new }
+        ensures is { self.new
+            ≡ kernel_knows self.old
+            (record self.old.knows.kernel { taken = self.new.knows.kernel.taken; known = self.new.knows.kernel.known }) }
+        ensures rests { ReaderRests self.new.knows.kernel }
         ensures room { vec_capacity items.new ≡ vec_capacity items.old }
-        ensures pulled { Pulls self.old.knows.kernel.size (put_of self.old.knows.kernel.copied) result items.new.items
-            (put_of self.new.knows.kernel.copied) }
+        ensures pulled { Pulls self.old.knows.kernel.size (put_of self.old.knows.kernel.taken) result items.new.items
+            (put_of self.new.knows.kernel.taken) }
         ensures some { result ≢ Pulled.Nothing }
     {
-        for _ in 0..self.waiting() {
-            match self.copy_one() {
-                Copied::More(item) => items.push_reserved(item),
-                Copied::Last(item) => {
-                    items.push_reserved(item);
-                    return Pulled::Call;
-                }
-                Copied::Close => return Pulled::Close,
-            }
-        }
-        unreachable!()
+        let known = self.waiting();
+        let words = &self.ring.shared;
+        let seat = &mut self.seat;
+        let (pulled, next) = read_call(words, seat, self.size, self.head, known, items);
+        self.head = next;
+        words.store::<StoreHead>(seat, HEAD, next as u64);
+        pulled
     }
 
     /// Takes one whole call, or the close mark, or nothing.
     pub fn pull(&mut self, items: &mut Vec<Item>) -> Pulled
         requires rests { ReaderRests self.old.knows.kernel }
-        requires open { has_close_mark self.old.knows.kernel.copied ≡ false }
+        requires open { has_close_mark self.old.knows.kernel.taken ≡ false }
         requires room { self.old.knows.kernel.size ≤ vec_capacity items.old }
         ensures is { self.new
             ≡ kernel_knows self.old
-            (record self.old.knows.kernel { copied = self.new.knows.kernel.copied; known = self.new.knows.kernel.known; taken = self.new.knows.kernel.taken; looks = self.new.knows.kernel.looks }) }
+            (record self.old.knows.kernel { taken = self.new.knows.kernel.taken; known = self.new.knows.kernel.known; looks = self.new.knows.kernel.looks }) }
         ensures rests { ReaderRests self.new.knows.kernel }
         ensures room { vec_capacity items.new ≡ vec_capacity items.old }
-        ensures pulled { Pulls self.old.knows.kernel.size (put_of self.old.knows.kernel.copied) result items.new.items
-            (put_of self.new.knows.kernel.copied) }
+        ensures pulled { Pulls self.old.knows.kernel.size (put_of self.old.knows.kernel.taken) result items.new.items
+            (put_of self.new.knows.kernel.taken) }
         ensures looked { result ≡ Pulled.Nothing → FindsNone self.old self.new }
     {
         items.clear();
@@ -220,22 +213,23 @@ impl CallReader {
         if self.waiting() == 0 {
             return Pulled::Nothing;
         }
-        let pulled = self.copy_call(items);
-        self.store_head();
-        pulled
+        self.take_call(items)
     }
 
-    /// Takes the items that are known to be there, up to the close mark.
-    fn take_known(&mut self, items: &mut Vec<Item>)
-        requires { vec_len items.old + length self.old.knows.kernel.known ≤ vec_capacity items.old }
-        ensures { items.new.items ≡ items.old.items ++ items_of self.old.knows.kernel.known }
+    /// Takes the items that are known to be there, up to the close mark, and ends.
+    fn take_known(self, items: &mut Vec<Item>)
+        requires { vec_len items.old + length self.knows.kernel.known ≤ vec_capacity items.old }
+        ensures { items.new.items ≡ items.old.items ++ items_of self.knows.kernel.known }
     {
-        for _ in 0..self.waiting() {
-            match self.copy_one() {
-                Copied::More(item) | Copied::Last(item) => items.push_reserved(item),
-                Copied::Close => {}
-            }
-        }
+        let known = self.waiting();
+        let CallReader {
+            ring,
+            mut seat,
+            size,
+            tail: _,
+            head,
+        } = self;
+        read_items(&ring.shared, &mut seat, size, head, known, items);
     }
 
     /// Takes the items that were put and not pulled.
@@ -246,15 +240,9 @@ impl CallReader {
         requires room { self.knows.kernel.size ≤ vec_capacity items.old }
         requires empty { items.old.items ≡ [] }
         ensures { LeavesItems (put_of writer.knows.app.published)
-            (put_of self.knows.kernel.copied) items.new.items }
+            (put_of self.knows.kernel.taken) items.new.items }
     {
-        let CallWriter {
-            ring: _,
-            seat: app_seat,
-            size: _,
-            head: _,
-            tail: _,
-        } = writer;
+        let app_seat = writer.give_all();
         let CallReader {
             ring,
             mut seat,

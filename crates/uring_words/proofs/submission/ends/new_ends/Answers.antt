@@ -1,40 +1,23 @@
-use Rattle.std.proofs.Common.{length, arith, rules, refl, ap, ◌∙◌}
+use Rattle.std.proofs.Common.{◌≡◌, rules, refl, ap, ◌∙◌, arith, length}
+use Rattle.uring_words.specs.Sides.{app_part}
+use Rattle.uring_words.specs.Submission.Ends.{End, has_loaded}
+use Rattle.uring_words.specs.Submission.Rule.{at_first}
+use Rattle.uring_words.specs.Submission.Steps.{Holder}
+use Rattle.uring_words.specs.declared.submission.view.Position.TheVariants as position
 use Rattle.uring_words.proofs.FirstTable.{opens}
-use Rattle.uring_words.proofs.FirstTable.{start_word}
-use Rattle.uring_words.proofs.Seats.{splits}
+use Rattle.uring_words.proofs.SlotSeats.{splits}
 use Rattle.uring_words.proofs.submission.ends.new_ends.Goals as goal
 
-pub new_table-requires-clause-opens : goal.new_table-requires-clause-opens
-new_table-requires-clause-opens g c =
-    let w = c.in_ok-words.ensures in
-    rw c.deref.ensures.value (opens _ c.args.shape c.requires.power c.requires.limit (search rules) w.many w.tail w.head)
+pub new_slot_table-requires-clause-opens : goal.new_slot_table-requires-clause-opens
+new_slot_table-requires-clause-opens g c =
+    rw c.in_ok-places.ensures.items (opens c.args.shape position.Close c.requires.power c.requires.limit (search rules))
 
-pub new_table-requires-clause-cuts : goal.new_table-requires-clause-cuts
-new_table-requires-clause-cuts g c = λ id. splits id _ refl refl
+pub new_slot_table-requires-clause-cuts : goal.new_slot_table-requires-clause-cuts
+new_slot_table-requires-clause-cuts g c = λ id. splits id _ refl refl
 
-pub invariant_of-writer : goal.invariant_of-writer
-invariant_of-writer g c =
-    let app = c.in_ok-app.ensures.app in
-    let start = start_word c.args.shape.start (search rules) in
-    rw app.2 (record {
-      fits = record { same_table = app.0; many = app.1 ∙ ap length c.deref.ensures.value ∙ c.in_ok-words.ensures.many; carries_none = refl; power = c.requires.power; most = c.requires.limit; sized = refl };
-      is_app = refl;
-      entry = refl;
-      below = omega arith;
-      room = omega arith;
-      tail_word = start;
-      head_word = start;
-    })
-
-pub invariant_of-reader : goal.invariant_of-reader
-invariant_of-reader g c =
-    let kernel = c.in_ok-app.ensures.kernel in
-    let start = start_word c.args.shape.start (search rules) in
-    rw kernel.2 (record {
-      fits = record { same_table = kernel.0; many = kernel.1 ∙ ap length c.deref.ensures.value ∙ c.in_ok-words.ensures.many; carries_none = refl; power = c.requires.power; most = c.requires.limit; sized = refl };
-      is_kernel = refl;
-      loaded = refl;
-      few = omega arith;
-      tail_word = start;
-      head_word = start;
-    })
+pub returns-clause-app : goal.returns-clause-app
+returns-clause-app g c =
+    let me = c.in_ok-app.ensures.app.2 in
+    let l = c.load_head.ensures in
+    let end : c.load_head.new.self.knows.app.end ≡ c.args.shape.size = omega (arith, l.least, l.most, ap (λ (m : Holder). m.0.app.size) me, ap (λ (m : Holder). length m.0.app.published) me) in
+    ap (λ (e : End). e.knows) l.is ∙ ap (λ (m : Holder). has_loaded m.0 c.load_head.new.self.knows.app.end) me ∙ ap (has_loaded (app_part (at_first c.args.shape))) end

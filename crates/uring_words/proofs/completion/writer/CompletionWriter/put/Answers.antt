@@ -1,41 +1,46 @@
-use Rattle.std.proofs.Common.{◌≡◌, ℕ, ◌+◌, ◌*◌, ◌%◌, ◌<◌, length, get_or, take, arith, sym, ap, ◌∙◌, subst, length-take-le, take_all}
-use Rattle.atomic_table.specs.Table.{step, Allows}
-use mathlib.Core.Option.{none}
+use Rattle.std.proofs.Common.{◌≡◌, ℕ, ◌+◌, ◌<◌, ◌∷◌, ◌++◌, [], length, arith, refl, sym, ap, ◌∙◌, subst, length-append}
+use Rattle.atomic_table.specs.Table.{rest}
 use Rattle.uring_words.specs.Completion.Ends.{End}
-use Rattle.uring_words.specs.Completion.Layout.{cell_index, tail_index}
-use Rattle.uring_words.specs.Places.{place_of}
-use Rattle.uring_words.specs.Sides.{with_kernel}
-use Rattle.uring_words.proofs.CompletionPlays.{stores_word, stores_tail}
-use Rattle.uring_words.proofs.Standing.{at_place}
+use Rattle.uring_words.specs.Slots.{held_from}
+use Rattle.uring_words.proofs.CompletionPlays.{stores_tail}
+use Rattle.uring_words.proofs.SlotActs.{first_held, is_first}
 use Rattle.uring_words.proofs.completion.writer.CompletionWriter.put.Goals as goal
+
+pub slot_mut-requires : goal.slot_mut-requires
+slot_mut-requires c =
+    let i = c.self.invariant in
+    let d = c.self.inside.seat.me.0.kernel in
+    let room : length d.put < d.end = subst (λ (e : End). length e.knows.kernel.put < e.knows.kernel.end) (sym c.self.view_is) c.requires in
+    let first = first_held d.start c.self.inside.size d.size (length d.put) c.self.inside.tail c.self.inside.seat.me.1 i.blank i.fits.sized i.fits.power i.tail_word i.holds (omega (arith, i.many)) in
+    rw c.deref.ensures (i.fits.same_table, (first.0, is_first _ _ _ first.3))
 
 pub store-requires : goal.store-requires
 store-requires c =
     let i = c.self.invariant in
     let d = c.self.inside.seat.me.0.kernel in
-    let k : ℕ = c.loop-k.k in
-    let cell = c.cell_of-cell.result in
-    let ten = c.cell_of-cell.ensures.cell.many in
-    let room : length d.put < d.head_seen + d.size = subst (λ (e : End). length e.knows.kernel.put < e.knows.kernel.head_seen + e.knows.kernel.size) (sym c.self.view_is) c.requires in
-    let at = at_place d.start c.self.inside.size d.size (length d.put) c.self.inside.tail i.fits.sized i.fits.power i.tail_word in
-    let many : length (take k cell) ≡ k = length-take-le k cell (omega (arith, ten)) in
-    rw (c.deref.ensures, c.loop-k.invariant.words) (
-      c.loop-k.invariant.table ∙ i.fits.same_table,
-      omega (arith, at.1, i.fits.many),
-      stores_word _ _ _ _ _ i.is_kernel room (omega (arith, many)) (ap (λ p. cell_index p k) at.0 ∙ ap (λ j. cell_index (place_of d.start d.size (length d.put)) j) (sym many)),
+    let room : length d.put < d.end = subst (λ (e : End). length e.knows.kernel.put < e.knows.kernel.end) (sym c.self.view_is) c.requires in
+    let first = first_held d.start c.self.inside.size d.size (length d.put) c.self.inside.tail c.self.inside.seat.me.1 i.blank i.fits.sized i.fits.power i.tail_word i.holds (omega (arith, i.many)) in
+    rw c.deref.ensures (
+      i.fits.same_table,
+      omega (arith, i.fits.many),
+      stores_tail _ _ _ _ _ c.args.completion (rest c.self.inside.seat.me.1) i.is_kernel (ap (λ (p : ℕ). (p, c.args.completion) ∷ rest c.self.inside.seat.me.1) first.4) room (omega (arith, i.tail_word)) refl,
     )
 
-pub store-requires-2 : goal.store-requires-2
-store-requires-2 c =
+pub invariant_of-self : goal.invariant_of-self
+invariant_of-self c =
     let i = c.self.invariant in
-    let m = c.self.inside.seat.me in
-    let d = m.0.kernel in
-    let cell = c.cell_of-cell.result in
-    let ten = c.cell_of-cell.ensures.cell.many in
-    let room : length d.put < d.head_seen + d.size = subst (λ (e : End). length e.knows.kernel.put < e.knows.kernel.head_seen + e.knows.kernel.size) (sym c.self.view_is) c.requires in
-    let words = c.loop-k.invariant.words ∙ ap (λ ws. with_kernel m (record d { cell = ws })) (take_all c.loop-k.k cell (omega (arith, ten))) in
-    rw (c.deref.ensures, words) (
-      c.loop-k.invariant.table ∙ i.fits.same_table,
-      omega (arith, i.fits.many),
-      stores_tail _ _ _ _ _ i.is_kernel room c.cell_of-cell.ensures.cell (omega (arith, i.tail_word)) (ap tail_index (sym i.fits.sized)),
-    )
+    let d = c.self.inside.seat.me.0.kernel in
+    let room : length d.put < d.end = subst (λ (e : End). length e.knows.kernel.put < e.knows.kernel.end) (sym c.self.view_is) c.requires in
+    let first = first_held d.start c.self.inside.size d.size (length d.put) c.self.inside.tail c.self.inside.seat.me.1 i.blank i.fits.sized i.fits.power i.tail_word i.holds (omega (arith, i.many)) in
+    let many : length (d.put ++ c.args.completion ∷ []) ≡ length d.put + 1 = length-append d.put (c.args.completion ∷ []) in
+    let longer = ap length first.2 in
+    rw c.store.ensures.2 (record {
+      fits = record { same_table = c.store.ensures.0 ∙ i.fits.same_table; many = i.fits.many; power = i.fits.power; most = i.fits.most; sized = i.fits.sized };
+      is_kernel = i.is_kernel;
+      tail_word = omega (arith, i.tail_word, many);
+      end_word = i.end_word;
+      blank = first.1;
+      holds = ap rest first.3 ∙ ap (λ (n : ℕ). held_from d.start d.size n first.1) (sym many);
+      many = omega (arith, i.many, longer, many);
+      few = omega (arith, i.few, longer);
+    })

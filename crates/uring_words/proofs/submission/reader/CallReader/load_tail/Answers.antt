@@ -1,9 +1,8 @@
-use Rattle.std.proofs.Common.{arith, sym, ap}
-use Rattle.uring_words.specs.Submission.Layout.{tail_index}
+use Rattle.std.proofs.Common.{arith}
 use Rattle.uring_words.proofs.Plays.{loads_tail}
 use Rattle.uring_words.proofs.submission.reader.CallReader.load_tail.Goals as goal
 
 pub load-requires : goal.load-requires
 load-requires c =
     let i = c.self.invariant in
-    rw c.deref.ensures (i.fits.same_table, omega (arith, i.fits.many), loads_tail _ _ _ _ i.is_kernel (ap tail_index (sym i.fits.sized)))
+    rw c.deref.ensures (i.fits.same_table, omega (arith, i.fits.many), loads_tail _ _ _ i.is_kernel i.holds)

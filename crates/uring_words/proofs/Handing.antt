@@ -1,0 +1,146 @@
+-- A step after which a seat holds other slots: it gives all that it holds, and takes what it is to hold.
+use Rattle.std.proofs.Common.{◌≡◌, ℕ, suc, ◌+◌, ◌^◌, ◌≤◌, List, [], ◌∷◌, ◌++◌, map, length, take, drop, set, refl, sym, ◌∙◌, ap, ap₂, subst, arith, length-append}
+use Rattle.std.proofs.Math.Seq.{take-append_seam, drop-append_seam}
+use mathlib.Core.List.{map-append}
+use Rattle.std.specs.Int.{IsPowerOfTwo}
+use mathlib.Core.Option.{Option, some}
+use lib.ListN.{get_elem?}
+use Rattle.atomic_table.specs.Table.{homes_after, Valid}
+use Rattle.uring_words.specs.Slots.{held_from, StandFrom}
+use Rattle.uring_words.proofs.SlotActs.{takes_all, changes, changes-homes, with_given, with_taken, gives_all-valid, with_given-length, with_taken-length, Clear, stands_given, stands_taken, given_stand, taken_valid, more_valid, more_stands}
+use Rattle.uring_words.proofs.Standing.{next_turn}
+
+module _ {S : Type 0} where
+  -- what is at home once all of the old slots are given, and then the new ones taken
+  abbrev pub after : List (Option S) → List (ℕ × S) → List (ℕ × S) → List (Option S)
+  after homes old new = homes_after homes old (changes old new)
+
+  pub after-length : (homes : List (Option S)) (old new : List (ℕ × S))
+      → length (after homes old new) ≡ length homes
+  after-length homes old new =
+      ap length (changes-homes homes old new) ∙ with_taken-length (with_given homes old) new ∙ with_given-length homes old
+
+  -- one part is given behind another
+  given_both : (homes : List (Option S)) (xs ys : List (ℕ × S))
+      → with_given homes (xs ++ ys) ≡ with_given (with_given homes xs) ys
+  given_both homes [] ys = refl
+  given_both homes (x ∷ xs) ys = given_both (set homes x.0 (some x.1)) xs ys
+
+module _ {S : Type 0} (start size : ℕ) (power : IsPowerOfTwo size) (fits : size ≤ 2 ^ 32) where
+  -- one turn of the ring later the places are the same
+  pub stand_later : (homes : List (Option S)) (count : ℕ) (xs : List S)
+      → StandFrom start size homes count xs → StandFrom start size homes (count + size) xs
+  stand_later homes count [] h = tt
+  stand_later homes count (x ∷ xs) h =
+      let next : (count + 1) + size ≡ (count + size) + 1 = omega arith in (
+        ap (λ p. get_elem? homes p) (next_turn start size count power fits) ∙ h.0,
+        subst (λ n. StandFrom start size homes n xs) next (stand_later homes (count + 1) xs h.1),
+      )
+
+  stand_after : (homes : List (Option S)) (old new : List (ℕ × S)) (count : ℕ) (xs : List S)
+      → StandFrom start size (with_taken (with_given homes old) new) count xs
+      → StandFrom start size (after homes old new) count xs
+  stand_after homes old new count xs = subst (λ hs. StandFrom start size hs count xs) (sym (changes-homes homes old new))
+
+  -- More slots are taken, behind those that the seat holds.
+  module _ (homes : List (Option S)) (long : length homes ≡ size) (count : ℕ) (held more : List S) where
+    abbrev old : List (ℕ × S)
+    old = held_from start size count held
+
+    abbrev new : List (ℕ × S)
+    new = held_from start size count (held ++ more)
+
+    pub take_valid : length held + length more ≤ size → StandFrom start size homes (count + length held) more
+        → Valid homes old (changes old new)
+    take_valid few h =
+        let both = length-append held more in
+        gives_all-valid homes old (takes_all new) (more_valid start size power fits homes count (count + length held) held more long refl (omega arith) h)
+
+    pub take_others : (other : ℕ) (xs : List S) → Clear size count (length held + length more) other (length xs)
+        → StandFrom start size homes other xs → StandFrom start size (after homes old new) other xs
+    take_others other xs clear h =
+        let both = length-append held more in
+        stand_after homes old new other xs (more_stands start size power fits homes count other held more xs (λ a b l m n o. clear a b l (omega arith) n o) h)
+
+  -- The slots that stand behind the others, with values of earlier counts, are given, and the others kept.
+  module _ (homes : List (Option S)) (long : length homes ≡ size) (count : ℕ) (kept done : List S) where
+    abbrev front : List (ℕ × S)
+    front = held_from start size (count + length done) kept
+
+    abbrev back : List (ℕ × S)
+    back = held_from start size count done
+
+    given : List (Option S)
+    given = with_given (with_given homes front) back
+
+    pub give_valid : length done + length kept ≤ size → Valid homes (front ++ back) (changes (front ++ back) front)
+    give_valid few =
+        let here = given_stand start size power fits homes (count + length done) kept long (omega arith) in
+        let there = stands_given start size power fits (with_given homes front) count (count + length done) done kept (λ a b l m n o. ((λ e. omega arith), omega arith, omega arith)) here in
+        gives_all-valid homes (front ++ back) (takes_all front)
+        (taken_valid start size power fits (with_given homes (front ++ back)) (count + length done) kept (omega arith)
+        (subst (λ hs. StandFrom start size hs (count + length done) kept) (sym (given_both homes front back)) there))
+
+    left : (other : ℕ) (xs : List S) → StandFrom start size (with_taken (with_given (with_given homes front) back) front) other xs
+        → StandFrom start size (after homes (front ++ back) front) other xs
+    left other xs h = stand_after homes (front ++ back) front other xs (subst (λ hs. StandFrom start size (with_taken hs front) other xs) (sym (given_both homes front back)) h)
+
+    pub give_done : length done + length kept ≤ size → StandFrom start size (after homes (front ++ back) front) count done
+    give_done few =
+        let here = given_stand start size power fits (with_given homes front) count done (with_given-length homes front ∙ long) (omega arith) in
+        left count done (stands_taken start size power fits (with_given (with_given homes front) back) (count + length done) count kept done (λ a b l m n o. ((λ e. omega arith), omega arith, omega arith)) here)
+
+    pub give_others : (other : ℕ) (xs : List S) → Clear size count (length done + length kept) other (length xs)
+        → StandFrom start size homes other xs → StandFrom start size (after homes (front ++ back) front) other xs
+    give_others other xs clear h =
+        left other xs
+        (stands_taken start size power fits (with_given (with_given homes front) back) (count + length done) other kept xs (λ a b l m n o. clear a b (omega arith) (omega arith) n o)
+        (stands_given start size power fits (with_given homes front) count other done xs (λ a b l m n o. clear a b l (omega arith) n o)
+        (stands_given start size power fits homes (count + length done) other kept xs (λ a b l m n o. clear a b (omega arith) (omega arith) n o) h)))
+
+  -- All slots are given.
+  module _ (homes : List (Option S)) (count : ℕ) (held : List S) where
+    abbrev all : List (ℕ × S)
+    all = held_from start size count held
+
+    pub all_valid : Valid homes all (changes all [])
+    all_valid = gives_all-valid homes all (takes_all []) tt
+
+    pub all_here : length homes ≡ size → length held ≤ size → StandFrom start size (after homes all []) count held
+    all_here long few = stand_after homes all [] count held (given_stand start size power fits homes count held long few)
+
+    pub all_others : (other : ℕ) (xs : List S) → Clear size count (length held) other (length xs)
+        → StandFrom start size homes other xs → StandFrom start size (after homes all []) other xs
+    all_others other xs clear h = stand_after homes all [] other xs (stands_given start size power fits homes count other held xs clear h)
+
+-- two lists whose last parts are as long have the same parts
+pub same_parts : {A : Type 0} (xs ys us vs : List A) → length ys ≡ length vs → xs ++ ys ≡ us ++ vs
+    → (xs ≡ us) × (ys ≡ vs)
+same_parts xs ys us vs many e =
+    let all : length xs + length ys ≡ length us + length vs = sym (length-append xs ys) ∙ ap length e ∙ length-append us vs in
+    let front : length xs ≡ length us = omega arith in (
+      sym (take-append_seam xs ys) ∙ ap₂ (λ (n : ℕ) l. take n l) front e ∙ take-append_seam us vs,
+      sym (drop-append_seam xs ys) ∙ ap₂ (λ (n : ℕ) l. drop n l) front e ∙ drop-append_seam us vs,
+    )
+
+module _ {S : Type 0} where
+  held_values : (start size count : ℕ) (xs : List S)
+      → map (λ x. x.1) (held_from start size count xs) ≡ xs
+  held_values start size count [] = refl
+  held_values start size count (x ∷ xs) = ap (λ l. x ∷ l) (held_values start size (count + 1) xs)
+
+  pub held-length : (start size count : ℕ) (xs : List S)
+      → length (held_from start size count xs) ≡ length xs
+  held-length start size count [] = refl
+  held-length start size count (x ∷ xs) = ap (λ (n : ℕ). suc n) (held-length start size (count + 1) xs)
+
+  -- slots of two parts tell what stands in each
+  pub same_slots : (start size i j k l : ℕ) (xs ys us vs : List S) → length ys ≡ length vs
+      → held_from start size i xs ++ held_from start size j ys ≡ held_from start size k us ++ held_from start size l vs
+      → (xs ≡ us) × (ys ≡ vs)
+  same_slots start size i j k l xs ys us vs many e =
+      let values : List (ℕ × S) → List S = λ cs. map (λ x. x.1) cs in
+      let left = map-append (λ (x : ℕ × S). x.1) (held_from start size i xs) (held_from start size j ys) in
+      let right = map-append (λ (x : ℕ × S). x.1) (held_from start size k us) (held_from start size l vs) in
+      same_parts xs ys us vs many
+      (ap₂ (λ (m n : List S). m ++ n) (sym (held_values start size i xs)) (sym (held_values start size j ys)) ∙ sym left ∙ ap values e ∙ right ∙ ap₂ (λ (m n : List S). m ++ n) (held_values start size k us) (held_values start size l vs))

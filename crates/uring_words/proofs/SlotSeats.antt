@@ -1,0 +1,155 @@
+-- A step that keeps the agreement keeps the rule, and so do the cutting of the first seat and the joining of two: of any table whose slots the two sides hand to each other.
+use Rattle.std.proofs.Common.{◌≡◌, ◌≢◌, ℕ, true, List, length, get_or, map, set, refl, sym, ◌∙◌, subst, ⊎_elim}
+use Rattle.std.proofs.lemmas.Bool.{false≢true}
+use mathlib.Core.Option.{Option, some}
+use lib.ListN.{get_elem?}
+use Rattle.atomic_table.specs.Table.{Act, Me, opening, homes_after, carried_after, Valid, Allows, Splits, Joins}
+use Rattle.atomic_table.proofs.Lists.{at_set}
+use Rattle.uring_words.specs.Sides.{Knows, both_know, app_part, kernel_part, both_parts, spent_with}
+use Rattle.uring_words.specs.Slots.{SidesAgree, app_has, kernel_has, parts_of_both}
+use Rattle.uring_words.specs.declared.sides.View.{View}
+use Rattle.uring_words.proofs.Seats.{at_longer, only_seat, app_seats, kernel_seats}
+
+module _ {S A D : Type 0} {Agree : List ℕ → List (Option S) → A → D → Type 0} where
+  -- A step of the application's seat, if the agreement is kept whatever the words, the slots at home and what the dispatcher knows are.
+  pub app_step : (slots id i : ℕ) (f : ℕ → ℕ) (me : Me S (View A D)) (then : ℕ → Me S (View A D) → Type 0)
+      → me.0.is_app ≡ true
+      → ((words : List ℕ) (homes : List (Option S)) (d : D) → Agree words homes me.0.app d → (me.0.is_kernel ≡ true → me.0.kernel ≡ d) → (b : A) × (act : Act S) × Valid homes me.1 act × Agree (set words i (f (get_or words i 0))) (homes_after homes me.1 act) b d × then (get_or words i 0) (app_has me b (carried_after me.1 act)))
+      → Allows (SidesAgree Agree) slots id me i f then
+  app_step slots id i f me then is_app asked s kept _ at _ =
+      let knows = kept.seats id me.0 at in
+      let mine = knows.app is_app in
+      let P : A → Type 0 = λ a. Agree s.words s.homes a kept.kernel in
+      let r = asked s.words s.homes kept.kernel (subst P (sym mine.1) kept.agree) (λ is. (knows.kernel is).1) in (
+        record me.0 { app = r.0 },
+        r.1,
+        r.2,
+        record {
+          app_seat = kept.app_seat;
+          kernel_seat = kept.kernel_seat;
+          app = r.0;
+          kernel = kept.kernel;
+          agree = r.3;
+          seats = app_seats s.views id kept.app_seat kept.kernel_seat kept.app r.0 kept.kernel me.0 is_app at kept.seats;
+        },
+        r.4,
+      )
+
+  -- The same of the dispatcher's seat.
+  pub kernel_step : (slots id i : ℕ) (f : ℕ → ℕ) (me : Me S (View A D)) (then : ℕ → Me S (View A D) → Type 0)
+      → me.0.is_kernel ≡ true
+      → ((words : List ℕ) (homes : List (Option S)) (a : A) → Agree words homes a me.0.kernel → (me.0.is_app ≡ true → me.0.app ≡ a) → (e : D) × (act : Act S) × Valid homes me.1 act × Agree (set words i (f (get_or words i 0))) (homes_after homes me.1 act) a e × then (get_or words i 0) (kernel_has me e (carried_after me.1 act)))
+      → Allows (SidesAgree Agree) slots id me i f then
+  kernel_step slots id i f me then is_kernel asked s kept _ at _ =
+      let knows = kept.seats id me.0 at in
+      let mine = knows.kernel is_kernel in
+      let P : D → Type 0 = λ d. Agree s.words s.homes kept.app d in
+      let r = asked s.words s.homes kept.app (subst P (sym mine.1) kept.agree) (λ is. (knows.app is).1) in (
+        record me.0 { kernel = r.0 },
+        r.1,
+        r.2,
+        record {
+          app_seat = kept.app_seat;
+          kernel_seat = kept.kernel_seat;
+          app = kept.app;
+          kernel = r.0;
+          agree = r.3;
+          seats = kernel_seats s.views id kept.app_seat kept.kernel_seat kept.app kept.kernel r.0 me.0 is_kernel at kept.seats;
+        },
+        r.4,
+      )
+
+  -- a new table keeps the rule, if what its first seat knows agrees
+  pub opens_with : (words : List ℕ) (slots : List S) (a : A) (d : D) → Agree words (map some slots) a d
+      → SidesAgree Agree (opening words slots (both_know a d))
+  opens_with words slots a d agree = record {
+    app_seat = 0;
+    kernel_seat = 0;
+    app = a;
+    kernel = d;
+    agree = agree;
+    seats = λ seat v there.
+        let is = only_seat (both_know a d) v seat there in
+        let P : View A D → Type 0 = λ w. Knows 0 0 a d seat w in
+        subst P is.1 (record { app = λ _. (is.0, refl); kernel = λ _. (is.0, refl) });
+  }
+
+  -- a seat of both sides is cut into one of each
+  pub splits : (id : ℕ) (me : View A D) → me.is_app ≡ true → me.is_kernel ≡ true
+      → Splits (SidesAgree Agree) id me (app_part me) (kernel_part me)
+  splits id me is_app is_kernel s kept at =
+      let mine = kept.seats id me at in
+      let new : ℕ = length (set s.views id (app_part me)) in
+      record {
+        app_seat = kept.app_seat;
+        kernel_seat = new;
+        app = kept.app;
+        kernel = kept.kernel;
+        agree = kept.agree;
+        seats = λ seat v there.
+            let P : View A D → Type 0 = λ w. Knows kept.app_seat new kept.app kept.kernel seat w in
+            ⊎_elim
+            (λ (old : get_elem? (set s.views id (app_part me)) seat ≡ some v).
+            ⊎_elim
+            (λ (here : (seat ≡ id) × (app_part me ≡ v)).
+            subst P here.1 (record { app = λ _. (here.0 ∙ (mine.app is_app).0, (mine.app is_app).1); kernel = λ is. absurd (false≢true is) }))
+            (λ (other : (seat ≢ id) × (get_elem? s.views seat ≡ some v)).
+            let its = kept.seats seat v other.1 in
+            record { app = its.app; kernel = λ is. absurd (other.0 ((its.kernel is).0 ∙ sym (mine.kernel is_kernel).0)) })
+            (at_set s.views id seat (app_part me) v old))
+            (λ (here : (seat ≡ new) × (kernel_part me ≡ v)).
+            subst P here.1 (record { app = λ is. absurd (false≢true is); kernel = λ _. (here.0, (mine.kernel is_kernel).1) }))
+            (at_longer (set s.views id (app_part me)) (kernel_part me) v seat there);
+      }
+
+  -- a seat of one side takes in that of the other, if what it knows then is what both sides know
+  takes_in : (a : A) (d : D) (both me its : View A D) (id other : ℕ)
+      → ((app_seat kernel_seat : ℕ) (b : A) (e : D) → Knows app_seat kernel_seat b e id me → Knows app_seat kernel_seat b e other its → Knows id id b e id both)
+      → ((app_seat kernel_seat : ℕ) (b : A) (e : D) → Knows app_seat kernel_seat b e id me → Knows app_seat kernel_seat b e other its → (seat : ℕ) (v : View A D) → seat ≢ id → seat ≢ other → Knows app_seat kernel_seat b e seat v → Knows id id b e seat v)
+      → Joins (SidesAgree Agree) id me other its both (spent_with a d)
+  takes_in a d both me its id other mine others s kept at apart there =
+      let there' : get_elem? s.views other ≡ some its =
+      ⊎_elim (λ (here : (other ≡ id) × (both ≡ its)). absurd (apart here.0)) (λ (old : (other ≢ id) × (get_elem? s.views other ≡ some its)). old.1) (at_set s.views id other both its there) in
+      let my = kept.seats id me at in
+      let their = kept.seats other its there' in
+      record {
+        app_seat = id;
+        kernel_seat = id;
+        app = kept.app;
+        kernel = kept.kernel;
+        agree = kept.agree;
+        seats = λ seat v at_seat.
+            let P : View A D → Type 0 = λ w. Knows id id kept.app kept.kernel seat w in
+            ⊎_elim
+            (λ (left : (seat ≡ other) × (spent_with a d ≡ v)). subst P left.1 (record { app = λ is. absurd (false≢true is); kernel = λ is. absurd (false≢true is) }))
+            (λ (not_left : (seat ≢ other) × (get_elem? (set s.views id both) seat ≡ some v)).
+            ⊎_elim
+            (λ (here : (seat ≡ id) × (both ≡ v)). subst P here.1 (subst (λ (n : ℕ). Knows id id kept.app kept.kernel n both) (sym here.0) (mine kept.app_seat kept.kernel_seat kept.app kept.kernel my their)))
+            (λ (old : (seat ≢ id) × (get_elem? s.views seat ≡ some v)). others kept.app_seat kept.kernel_seat kept.app kept.kernel my their seat v old.0 not_left.0 (kept.seats seat v old.1))
+            (at_set s.views id seat both v not_left.1))
+            (at_set (set s.views id both) other seat (spent_with a d) v at_seat);
+      }
+
+  -- the dispatcher's seat takes in the application's
+  pub kernel_joins : (a : A) (d : D) (id other : ℕ) (me its : View A D) → me.is_kernel ≡ true
+      → its.is_app ≡ true
+      → Joins (SidesAgree Agree) id me other its (both_parts me its) (spent_with a d)
+  kernel_joins a d id other me its is_kernel is_app =
+      takes_in a d (both_parts me its) me its id other
+      (λ app_seat kernel_seat b e my their. record { app = λ _. (refl, (their.app is_app).1); kernel = λ _. (refl, (my.kernel is_kernel).1) })
+      (λ app_seat kernel_seat b e my their seat v not_mine not_its k. record {
+        app = λ is. absurd (not_its ((k.app is).0 ∙ sym (their.app is_app).0));
+        kernel = λ is. absurd (not_mine ((k.kernel is).0 ∙ sym (my.kernel is_kernel).0));
+      })
+
+  -- the application's seat takes in the dispatcher's
+  pub app_joins : (a : A) (d : D) (id other : ℕ) (me its : View A D) → me.is_app ≡ true
+      → its.is_kernel ≡ true
+      → Joins (SidesAgree Agree) id me other its (parts_of_both me its) (spent_with a d)
+  app_joins a d id other me its is_app is_kernel =
+      takes_in a d (parts_of_both me its) me its id other
+      (λ app_seat kernel_seat b e my their. record { app = λ _. (refl, (my.app is_app).1); kernel = λ _. (refl, (their.kernel is_kernel).1) })
+      (λ app_seat kernel_seat b e my their seat v not_mine not_its k. record {
+        app = λ is. absurd (not_mine ((k.app is).0 ∙ sym (my.app is_app).0));
+        kernel = λ is. absurd (not_its ((k.kernel is).0 ∙ sym (their.kernel is_kernel).0));
+      })

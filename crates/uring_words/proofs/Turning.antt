@@ -1,0 +1,74 @@
+-- The first slot that a seat holds goes behind the others.
+use Rattle.std.proofs.Common.{◌≡◌, ℕ, zero, suc, ◌+◌, ◌<◌, List, [], ◌∷◌, ◌++◌, drop, take, length, refl, sym, ◌∙◌, ap, arith, append_assoc}
+use Rattle.atomic_table.specs.Table.{rest, turned}
+use Rattle.uring_words.specs.Places.{place_of}
+use Rattle.uring_words.specs.Slots.{held_from}
+
+module _ {S : Type 0} where
+  -- one element of a list, with those in front of it and those behind it
+  pub next_of : (k : ℕ) (xs : List S) → k < length xs
+      → (x : S) × (drop k xs ≡ x ∷ drop (k + 1) xs) × (take (k + 1) xs ≡ take k xs ++ x ∷ [])
+  next_of k [] below = absurd (omega arith)
+  next_of zero (x ∷ xs) below = (x, refl, refl)
+  next_of (suc k) (x ∷ xs) below =
+      let n = next_of k xs (omega arith) in
+      let same : suc (k + 1) ≡ suc k + 1 = omega arith in (
+        n.0,
+        n.1 ∙ ap (λ (m : ℕ). n.0 ∷ drop m (x ∷ xs)) same,
+        sym (ap (λ (m : ℕ). take m (x ∷ xs)) same) ∙ ap (λ l. x ∷ l) n.2,
+      )
+
+  held_more : (start size count : ℕ) (xs : List S) (x : S)
+      → held_from start size count (xs ++ x ∷ []) ≡ held_from start size count xs ++ (place_of start size (count + length xs), x) ∷ []
+  held_more start size count [] x =
+      let same : count ≡ count + 0 = omega arith in
+      ap (λ (n : ℕ). (place_of start size n, x) ∷ []) same
+  held_more start size count (y ∷ ys) x =
+      let same : (count + 1) + length ys ≡ count + length (y ∷ ys) = omega arith in
+      ap (λ l. (place_of start size count, y) ∷ l) (held_more start size (count + 1) ys x ∙ ap (λ (n : ℕ). held_from start size (count + 1) ys ++ (place_of start size n, x) ∷ []) same)
+
+  abbrev value_of : S → List (ℕ × S) → S
+  value_of x [] = x
+  value_of x (y ∷ ys) = y.1
+
+  -- the slots from a count on, of which k are done and stand behind the others
+  abbrev pub part_done : (start size count k : ℕ) → List S → List S → List (ℕ × S)
+  part_done start size count k all done =
+      held_from start size (count + k) (drop k all) ++ held_from start size count done
+
+  module _ {V : Type 0} (start size count k place : ℕ) (all done : List S) (me : V × List (ℕ × S)) (v : V) (is : me ≡ (v, part_done start size count k all done)) (below : k < length all) (at : place ≡ place_of start size (count + k)) where
+    first : me.1 ≡ (place, (next_of k all below).0) ∷ held_from start size (count + (k + 1)) (drop (k + 1) all) ++ held_from start size count done
+    first =
+        let n = next_of k all below in
+        let later : (count + k) + 1 ≡ count + (k + 1) = omega arith in
+        ap (λ (m : V × List (ℕ × S)). m.1) is
+        ∙ ap (λ l. held_from start size (count + k) l ++ held_from start size count done) n.1
+        ∙ ap (λ (m : ℕ). (place_of start size (count + k), n.0) ∷ (held_from start size m (drop (k + 1) all) ++ held_from start size count done)) later
+        ∙ ap (λ (p : ℕ). (p, n.0) ∷ (held_from start size (count + (k + 1)) (drop (k + 1) all) ++ held_from start size count done)) (sym at)
+
+    -- the next one is first
+    pub stands_first : (x : S) × (me.1 ≡ (place, x) ∷ rest me.1)
+    stands_first = ((next_of k all below).0, first ∙ ap (λ l. (place, (next_of k all below).0) ∷ l) (sym (ap rest first)))
+
+    pub is_next : (x : S) → me.1 ≡ (place, x) ∷ rest me.1 → x ≡ (next_of k all below).0
+    is_next x read = ap (λ (l : List (ℕ × S)). value_of x l) (sym read ∙ first)
+
+    -- and goes behind the others with some value
+    pub goes_behind : (x : S) (after : V × List (ℕ × S)) → k ≡ length done
+        → after ≡ (me.0, rest me.1 ++ (place, x) ∷ [])
+        → after ≡ (v, part_done start size count (k + 1) all (done ++ x ∷ []))
+    goes_behind x after many moved =
+        let ahead = held_from start size (count + (k + 1)) (drop (k + 1) all) in
+        moved ∙ (λ i. ((is i).0, ap rest first i ++ (at i, x) ∷ []))
+        ∙ ap (λ l. (v, l)) (append_assoc ahead (held_from start size count done) ((place_of start size (count + k), x) ∷ [])
+        ∙ ap (λ (m : ℕ). ahead ++ (held_from start size count done ++ (place_of start size (count + m), x) ∷ [])) many
+        ∙ ap (λ l. ahead ++ l) (sym (held_more start size count done x)))
+
+    -- with the value that it had
+    pub turns_behind : (x : S) (after : V × List (ℕ × S)) → done ≡ take k all → k ≡ length done
+        → me.1 ≡ (place, x) ∷ rest me.1 → after ≡ (me.0, turned me.1)
+        → after ≡ (v, part_done start size count (k + 1) all (take (k + 1) all))
+    turns_behind x after same many read moved =
+        let n = next_of k all below in
+        goes_behind x after many (moved ∙ ap (λ l. (me.0, turned l)) read)
+        ∙ ap (λ l. (v, part_done start size count (k + 1) all l)) (ap (λ l. l ++ x ∷ []) same ∙ ap (λ y. take k all ++ y ∷ []) (is_next x read) ∙ sym n.2)
