@@ -1,12 +1,19 @@
-use Rattle.std.proofs.Common.{◌<◌, length, rules}
+use Rattle.std.proofs.Common.{◌<◌, length, sym, ◌∙◌, rules}
+use Rattle.std.proofs.lemmas.Option.{slice_get_within, get_or_from_slice_get}
+use Rattle.uring_core.specs.Histories.{Event}
 use Rattle.uring_play.proofs.TotalLaws.{closed_more, other_more}
 use Rattle.uring_play.proofs.totals.dropped_last.Goals as goal
-use Rattle.uring_play.proofs.totals.dropped_last.Goals.{in-Some, in_default}
+use Rattle.uring_play.proofs.totals.dropped_last.Goals.{in-Some-dropped_by, in_default-dropped_by}
 
-pub loop-event-preserved : goal.loop-event-preserved
-loop-event-preserved c =
-    let lt : c.loop-event.event-index < length c.args.trace.now = search rules in
+pub loop-place-preserved : goal.loop-place-preserved
+loop-place-preserved c =
+    let trace = c.args.trace.now.items in
+    let place = c.loop-place.place in
+    let event : Event = (c.in-Some.field-0-0, c.in-Some.answer) in
+    let found = sym c.get.ensures ∙ c.in-Some.is in
+    let within = slice_get_within trace place event found in
+    let here = sym (get_or_from_slice_get trace place event event found) in
     elim c.match-dropped_by.branch [
-      | in-Some w ↦ closed_more c.args.trace.now c.loop-event.event-index c.event-item.result c.dropped_by.result _ _ lt c.event-item.is c.dropped_by.ensures (search rules) w.dropped-is
-      | in_default w ↦ other_more c.args.trace.now c.loop-event.event-index c.event-item.result c.dropped_by.result c.loop-event.dropped _ lt c.event-item.is c.dropped_by.ensures (search rules) w.dropped-is c.loop-event.invariant
+      | in-Some-dropped_by w ↦ closed_more trace place event c.dropped_by.result _ _ within here c.dropped_by.ensures (search rules) w.dropped-is
+      | in_default-dropped_by w ↦ other_more trace place event c.dropped_by.result c.loop-place.dropped _ within here c.dropped_by.ensures (search rules) w.dropped-is c.loop-place.invariant
     ]
