@@ -7,6 +7,7 @@ mod cancel;
 mod cancel_laws;
 mod chain_laws;
 mod command;
+mod copying;
 mod course;
 mod course_laws;
 mod drains;
@@ -42,6 +43,7 @@ pub use cancel_laws::{
 };
 pub use chain_laws::{chains_end, chains_hold, limits_one_at_most, limits_the_one_before};
 pub use command::Command;
+pub use copying::{Copying, next_piece};
 pub use course::Course;
 pub use course_laws::{
     carries_out_once, carries_out_what_runs, ends_for_good, ends_with_its_result, tries_once,
@@ -50,9 +52,9 @@ pub use drains::Drains;
 pub use enter::{Before, Enter, WrongReply};
 pub use form::{Form, Rule, core_flags, form_of, rule_of};
 pub use laws::{ends_for_a_reason, gives_up_in_vain, sleeps_in_vain, submits_once};
-pub use member::{Entry, Member, has_its_place};
+pub use member::{Entry, Member};
 pub use outcome::{EndedEarly, Success, is_success, looks_for_running, shown_of};
-pub use piece::{Piece, What, message_fault, piece_of, room_fault, selection_fault, time_fault};
+pub use piece::{Piece, What, message_fault, room_fault, time_fault};
 pub use posted::{Completion, Posted, WrongEnd};
 pub use posting_laws::{shows_each_once, shows_the_cores};
 pub use reply::{Reply, Sight};
