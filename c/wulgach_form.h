@@ -91,11 +91,11 @@ struct wulgach_copied {
     bool has_before;            /* if there is one */
 };
 
-/* Writes the piece that is copied next of an entry when it is submitted, and returns true. False: nothing more is copied, and the fault of
- * the entry is written, or 0. That is the first of those of its pieces, in their order, where one that is too long (an address, a value)
- * isn't copied; -22 (EINVAL) if it takes a provided buffer and hasn't one vector; and -22 of a linked timeout, but behind an entry that
- * links it and is none itself. */
-bool wulgach_next_piece(const struct wulgach_submission *entry, const struct wulgach_copied *copied, struct wulgach_piece *piece, int32_t *fault);
+/* Writes the piece that is copied next of an entry when it is submitted, and returns 1. Else nothing more is copied, and it returns the fault
+ * of the entry, or 0. That is the first of those of its pieces, in their order, where one that is too long (an address, a value) isn't
+ * copied; -22 (EINVAL) if it takes a provided buffer and hasn't one vector; and -22 of a linked timeout, but behind an entry that links it
+ * and is none itself. */
+int32_t wulgach_next_piece(const struct wulgach_submission *entry, const struct wulgach_copied *copied, struct wulgach_piece *piece);
 
 /* The fault of a time, -22 if it is negative; of a message with more than 1,024 vectors, -90 (EMSGSIZE), before these are copied; and of a
  * RECVMSG that goes on, -22 or -75 (EOVERFLOW) if what stands in front of the bytes is too long. Each is 0 if there is none. */

@@ -86,21 +86,22 @@ int copy_behind(struct request *request, const struct request *before)
 {
     struct wulgach_copied copied = {.has_before = before};
     struct wulgach_piece piece;
-    int32_t fault;
+    int32_t next;
     if (request->mapping == CANCEL)
         return 0;
     if (before)
         copied.before = link_of(&before->entry);
-    for (; wulgach_next_piece(submission_of(&request->entry), &copied, &piece, &fault); copied.count++) {
+    while ((next = wulgach_next_piece(submission_of(&request->entry), &copied, &piece)) > 0) {
         copied.fault = copy_piece(request, &piece);
         copied.vectors = request->vector_count;
+        copied.count++;
     }
-    if (fault == -ENOMEM)
-        return fault;
+    if (next == -ENOMEM)
+        return next;
     if (request->entry.flags & IOSQE_BUFFER_SELECT)
         request->wanted = request->length;
-    if (fault < 0)
+    if (next < 0)
         request->mapping = REFUSED;
-    request->fault = fault;
+    request->fault = next;
     return 0;
 }

@@ -1,5 +1,5 @@
 -- What goes on next, and what is copied of an entry, in words that C can read.
-use Rattle.std.specs.Prelude.{ℕ, ℤ, Bool, true, false, Option, Some, None}
+use Rattle.std.specs.Prelude.{ℕ, ℤ, pos, Option, Some, None}
 use Rattle.uring_enter.specs.declared.taking.Onward.{Onward}
 use Rattle.uring_enter.specs.declared.taking.Onward.TheVariants.{Takes, IsFull, HasEnded}
 use Rattle.uring_enter.specs.declared.ways.Way.{Way}
@@ -56,14 +56,11 @@ word_of_what Address = 8
 abbrev pub words_of_piece : Piece → PieceWords
 words_of_piece p = record { what = word_of_what p.what; from = p.from; size = p.size }
 
-abbrev pub copies_more : Copying → Bool
-copies_more (Copies _) = true
-copies_more (Ends _) = false
+-- 1 if a piece is copied, else the fault of the entry, or 0. Our own rule
+abbrev pub word_of_copying : Copying → ℤ
+word_of_copying (Copies _) = pos 1
+word_of_copying (Ends fault) = fault
 
 abbrev pub words_of_copying : Copying → PieceWords → PieceWords
 words_of_copying (Copies p) old = words_of_piece p
 words_of_copying (Ends _) old = old
-
-abbrev pub fault_of_copying : Copying → ℤ → ℤ
-fault_of_copying (Copies _) old = old
-fault_of_copying (Ends fault) old = fault

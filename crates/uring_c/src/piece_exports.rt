@@ -3,7 +3,7 @@ ghost use Rattle.std.specs.Prelude.{◌≡◌};
 ghost use Rattle.uring_enter.specs.Pieces as spec;
 ghost use Rattle.uring_enter.specs.Copies.{next_of};
 ghost use Rattle.uring_enter.specs.Forms as forms;
-ghost use Rattle.uring_c.specs.TakingForm.{word_of_what, words_of_piece, copies_more, words_of_copying, fault_of_copying};
+ghost use Rattle.uring_c.specs.TakingForm.{word_of_what, words_of_piece, word_of_copying, words_of_copying};
 ghost use Rattle.uring_c.specs.CourseForm.{entry_of};
 
 use crate::course_words::entry_if;
@@ -32,31 +32,25 @@ pub struct CopiedWords {
     pub has_before: bool,
 }
 
-/// Writes the piece that is copied next, and returns true. False: nothing more is copied, and the fault of the entry, or 0, is written.
+/// Writes the piece that is copied next, and returns 1. Else nothing more is copied: returns the fault of the entry, or 0.
 #[unsafe(no_mangle)]
 pub extern "C" fn wulgach_next_piece(
     entry: &Submission,
     copied: &CopiedWords,
     piece: &mut PieceWords,
-    fault: &mut i32,
-) -> bool
-    ensures copies { result ≡ copies_more (next_of entry.now copied.now.count copied.now.fault copied.now.vectors
+) -> i32
+    ensures next { result ≡ word_of_copying (next_of entry.now copied.now.count copied.now.fault copied.now.vectors
         (entry_of copied.now.before copied.now.has_before)) }
     ensures piece { piece.new ≡ words_of_copying (next_of entry.now copied.now.count copied.now.fault copied.now.vectors
         (entry_of copied.now.before copied.now.has_before)) piece.old }
-    ensures fault { fault.new ≡ fault_of_copying (next_of entry.now copied.now.count copied.now.fault copied.now.vectors
-        (entry_of copied.now.before copied.now.has_before)) fault.old }
 {
     let before = entry_if(copied.before, copied.has_before);
     match next_piece(entry, copied.count, copied.fault, copied.vectors, before) {
         Copying::Copies(next) => {
             *piece = piece_words(&next);
-            true
+            1
         }
-        Copying::Ends(last) => {
-            *fault = last;
-            false
-        }
+        Copying::Ends(fault) => fault,
     }
 }
 

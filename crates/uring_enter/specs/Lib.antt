@@ -27,3 +27,8 @@ pub mod Takings
 pub mod Ways
 pub mod Drainings
 pub mod Updates
+pub mod SettingUp
+pub mod Restricting
+pub mod Tables
+pub mod Registering
+pub mod TableLaws
