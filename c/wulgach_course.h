@@ -138,10 +138,6 @@ void wulgach_member_next(struct wulgach_member *member, const struct wulgach_mem
 /* Whether a request is a linked timeout that limits the request `before`: the one right before it, if that links it. */
 bool wulgach_member_limits(const struct wulgach_member *timeout, const struct wulgach_member *before);
 
-/* Whether an entry may stand behind this one, or, if there is none, first in its call: a linked timeout stands behind one that links
- * it, and that is none itself. */
-bool wulgach_has_its_place(const struct wulgach_link *entry, const struct wulgach_link *before, bool has_before);
-
 #ifdef __cplusplus
 }
 #endif

@@ -78,22 +78,30 @@ enum wulgach_what {
 /* A piece of the application's memory. */
 struct wulgach_piece {
     uint32_t what;              /* enum wulgach_what */
-    int32_t fault;              /* if it is too long: the request ends so, and nothing is copied. Else 0 */
     uint64_t from;
     uint64_t size;              /* in bytes; 0 of a path, which ends by itself */
 };
 
-/* Writes the piece of this place, from 0 on, that is copied of an entry when it is submitted, in order. The first that can't be copied, or
- * has a fault, ends the request. False, and nothing is written: there are no more. */
-bool wulgach_piece_of(const struct wulgach_submission *entry, uint32_t place, struct wulgach_piece *piece);
+/* What was copied of an entry. */
+struct wulgach_copied {
+    uint32_t count;             /* pieces, */
+    int32_t fault;              /* and the fault of the last, or 0: -14 (EFAULT) if it can't be read, or one of those below */
+    uint32_t vectors;           /* how many these hold */
+    struct wulgach_link before; /* the entry before it in its call, */
+    bool has_before;            /* if there is one */
+};
 
-/* The fault of a time, -22 (EINVAL) if it is negative; of a message with more than 1,024 vectors, -90 (EMSGSIZE), before these are copied;
- * of a RECVMSG that goes on, -22 or -75 (EOVERFLOW) if what stands in front of the bytes is too long; and of an entry that takes a
- * provided buffer and hasn't one vector, -22, behind those of its pieces. Each is 0 if there is none. */
+/* Writes the piece that is copied next of an entry when it is submitted, and returns 1. Else nothing more is copied, and it returns the fault
+ * of the entry, or 0. That is the first of those of its pieces, in their order, where one that is too long (an address, a value) isn't
+ * copied; -22 (EINVAL) if it takes a provided buffer and hasn't one vector; and -22 of a linked timeout, but behind an entry that links it
+ * and is none itself. */
+int32_t wulgach_next_piece(const struct wulgach_submission *entry, const struct wulgach_copied *copied, struct wulgach_piece *piece);
+
+/* The fault of a time, -22 if it is negative; of a message with more than 1,024 vectors, -90 (EMSGSIZE), before these are copied; and of a
+ * RECVMSG that goes on, -22 or -75 (EOVERFLOW) if what stands in front of the bytes is too long. Each is 0 if there is none. */
 int32_t wulgach_time_fault(int64_t seconds, int64_t nanoseconds);
 int32_t wulgach_message_fault(uint64_t vectors);
 int32_t wulgach_room_fault(const struct wulgach_submission *entry, uint32_t name, uint64_t control);
-int32_t wulgach_selection_fault(const struct wulgach_submission *entry, uint32_t vectors);
 
 /* The flags of an entry that the core is told, whatever fault it has. */
 uint8_t wulgach_form_flags(uint8_t flags);

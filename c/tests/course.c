@@ -104,15 +104,13 @@ static void judge_results(void)
 
 static void link_requests(void)
 {
-    struct wulgach_link links = {.links = true}, plain = {.links = false}, timeout = {.is_linked_timeout = true};
+    struct wulgach_link links = {.links = true}, timeout = {.is_linked_timeout = true};
     struct wulgach_member first, second, third;
     wulgach_member_first(&first, 6, &links);
     wulgach_member_next(&second, &first, 7, &timeout);
     wulgach_member_next(&third, &second, 8, &timeout);
     demand(first.chain == 6 && !first.is_linked && second.chain == 6 && second.is_linked && third.chain == 8 && !third.is_linked, "chains");
     demand(wulgach_member_limits(&second, &first) && !wulgach_member_limits(&third, &second) && !wulgach_member_limits(&third, &first), "whom a timeout limits");
-    demand(wulgach_has_its_place(&timeout, &links, true) && !wulgach_has_its_place(&timeout, &plain, true) && !wulgach_has_its_place(&timeout, &links, false), "where it may stand");
-    demand(wulgach_has_its_place(&plain, &plain, false), "where another may");
     demand(wulgach_timeout_clock(0) == -2 && wulgach_timeout_clock(1) == 1 && wulgach_timeout_clock(5) == 7 && wulgach_timeout_clock(9) == 0, "clocks");
     demand(wulgach_timeout_lasts(50, 20, false) == 50 && wulgach_timeout_lasts(50, 20, true) == 30 && wulgach_timeout_lasts(50, 60, true) == 0, "how long it lasts");
 }

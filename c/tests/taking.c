@@ -89,38 +89,60 @@ static void search_and_update(void)
     demand(wulgach_updated_flags(33, &(struct wulgach_submission){.op_flags = 2}) == 32 && wulgach_updated_flags(32, &(struct wulgach_submission){.op_flags = 11}) == 41, "a timeout's flags");
 }
 
-static int32_t fault_of(struct wulgach_submission entry, uint32_t place)
+/* What comes behind so many pieces of an entry, none of which has a fault, and which hold one vector. */
+static int32_t next(struct wulgach_submission entry, uint32_t count, struct wulgach_piece *piece)
 {
-    struct wulgach_piece piece;
-    demand(wulgach_piece_of(&entry, place, &piece), "a piece");
-    return piece.fault;
+    return wulgach_next_piece(&entry, &(struct wulgach_copied){.count = count, .vectors = 1}, piece);
 }
+
+#define NEXT(count, ...) next((struct wulgach_submission){__VA_ARGS__}, count, &piece)
 
 static void copy_pieces(void)
 {
     enum { READV = 1, RECVMSG = 10, CONNECT = 16, READ = 22, OPENAT2 = 28, SETXATTR = 42, SEND_ZC = 47 };
     struct wulgach_submission set = {.opcode = SETXATTR, .addr = 1, .off = 2, .addr3 = 3, .len = 5};
     struct wulgach_piece piece = {.from = 99};
-    demand(!wulgach_piece_of(&(struct wulgach_submission){0}, 0, &piece) && piece.from == 99, "a no-op");
-    demand(wulgach_piece_of(&(struct wulgach_submission){.opcode = READV, .addr = 8, .len = 3}, 0, &piece) && piece.what == WULGACH_VECTORS && piece.from == 8 && piece.size == 48, "vectors");
-    demand(wulgach_piece_of(&(struct wulgach_submission){.opcode = READ}, 0, &piece) && piece.what == WULGACH_BUFFER, "a buffer");
-    demand(wulgach_piece_of(&set, 0, &piece) && piece.what == WULGACH_SECOND_PATH && piece.from == 1, "an attribute's name");
-    demand(wulgach_piece_of(&set, 1, &piece) && piece.what == WULGACH_PATH && piece.from == 3, "its file");
-    demand(wulgach_piece_of(&set, 2, &piece) && piece.what == WULGACH_VALUE && piece.from == 2 && piece.size == 5 && !wulgach_piece_of(&set, 3, &piece), "its value");
+    demand(NEXT(0, .opcode = 0) == 0 && piece.from == 99, "a no-op");
+    demand(NEXT(0, .opcode = READV, .addr = 8, .len = 3) == 1 && piece.what == WULGACH_VECTORS && piece.from == 8 && piece.size == 48, "vectors");
+    demand(NEXT(0, .opcode = READ) == 1 && piece.what == WULGACH_BUFFER, "a buffer");
+    demand(next(set, 0, &piece) == 1 && piece.what == WULGACH_SECOND_PATH && piece.from == 1, "an attribute's name");
+    demand(next(set, 1, &piece) == 1 && piece.what == WULGACH_PATH && piece.from == 3, "its file");
+    demand(next(set, 2, &piece) == 1 && piece.what == WULGACH_VALUE && piece.from == 2 && piece.size == 5 && next(set, 3, &piece) == 0, "its value");
     set.len = 65537;
-    demand(fault_of(set, 2) == -7 && fault_of((struct wulgach_submission){.opcode = CONNECT, .off = 129}, 0) == -22 && fault_of((struct wulgach_submission){.opcode = CONNECT, .off = 128}, 0) == 0, "too long");
-    demand(fault_of((struct wulgach_submission){.opcode = SEND_ZC, .off = 1, .file_index = 0x10080}, 1) == 0 && !wulgach_piece_of(&(struct wulgach_submission){.opcode = SEND_ZC}, 1, &piece), "where a send goes");
-    demand(!wulgach_piece_of(&(struct wulgach_submission){.opcode = OPENAT2, .len = 23}, 1, &piece), "a structure of another size");
+    demand(next(set, 2, &piece) == -7 && NEXT(0, .opcode = CONNECT, .off = 129) == -22 && NEXT(0, .opcode = CONNECT, .off = 128) == 1, "too long");
+    demand(NEXT(1, .opcode = SEND_ZC, .off = 1, .file_index = 0x10080) == 1 && NEXT(1, .opcode = SEND_ZC) == 0, "where a send goes");
+    demand(NEXT(1, .opcode = OPENAT2, .len = 23) == 0, "a structure of another size");
     demand(wulgach_time_fault(0, 0) == 0 && wulgach_time_fault(-1, 5) == -22 && wulgach_time_fault(5, -1) == -22, "a time");
     demand(wulgach_message_fault(1024) == 0 && wulgach_message_fault(1025) == -90, "a message");
     struct wulgach_submission receive = {.opcode = RECVMSG, .ioprio = 2};
     demand(wulgach_room_fault(&receive, 8, 8) == 0 && wulgach_room_fault(&receive, UINT32_MAX, 8) == -22 && wulgach_room_fault(&receive, INT32_MAX, 8) == -75 && wulgach_room_fault(&set, UINT32_MAX, 8) == 0, "what stands in front");
-    demand(wulgach_selection_fault(&(struct wulgach_submission){.flags = 32}, 1) == 0 && wulgach_selection_fault(&(struct wulgach_submission){.flags = 32}, 2) == -22 && wulgach_selection_fault(&set, 2) == 0, "a provided buffer");
     demand(wulgach_form_flags(255) == 94, "the core's flags");
+}
+
+/* The fault of an entry behind its pieces, of which the last has one. */
+static int32_t last(struct wulgach_submission entry, struct wulgach_copied copied)
+{
+    struct wulgach_piece piece;
+    return wulgach_next_piece(&entry, &copied, &piece);
+}
+
+static void end_copies(void)
+{
+    enum { READ = 22, TIMEOUT = 11, LINK_TIMEOUT = 15, SELECTS = 32 };
+    struct wulgach_submission read = {.opcode = READ, .flags = SELECTS}, timeout = {.opcode = LINK_TIMEOUT};
+    demand(last(read, (struct wulgach_copied){.count = 1, .vectors = 1}) == 0 && last(read, (struct wulgach_copied){.count = 1, .vectors = 2}) == -22, "a provided buffer");
+    demand(last(read, (struct wulgach_copied){.count = 1, .vectors = 2, .fault = -14}) == -14, "what can't be read");
+    demand(last(timeout, (struct wulgach_copied){.count = 1, .before = {.links = true}, .has_before = true}) == 0, "a linked timeout");
+    demand(last(timeout, (struct wulgach_copied){.count = 1, .before = {.links = true}}) == -22, "first in its call");
+    demand(last(timeout, (struct wulgach_copied){.count = 1, .has_before = true}) == -22, "behind one that doesn't link it");
+    demand(last(timeout, (struct wulgach_copied){.count = 1, .before = {true, true}, .has_before = true}) == -22, "behind another");
+    demand(last(timeout, (struct wulgach_copied){.count = 1, .fault = -14}) == -14, "behind its time's fault");
+    demand(last((struct wulgach_submission){.opcode = TIMEOUT}, (struct wulgach_copied){.count = 1}) == 0, "a timeout");
 }
 
 int main(void)
 {
+    end_copies();
     take_positions();
     choose();
     post();

@@ -1,5 +1,6 @@
 /* Registered buffers. The kernel pins their pages; here they are asked for once, so that what can't be written is told
- * where the kernel tells it. A request that is started keeps its buffer, whatever becomes of the slot: its tag waits.
+ * where the kernel tells it. A request that is started keeps its buffer, whatever becomes of the slot: its tag waits. What slots hold,
+ * what a row of a list does and what is refused is the library's decision.
  */
 #define _GNU_SOURCE
 #include "buffers.h"
@@ -14,8 +15,6 @@
 #ifndef MADV_POPULATE_WRITE
 #define MADV_POPULATE_WRITE 23
 #endif
-
-enum { MOST_BUFFERS = 1 << 14, LARGEST_BUFFER = 1 << 30 };
 
 bool is_there(const struct iovec *buffer)
 {
@@ -34,6 +33,11 @@ void release_buffer(struct buffer *buffer)
     free(buffer);
 }
 
+static struct buffer *buffer_of(uint64_t word)
+{
+    return (struct buffer *)(uintptr_t)word;
+}
+
 /* Reads a row of the application's lists. A list that isn't there has no buffers, or no tags. */
 static int read_row(struct iovec *bytes, uint64_t *tag, uint64_t vectors, uint64_t tags, uint32_t index)
 {
@@ -43,97 +47,108 @@ static int read_row(struct iovec *bytes, uint64_t *tag, uint64_t vectors, uint64
         return -EFAULT;
     if (vectors && copy_in(bytes, vectors + index * sizeof *bytes, sizeof *bytes) < 0)
         return -EFAULT;
-    if (!bytes->iov_base)
-        return bytes->iov_len ? -EFAULT : tag && *tag ? -EINVAL : 0;
-    return bytes->iov_len && bytes->iov_len <= LARGEST_BUFFER && is_there(bytes) ? 0 : -EFAULT;
-}
-
-/* The buffer of a row; NULL if there is none. */
-static int make_buffer(struct ring *ring, struct buffer **made, uint64_t vectors, uint64_t tags, uint32_t index)
-{
-    struct iovec bytes;
-    uint64_t tag;
-    *made = NULL;
-    int result = read_row(&bytes, &tag, vectors, tags, index);
-    if (result < 0 || !bytes.iov_base)
-        return result;
-    struct message *message = tag ? make_message_of(tag, 0) : NULL;
-    *made = malloc(sizeof **made);
-    if (!*made || (tag && !message)) {
-        free(*made);
-        free(message);
-        *made = NULL;
-        return -ENOMEM;
-    }
-    **made = (struct buffer){.bytes = bytes, .uses = 1, .told = &ring->inbox, .tag = message};
     return 0;
 }
 
-/* Of a table that isn't registered after all, no tag is told. */
-static void drop_tags(struct buffers *buffers)
+static int make_buffer(struct ring *ring, uint64_t *word, const struct iovec *bytes, uint64_t tag)
 {
-    for (uint32_t i = 0; i < buffers->count; i++) {
-        if (buffers->slots[i]) {
-            free(buffers->slots[i]->tag);
-            buffers->slots[i]->tag = NULL;
+    struct message *message = tag ? make_message_of(tag, 0) : NULL;
+    struct buffer *buffer = malloc(sizeof *buffer);
+    if (!buffer || (tag && !message)) {
+        free(buffer);
+        free(message);
+        return -ENOMEM;
+    }
+    *buffer = (struct buffer){.bytes = *bytes, .uses = 1, .told = &ring->inbox, .tag = message};
+    *word = (uintptr_t)buffer;
+    return 0;
+}
+
+/* Makes the buffer of a row, if the row has one. */
+static int make_row(struct ring *ring, uint64_t *word, uint64_t vectors, uint64_t tags, uint32_t index)
+{
+    struct iovec bytes;
+    uint64_t tag;
+    int32_t fault;
+    *word = 0;
+    int result = read_row(&bytes, &tag, vectors, tags, index);
+    if (result < 0 || wulgach_buffer_row((uintptr_t)bytes.iov_base, bytes.iov_len, tag, &fault) != WULGACH_ROW_FILLS)
+        return result < 0 ? result : fault;
+    return is_there(&bytes) ? make_buffer(ring, word, &bytes, tag) : -EFAULT;
+}
+
+/* Of a table that isn't registered after all, no tag is told. */
+static void drop_tags(const uint64_t *words, uint32_t count)
+{
+    for (uint32_t i = 0; i < count; i++) {
+        struct buffer *buffer = buffer_of(words[i]);
+        if (buffer) {
+            free(buffer->tag);
+            buffer->tag = NULL;
         }
     }
 }
 
-int register_buffers(struct ring *ring, uint64_t vectors, uint64_t tags, uint32_t count)
+static void free_words(uint64_t *words, uint32_t count)
 {
-    if (ring->buffers.slots)
-        return -EBUSY;
-    if (!count || count > MOST_BUFFERS)
-        return -EINVAL;
-    struct buffer **slots = calloc(count, sizeof *slots);
-    if (!slots)
-        return -ENOMEM;
-    ring->buffers = (struct buffers){slots, count};
-    int result = 0;
-    for (uint32_t i = 0; result == 0 && i < count && (vectors || tags); i++)
-        result = make_buffer(ring, &slots[i], vectors, tags, i);
-    if (result < 0) {
-        drop_tags(&ring->buffers);
-        unregister_buffers(ring);
-    }
-    return result;
+    for (uint32_t i = 0; i < count; i++)
+        release_buffer(buffer_of(words[i]));
+    free(words);
 }
 
-int unregister_buffers(struct ring *ring)
+int register_buffers(struct ring *ring, uint64_t vectors, uint64_t tags, uint32_t count)
 {
-    if (!ring->buffers.slots)
-        return -ENXIO;
-    for (uint32_t i = 0; i < ring->buffers.count; i++)
-        release_buffer(ring->buffers.slots[i]);
-    free(ring->buffers.slots);
-    ring->buffers = (struct buffers){0};
+    int result = wulgach_table_registering_fault(&ring->buffers.table, count, 0, false);
+    if (result < 0)
+        return result;
+    uint64_t *words = calloc(count, sizeof *words);
+    if (!words)
+        return -ENOMEM;
+    for (uint32_t i = 0; result == 0 && i < count && (vectors || tags); i++)
+        result = make_row(ring, &words[i], vectors, tags, i);
+    if (result < 0) {
+        drop_tags(words, count);
+        free_words(words, count);
+        return result;
+    }
+    ring->buffers.words = words;
+    wulgach_table_register(&ring->buffers.table, words, count);
     return 0;
 }
 
-/* Ends at the first that can't be updated: those before it stay so. */
+int unregister_buffers(struct ring *ring, bool has_argument)
+{
+    int result = wulgach_table_unregistering_fault(&ring->buffers.table, has_argument);
+    if (result == 0)
+        free_buffers(ring);
+    return result;
+}
+
+void free_buffers(struct ring *ring)
+{
+    free_words(ring->buffers.words, ring->buffers.table.count);
+    ring->buffers.words = NULL;
+    wulgach_table_unregister(&ring->buffers.table);
+}
+
 int update_buffers(struct ring *ring, uint32_t offset, uint64_t vectors, uint64_t tags, uint32_t count)
 {
-    if (!ring->buffers.slots)
-        return -ENXIO;
-    if (offset + count < count)
-        return -EOVERFLOW;
-    if (offset + count > ring->buffers.count)
-        return -EINVAL;
-    for (uint32_t i = 0; i < count; i++) {
-        struct buffer *buffer;
-        int result = vectors ? make_buffer(ring, &buffer, vectors, tags, i) : -EFAULT;
-        if (result < 0)
-            return i > 0 ? (int)i : result;
-        release_buffer(ring->buffers.slots[offset + i]);
-        ring->buffers.slots[offset + i] = buffer;
+    struct buffers *buffers = &ring->buffers;
+    int result = wulgach_table_updating_fault(&buffers->table, offset, count);
+    uint32_t done = 0;
+    while (result == 0 && done < count) {
+        uint64_t word;
+        result = vectors ? make_row(ring, &word, vectors, tags, done) : -EFAULT;
+        if (result == 0)
+            release_buffer(buffer_of(wulgach_table_fill(&buffers->table, buffers->words, buffers->table.count, offset + done, word)));
+        done += result == 0;
     }
-    return (int)count;
+    return wulgach_updated(done, result);
 }
 
 int use_buffer(struct ring *ring, uint32_t index, const struct iovec *bytes, struct buffer **used)
 {
-    struct buffer *buffer = ring->buffers.slots && index < ring->buffers.count ? ring->buffers.slots[index] : NULL;
+    struct buffer *buffer = index < ring->buffers.table.count ? buffer_of(ring->buffers.words[index]) : NULL;
     uintptr_t from = (uintptr_t)bytes->iov_base, end;
     if (!buffer || __builtin_add_overflow(from, bytes->iov_len, &end))
         return -EFAULT;

@@ -2,6 +2,8 @@
 #ifndef BUFFERS_H
 #define BUFFERS_H
 
+#include "wulgach_register.h"
+
 #include <stdbool.h>
 #include <stdint.h>
 #include <sys/uio.h>
@@ -18,8 +20,8 @@ struct buffer {
 };
 
 struct buffers {
-    struct buffer **slots;          /* NULL: there is no table. An empty slot is NULL */
-    uint32_t count;
+    struct wulgach_table table;     /* which slot holds what is the library's: */
+    uint64_t *words;                /* of each slot the address of its buffer, or 0 */
 };
 
 struct ring;
@@ -27,7 +29,8 @@ struct ring;
 /* The calls of io_uring_register(2), with lists of buffers and of tags: one that isn't there is 0. Each returns 0 or the number
  * of buffers updated, or the negative of an error number. */
 int register_buffers(struct ring *ring, uint64_t vectors, uint64_t tags, uint32_t count);
-int unregister_buffers(struct ring *ring);
+int unregister_buffers(struct ring *ring, bool has_argument);
+void free_buffers(struct ring *ring);
 int update_buffers(struct ring *ring, uint32_t offset, uint64_t vectors, uint64_t tags, uint32_t count);
 
 /* Whether all the pages of a buffer are there. A kernel that can't be asked says yes. */

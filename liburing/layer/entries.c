@@ -17,13 +17,6 @@
 #include <sys/epoll.h>
 #include <sys/socket.h>
 
-/* A linked timeout wants a request before it that it limits: the kernel looks for one once it has read the time. */
-static bool has_its_place(const struct io_uring_sqe *entry, const struct request *before)
-{
-    struct wulgach_link link = link_of(entry), last = before ? link_of(&before->entry) : (struct wulgach_link){.links = false};
-    return wulgach_has_its_place(&link, &last, before);
-}
-
 /* Copies what stands at an address into memory of its own. */
 static int copy_of(void **to, uint64_t from, size_t size)
 {
@@ -67,8 +60,6 @@ _Static_assert(sizeof(struct open_how) == 24 && sizeof(struct epoll_event) == 12
 /* Copies a piece of what the entry points to. Returns 0, its fault or -ENOMEM. */
 static int copy_piece(struct request *request, const struct wulgach_piece *piece)
 {
-    if (piece->fault < 0)
-        return piece->fault;
     switch (piece->what) {
     case WULGACH_BUFFER:
         return is_of_sockets(request->entry.opcode) ? make_message(request) : make_vector(request);
@@ -91,35 +82,26 @@ static int copy_piece(struct request *request, const struct wulgach_piece *piece
     }
 }
 
-static int copy_pieces(struct request *request)
-{
-    struct wulgach_piece piece;
-    int result = 0;
-    for (uint32_t place = 0; result == 0 && wulgach_piece_of(submission_of(&request->entry), place, &piece); place++)
-        result = copy_piece(request, &piece);
-    return result;
-}
-
-/* One that takes a provided buffer has a single vector, whose length is at most what it wants. */
-static int note_wanted(struct request *request)
-{
-    request->wanted = request->length;
-    return wulgach_selection_fault(submission_of(&request->entry), request->vector_count);
-}
-
 int copy_behind(struct request *request, const struct request *before)
 {
+    struct wulgach_copied copied = {.has_before = before};
+    struct wulgach_piece piece;
+    int32_t next;
     if (request->mapping == CANCEL)
         return 0;
-    int result = copy_pieces(request);
-    if (result == 0 && request->entry.flags & IOSQE_BUFFER_SELECT)
-        result = note_wanted(request);
-    if (result == -ENOMEM)
-        return result;
-    if (result == 0 && is_linked_timeout(request) && !has_its_place(&request->entry, before))
-        result = -EINVAL;
-    if (result < 0)
+    if (before)
+        copied.before = link_of(&before->entry);
+    while ((next = wulgach_next_piece(submission_of(&request->entry), &copied, &piece)) > 0) {
+        copied.fault = copy_piece(request, &piece);
+        copied.vectors = request->vector_count;
+        copied.count++;
+    }
+    if (next == -ENOMEM)
+        return next;
+    if (request->entry.flags & IOSQE_BUFFER_SELECT)
+        request->wanted = request->length;
+    if (next < 0)
         request->mapping = REFUSED;
-    request->fault = result;
+    request->fault = next;
     return 0;
 }

@@ -1,5 +1,6 @@
 /* A registered file stays open however the application closes its descriptor, so the layer has one of its own, under a
- * high number. A request that is started keeps its file, whatever becomes of the slot.
+ * high number. A request that is started keeps its file, whatever becomes of the slot. What slots hold, which one a file gets, what
+ * a row of a list does and what is refused is the library's decision.
  *
  * Another ring's thread may put a file here: so the table is looked at and changed under a lock of its own, which isn't
  * held while any other but an inbox's is taken.
@@ -16,11 +17,17 @@
 #include <sys/resource.h>
 #include <unistd.h>
 
-enum { MOST_FILES = 1 << 20, HIGH_NUMBER = 512, NO_FILE = -1, SAME_FILE = IORING_REGISTER_FILES_SKIP };
+enum { HIGH_NUMBER = 512, NO_FILE = -1 };
 
 void make_files(struct files *files)
 {
     pthread_mutex_init(&files->lock, NULL);
+    wulgach_table_begin(&files->table);
+}
+
+static struct file *file_of(uint64_t word)
+{
+    return (struct file *)(uintptr_t)word;
 }
 
 void release_file(struct file *file)
@@ -37,7 +44,7 @@ struct file *use_file(struct ring *ring, uint32_t index)
 {
     struct files *files = &ring->files;
     pthread_mutex_lock(&files->lock);
-    struct file *file = files->slots && index < files->count ? files->slots[index] : NULL;
+    struct file *file = index < files->table.count ? file_of(files->words[index]) : NULL;
     if (file)
         __atomic_add_fetch(&file->uses, 1, __ATOMIC_RELAXED);
     pthread_mutex_unlock(&files->lock);
@@ -89,46 +96,48 @@ struct file *hold_file(int fd)
     return make_file_of(&file, fd) < 0 ? NULL : file;
 }
 
-static void free_slots(struct file **slots, uint32_t count)
+static void free_words(uint64_t *words, uint32_t count)
 {
     for (uint32_t i = 0; i < count; i++)
-        release_file(slots[i]);
-    free(slots);
+        release_file(file_of(words[i]));
+    free(words);
 }
 
 /* Of a table that isn't put after all, no tag is told. */
-static void drop_slots(struct file **slots, uint32_t count)
+static void drop_words(uint64_t *words, uint32_t count)
 {
     for (uint32_t i = 0; i < count; i++) {
-        if (slots[i]) {
-            free(slots[i]->tag);
-            slots[i]->tag = NULL;
+        struct file *file = file_of(words[i]);
+        if (file) {
+            free(file->tag);
+            file->tag = NULL;
         }
     }
-    free_slots(slots, count);
+    free_words(words, count);
 }
 
-/* Puts another table in the place of one. */
-static void put_table(struct files *files, struct file **slots, uint32_t count)
+/* Puts another table, or none, in the place of one. */
+static void put_table(struct files *files, uint64_t *words, uint32_t count)
 {
     pthread_mutex_lock(&files->lock);
-    struct file **before = files->slots;
-    uint32_t before_count = files->count;
-    files->slots = slots;
-    files->count = files->end = count;
-    files->from = files->next = 0;
+    uint64_t *before = files->words;
+    uint32_t before_count = files->table.count;
+    files->words = words;
+    if (words)
+        wulgach_table_register(&files->table, words, count);
+    else
+        wulgach_table_unregister(&files->table);
     pthread_mutex_unlock(&files->lock);
-    free_slots(before, before_count);
+    free_words(before, before_count);
 }
 
 /* Puts a file, or none, in the place of one. */
 static void put_slot(struct files *files, uint32_t slot, struct file *file)
 {
     pthread_mutex_lock(&files->lock);
-    struct file *before = files->slots[slot];
-    files->slots[slot] = file;
+    uint64_t before = wulgach_table_fill(&files->table, files->words, files->table.count, slot, (uintptr_t)file);
     pthread_mutex_unlock(&files->lock);
-    release_file(before);
+    release_file(file_of(before));
 }
 
 /* Reads a descriptor, and its tag, of the application's lists. A list that isn't there has no files, or no tags. */
@@ -143,136 +152,105 @@ static int read_row(int *fd, uint64_t *tag, uint64_t fds, uint64_t tags, uint32_
     return 0;
 }
 
+/* Makes the file of a row, if the row has one. */
+static int make_row(struct ring *ring, uint64_t *word, uint64_t fds, uint64_t tags, uint32_t index)
+{
+    int fd;
+    uint64_t tag;
+    int32_t fault;
+    struct file *file = NULL;
+    int result = read_row(&fd, &tag, fds, tags, index);
+    if (result < 0)
+        return result;
+    if (wulgach_file_row(fd, tag, false, &fault) == WULGACH_ROW_FILLS)
+        fault = make_tagged_file(ring, &file, fd, tag);
+    *word = (uintptr_t)file;
+    return fault;
+}
+
 int register_files(struct ring *ring, uint64_t fds, uint64_t tags, uint32_t count)
 {
-    struct rlimit limit;
-    if (ring->files.slots)
-        return -EBUSY;
-    if (!count)
-        return -EINVAL;
-    if (count > MOST_FILES || (getrlimit(RLIMIT_NOFILE, &limit) == 0 && count > limit.rlim_cur))
-        return -EMFILE;
-    struct file **slots = calloc(count, sizeof *slots);
-    if (!slots)
+    struct rlimit limit = {.rlim_cur = RLIM_INFINITY};
+    getrlimit(RLIMIT_NOFILE, &limit);
+    int result = wulgach_table_registering_fault(&ring->files.table, count, limit.rlim_cur, true);
+    if (result < 0)
+        return result;
+    uint64_t *words = calloc(count, sizeof *words);
+    if (!words)
         return -ENOMEM;
-    int result = 0;
-    for (uint32_t i = 0; result == 0 && i < count && (fds || tags); i++) {
-        int fd;
-        uint64_t tag;
-        result = read_row(&fd, &tag, fds, tags, i);
-        if (result == 0 && fd == NO_FILE)
-            result = tag ? -EINVAL : 0;
-        else if (result == 0)
-            result = make_tagged_file(ring, &slots[i], fd, tag);
-    }
+    for (uint32_t i = 0; result == 0 && i < count && (fds || tags); i++)
+        result = make_row(ring, &words[i], fds, tags, i);
     if (result == 0)
-        put_table(&ring->files, slots, count);
+        put_table(&ring->files, words, count);
     else
-        drop_slots(slots, count);
+        drop_words(words, count);
     return result;
 }
 
-int unregister_files(struct ring *ring)
+int unregister_files(struct ring *ring, bool has_argument)
 {
-    if (!ring->files.slots)
-        return -ENXIO;
-    put_table(&ring->files, NULL, 0);
-    return 0;
+    int result = wulgach_table_unregistering_fault(&ring->files.table, has_argument);
+    if (result == 0)
+        put_table(&ring->files, NULL, 0);
+    return result;
 }
 
 static int update_file(struct ring *ring, uint32_t slot, int fd, uint64_t tag)
 {
+    int32_t fault;
     struct file *file = NULL;
-    if (tag && (fd == SAME_FILE || fd == NO_FILE))
-        return -EINVAL;
-    if (fd == SAME_FILE)
-        return 0;
-    put_slot(&ring->files, slot, NULL);
-    int result = fd == NO_FILE ? 0 : make_tagged_file(ring, &file, fd, tag);
+    uint32_t row = wulgach_file_row(fd, tag, true, &fault);
+    if (row == WULGACH_ROW_EMPTIES || row == WULGACH_ROW_FILLS)
+        put_slot(&ring->files, slot, NULL);
+    if (row == WULGACH_ROW_FILLS)
+        fault = make_tagged_file(ring, &file, fd, tag);
     if (file)
         put_slot(&ring->files, slot, file);
-    return result;
+    return fault;
 }
 
-/* Ends at the first that can't be updated: those before it stay so. */
 int update_files(struct ring *ring, uint32_t offset, uint64_t fds, uint64_t tags, uint32_t count)
 {
-    if (!ring->files.slots)
-        return -ENXIO;
-    if (offset + count < count)
-        return -EOVERFLOW;
-    if (offset + count > ring->files.count)
-        return -EINVAL;
-    for (uint32_t i = 0; i < count; i++) {
+    int result = wulgach_table_updating_fault(&ring->files.table, offset, count);
+    uint32_t done = 0;
+    while (result == 0 && done < count) {
         int fd;
         uint64_t tag;
-        int result = fds ? read_row(&fd, &tag, fds, tags, i) : -EFAULT;
+        result = fds ? read_row(&fd, &tag, fds, tags, done) : -EFAULT;
         if (result == 0)
-            result = update_file(ring, offset + i, fd, tag);
-        if (result < 0)
-            return i > 0 ? (int)i : result;
+            result = update_file(ring, offset + done, fd, tag);
+        done += result == 0;
     }
-    return (int)count;
+    return wulgach_updated(done, result);
 }
 
 int register_range(struct ring *ring, uint64_t range, uint32_t count)
 {
     struct io_uring_file_index_range asked;
     struct files *files = &ring->files;
-    if (count)
+    if (!range || count)
         return -EINVAL;
     if (copy_in(&asked, range, sizeof asked) < 0)
         return -EFAULT;
-    if (asked.off + asked.len < asked.len)
-        return -EOVERFLOW;
-    if (asked.resv || asked.off + asked.len > files->count)
-        return -EINVAL;
     pthread_mutex_lock(&files->lock);
-    files->from = files->next = asked.off;
-    files->end = asked.off + asked.len;
+    int result = wulgach_table_give_out(&files->table, asked.off, asked.len, asked.resv != 0);
     pthread_mutex_unlock(&files->lock);
-    return 0;
+    return result;
 }
 
-/* A free slot of those that are given out; negative if there is none. */
-static int64_t find_free(struct files *files)
-{
-    for (uint32_t i = files->next; i < files->end; i++)
-        if (!files->slots[i])
-            return i;
-    for (uint32_t i = files->from; i < files->next && i < files->end; i++)
-        if (!files->slots[i])
-            return i;
-    return -1;
-}
-
-/* Puts a file in, and what it takes the place of into `before`. Under the table's lock. */
-static int put_file_locked(struct files *files, struct file *file, uint32_t file_index, struct file **before)
-{
-    bool is_any = file_index == IORING_FILE_INDEX_ALLOC;
-    int64_t slot = !is_any ? (int64_t)file_index - 1 : files->slots ? find_free(files) : -1;
-    if (is_any && slot < 0)
-        return -ENFILE;
-    if (!files->slots)
-        return -ENXIO;
-    if (slot < 0 || slot >= files->count)
-        return -EINVAL;
-    *before = files->slots[slot];
-    files->slots[slot] = file;
-    if (is_any)
-        files->next = (uint32_t)slot + 1;
-    return is_any ? (int)slot : 0;
-}
-
-/* Takes a file over. If it can't be put, it is released. */
+/* Takes a file over. If it can't be put, it is released. Returns the slot of one that asked for any. */
 static int put_file(struct ring *ring, struct file *file, uint32_t file_index)
 {
-    struct file *before = NULL;
-    pthread_mutex_lock(&ring->files.lock);
-    int slot = put_file_locked(&ring->files, file, file_index, &before);
-    pthread_mutex_unlock(&ring->files.lock);
-    release_file(slot < 0 ? file : before);
-    return slot;
+    struct files *files = &ring->files;
+    struct file *before = file;
+    uint32_t slot = 0;
+    pthread_mutex_lock(&files->lock);
+    int result = wulgach_table_place(&files->table, files->words, files->table.count, file_index, &slot);
+    if (result == 0)
+        before = file_of(wulgach_table_fill(&files->table, files->words, files->table.count, slot, (uintptr_t)file));
+    pthread_mutex_unlock(&files->lock);
+    release_file(before);
+    return result < 0 ? result : file_index == IORING_FILE_INDEX_ALLOC ? (int)slot : 0;
 }
 
 int pass_file(struct ring *target, const struct file *file, uint32_t file_index)
@@ -292,11 +270,15 @@ int install_file(struct ring *ring, int fd, uint32_t file_index)
 
 int remove_file(struct ring *ring, uint32_t slot)
 {
-    if (!ring->files.slots)
-        return -ENXIO;
-    if (slot >= ring->files.count)
-        return -EINVAL;
-    return ring->files.slots[slot] ? update_file(ring, slot, NO_FILE, 0) : -EBADF;
+    struct files *files = &ring->files;
+    uint64_t before = 0;
+    pthread_mutex_lock(&files->lock);
+    int result = wulgach_table_closing_fault(&files->table, files->words, files->table.count, slot);
+    if (result == 0)
+        before = wulgach_table_fill(&files->table, files->words, files->table.count, slot, 0);
+    pthread_mutex_unlock(&files->lock);
+    release_file(file_of(before));
+    return result;
 }
 
 static int place_file(struct ring *ring, uint64_t fds, uint32_t index)
@@ -315,18 +297,17 @@ static int place_file(struct ring *ring, uint64_t fds, uint32_t index)
 
 int place_files(struct ring *ring, uint64_t fds, uint32_t count)
 {
-    if (!ring->files.slots)
-        return -ENXIO;
-    for (uint32_t i = 0; i < count; i++) {
-        int result = place_file(ring, fds, i);
-        if (result < 0)
-            return i > 0 ? (int)i : result;
+    int result = wulgach_table_updating_fault(&ring->files.table, 0, 0);
+    uint32_t done = 0;
+    while (result == 0 && done < count) {
+        result = place_file(ring, fds, done);
+        done += result == 0;
     }
-    return (int)count;
+    return wulgach_updated(done, result);
 }
 
 void free_files(struct ring *ring)
 {
-    unregister_files(ring);
+    put_table(&ring->files, NULL, 0);
     pthread_mutex_destroy(&ring->files.lock);
 }

@@ -2,6 +2,8 @@
 #ifndef FILES_H
 #define FILES_H
 
+#include "wulgach_register.h"
+
 #include <pthread.h>
 #include <stdbool.h>
 #include <stdint.h>
@@ -19,10 +21,8 @@ struct file {
 
 struct files {
     pthread_mutex_t lock;           /* another ring may send a file here */
-    struct file **slots;            /* NULL: there is no table. An empty slot is NULL */
-    uint32_t count;
-    uint32_t from, end;             /* the slots that are taken for a file that asks for any, */
-    uint32_t next;                  /* and where the search begins */
+    struct wulgach_table table;     /* which slot holds what is the library's: */
+    uint64_t *words;                /* of each slot the address of its file, or 0 */
 };
 
 struct ring;
@@ -33,7 +33,7 @@ void free_files(struct ring *ring);
 /* The calls of io_uring_register(2), with lists of descriptors and of tags: one that isn't there is 0. Each returns 0 or the
  * number of files updated, or the negative of an error number. */
 int register_files(struct ring *ring, uint64_t fds, uint64_t tags, uint32_t count);
-int unregister_files(struct ring *ring);
+int unregister_files(struct ring *ring, bool has_argument);
 int update_files(struct ring *ring, uint32_t offset, uint64_t fds, uint64_t tags, uint32_t count);
 int register_range(struct ring *ring, uint64_t range, uint32_t count);
 

@@ -108,7 +108,7 @@ static int call_registered(struct ring *ring, uint32_t code, uint64_t at, uint32
     case IORING_REGISTER_FILES2:
         return register_resources(ring, at, count, true);
     case IORING_UNREGISTER_FILES:
-        return at || count ? -EINVAL : unregister_files(ring);
+        return unregister_files(ring, at || count);
     case IORING_REGISTER_FILES_UPDATE:
         return update_files_at(ring, at, count);
     case IORING_REGISTER_FILES_UPDATE2:
@@ -120,7 +120,7 @@ static int call_registered(struct ring *ring, uint32_t code, uint64_t at, uint32
     case IORING_REGISTER_BUFFERS2:
         return register_resources(ring, at, count, false);
     case IORING_UNREGISTER_BUFFERS:
-        return at || count ? -EINVAL : unregister_buffers(ring);
+        return unregister_buffers(ring, at || count);
     case IORING_REGISTER_BUFFERS_UPDATE:
         return update_resources(ring, at, count, false);
     case IORING_REGISTER_EVENTFD:

@@ -1,4 +1,5 @@
-/* Restrictions are taken once, while the ring is disabled, and hold from when it is enabled. */
+/* Restrictions are taken once, while the ring is disabled, and hold from when it is enabled. What a list is refused for, and what it
+ * allows, is the library's decision. */
 #define _GNU_SOURCE
 #include "restrictions.h"
 #include "copying.h"
@@ -9,51 +10,21 @@
 #include <errno.h>
 #include <unistd.h>
 
-enum { MOST_RESTRICTIONS = 128, BITS = 64 };
-
-static int add_restriction(struct restrictions *restrictions, const struct io_uring_restriction *asked)
-{
-    switch (asked->opcode) {
-    case IORING_RESTRICTION_REGISTER_OP:
-        if (asked->register_op >= IORING_REGISTER_LAST)
-            return -EINVAL;
-        restrictions->calls |= (uint64_t)1 << asked->register_op;
-        return 0;
-    case IORING_RESTRICTION_SQE_OP:
-        if (asked->sqe_op >= IORING_OP_LAST)
-            return -EINVAL;
-        restrictions->codes |= (uint64_t)1 << asked->sqe_op;
-        return 0;
-    case IORING_RESTRICTION_SQE_FLAGS_ALLOWED:
-        restrictions->allowed = asked->sqe_flags;
-        return 0;
-    case IORING_RESTRICTION_SQE_FLAGS_REQUIRED:
-        restrictions->required = asked->sqe_flags;
-        return 0;
-    default:
-        return -EINVAL;
-    }
-}
+enum { MOST_RESTRICTIONS = 128 };
 
 int register_restrictions(struct ring *ring, uint64_t list, uint32_t count)
 {
-    struct restrictions made = {.are_registered = true};
-    if (!ring->is_disabled)
-        return -EBADFD;
-    if (ring->restrictions.are_registered)
-        return -EBUSY;
-    if (!list || count > MOST_RESTRICTIONS)
-        return -EINVAL;
-    for (uint32_t i = 0; i < count; i++) {
-        struct io_uring_restriction asked;
-        int result = copy_in(&asked, list + i * sizeof asked, sizeof asked);
-        if (result == 0)
-            result = add_restriction(&made, &asked);
-        if (result < 0)
-            return result;
-    }
-    ring->restrictions = made;
-    return 0;
+    struct io_uring_restriction asked[MOST_RESTRICTIONS];
+    struct wulgach_restrictions made;
+    int result = wulgach_restricting_fault(ring->is_disabled, ring->restrictions.are_registered, list, count);
+    if (result == 0 && count > 0)
+        result = copy_in(asked, list, count * sizeof *asked);
+    wulgach_restrictions_begin(&made);
+    for (uint32_t i = 0; result == 0 && i < count; i++)
+        result = wulgach_restrictions_take(&made, &(struct wulgach_restriction){asked[i].opcode, asked[i].register_op});
+    if (result == 0)
+        ring->restrictions = made;
+    return result;
 }
 
 void note_issuer(struct ring *ring)
@@ -76,10 +47,9 @@ bool is_submission_of_another(const struct ring *ring, uint32_t to_submit)
 
 int enable_ring(struct ring *ring, uint64_t argument, uint32_t count)
 {
-    if (argument || count)
-        return -EINVAL;
-    if (!ring->is_disabled)
-        return -EBADFD;
+    int result = wulgach_enabling_fault(ring->is_disabled, argument || count);
+    if (result < 0)
+        return result;
     ring->is_disabled = false;
     note_issuer(ring);
     return 0;
@@ -87,15 +57,10 @@ int enable_ring(struct ring *ring, uint64_t argument, uint32_t count)
 
 bool allows_entry(const struct ring *ring, const struct io_uring_sqe *entry)
 {
-    const struct restrictions *restrictions = &ring->restrictions;
-    if (!restrictions->are_registered)
-        return true;
-    bool is_code = entry->opcode < BITS && restrictions->codes >> entry->opcode & 1;
-    bool has_required = (entry->flags & restrictions->required) == restrictions->required;
-    return is_code && has_required && !(entry->flags & ~(restrictions->allowed | restrictions->required));
+    return !ring->restrictions.are_registered || wulgach_restrictions_allow_entry(&ring->restrictions, entry->opcode, entry->flags);
 }
 
 bool allows_call(const struct ring *ring, uint32_t code)
 {
-    return !ring->restrictions.are_registered || ring->is_disabled || (code < BITS && ring->restrictions.calls >> code & 1);
+    return wulgach_restrictions_allow_call(&ring->restrictions, code, ring->is_disabled);
 }

@@ -6,12 +6,6 @@
 #include <stdbool.h>
 #include <stdint.h>
 
-struct restrictions {
-    bool are_registered;
-    uint64_t codes, calls;          /* a bit for each operation, and for each code of io_uring_register(2) */
-    uint8_t allowed, required;      /* flags of entries */
-};
-
 struct ring;
 
 /* The calls of io_uring_register(2). Each returns 0 or the negative of an error number. */
@@ -24,7 +18,7 @@ void note_issuer(struct ring *ring);
 bool is_of_another(const struct ring *ring);
 bool is_submission_of_another(const struct ring *ring, uint32_t to_submit);
 
-/* Whether an enabled ring may be asked for this: 0 or -EACCES. */
+/* Whether an enabled ring may be asked for this. */
 bool allows_entry(const struct ring *ring, const struct io_uring_sqe *entry);
 bool allows_call(const struct ring *ring, uint32_t code);
 

@@ -14,6 +14,7 @@
 #include "restrictions.h"
 #include "wulgach.h"
 #include "wulgach_enter.h"
+#include "wulgach_register.h"
 #include "wulgach_times.h"
 
 #include <linux/io_uring.h>
@@ -77,7 +78,7 @@ struct ring {
     pid_t issuer;                       /* of SINGLE_ISSUER: the one thread that may call, or submit, or 0 */
     bool has_skipped;                   /* where the layer is strict: an entry that skips its success was submitted */
     bool is_disabled;                   /* until it is enabled */
-    struct restrictions restrictions;
+    struct wulgach_restrictions restrictions;
     uint64_t accepted;                  /* how many requests were accepted so far */
     struct completions completions;     /* posted and not reaped */
     struct wulgach_times times;         /* its time, in nanoseconds, and how many timeouts run: */

@@ -1,4 +1,4 @@
-/* Making rings.
+/* Making rings. Which ones, and with which error others are refused, is the library's decision.
  */
 #define _GNU_SOURCE
 #include "clock.h"
@@ -27,31 +27,6 @@
 #include <sys/sysinfo.h>
 #include <unistd.h>
 
-enum { MOST_SQ_ENTRIES = 4096, MOST_CQ_ENTRIES = 8192 };
-
-/* SQPOLL: the thread that takes entries sleeps whenever the application looks, and so a submission wakes it by a call,
- * in which they are taken. ATTACH_WQ, SQ_AFF, IOPOLL, COOP_TASKRUN, TASKRUN_FLAG, DEFER_TASKRUN and SINGLE_ISSUER change nothing. */
-enum {
-    SERVED_SETUP = IORING_SETUP_IOPOLL | IORING_SETUP_CQSIZE | IORING_SETUP_CLAMP | IORING_SETUP_SUBMIT_ALL |
-                   IORING_SETUP_COOP_TASKRUN | IORING_SETUP_TASKRUN_FLAG | IORING_SETUP_SINGLE_ISSUER |
-                   IORING_SETUP_DEFER_TASKRUN | IORING_SETUP_R_DISABLED | IORING_SETUP_SQE128 | IORING_SETUP_CQE32 |
-                   IORING_SETUP_SQPOLL | IORING_SETUP_SQ_AFF | IORING_SETUP_ATTACH_WQ
-};
-
-enum {
-    FEATURES = IORING_FEAT_NODROP | IORING_FEAT_SUBMIT_STABLE | IORING_FEAT_RW_CUR_POS | IORING_FEAT_CUR_PERSONALITY |
-               IORING_FEAT_FAST_POLL | IORING_FEAT_EXT_ARG | IORING_FEAT_NATIVE_WORKERS | IORING_FEAT_CQE_SKIP |
-               IORING_FEAT_LINKED_FILE | IORING_FEAT_SQPOLL_NONFIXED | IORING_FEAT_RSRC_TAGS
-};
-
-static uint32_t round_up(uint32_t size)
-{
-    uint32_t power = 1;
-    while (power < size)
-        power *= 2;
-    return power;
-}
-
 void free_ring(struct ring *ring)
 {
     wulgach_core_free(&ring->core);
@@ -64,7 +39,7 @@ void free_ring(struct ring *ring)
     free_polled(ring);
     free_pipes(&ring->pipes);
     free_files(ring);
-    unregister_buffers(ring);
+    free_buffers(ring);
     free_groups(ring);
     free_inbox(&ring->inbox);
     unregister_eventfd(ring, 0, 0);
@@ -75,39 +50,32 @@ void free_ring(struct ring *ring)
     free(ring);
 }
 
-/* The sizes that are asked for, as the core is to be asked for them. */
-static int read_sizes(struct wulgach_setup *setup, uint32_t entries, const struct io_uring_params *params)
+/* What a set-up asks for, and what is so of the ring and of the processor that it names. */
+static struct wulgach_asked_ring asked_ring(uint32_t entries, const struct io_uring_params *params)
 {
-    bool is_clamped = params->flags & IORING_SETUP_CLAMP;
-    *setup = (struct wulgach_setup){.sq = entries, .cq = params->cq_entries, .files = 1, .has_cq = params->flags & IORING_SETUP_CQSIZE};
-    if (is_clamped && setup->sq > MOST_SQ_ENTRIES)
-        setup->sq = MOST_SQ_ENTRIES;
-    if (is_clamped && setup->cq > MOST_CQ_ENTRIES)
-        setup->cq = MOST_CQ_ENTRIES;
+    struct wulgach_asked_ring asked = {.entries = entries, .cq_entries = params->cq_entries, .flags = params->flags, .processor = params->sq_thread_cpu};
     for (size_t i = 0; i < sizeof params->resv / sizeof *params->resv; i++)
-        if (params->resv[i])
-            return -EINVAL;
-    bool is_deferred = params->flags & IORING_SETUP_DEFER_TASKRUN, has_thread = params->flags & IORING_SETUP_SQPOLL;
-    if (is_deferred && (has_thread || !(params->flags & IORING_SETUP_SINGLE_ISSUER)))
-        return -EINVAL;
-    if (has_thread ? params->flags & (IORING_SETUP_COOP_TASKRUN | IORING_SETUP_TASKRUN_FLAG) : params->flags & IORING_SETUP_SQ_AFF)
-        return -EINVAL;
-    if (has_thread && params->flags & IORING_SETUP_SQ_AFF && params->sq_thread_cpu >= (uint32_t)get_nprocs_conf())
-        return -EINVAL;
-    if (params->flags & IORING_SETUP_ATTACH_WQ && !is_ring((int)params->wq_fd))
-        return fcntl((int)params->wq_fd, F_GETFD) < 0 ? -EBADF : -EINVAL;
-    return params->flags & ~(uint32_t)SERVED_SETUP ? -EINVAL : 0;
+        asked.has_reserved |= params->resv[i] != 0;
+    if (params->flags & IORING_SETUP_SQ_AFF)
+        asked.processors = (uint32_t)get_nprocs_conf();
+    if (params->flags & IORING_SETUP_ATTACH_WQ) {
+        struct ring *shared = hold_ring((int)params->wq_fd);
+        asked.is_open = fcntl((int)params->wq_fd, F_GETFD) >= 0;
+        asked.is_ring = shared || is_ring((int)params->wq_fd);
+        asked.has_thread = shared && shared->flags & IORING_SETUP_SQPOLL;
+        if (shared)
+            release_ring(shared);
+    }
+    return asked;
 }
 
 /* Makes the core and the memory, and returns the descriptor. */
-static int fill_ring(struct ring *ring, struct wulgach_setup *setup, struct io_uring_params *params, bool is_polled)
+static int fill_ring(struct ring *ring, const struct wulgach_setup *setup, struct io_uring_params *params, bool is_polled)
 {
     int result = wulgach_core_new(&ring->core, setup);
     if (result < 0)
         return result;
     note_ring();
-    setup->sq = round_up(setup->sq);
-    setup->cq = setup->has_cq ? round_up(setup->cq) : 2 * setup->sq;
     if (!make_entries(ring, setup->sq))
         return -ENOMEM;
     int fd = is_polled ? make_polled(ring) : make_file();
@@ -128,7 +96,8 @@ static int fill_ring(struct ring *ring, struct wulgach_setup *setup, struct io_u
 static int make_ring(struct ring **made, uint32_t entries, struct io_uring_params *params, bool is_polled)
 {
     struct wulgach_setup sizes;
-    int result = read_sizes(&sizes, entries, params);
+    struct wulgach_asked_ring asked = asked_ring(entries, params);
+    int result = wulgach_set_up(&asked, &sizes);
     if (result < 0)
         return result;
     struct ring *ring = calloc(1, sizeof *ring);
@@ -137,6 +106,8 @@ static int make_ring(struct ring **made, uint32_t entries, struct io_uring_param
     pthread_mutex_init(&ring->lock, NULL);
     make_inbox(&ring->inbox);
     make_files(&ring->files);
+    wulgach_table_begin(&ring->buffers.table);
+    wulgach_restrictions_none(&ring->restrictions);
     make_pipes(&ring->pipes);
     wulgach_shown_begin(&ring->completions.at);
     wulgach_drains_begin(&ring->drains);
@@ -153,7 +124,7 @@ static int make_ring(struct ring **made, uint32_t entries, struct io_uring_param
     start_clock(ring);
     ring->flags = params->flags;
     note_issuer(ring);
-    params->features = FEATURES | (is_polled ? IORING_FEAT_SINGLE_MMAP : 0);
+    params->features = wulgach_features(is_polled);
     show(ring);
     *made = ring;
     return 0;

@@ -15,7 +15,16 @@ static void test_setup(void)
     check(set_up(8, &small) == -EINVAL);
     check(set_up(8, &reserved) == -EINVAL);
     check(set_up(8, NULL) == -EFAULT);
+    struct io_uring_params flag = {.flags = IORING_SETUP_TASKRUN_FLAG}, closed = {.flags = IORING_SETUP_ATTACH_WQ, .wq_fd = 1000000}, other = {.flags = IORING_SETUP_ATTACH_WQ, .wq_fd = (uint32_t)make_file()};
+    check(set_up(8, &flag) == -EINVAL);
+    check(set_up(8, &closed) == -ENXIO && set_up(0, &closed) == -EINVAL);
+    check(set_up(8, &other) == -EINVAL);
+    close((int)other.wq_fd);
     struct ring ring;
+    make_ring(&ring, 8, 0, 0);
+    struct io_uring_params shared = {.flags = IORING_SETUP_ATTACH_WQ | IORING_SETUP_SQPOLL, .wq_fd = (uint32_t)ring.fd};
+    check(set_up(8, &shared) == -EINVAL);
+    close_ring(&ring);
     make_ring(&ring, 5, 0, 0);
     check(ring.params.sq_entries == 8 && ring.params.cq_entries == 16);
     close_ring(&ring);

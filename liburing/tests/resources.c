@@ -76,6 +76,52 @@ static void test_direct_descriptors(void)
     close_ring(&ring);
 }
 
+/* Puts a socket into a slot, or into any. Returns its result, which is the slot if any was asked for. */
+static int open_in(struct ring *ring, uint32_t file_index)
+{
+    struct io_uring_sqe *entry = put_plain(ring, IORING_OP_SOCKET, 0, AF_UNIX);
+    entry->off = SOCK_STREAM;
+    entry->file_index = file_index;
+    return result_of_one(ring, 1);
+}
+
+static int close_slot(struct ring *ring, uint32_t slot)
+{
+    put(ring, IORING_OP_CLOSE, 0, 0)->file_index = slot + 1;
+    return result_of_one(ring, 1);
+}
+
+static int give_out(const struct ring *ring, uint32_t from, uint32_t len)
+{
+    struct io_uring_file_index_range range = {.off = from, .len = len};
+    return (int)register_at(ring->fd, IORING_REGISTER_FILE_ALLOC_RANGE, &range, 0);
+}
+
+/* Which slot a file gets that asks for any: what a real ring of Linux 6.18 answers to the same. */
+static void test_slots(void)
+{
+    enum { ANY = -1 };
+    struct ring ring;
+    struct io_uring_rsrc_register sparse = {.nr = 4, .flags = IORING_RSRC_REGISTER_SPARSE};
+    make_ring(&ring, 8, 0, 0);
+    check(open_in(&ring, (uint32_t)ANY) == -ENFILE && open_in(&ring, 1) == -ENXIO && close_slot(&ring, 0) == -ENXIO);
+    check(give_out(&ring, 0, 1) == -EINVAL && give_out(&ring, 0, 0) == 0 && register_at(ring.fd, IORING_REGISTER_FILE_ALLOC_RANGE, NULL, 0) == -EINVAL);
+    check(register_at(ring.fd, IORING_REGISTER_FILES2, &sparse, sizeof sparse) == 0);
+    check(close_slot(&ring, 0) == -EBADF && close_slot(&ring, 4) == -EINVAL && open_in(&ring, 5) == -EINVAL);
+    for (int i = 0; i < 4; i++)
+        check(open_in(&ring, (uint32_t)ANY) == i);
+    check(open_in(&ring, (uint32_t)ANY) == -ENFILE);
+    check(close_slot(&ring, 1) == 0 && close_slot(&ring, 3) == 0 && open_in(&ring, 1) == 0);
+    check(open_in(&ring, (uint32_t)ANY) == 3 && open_in(&ring, (uint32_t)ANY) == 1);
+    check(close_slot(&ring, 0) == 0 && close_slot(&ring, 1) == 0 && close_slot(&ring, 2) == 0 && close_slot(&ring, 3) == 0 && open_in(&ring, 2) == 0);
+    check(open_in(&ring, (uint32_t)ANY) == 2 && open_in(&ring, (uint32_t)ANY) == 3 && open_in(&ring, (uint32_t)ANY) == 0);
+    check(give_out(&ring, 1, 4) == -EINVAL && give_out(&ring, UINT32_MAX, 2) == -EOVERFLOW && give_out(&ring, 1, 2) == 0);
+    check(close_slot(&ring, 0) == 0 && close_slot(&ring, 3) == 0 && open_in(&ring, (uint32_t)ANY) == -ENFILE);
+    check(close_slot(&ring, 2) == 0 && open_in(&ring, 4) == 0 && open_in(&ring, (uint32_t)ANY) == 2);
+    check(register_at(ring.fd, IORING_UNREGISTER_FILES, NULL, 0) == 0 && open_in(&ring, (uint32_t)ANY) == -ENFILE);
+    close_ring(&ring);
+}
+
 static void test_buffers(void)
 {
     struct ring ring;
@@ -350,6 +396,7 @@ int main(int count, char **words)
     static const struct named tests[] = {
         {"files", test_files},
         {"direct descriptors", test_direct_descriptors},
+        {"slots", test_slots},
         {"buffers", test_buffers},
         {"tags of files", test_tags_of_files},
         {"tags of buffers", test_tags_of_buffers},

@@ -19,3 +19,4 @@ pub mod ShownForm
 pub mod CourseForm
 pub mod EntryForm
 pub mod TakingForm
+pub mod RegisterForm

@@ -1,5 +1,5 @@
 -- The set-up that words ask for.
-use Rattle.std.specs.Prelude.{◌≡◌, ℕ, ◌≤◌, false, Option, Some, None, if◌then◌else◌}
+use Rattle.std.specs.Prelude.{◌≡◌, ℕ, ◌≤◌, true, false, Option, Some, None, if◌then◌else◌}
 use Rattle.std.specs.Int.{IsNextPowerOfTwo}
 use Rattle.uring_entry.specs.Setup.{Setup, IsSetupFor, IsBadSq, IsBadCq, IsBadFiles}
 use Rattle.uring_c.specs.declared.set_up_words.SetupWords.{SetupWords}
@@ -20,6 +20,10 @@ IsRefused w = (s : Setup) → IsAskedFor w s → ⊥
 -- the words of a core, which has no files: how many are asked for doesn't count
 abbrev pub without_files : SetupWords → SetupWords
 without_files w = record w { files = 1 }
+
+-- the words of a core with these sizes, both asked for, whose calls go on. Our own rule
+abbrev pub words_of_setup : Setup → SetupWords
+words_of_setup s = record { sq = s.sq; cq = s.cq; files = 1; start = 0; has_cq = true; stops = false }
 
 -- this is as many elements as either ring has entries, and as there are files, if the words ask for a set-up. Our own rule
 abbrev pub SufficesFor : SetupWords → ℕ → Type 0

@@ -1,5 +1,5 @@
 -- What goes on next, and what is copied of an entry, in words that C can read.
-use Rattle.std.specs.Prelude.{ℕ, Option, Some, None}
+use Rattle.std.specs.Prelude.{ℕ, ℤ, pos, Option, Some, None}
 use Rattle.uring_enter.specs.declared.taking.Onward.{Onward}
 use Rattle.uring_enter.specs.declared.taking.Onward.TheVariants.{Takes, IsFull, HasEnded}
 use Rattle.uring_enter.specs.declared.ways.Way.{Way}
@@ -9,7 +9,8 @@ use Rattle.uring_enter.specs.declared.update.Removal.TheVariants.{Cancel, Update
 use Rattle.uring_enter.specs.declared.piece.What.{What}
 use Rattle.uring_enter.specs.declared.piece.What.TheVariants.{Buffer, Vectors, Path, SecondPath, How, Time, Value, Message, Address}
 use Rattle.uring_enter.specs.declared.piece.Piece.{Piece}
-use Rattle.uring_enter.specs.Pieces.{fault_of}
+use Rattle.uring_enter.specs.declared.copying.Copying.{Copying}
+use Rattle.uring_enter.specs.declared.copying.Copying.TheVariants.{Copies, Ends}
 use Rattle.uring_c.specs.declared.piece_exports.PieceWords.{PieceWords}
 
 -- kinds count in the order of `Onward`, from 0. Our own rule
@@ -53,4 +54,13 @@ word_of_what Message = 7
 word_of_what Address = 8
 
 abbrev pub words_of_piece : Piece → PieceWords
-words_of_piece p = record { what = word_of_what p.what; fault = fault_of p; from = p.from; size = p.size }
+words_of_piece p = record { what = word_of_what p.what; from = p.from; size = p.size }
+
+-- 1 if a piece is copied, else the fault of the entry, or 0. Our own rule
+abbrev pub word_of_copying : Copying → ℤ
+word_of_copying (Copies _) = pos 1
+word_of_copying (Ends fault) = fault
+
+abbrev pub words_of_copying : Copying → PieceWords → PieceWords
+words_of_copying (Copies p) old = words_of_piece p
+words_of_copying (Ends _) old = old

@@ -7,17 +7,17 @@ ghost use Rattle.uring_enter.specs.declared.member.Entry.{Entry};
 ghost use Rattle.uring_enter.specs.Courses.{KeepsCourse, act, behind_act, fits, notice_of};
 ghost use Rattle.uring_enter.specs.Courses.{shown as shown_by};
 ghost use Rattle.uring_enter.specs.Outcomes.{is_success, looks_for_running, shown_of};
-ghost use Rattle.uring_enter.specs.Chains.{member_of, limits, has_its_place};
+ghost use Rattle.uring_enter.specs.Chains.{member_of, limits};
 ghost use Rattle.uring_enter.specs.Showing.{Change, KeepsShown};
 ghost use Rattle.uring_enter.specs.Showing.{Posted as WasPosted};
 ghost use Rattle.uring_enter.specs.Postings.{Posting, Ended, KeepsPosted, is_taken, with_res, posts};
-ghost use Rattle.uring_c.specs.CourseForm.{fact_of, word_of_act, res_of_act, last_of, word_of_end, is_refused, entry_of};
+ghost use Rattle.uring_c.specs.CourseForm.{fact_of, word_of_act, res_of_act, last_of, word_of_end, is_refused};
 
 use crate::completion_words::CompletionWords;
-use crate::course_words::{act_res, act_word, entry_if, fact, last};
+use crate::course_words::{act_res, act_word, fact, last};
 use uring_enter::{
-    Course, EndedEarly, Entry, Fact, Member, Posted, Shown, Success, has_its_place, is_success,
-    looks_for_running, shown_of,
+    Course, EndedEarly, Entry, Fact, Member, Posted, Shown, Success, is_success, looks_for_running,
+    shown_of,
 };
 
 /// A request that was accepted just now.
@@ -189,12 +189,4 @@ pub extern "C" fn wulgach_member_limits(timeout: &Member, before: &Member) -> bo
     ensures { result ≡ limits timeout.now before.now }
 {
     timeout.limits(before)
-}
-
-/// Whether an entry may stand behind this one, or, if there is none, first in its call.
-#[unsafe(no_mangle)]
-pub extern "C" fn wulgach_has_its_place(entry: &Entry, before: &Entry, has_before: bool) -> bool
-    ensures { result ≡ has_its_place entry.now (entry_of before.now has_before) }
-{
-    has_its_place(*entry, entry_if(*before, has_before))
 }

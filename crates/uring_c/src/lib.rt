@@ -35,6 +35,7 @@ mod outcomes_memory;
 mod outcomes_place;
 mod parts;
 mod piece_exports;
+mod register_exports;
 mod set_up_exports;
 mod set_up_words;
 mod shown_exports;

@@ -1,11 +1,14 @@
 //! What is copied of an entry, and the faults of that, for C: functions of `c/wulgach_form.h`.
-ghost use Rattle.std.specs.Prelude.{◌≡◌, true, false, MatchOption};
+ghost use Rattle.std.specs.Prelude.{◌≡◌};
 ghost use Rattle.uring_enter.specs.Pieces as spec;
+ghost use Rattle.uring_enter.specs.Copies.{next_of};
 ghost use Rattle.uring_enter.specs.Forms as forms;
-ghost use Rattle.uring_c.specs.TakingForm.{word_of_what, words_of_piece};
+ghost use Rattle.uring_c.specs.TakingForm.{word_of_what, words_of_piece, word_of_copying, words_of_copying};
+ghost use Rattle.uring_c.specs.CourseForm.{entry_of};
 
+use crate::course_words::entry_if;
 use uring_enter::{
-    Piece, Submission, What, core_flags, message_fault, piece_of, room_fault, selection_fault,
+    Copying, Entry, Piece, Submission, What, core_flags, message_fault, next_piece, room_fault,
     time_fault,
 };
 
@@ -14,22 +17,41 @@ use uring_enter::{
 #[derive(Clone, Copy, Drop)]
 pub struct PieceWords {
     pub what: u32,
-    pub fault: i32,
     pub from: u64,
     pub size: u64,
 }
 
-/// Writes the piece of this place that is copied of an entry. False, and nothing is written: there are no more.
+/// What was copied of an entry: `struct wulgach_copied` of the header.
+#[repr(C)]
+#[derive(Clone, Copy, Drop)]
+pub struct CopiedWords {
+    pub count: u32,
+    pub fault: i32,
+    pub vectors: u32,
+    pub before: Entry,
+    pub has_before: bool,
+}
+
+/// Writes the piece that is copied next, and returns 1. Else nothing more is copied: returns the fault of the entry, or 0.
 #[unsafe(no_mangle)]
-pub extern "C" fn wulgach_piece_of(entry: &Submission, place: u32, piece: &mut PieceWords) -> bool
-    ensures { MatchOption (spec.piece_of entry.now place) ((result ≡ false) × (piece.new ≡ piece.old))
-        (λ found. (result ≡ true) × (piece.new ≡ words_of_piece found)) }
+pub extern "C" fn wulgach_next_piece(
+    entry: &Submission,
+    copied: &CopiedWords,
+    piece: &mut PieceWords,
+) -> i32
+    ensures next { result ≡ word_of_copying (next_of entry.now copied.now.count copied.now.fault copied.now.vectors
+        (entry_of copied.now.before copied.now.has_before)) }
+    ensures piece { piece.new ≡ words_of_copying (next_of entry.now copied.now.count copied.now.fault copied.now.vectors
+        (entry_of copied.now.before copied.now.has_before)) piece.old }
 {
-    let Some(found) = piece_of(entry, place) else {
-        return false;
-    };
-    *piece = piece_words(&found);
-    true
+    let before = entry_if(copied.before, copied.has_before);
+    match next_piece(entry, copied.count, copied.fault, copied.vectors, before) {
+        Copying::Copies(next) => {
+            *piece = piece_words(&next);
+            1
+        }
+        Copying::Ends(fault) => fault,
+    }
 }
 
 fn piece_words(piece: &Piece) -> PieceWords
@@ -37,7 +59,6 @@ fn piece_words(piece: &Piece) -> PieceWords
 {
     PieceWords {
         what: what_word(piece.what),
-        fault: piece.fault(),
         from: piece.from,
         size: piece.size,
     }
@@ -81,14 +102,6 @@ pub extern "C" fn wulgach_room_fault(entry: &Submission, name: u32, control: u64
     ensures { result ≡ spec.room_fault entry.now name control }
 {
     room_fault(entry, name, control)
-}
-
-/// The fault of an entry that has so many vectors, behind those of its pieces, or 0.
-#[unsafe(no_mangle)]
-pub extern "C" fn wulgach_selection_fault(entry: &Submission, vectors: u32) -> i32
-    ensures { result ≡ spec.selection_fault entry.now vectors }
-{
-    selection_fault(entry, vectors)
 }
 
 /// The flags of an entry that the core is told.

@@ -1,8 +1,12 @@
-//! What is wrong with a set-up: `wulgach_setup_fault` of the header.
+//! What is wrong with a set-up: `wulgach_setup_fault` of the header; and which rings are made, `wulgach_set_up` of `c/wulgach_register.h`.
 ghost use Rattle.std.specs.Prelude.{◌≡◌, ◌↔◌, pos};
-ghost use Rattle.uring_c.specs.SetUps.{IsRefused, HasBadSq, HasBadCq, HasBadFiles};
+ghost use Rattle.uring_entry.specs.Setup.{Setup};
+ghost use Rattle.uring_enter.specs.SettingUp.{IsMade, IsRefusedWith};
+ghost use Rattle.uring_enter.specs.SettingUp.{features as features_of};
+ghost use Rattle.uring_c.specs.SetUps.{IsRefused, HasBadSq, HasBadCq, HasBadFiles, words_of_setup};
 
 use crate::set_up_words::SetupWords;
+use uring_enter::{AskedRing, features, set_up};
 use uring_entry::BadSetup;
 
 /// Returns which field of a machine's set-up is out of its range: 1 for `sq`, else 2 for `cq`, else 3 for `files`, or 0 if none is. A core's `files` don't count.
@@ -19,4 +23,27 @@ pub extern "C" fn wulgach_setup_fault(setup: &SetupWords) -> i32
         Some(BadSetup::BadCq) => 2,
         Some(BadSetup::BadFiles) => 3,
     }
+}
+
+/// Writes the set-up of the ring that is asked for, and returns 0. Else returns the error with which it is refused, and writes nothing.
+#[unsafe(no_mangle)]
+pub extern "C" fn wulgach_set_up(asked: &AskedRing, setup: &mut SetupWords) -> i32
+    ensures made { result ≡ pos 0 → (s : Setup) × IsMade asked.now s × (setup.new ≡ words_of_setup s) }
+    ensures refused { (result ≡ pos 0 → ⊥) → IsRefusedWith asked.now result × (setup.new ≡ setup.old) }
+{
+    match set_up(asked) {
+        Ok(made) => {
+            *setup = SetupWords::of(made);
+            0
+        }
+        Err(fault) => fault,
+    }
+}
+
+/// What a ring can do, as its set-up tells it, whose rings stand in one mapping or in two.
+#[unsafe(no_mangle)]
+pub extern "C" fn wulgach_features(is_one_mapping: bool) -> u32
+    ensures { result ≡ features_of is_one_mapping }
+{
+    features(is_one_mapping)
 }

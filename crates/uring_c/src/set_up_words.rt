@@ -29,7 +29,7 @@ pub struct SetupWords {
 }
 
 impl SetupWords {
-    ghost use Rattle.uring_c.specs.SetUps.{IsAskedFor, IsRefused, HasBadSq, HasBadCq, HasBadFiles, without_files, asked_cq};
+    ghost use Rattle.uring_c.specs.SetUps.{IsAskedFor, IsRefused, HasBadSq, HasBadCq, HasBadFiles, without_files, asked_cq, words_of_setup};
 
     /// The set-up that is asked for, unless it is refused.
     pub(crate) fn set_up(&self) -> Option<Setup>
@@ -53,6 +53,20 @@ impl SetupWords {
         match Setup::new(self.sq, self.asked_cq(), self.files, self.start) {
             Ok(_) => None,
             Err(fault) => Some(fault),
+        }
+    }
+
+    /// The words of a core with the sizes of a set-up.
+    pub(crate) fn of(sizes: Setup) -> SetupWords
+        ensures { result ≡ words_of_setup sizes }
+    {
+        SetupWords {
+            sq: sizes.sq(),
+            cq: sizes.cq(),
+            files: 1,
+            start: 0,
+            has_cq: true,
+            stops: false,
         }
     }
 

@@ -12,3 +12,5 @@ mod CourseRuns
 mod PostingRuns
 mod ChainRuns
 mod WayRuns
+mod TableRuns
+mod TableLaws

@@ -21,8 +21,14 @@ pub mod Clocks
 pub mod SocketForms
 pub mod Forms
 pub mod Pieces
+pub mod Copies
 pub mod Shots
 pub mod Takings
 pub mod Ways
 pub mod Drainings
 pub mod Updates
+pub mod SettingUp
+pub mod Restricting
+pub mod Tables
+pub mod Registering
+pub mod TableLaws

@@ -77,7 +77,7 @@ impl Member {
 }
 
 /// Whether an entry may stand behind this one, or first in its call: a linked timeout stands behind one that links it, and that is none itself.
-pub fn has_its_place(entry: Entry, before: Option<Entry>) -> bool
+pub(crate) fn has_its_place(entry: Entry, before: Option<Entry>) -> bool
     ensures { result ≡ has_its_place entry before }
 {
     if !entry.is_linked_timeout {

@@ -49,7 +49,7 @@ pub struct Piece {
 }
 
 /// The piece of this place that is copied of an entry, counted from 0. `None`: there are no more.
-pub fn piece_of(entry: &Submission, place: u32) -> Option<Piece>
+pub(crate) fn piece_of(entry: &Submission, place: u32) -> Option<Piece>
     ensures { result ≡ spec.piece_of entry.now place }
 {
     match place {
@@ -138,7 +138,7 @@ fn unless(is_none: bool, what: What, from: u64, size: u64) -> Option<Piece>
 
 impl Piece {
     /// The fault of a piece that is too long, which comes before it is copied, or 0.
-    pub fn fault(&self) -> i32
+    pub(crate) fn fault(&self) -> i32
         ensures { result ≡ spec.fault_of self.now }
     {
         match self.what {
@@ -183,7 +183,7 @@ pub fn room_fault(entry: &Submission, name: u32, control: u64) -> i32
 }
 
 /// The fault of an entry that has so many vectors, behind those of its pieces, or 0: one that takes a provided buffer has one.
-pub fn selection_fault(entry: &Submission, vectors: u32) -> i32
+pub(crate) fn selection_fault(entry: &Submission, vectors: u32) -> i32
     ensures { result ≡ spec.selection_fault entry.now vectors }
 {
     if entry.flags & 32 != 0 && vectors != 1 {

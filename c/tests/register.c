@@ -1,0 +1,171 @@
+/* Which rings a set-up makes, and what is registered with a ring: with what the manual page calls for, written by hand. */
+#include "wulgach_register.h"
+
+#include <stdio.h>
+#include <stdlib.h>
+
+static void demand(bool holds, const char *what)
+{
+    if (!holds) {
+        printf("FAILED: %s\n", what);
+        exit(1);
+    }
+}
+
+/* Flags of a set-up. */
+enum { SQPOLL = 2, SQ_AFF = 4, CQSIZE = 8, CLAMP = 16, ATTACH_WQ = 32, R_DISABLED = 64, COOP = 256, FLAG = 512, SINGLE = 4096, DEFER = 8192 };
+
+/* The fault of a set-up; of one that is made, its sizes, the completion ring's in thousands. */
+static int32_t set_up(struct wulgach_asked_ring asked)
+{
+    struct wulgach_setup setup = {.sq = 77};
+    int32_t fault = wulgach_set_up(&asked, &setup);
+    demand(fault == 0 ? setup.has_cq && !setup.stops && setup.start == 0 : setup.sq == 77, "what a set-up writes");
+    return fault < 0 ? fault : (int32_t)(setup.cq * 10000 + setup.sq);
+}
+
+#define SET_UP(...) set_up((struct wulgach_asked_ring){__VA_ARGS__})
+
+static void make_rings(void)
+{
+    demand(SET_UP(.entries = 0) == -22 && SET_UP(.entries = 0, .flags = CLAMP) == -22 && SET_UP(.entries = 4097) == -22, "no entries, too many");
+    demand(SET_UP(.entries = 1) == 20001 && SET_UP(.entries = 5) == 160008 && SET_UP(.entries = 5000, .flags = CLAMP) == 81924096, "sizes");
+    demand(SET_UP(.entries = 4, .cq_entries = 70) == 80004 && SET_UP(.entries = 4, .cq_entries = 5, .flags = CQSIZE) == 80004, "a completion ring");
+    demand(SET_UP(.entries = 3, .cq_entries = 3, .flags = CQSIZE) == 40004 && SET_UP(.entries = 5, .cq_entries = 4, .flags = CQSIZE) == -22, "a small one");
+    demand(SET_UP(.entries = 4, .flags = CQSIZE) == -22 && SET_UP(.entries = 4, .cq_entries = 9000, .flags = CQSIZE) == -22, "one of none, and of too many");
+    demand(SET_UP(.entries = 4, .cq_entries = 9000, .flags = CQSIZE | CLAMP) == 81920004, "one that is clamped");
+    demand(SET_UP(.entries = 4, .has_reserved = true) == -22 && SET_UP(.entries = 4, .flags = 1 << 14) == -22 && SET_UP(.entries = 4, .flags = 1u << 31) == -22, "what isn't served");
+    demand(SET_UP(.entries = 1, .flags = R_DISABLED | 1 | 128 | 1024 | 2048 | COOP | FLAG | SINGLE | DEFER) == 20001, "what is");
+    demand(wulgach_features(true) == wulgach_features(false) + 1 && (wulgach_features(false) & 0x166) == 0x126, "features");
+}
+
+static void refuse_flags(void)
+{
+    demand(SET_UP(.entries = 1, .flags = DEFER) == -22 && SET_UP(.entries = 1, .flags = DEFER | SINGLE) == 20001 && SET_UP(.entries = 1, .flags = SINGLE) == 20001, "deferred work");
+    demand(SET_UP(.entries = 1, .flags = FLAG) == -22 && SET_UP(.entries = 1, .flags = FLAG | COOP) == 20001 && SET_UP(.entries = 1, .flags = FLAG | DEFER | SINGLE) == 20001, "its flag");
+    demand(SET_UP(.entries = 1, .flags = SQPOLL) == 20001 && SET_UP(.entries = 1, .flags = SQPOLL | COOP) == -22 && SET_UP(.entries = 1, .flags = SQPOLL | FLAG) == -22 && SET_UP(.entries = 1, .flags = SQPOLL | DEFER | SINGLE) == -22, "a thread");
+    demand(SET_UP(.entries = 1, .flags = SQ_AFF, .processors = 4) == -22 && SET_UP(.entries = 1, .flags = SQ_AFF | SQPOLL, .processor = 3, .processors = 4) == 20001 && SET_UP(.entries = 1, .flags = SQ_AFF | SQPOLL, .processor = 4, .processors = 4) == -22, "its processor");
+    demand(SET_UP(.entries = 1, .flags = ATTACH_WQ) == -6 && SET_UP(.entries = 1, .flags = ATTACH_WQ, .is_open = true) == -22 && SET_UP(.entries = 1, .flags = ATTACH_WQ, .is_open = true, .is_ring = true) == 20001, "workers that are shared");
+    demand(SET_UP(.entries = 1, .flags = ATTACH_WQ | SQPOLL, .is_open = true, .is_ring = true) == -22 && SET_UP(.entries = 1, .flags = ATTACH_WQ | SQPOLL | SQ_AFF, .is_open = true, .is_ring = true, .has_thread = true, .processor = 9) == 20001, "a thread that is shared");
+    demand(SET_UP(.entries = 0, .flags = ATTACH_WQ) == -22 && SET_UP(.entries = 1, .flags = ATTACH_WQ | SQ_AFF) == -6, "which comes first");
+}
+
+static void take_rows(void)
+{
+    struct wulgach_restrictions none, made;
+    wulgach_restrictions_none(&none);
+    demand(wulgach_restrictions_allow_entry(&none, 200, 255) && wulgach_restrictions_allow_call(&none, 99, false), "no restrictions");
+    wulgach_restrictions_begin(&made);
+    demand(!wulgach_restrictions_allow_entry(&made, 0, 0) && !wulgach_restrictions_allow_call(&made, 0, false) && wulgach_restrictions_allow_call(&made, 0, true), "no rows");
+    demand(wulgach_restrictions_take(&made, &(struct wulgach_restriction){0, 25}) == 0 && wulgach_restrictions_take(&made, &(struct wulgach_restriction){0, 26}) == -22, "calls");
+    demand(wulgach_restrictions_take(&made, &(struct wulgach_restriction){1, 48}) == 0 && wulgach_restrictions_take(&made, &(struct wulgach_restriction){1, 49}) == -22, "operations");
+    demand(wulgach_restrictions_take(&made, &(struct wulgach_restriction){1, 0}) == 0 && wulgach_restrictions_take(&made, &(struct wulgach_restriction){4, 0}) == -22, "kinds");
+    demand(wulgach_restrictions_allow_call(&made, 25, false) && !wulgach_restrictions_allow_call(&made, 24, false) && !wulgach_restrictions_allow_call(&made, 89, false), "which calls");
+    demand(wulgach_restrictions_allow_entry(&made, 48, 0) && wulgach_restrictions_allow_entry(&made, 0, 0) && !wulgach_restrictions_allow_entry(&made, 47, 0) && !wulgach_restrictions_allow_entry(&made, 112, 0), "which operations");
+    demand(!wulgach_restrictions_allow_entry(&made, 0, 4), "no flags");
+    demand(wulgach_restrictions_take(&made, &(struct wulgach_restriction){2, 255}) == 0 && wulgach_restrictions_take(&made, &(struct wulgach_restriction){2, 4}) == 0 && wulgach_restrictions_take(&made, &(struct wulgach_restriction){3, 16}) == 0, "flags");
+    demand(wulgach_restrictions_allow_entry(&made, 0, 16) && wulgach_restrictions_allow_entry(&made, 0, 20) && !wulgach_restrictions_allow_entry(&made, 0, 4) && !wulgach_restrictions_allow_entry(&made, 0, 24), "which flags");
+    demand(wulgach_restricting_fault(false, true, true, 1) == -77 && wulgach_restricting_fault(true, true, false, 1) == -16 && wulgach_restricting_fault(true, false, false, 1) == -22, "a list");
+    demand(wulgach_restricting_fault(true, false, true, 129) == -22 && wulgach_restricting_fault(true, false, true, 128) == 0, "its length");
+    demand(wulgach_enabling_fault(false, true) == -22 && wulgach_enabling_fault(false, false) == -77 && wulgach_enabling_fault(true, false) == 0, "enabling");
+}
+
+enum { SLOTS = 4, ANY = -1 };
+
+static struct wulgach_table table;
+static uint64_t words[SLOTS];
+
+/* The slot that a file gets that asks for any, and has then; or the fault. */
+static int32_t any(void)
+{
+    uint32_t slot = 99;
+    int32_t fault = wulgach_table_place(&table, words, table.count, (uint32_t)ANY, &slot);
+    demand(fault == 0 || slot == 99, "a slot where there is none");
+    if (fault == 0)
+        demand(wulgach_table_fill(&table, words, SLOTS, slot, 7) == 0 && words[slot] == 7, "a slot that isn't free");
+    return fault == 0 ? (int32_t)slot : fault;
+}
+
+static void put(uint32_t slot, uint64_t word)
+{
+    demand(wulgach_table_fill(&table, words, SLOTS, slot, word) + word > 0 && words[slot] == word, "a slot's word");
+}
+
+/* The answers of a real ring of Linux 6.18 to the same. */
+static void give_slots(void)
+{
+    wulgach_table_begin(&table);
+    demand(any() == -23 && wulgach_table_give_out(&table, 0, 1, false) == -22 && wulgach_table_give_out(&table, 0, 0, false) == 0, "no table");
+    wulgach_table_register(&table, words, SLOTS);
+    demand(any() == 0 && any() == 1 && any() == 2, "one after another");
+    put(0, 0);
+    demand(any() == 0 && any() == 3 && any() == -23, "one that was emptied");
+    put(1, 0), put(3, 0), put(2, 0);
+    demand(any() == 2 && any() == 3 && any() == 1, "from the last that was emptied on");
+    put(1, 0), put(3, 0), put(0, 9);
+    demand(any() == 3 && any() == 1, "one that got another file");
+    put(0, 0), put(1, 0), put(2, 0), put(3, 0), put(1, 5);
+    demand(any() == 2 && any() == 3 && any() == 0 && any() == -23, "one that was filled");
+    put(0, 0), put(1, 0), put(2, 0), put(3, 0);
+    demand(wulgach_table_give_out(&table, 1, 2, false) == 0 && any() == 1 && any() == 2 && any() == -23, "a range");
+    put(3, 5), put(3, 0);
+    demand(any() == -23, "not behind it");
+    put(1, 0);
+    demand(any() == 1, "in it");
+    put(0, 5), put(0, 0);
+    demand(any() == -23, "not before it");
+    demand(wulgach_table_give_out(&table, 1, 4, false) == -22 && wulgach_table_give_out(&table, 1, 1, true) == -22 && wulgach_table_give_out(&table, UINT32_MAX, 3, true) == -75, "ranges");
+    demand(wulgach_table_give_out(&table, 4, 0, false) == 0 && any() == -23, "an empty one");
+}
+
+static void change_tables(void)
+{
+    uint32_t slot = 99;
+    demand(wulgach_table_place(&table, words, SLOTS, 0, &slot) == -22 && wulgach_table_place(&table, words, SLOTS, 5, &slot) == -22 && slot == 99, "no such slot");
+    demand(wulgach_table_place(&table, words, SLOTS, 4, &slot) == 0 && slot == 3, "a slot");
+    demand(wulgach_table_fill(&table, words, SLOTS, 4, 1) == 0, "no fifth");
+    demand(wulgach_table_registering_fault(&table, 0, 0, true) == -16 && wulgach_table_updating_fault(&table, 2, 2) == 0 && wulgach_table_updating_fault(&table, 2, 3) == -22 && wulgach_table_updating_fault(&table, UINT32_MAX, 1) == -75, "updates");
+    demand(wulgach_table_closing_fault(&table, words, SLOTS, 1) == 0 && wulgach_table_closing_fault(&table, words, SLOTS, 3) == -9 && wulgach_table_closing_fault(&table, words, SLOTS, 4) == -22, "closes");
+    demand(wulgach_table_unregistering_fault(&table, true) == -22 && wulgach_table_unregistering_fault(&table, false) == 0, "unregistering");
+    wulgach_table_unregister(&table);
+    demand(wulgach_table_place(&table, words, 0, 1, &slot) == -6 && wulgach_table_updating_fault(&table, 0, 0) == -6 && wulgach_table_closing_fault(&table, words, 0, 0) == -6, "no table");
+    demand(wulgach_table_unregistering_fault(&table, true) == -22 && wulgach_table_unregistering_fault(&table, false) == -6, "no table to unregister");
+    demand(wulgach_table_registering_fault(&table, 0, 9, true) == -22 && wulgach_table_registering_fault(&table, 9, 9, true) == 0 && wulgach_table_registering_fault(&table, 9, 8, true) == -24, "files");
+    demand(wulgach_table_registering_fault(&table, (1 << 20) + 1, UINT64_MAX, true) == -24 && wulgach_table_registering_fault(&table, 1 << 20, UINT64_MAX, true) == 0, "many");
+    demand(wulgach_table_registering_fault(&table, 1 << 14, 0, false) == 0 && wulgach_table_registering_fault(&table, (1 << 14) + 1, 0, false) == -22, "buffers");
+}
+
+static int32_t file_row(int32_t fd, uint64_t tag, bool is_update)
+{
+    int32_t fault;
+    uint32_t row = wulgach_file_row(fd, tag, is_update, &fault);
+    return row == WULGACH_ROW_REFUSED ? fault : (int32_t)row;
+}
+
+static int32_t buffer_row(uint64_t from, uint64_t size, uint64_t tag)
+{
+    int32_t fault;
+    uint32_t row = wulgach_buffer_row(from, size, tag, &fault);
+    return row == WULGACH_ROW_REFUSED ? fault : (int32_t)row;
+}
+
+static void look_at_rows(void)
+{
+    demand(file_row(0, 1, false) == WULGACH_ROW_FILLS && file_row(-1, 0, false) == WULGACH_ROW_EMPTIES && file_row(-1, 1, true) == -22, "files");
+    demand(file_row(-2, 0, true) == WULGACH_ROW_KEEPS && file_row(-2, 1, true) == -22 && file_row(-2, 1, false) == WULGACH_ROW_FILLS && file_row(-3, 0, true) == WULGACH_ROW_FILLS, "those that stay");
+    demand(buffer_row(0, 0, 0) == WULGACH_ROW_EMPTIES && buffer_row(0, 0, 1) == -22 && buffer_row(0, 1, 1) == -14, "no buffer");
+    demand(buffer_row(8, 0, 0) == -14 && buffer_row(8, 1, 1) == WULGACH_ROW_FILLS && buffer_row(8, 1 << 30, 0) == WULGACH_ROW_FILLS && buffer_row(8, (1 << 30) + 1, 0) == -14, "buffers");
+    demand(wulgach_updated(0, -9) == -9 && wulgach_updated(2, -9) == 2 && wulgach_updated(3, 0) == 3 && wulgach_updated(0, 0) == 0, "what an update returns");
+}
+
+int main(void)
+{
+    make_rings();
+    refuse_flags();
+    take_rows();
+    give_slots();
+    change_tables();
+    look_at_rows();
+    printf("register: as called for\n");
+    return 0;
+}

@@ -1,0 +1,132 @@
+/* Wulgach: which rings a set-up makes, and what is registered with a ring, as decisions, for whoever keeps one as the kernel does. The
+ * functions are in the library of wulgach.h, and proved as those are. The layer under liburing calls them.
+ */
+#ifndef WULGACH_REGISTER_H
+#define WULGACH_REGISTER_H
+
+#include "wulgach.h"
+
+#ifdef __cplusplus
+extern "C" {
+#endif
+
+/* ---- set-up ---- */
+
+/* What a set-up asks for, and what is so of what it names. */
+struct wulgach_asked_ring {
+    uint32_t entries;       /* of the submission ring, */
+    uint32_t cq_entries;    /* and of the completion ring, with IORING_SETUP_CQSIZE */
+    uint32_t flags;         /* IORING_SETUP_.. */
+    uint32_t processor;     /* where the ring's thread is to run, with IORING_SETUP_SQ_AFF, */
+    uint32_t processors;    /* and how many there are */
+    bool has_reserved;      /* a reserved field isn't 0 */
+    bool is_open;           /* with IORING_SETUP_ATTACH_WQ: the descriptor is open, */
+    bool is_ring;           /* a ring, */
+    bool has_thread;        /* and one with IORING_SETUP_SQPOLL */
+};
+
+/* Writes the set-up of the core of the ring that is asked for, with the sizes that the ring has, and returns 0. Else returns the first of
+ * these faults, and writes nothing: -22 (EINVAL) of a reserved field, of a flag that isn't served, stands without one that it wants or
+ * beside one that it can't, and of the sizes; of the ring to be shared, -6 (ENXIO) if its descriptor isn't open, and -22 if it is no ring,
+ * or has no thread that is to be shared; -22 of the processor. */
+int32_t wulgach_set_up(const struct wulgach_asked_ring *asked, struct wulgach_setup *setup);
+
+/* What a ring can do (IORING_FEAT_..), whose rings stand in one mapping or in two. */
+uint32_t wulgach_features(bool is_one_mapping);
+
+/* ---- restrictions ---- */
+
+/* A row of a list: `struct io_uring_restriction` without what is reserved. */
+struct wulgach_restriction {
+    uint16_t kind;          /* IORING_RESTRICTION_.. */
+    uint8_t number;         /* a call of io_uring_register(2), an operation, or flags of entries */
+};
+
+/* What the application of a ring may do. The fields belong to the library. */
+struct wulgach_restrictions {
+    bool are_registered;
+    uint8_t allowed, required;
+    uint64_t codes, calls;
+};
+
+/* The fault of a list of so many rows, before any is looked at, or 0: -77 (EBADFD) if the ring isn't disabled, -16 (EBUSY) of a second
+ * list, -22 (EINVAL) of none or of more than 128 rows. And of enabling a ring: -22 with an argument, -77 if it isn't disabled. */
+int32_t wulgach_restricting_fault(bool is_disabled, bool are_registered, bool has_list, uint32_t count);
+int32_t wulgach_enabling_fault(bool is_disabled, bool has_argument);
+
+/* Begins those of a ring for which none are registered, or of a list, which allows nothing before it has rows. */
+void wulgach_restrictions_none(struct wulgach_restrictions *restrictions);
+void wulgach_restrictions_begin(struct wulgach_restrictions *restrictions);
+
+/* Takes the next row. -22 if it is of no kind, or of no call or operation that there is: then the list isn't registered. */
+int32_t wulgach_restrictions_take(struct wulgach_restrictions *restrictions, const struct wulgach_restriction *row);
+
+/* Whether an entry of this operation may have these flags: a row names the operation, and the flags are all that are required, and no
+ * others but those that are allowed. And whether a call of io_uring_register(2) may be made: a row names it, or the ring is disabled. */
+bool wulgach_restrictions_allow_entry(const struct wulgach_restrictions *restrictions, uint8_t code, uint8_t flags);
+bool wulgach_restrictions_allow_call(const struct wulgach_restrictions *restrictions, uint32_t code, bool is_disabled);
+
+/* ---- tables of registered files and buffers ---- */
+
+/* A table, or none. What its slots hold are words of the caller's, one for each, as many as it has: 0 in a free one. A call that is given
+ * these looks at no other. The fields may be read. */
+struct wulgach_table {
+    bool is_registered;
+    uint32_t count;         /* slots */
+    uint32_t from, end;     /* those that are given out, */
+    uint32_t hint;          /* and where the search begins */
+};
+
+void wulgach_table_begin(struct wulgach_table *table);
+
+/* The fault of registering a table of so many files or buffers, where a process may have `limit` files open, or 0: -16 if there is one,
+ * -22 of none, of files -24 (EMFILE) if they are more than 2^20 or than the limit, of buffers -22 if they are more than 2^14. */
+int32_t wulgach_table_registering_fault(const struct wulgach_table *table, uint32_t count, uint64_t limit, bool is_of_files);
+
+/* A table with these words takes the place of what there was. */
+void wulgach_table_register(struct wulgach_table *table, const uint64_t *words, size_t count);
+
+/* The fault of unregistering it, or 0: -22 with an argument, -6 (ENXIO) if there is none; and that is done. */
+int32_t wulgach_table_unregistering_fault(const struct wulgach_table *table, bool has_argument);
+void wulgach_table_unregister(struct wulgach_table *table);
+
+/* The slots from one on, so many, are given out. Returns 0, or -75 (EOVERFLOW) if they end past 32 bits, -22 of a reserved field that
+ * isn't 0, or if they end past the table: then nothing changes. */
+int32_t wulgach_table_give_out(struct wulgach_table *table, uint32_t from, uint32_t len, bool has_reserved);
+
+/* The fault of updating so many slots from one on, before any is looked at, or 0: -6, -75 and -22, as above. And of closing what a slot
+ * holds: -6, -22, or -9 (EBADF) if it is free. */
+int32_t wulgach_table_updating_fault(const struct wulgach_table *table, uint32_t from, uint32_t count);
+int32_t wulgach_table_closing_fault(const struct wulgach_table *table, const uint64_t *words, size_t count, uint32_t slot);
+
+/* Writes the slot for a file of an entry with this `file_index`, and returns 0; else returns the fault, and writes nothing. Of one slot it
+ * is -6 if there is no table, and -22 if it hasn't that slot. A file that asks for any (IORING_FILE_INDEX_ALLOC) gets the first free one
+ * of those that are given out: from the one on behind which the last was filled, or which was emptied last, and then from their first on.
+ * -23 (ENFILE) if none is free. */
+int32_t wulgach_table_place(const struct wulgach_table *table, const uint64_t *words, size_t count, uint32_t file_index, uint32_t *slot);
+
+/* A slot gets this word, which is written. Returns the one that it had, or 0 where there is no such slot: then nothing changes. */
+uint64_t wulgach_table_fill(struct wulgach_table *table, uint64_t *words, size_t count, uint32_t slot, uint64_t word);
+
+/* What a row of a list does with its slot. */
+enum wulgach_row {
+    WULGACH_ROW_KEEPS = 0,
+    WULGACH_ROW_EMPTIES = 1,
+    WULGACH_ROW_FILLS = 2,      /* empties it, and gives it the file or buffer that the row names */
+    WULGACH_ROW_REFUSED = 3     /* the call ends with a fault */
+};
+
+/* Returns what a row with this descriptor does (enum wulgach_row), and writes its fault, or 0: -1 empties the slot, -2 of an update leaves
+ * it as it is, neither with a tag (-22), and another fills it. Of a buffer: one without an address and bytes empties the slot, without a
+ * tag (-22), and another has 1 to 2^30 bytes (-14, EFAULT). */
+uint32_t wulgach_file_row(int32_t fd, uint64_t tag, bool is_update, int32_t *fault);
+uint32_t wulgach_buffer_row(uint64_t from, uint64_t size, uint64_t tag, int32_t *fault);
+
+/* What a call returns that has changed so many slots, and ended with this fault or 0: how many, or of none the fault. */
+int32_t wulgach_updated(uint32_t done, int32_t fault);
+
+#ifdef __cplusplus
+}
+#endif
+
+#endif

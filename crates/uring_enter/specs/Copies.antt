@@ -1,0 +1,35 @@
+-- What is copied next of what an entry points to, and which fault the whole of it has: the first of those of its pieces, in their order, and behind them all -22 (EINVAL) of a provided buffer for other than one vector, and of a linked timeout that stands where it may not. io_uring_enter(2), CQE ERRORS. The order is what the kernel does.
+use Rattle.std.specs.Prelude.{ℕ, ℤ, pos, ◌==◌, Bool, Option, Some, None, if◌then◌else◌}
+use Rattle.uring_enter.specs.declared.submission.Submission.{Submission}
+use Rattle.uring_enter.specs.declared.member.Entry.{Entry}
+use Rattle.uring_enter.specs.declared.piece.Piece.{Piece}
+use Rattle.uring_enter.specs.declared.copying.Copying.{Copying}
+use Rattle.uring_enter.specs.declared.copying.Copying.TheVariants.{Copies, Ends}
+use Rattle.uring_enter.specs.Chains.{has_its_place}
+use Rattle.uring_enter.specs.Clocks.{has_some}
+use Rattle.uring_enter.specs.Forms.{is_below}
+use Rattle.uring_enter.specs.Pieces.{piece_of, fault_of, selection_fault}
+use Rattle.uring_enter.specs.Replies.{error}
+
+-- IOSQE_IO_LINK is 4 and IO_HARDLINK 8; IORING_OP_LINK_TIMEOUT is 15
+abbrev pub link_of : Submission → Entry
+link_of e = record { links = has_some e.flags 12; is_linked_timeout = e.opcode == 15 }
+
+-- the fault of an entry whose pieces have none
+abbrev pub last_fault : Submission → ℕ → Option Entry → ℤ
+last_fault e vectors before =
+    if is_below (selection_fault e vectors) then selection_fault e vectors else
+    if has_its_place (link_of e) before then pos 0 else error 22
+
+-- a piece that is too long isn't copied
+abbrev pub unless_too_long : Piece → Copying
+unless_too_long p = if is_below (fault_of p) then Ends (fault_of p) else Copies p
+
+abbrev pub piece_or : Option Piece → ℤ → Copying
+piece_or (Some p) fault = unless_too_long p
+piece_or None fault = Ends fault
+
+-- behind so many pieces, of which the last has this fault, or 0
+abbrev pub next_of : Submission → ℕ → ℤ → ℕ → Option Entry → Copying
+next_of e copied fault vectors before =
+    if is_below fault then Ends fault else piece_or (piece_of e copied) (last_fault e vectors before)

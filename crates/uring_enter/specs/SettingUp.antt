@@ -1,0 +1,68 @@
+-- Which rings a set-up makes, and with which error it refuses others. io_uring_setup(2), DESCRIPTION and ERRORS; which flags want or can't have which, and the order of faults, are the kernel's, and the limits of the sizes our own rule.
+use Rattle.std.specs.Prelude.{◌≡◌, ℕ, ℤ, pos, ◌+◌, Bool, true, false, not, ◌&&◌, ◌||◌, ◌⊎◌, nat_le, min, Option, Some, None, if◌then◌else◌}
+use Rattle.std.specs.Int.RustNames.{bit_and}
+use Rattle.uring_entry.specs.Setup.{Setup, IsSetupFor}
+use Rattle.uring_enter.specs.declared.asked_ring.AskedRing.{AskedRing}
+use Rattle.uring_enter.specs.Clocks.{has_some}
+use Rattle.uring_enter.specs.Forms.{is_below}
+use Rattle.uring_enter.specs.Replies.{error}
+
+-- IORING_SETUP_SQPOLL is 2: no COOP_TASKRUN (256), TASKRUN_FLAG (512) or DEFER_TASKRUN (8192) beside it. TASKRUN_FLAG wants one of the other two, and DEFER_TASKRUN SINGLE_ISSUER (4096)
+abbrev pub has_lone_flags : ℕ → Bool
+has_lone_flags flags =
+    if has_some flags 2 then has_some flags 8960 else
+    has_some flags 512 && not (has_some flags 8448) || has_some flags 8192 && not (has_some flags 4096)
+
+-- a reserved field isn't 0, or a flag isn't served: those up to DEFER_TASKRUN are, the lowest 14 bits
+abbrev pub is_malformed : AskedRing → Bool
+is_malformed a = a.has_reserved || has_some a.flags 4294950912 || has_lone_flags a.flags
+
+-- IORING_SETUP_CLAMP (16): a size past the largest is the largest
+abbrev pub clamped : ℕ → ℕ → ℕ → ℕ
+clamped flags size most = if has_some flags 16 then min size most else size
+
+abbrev pub asked_sq : AskedRing → ℕ
+asked_sq a = clamped a.flags a.entries 4096
+
+-- IORING_SETUP_CQSIZE is 8
+abbrev pub asked_cq : AskedRing → Option ℕ
+asked_cq a = if has_some a.flags 8 then Some (clamped a.flags a.cq_entries 8192) else None
+
+-- no ring has the sizes that are asked for
+abbrev pub HasNoSizes : AskedRing → Type 0
+HasNoSizes a = (s : Setup) → IsSetupFor (asked_sq a) (asked_cq a) 1 0 s → ⊥
+
+-- IORING_SETUP_ATTACH_WQ (32): -6 (ENXIO) if the descriptor isn't open; -22 (EINVAL) if it is no ring, or one without a thread that is to be shared
+abbrev pub sharing_fault : AskedRing → ℤ
+sharing_fault a =
+    if not (has_some a.flags 32) then pos 0 else
+    if not a.is_open then error 6 else
+    if not a.is_ring || has_some a.flags 2 && not a.has_thread then error 22 else pos 0
+
+-- IORING_SETUP_SQ_AFF (4) wants a thread, and a processor that there is; of a thread that is shared it isn't looked at
+abbrev pub has_bad_processor : AskedRing → Bool
+has_bad_processor a =
+    has_some a.flags 4
+    && (if has_some a.flags 2 then not (has_some a.flags 32) && nat_le a.processors a.processor else true)
+
+-- the fault of what a set-up names, or 0
+abbrev pub place_fault : AskedRing → ℤ
+place_fault a =
+    if is_below (sharing_fault a) then sharing_fault a else
+    if has_bad_processor a then error 22 else pos 0
+
+-- a ring of these sizes is made
+abbrev pub IsMade : AskedRing → Setup → Type 0
+IsMade a s =
+    (is_malformed a ≡ false) × IsSetupFor (asked_sq a) (asked_cq a) 1 0 s × (is_below (place_fault a) ≡ false)
+
+-- what is wrong by itself comes first, then sizes, each -22, and then the fault of what is named
+abbrev pub IsRefusedWith : AskedRing → ℤ → Type 0
+IsRefusedWith a fault =
+    ((is_malformed a ≡ true) ⊎ HasNoSizes a) × (fault ≡ error 22)
+    ⊎ ((s : Setup) × IsSetupFor (asked_sq a) (asked_cq a) 1 0 s) × (is_below (place_fault a) ≡ true) × (fault ≡ place_fault a)
+
+-- what a ring can do: IORING_FEAT_NODROP (2), SUBMIT_STABLE (4), RW_CUR_POS (8), CUR_PERSONALITY (16), FAST_POLL (32), SQPOLL_NONFIXED (128), EXT_ARG (256), NATIVE_WORKERS (512), RSRC_TAGS (1024), CQE_SKIP (2048) and LINKED_FILE (4096); and SINGLE_MMAP (1)
+abbrev pub features : Bool → ℕ
+features one =
+    2 + 4 + 8 + 16 + 32 + 128 + 256 + 512 + 1024 + 2048 + 4096 + (if one then 1 else 0)

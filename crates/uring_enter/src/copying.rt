@@ -1,0 +1,72 @@
+//! What is copied next of what an entry points to, and which fault the whole of it has. io_uring_enter(2), CQE ERRORS.
+
+ghost use Rattle.std.specs.Prelude.{◌≡◌};
+ghost use Rattle.uring_enter.specs.Copies as spec;
+
+use crate::member::{Entry, has_its_place};
+use crate::piece::{Piece, piece_of, selection_fault};
+use crate::submission::Submission;
+
+/// How the copying of an entry goes on.
+#[derive(Clone, Copy, Drop)]
+pub enum Copying {
+    /// This piece is copied next.
+    Copies(Piece),
+
+    /// Nothing more is copied, and this is the fault of the entry, or 0.
+    Ends(i32),
+}
+
+/// What goes on behind so many pieces of an entry, of which the last has this fault, or 0, and which hold so many vectors. `before` is the entry before it in its call.
+pub fn next_piece(
+    entry: &Submission,
+    copied: u32,
+    fault: i32,
+    vectors: u32,
+    before: Option<Entry>,
+) -> Copying
+    ensures { result ≡ spec.next_of entry.now copied fault vectors before }
+{
+    if fault < 0 {
+        return Copying::Ends(fault);
+    }
+    match piece_of(entry, copied) {
+        Some(piece) => unless_too_long(piece),
+        None => Copying::Ends(last_fault(entry, vectors, before)),
+    }
+}
+
+fn unless_too_long(piece: Piece) -> Copying
+    ensures { result ≡ spec.unless_too_long piece }
+{
+    let fault = piece.fault();
+    if fault < 0 {
+        Copying::Ends(fault)
+    } else {
+        Copying::Copies(piece)
+    }
+}
+
+/// The fault of an entry whose pieces have none, or 0.
+fn last_fault(entry: &Submission, vectors: u32, before: Option<Entry>) -> i32
+    ensures { result ≡ spec.last_fault entry.now vectors before }
+{
+    let fault = selection_fault(entry, vectors);
+    if fault < 0 {
+        fault
+    } else if has_its_place(link_of(entry), before) {
+        0
+    } else {
+        -22
+    }
+}
+
+/// What an entry says of its chain.
+fn link_of(entry: &Submission) -> Entry
+    ensures { result ≡ spec.link_of entry.now }
+{
+    Entry {
+        links: entry.flags & 12 != 0,
+        is_linked_timeout: entry.opcode == 15,
+    }
+}
