@@ -295,12 +295,13 @@ int32_t wulgach_core_step(struct wulgach_core *core, const struct wulgach_step *
  * and all entries are published and wait for another one. A ring that stops behind an entry with a fault leaves those after it
  * published too.
  *
- * -12 if memory for a copy of the entries was refused; then nothing has changed. */
+ * -12 if memory for a copy of the entries was refused, which a single one doesn't need; then nothing has changed. */
 int32_t wulgach_core_submit(struct wulgach_core *core, const struct wulgach_entry *entries, size_t count, struct wulgach_answer *answer);
 
 /* Reaps the completions that the ring shows now, into these places from the first on: LOAD_CQ_TAIL, a REAP for each, and
  * STORE_CQ_HEAD. Writes how many: as many as there are, or as there is room for. Those that wait in the overflow list come into the
- * ring by a FLUSH. -12 if memory for a copy of as many as there is room for was refused; then nothing has changed. */
+ * ring by a FLUSH. -12 if memory for a copy of as many as there is room for was refused, which a single place doesn't need; then
+ * nothing has changed. */
 int32_t wulgach_core_reap_all(struct wulgach_core *core, struct wulgach_completion *completions, size_t room, uint64_t *count);
 
 /* Ends running request number with any result and any bytes, and writes the answer: ENDED with that very outcome
@@ -314,6 +315,14 @@ int32_t wulgach_core_issue(struct wulgach_core *core, uint64_t number, uint32_t 
 
 /* The same as wulgach_core_finish of an outcome without bytes, and writes the kind of the answer, and its result, or 0. */
 int32_t wulgach_core_end(struct wulgach_core *core, uint64_t number, int32_t told, uint32_t *kind, int32_t *res);
+
+/* Has the application load the completion ring's tail, as the step LOAD_CQ_TAIL does, and writes the kind of the answer, and its word,
+ * or 0. -9 (EBADF) exactly at an empty place; then nothing is written. */
+int32_t wulgach_core_cq_tail(struct wulgach_core *core, uint32_t *kind, uint32_t *tail);
+
+/* Has the dispatcher load the completion ring's head, as the step FLUSH does, and writes the kind of the answer, and its number, or 0.
+ * -9 (EBADF) exactly at an empty place; then nothing is written. */
+int32_t wulgach_core_flush(struct wulgach_core *core, uint32_t *kind, uint64_t *moved);
 
 /* Writes how far the core has come. */
 int32_t wulgach_core_counts(struct wulgach_core *core, struct wulgach_counts *counts);

@@ -77,6 +77,17 @@ static void compare(struct wulgach_core *whole, struct wulgach_core *stepped)
     }
 }
 
+/* Flushes both, the one by the call of that name, and has both say their tail. */
+static void flush(struct wulgach_core *whole, struct wulgach_core *stepped)
+{
+    uint32_t kind, tail;
+    uint64_t moved;
+    struct wulgach_answer answer = step(stepped, WULGACH_FLUSH, 0, 0);
+    check(wulgach_core_flush(whole, &kind, &moved) == 0 && kind == answer.kind && moved == answer.number, "the same moves");
+    answer = step(stepped, WULGACH_LOAD_CQ_TAIL, 0, 0);
+    check(wulgach_core_cq_tail(whole, &kind, &tail) == 0 && kind == answer.kind && tail == answer.word, "the same tail");
+}
+
 /* Reaps both: the one at once into room places, the other step by step. */
 static void reap(struct wulgach_core *whole, struct wulgach_core *stepped, size_t room)
 {
@@ -94,8 +105,7 @@ static void reap(struct wulgach_core *whole, struct wulgach_core *stepped, size_
     for (size_t i = count; i < 2 * SIZE; i++)
         check(places[i].user_data == 0, "the other places are left");
     step(stepped, WULGACH_STORE_CQ_HEAD, 0, 0);
-    step(whole, WULGACH_FLUSH, 0, 0);
-    step(stepped, WULGACH_FLUSH, 0, 0);
+    flush(whole, stepped);
 }
 
 /* Calls of 0 to all entries, with a fault or none, on rings that go on or stop. */
@@ -114,7 +124,7 @@ static void side_by_side(const struct wulgach_setup *setup)
         carry_out(&whole);
         carry_out(&stepped);
         compare(&whole, &stepped);
-        reap(&whole, &stepped, round % 5 == 0 ? 3 : 2 * SIZE);
+        reap(&whole, &stepped, round % 5 == 0 ? 3 : round % 7 == 0 ? 1 : 2 * SIZE);
         if (answer.word < count) {
             check(wulgach_core_submit(&whole, entries, 1, &last) == 0 && last.kind == WULGACH_BUSY, "the rest waits");
             for (int i = 0; i < 2; i++) {
@@ -136,12 +146,15 @@ static void refusals(void)
     struct wulgach_core core = {0};
     struct wulgach_entry entries[SIZE + 1];
     struct wulgach_answer answer = {.kind = 99};
-    struct wulgach_completion place = {.user_data = 99};
+    struct wulgach_completion place = {.user_data = 99}, two[2];
     struct wulgach_counts counts;
     uint64_t count = 99;
     make_entries(entries, SIZE + 1, 1, SIZE + 1);
     check(wulgach_core_submit(&core, entries, 1, &answer) == -9 && answer.kind == 99, "submit at an empty place");
     check(wulgach_core_reap_all(&core, &place, 1, &count) == -9 && count == 99 && place.user_data == 99, "reap_all at an empty place");
+    uint32_t kind = 99, tail = 99;
+    check(wulgach_core_cq_tail(&core, &kind, &tail) == -9 && kind == 99 && tail == 99, "cq_tail at an empty place");
+    check(wulgach_core_flush(&core, &kind, &count) == -9 && kind == 99 && count == 99, "flush at an empty place");
     check(wulgach_core_new(&core, &going_on) == 0, "new");
     check(wulgach_core_submit(&core, entries, SIZE + 1, &answer) == 0 && answer.kind == WULGACH_NO_SLOT, "too many entries");
     served = 0;
@@ -156,7 +169,8 @@ static void refusals(void)
     }
     check(step(&core, WULGACH_END, 0, 0).word == 2, "both are accepted");
     served = 0;
-    check(wulgach_core_reap_all(&core, &place, 1, &count) == -12 && count == 99, "no memory for completions");
+    check(wulgach_core_reap_all(&core, two, 2, &count) == -12 && count == 99, "no memory for completions");
+    check(wulgach_core_reap_all(&core, &place, 1, &count) == 0 && count == 0, "a single one takes none");
     served = -1;
     check(step(&core, WULGACH_CLOSE, 0, 0).kind == WULGACH_SHUT, "close");
     check(wulgach_core_submit(&core, entries, 1, &answer) == 0 && answer.kind == WULGACH_CLOSED, "a closed ring");

@@ -84,18 +84,22 @@ static bool store_shown(struct ring *ring)
     return is_told;
 }
 
+void show_flags(struct ring *ring)
+{
+    /* A call may bring something: so a peek that finds nothing calls, requests go on, and a descriptor that polls is readable no more. */
+    bool may_bring = ring->requests.count > 0 || ring->is_readable;
+    store_word(&ring->memory.sq->flags, wulgach_shown_flags(&ring->completions.at, may_bring, ring->flags & IORING_SETUP_SQPOLL));
+}
+
 void show(struct ring *ring)
 {
     struct wulgach_shown *at = &ring->completions.at;
-    struct sq_words *sq = ring->memory.sq;
     ring->completions.is_behind = false;
     if (wulgach_shown_overflows(at) && store_shown(ring))
         tell_eventfd(ring);
-    if (wulgach_shown_overflows(at) && !(load_word(&sq->flags) & IORING_SQ_CQ_OVERFLOW))
+    if (wulgach_shown_overflows(at) && !(load_word(&ring->memory.sq->flags) & IORING_SQ_CQ_OVERFLOW))
         note_rule(COMPLETION_OVERFLOWS);
-    /* A call may bring something: so a peek that finds nothing calls, requests go on, and a descriptor that polls is readable no more. */
-    bool may_bring = ring->requests.count > 0 || ring->is_readable;
-    store_word(&sq->flags, wulgach_shown_flags(at, may_bring, ring->flags & IORING_SETUP_SQPOLL));
+    show_flags(ring);
 }
 
 void show_ends(struct ring *ring)

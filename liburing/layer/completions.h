@@ -30,6 +30,9 @@ bool note_end(struct ring *ring, const struct request *request, int32_t told);
 /* Shows the application what the core's tail says. */
 void show(struct ring *ring);
 
+/* Stores the flags word alone: what it tells beside completions may have changed. */
+void show_flags(struct ring *ring);
+
 /* The same, if anything has ended since it was last done. */
 void show_ends(struct ring *ring);
 

@@ -32,11 +32,11 @@ struct waiting {
     bool is_looking;        /* it gets events, and waits for none */
     struct wulgach_limit limit;     /* how long it waits at most, in nanoseconds, */
     struct wulgach_limit deadline;  /* and until when in the ring's time */
-    sigset_t signals;       /* the mask while the call sleeps */
+    const sigset_t *signals;        /* the mask while the call sleeps */
 };
 
-/* Reads the last two arguments of the call, beside the mask that the thread has. */
-static int read_waiting(struct waiting *waiting, uint32_t flags, const void *argument, size_t size)
+/* Reads the last two arguments of the call. If it gives a mask, that stands in the place of the thread's. */
+static int read_waiting(struct waiting *waiting, sigset_t *given, uint32_t flags, const void *argument, size_t size)
 {
     uint64_t signals = (uintptr_t)argument;
     size_t signals_size = size;
@@ -57,8 +57,9 @@ static int read_waiting(struct waiting *waiting, uint32_t flags, const void *arg
     /* The kernel's set of signals is the first 64 bits of the C library's. */
     if (signals_size != _NSIG / 8)
         return -EINVAL;
-    sigemptyset(&waiting->signals);
-    return copy_in(&waiting->signals, signals, signals_size);
+    sigemptyset(given);
+    waiting->signals = given;
+    return copy_in(given, signals, signals_size);
 }
 
 static void say_stuck(struct ring *ring, uint32_t min_complete)
@@ -129,7 +130,7 @@ static enum wulgach_reply_kind sleep_on(struct ring *ring, const struct waiting 
     if (watch_pipes(ring))
         return WULGACH_WOKEN;
     show_readiness(ring);
-    int result = wait_for_any(ring, &waiting->deadline, &waiting->signals);
+    int result = wait_for_any(ring, &waiting->deadline, waiting->signals);
     hear_pipes(ring);
     switch (result) {
     case 0:
@@ -223,7 +224,8 @@ static int enter_ring(struct ring *ring, uint32_t flags, struct waiting *waiting
     hold_files(ring);
     watch_pipes(ring);
     show_readiness(ring);
-    show(ring);
+    show_ends(ring);
+    show_flags(ring);
     return result;
 }
 
@@ -247,13 +249,11 @@ int enter(int fd, uint32_t to_submit, uint32_t min_complete, uint32_t flags, con
     if (!ring)
         return fcntl(fd, F_GETFD) < 0 ? -EBADF : -EOPNOTSUPP;
     ring->called_fd = fd;
-    struct waiting waiting = {.to_submit = to_submit, .min_complete = min_complete, .is_looking = flags & IORING_ENTER_GETEVENTS && min_complete == 0};
-    if (signals)
-        waiting.signals = *signals;
-    else
-        block_signals(&waiting.signals);
-    sigset_t own = waiting.signals;
-    int result = read_waiting(&waiting, flags, argument, size);
+    sigset_t own, given;
+    struct waiting waiting = {.to_submit = to_submit, .min_complete = min_complete, .is_looking = flags & IORING_ENTER_GETEVENTS && min_complete == 0, .signals = signals ? signals : &own};
+    if (!signals)
+        block_signals(&own);
+    int result = read_waiting(&waiting, &given, flags, argument, size);
     if (result == 0)
         result = enter_ring(ring, flags, &waiting);
     unlock_ring(ring);

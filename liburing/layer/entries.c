@@ -38,10 +38,8 @@ static int copy_vectors(struct request *request, const struct wulgach_piece *pie
 /* A transfer of one buffer becomes one of a single vector. */
 static int make_vector(struct request *request)
 {
-    request->vectors = malloc(sizeof *request->vectors);
-    if (!request->vectors)
-        return -ENOMEM;
-    *request->vectors = (struct iovec){(void *)(uintptr_t)request->entry.addr, request->entry.len};
+    request->one = (struct iovec){(void *)(uintptr_t)request->entry.addr, request->entry.len};
+    request->vectors = &request->one;
     request->length = request->entry.len;
     request->vector_count = 1;
     return 0;

@@ -138,7 +138,8 @@ void drop_requests(struct requests *requests, size_t count)
 
 static void free_parts(const struct request *request)
 {
-    free(request->vectors);
+    if (request->vectors != &request->one)
+        free(request->vectors);
     free(request->path);
     free(request->second_path);
     free(request->value);

@@ -48,7 +48,7 @@ struct request {
     int watch;                      /* the number by which writes to that are told, or 0, */
     bool is_told;                   /* and whether something was written, and is gone */
     /* What the entry points to, copied when it is submitted: the application may reuse it at once. */
-    struct iovec *vectors;
+    struct iovec *vectors, one;     /* (one stands here) */
     uint32_t vector_count;
     uint64_t length;                /* the bytes of a transfer's vectors */
     char *path, *second_path;

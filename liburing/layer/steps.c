@@ -78,9 +78,19 @@ uint32_t load_head(struct ring *ring)
     return make_word(ring, WULGACH_LOAD_HEAD, WULGACH_HEAD);
 }
 
+/* Traces a step that has no fields, whose answer has a word or a number. */
+static void trace_plain_step(struct ring *ring, uint32_t step, uint32_t kind, uint32_t word, uint64_t number)
+{
+    trace_step(ring, &(struct wulgach_step){.kind = step}, &(struct wulgach_answer){.kind = kind, .word = word, .number = number});
+}
+
 uint32_t load_cq_tail(struct ring *ring)
 {
-    return make_word(ring, WULGACH_LOAD_CQ_TAIL, WULGACH_TAIL);
+    uint32_t kind, tail;
+    demand(wulgach_core_cq_tail(&ring->core, &kind, &tail) == 0 && kind == WULGACH_TAIL, "the core doesn't say its completion tail");
+    if (is_traced(ring))
+        trace_plain_step(ring, WULGACH_LOAD_CQ_TAIL, kind, tail, 0);
+    return tail;
 }
 
 void reap_one(struct ring *ring, uint64_t user_data, int32_t res)
@@ -124,10 +134,12 @@ struct wulgach_answer end_call(struct ring *ring)
 
 void flush(struct ring *ring)
 {
-    struct wulgach_answer answer;
-    make_plain(ring, WULGACH_FLUSH, 0, &answer);
-    demand(answer.kind == WULGACH_MOVED, "the core doesn't flush");
-    note_rules(OVERFLOW_MOVES, answer.number);
+    uint32_t kind;
+    uint64_t moved;
+    demand(wulgach_core_flush(&ring->core, &kind, &moved) == 0 && kind == WULGACH_MOVED, "the core doesn't flush");
+    if (is_traced(ring))
+        trace_plain_step(ring, WULGACH_FLUSH, kind, 0, moved);
+    note_rules(OVERFLOW_MOVES, moved);
 }
 
 bool find_next(struct ring *ring, uint64_t *number)

@@ -13,7 +13,7 @@
 bool has_expired(const struct ring *ring)
 {
     struct wulgach_timeout timeout;
-    return wulgach_times_due(&ring->times, ring->timeouts, ring->timeouts_room, &timeout) == 0;
+    return ring->times.count > 0 && wulgach_times_due(&ring->times, ring->timeouts, ring->timeouts_room, &timeout) == 0;
 }
 
 static void fire(struct ring *ring, const struct wulgach_timeout *timeout)

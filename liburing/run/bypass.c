@@ -26,13 +26,11 @@ uint32_t bypassed_vectors __attribute__((visibility("hidden")));
 __attribute__((used)) long enter_bypassed(const long words[6])
 {
     int kept = errno;
-    sigset_t all, before;
+    sigset_t before;
     sigemptyset(&before);
-    sigfillset(&all);
-    sigdelset(&all, SIGSYS);
-    real_sigmask(SIG_SETMASK, &all, &before);
+    set_mask(~OPEN_IN_TRAP, &before);
     long result = wulgach_blocked_enter(words, &before);
-    real_sigmask(SIG_SETMASK, &before, NULL);
+    put_mask_back(&before);
     errno = kept;
     return result;
 }

@@ -2,8 +2,11 @@
 #ifndef RUN_H
 #define RUN_H
 
+#include "../layer/passing.h"
+
 #include <signal.h>
 #include <stdbool.h>
+#include <stdint.h>
 #include <ucontext.h>
 
 /* The 6th argument, which none of the trapped calls uses, of those that are our own: the filter lets them pass. The layer's
@@ -16,6 +19,20 @@ void say(const char *message, const char *of);
 /* The C library's calls behind those that are preloaded. */
 int real_sigaction(int number, const struct sigaction *action, struct sigaction *before);
 int real_sigmask(int how, const sigset_t *set, sigset_t *before);
+
+/* While a call is served all signals are blocked but SIGSYS and the two of the C library's own. */
+#define OPEN_IN_TRAP ((uint64_t)1 << (SIGSYS - 1) | (uint64_t)3 << 31)
+
+/* The thread's mask, by the kernel's call itself, whose set is 64 bits: it becomes another, and is put back. */
+static inline void set_mask(uint64_t mask, sigset_t *before)
+{
+    pass(SYS_rt_sigprocmask, SIG_SETMASK, (long)&mask, (long)before, sizeof mask, 0, 0);
+}
+
+static inline void put_mask_back(const sigset_t *before)
+{
+    pass(SYS_rt_sigprocmask, SIG_SETMASK, (long)before, 0, sizeof(uint64_t), 0, 0);
+}
 
 /* Catches SIGSYS, whoever has a filter already. */
 bool catch_for_good(void (*handler)(int, siginfo_t *, void *));

@@ -53,11 +53,9 @@ int real_sigmask(int how, const sigset_t *set, sigset_t *before)
 void return_from_handler(void);
 __asm__(".text\n.type return_from_handler, @function\n\tnop\nreturn_from_handler:\n\tmov $15, %rax\n\tsyscall\n.size return_from_handler, .-return_from_handler\n");
 
-/* While the handler runs, all signals are blocked but SIGSYS and the two of the C library's own. */
 bool catch_for_good(void (*handler)(int, siginfo_t *, void *))
 {
-    const uint64_t open = (uint64_t)1 << (SIGSYS - 1) | (uint64_t)3 << 31;
-    struct raw_action action = {handler, SA_SIGINFO | SA_NODEFER | SA_RESTART | SA_ONSTACK | HAS_RESTORER, return_from_handler, ~open};
+    struct raw_action action = {handler, SA_SIGINFO | SA_NODEFER | SA_RESTART | SA_ONSTACK | HAS_RESTORER, return_from_handler, ~OPEN_IN_TRAP};
     return syscall(SYS_rt_sigaction, SIGSYS, &action, NULL, sizeof action.mask, 0, ASKS_KERNEL) == 0;
 }
 

@@ -11,7 +11,7 @@ use Rattle.uring_core.specs.declared.answer.Answer.{Answer}
 use Rattle.uring_core.specs.declared.answer.Answer.TheVariants as answer
 use Rattle.uring_core.specs.declared.step.Step.{Step}
 use Rattle.uring_core.specs.declared.step.Step.TheVariants as step
-use Rattle.uring_c.specs.AnswerForm.{words_of, kind_of, res_of, IsAgain}
+use Rattle.uring_c.specs.AnswerForm.{words_of, kind_of, word_of, number_of, res_of, IsAgain}
 use Rattle.uring_c.specs.declared.answer_words.AnswerWords.{AnswerWords}
 
 -- A core has made this step, and answered so: it fits every history that it did, followed by both.
@@ -63,6 +63,20 @@ pub record TellsKind (s : Step) (old new : Option Core) (kind : ℕ) (res : ℤ)
   pub given : Answer
   pub kind_is : kind ≡ kind_of given
   pub res_is : res ≡ res_of given
+  pub made : IsSomeAnd old (λ before. IsSomeAnd new (SteppedApart s given before))
+
+-- The core of a place has made this step, and this is the kind of its answer, with its word, or 0.
+pub record TellsWord (s : Step) (old new : Option Core) (kind word : ℕ) : Type 0 where
+  pub given : Answer
+  pub kind_is : kind ≡ kind_of given
+  pub word_is : word ≡ word_of given
+  pub made : IsSomeAnd old (λ before. IsSomeAnd new (SteppedApart s given before))
+
+-- The core of a place has made this step, and this is the kind of its answer, with its number, or 0.
+pub record TellsNumber (s : Step) (old new : Option Core) (kind number : ℕ) : Type 0 where
+  pub given : Answer
+  pub kind_is : kind ≡ kind_of given
+  pub number_is : number ≡ number_of given
   pub made : IsSomeAnd old (λ before. IsSomeAnd new (SteppedApart s given before))
 
 -- an operation ended with this result, and has given no bytes

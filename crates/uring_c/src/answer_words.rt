@@ -87,7 +87,7 @@ pub(crate) fn kind(answer: &Answer) -> u32
 }
 
 /// The word of an answer: 0 if it has none.
-fn word(answer: &Answer) -> u32
+pub(crate) fn word(answer: &Answer) -> u32
     ensures { result ≡ spec.word_of answer.now }
 {
     match *answer {
@@ -118,7 +118,7 @@ fn head(answer: &Answer) -> u32
 }
 
 /// The number of an answer: 0 if it has none.
-fn number(answer: &Answer) -> u64
+pub(crate) fn number(answer: &Answer) -> u64
     ensures { result ≡ spec.number_of answer.now }
 {
     match *answer {

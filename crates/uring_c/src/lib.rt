@@ -10,6 +10,7 @@ mod core_exports;
 mod core_memory;
 mod core_place;
 mod core_request_exports;
+mod core_word_exports;
 mod count_words;
 mod course_exports;
 mod course_words;

@@ -48,6 +48,11 @@ pub fn core_submit_in<M: Memory>(
     if !place.is_full {
         return -errno::EBADF;
     }
+    if entries.len() == 1 {
+        let made = place.submit_in(memory, alloc, &[Sqe::from_words(entries[0].words)]);
+        *answer = answer_words(&submit_told(made));
+        return 0;
+    }
     let Ok(list) = entries_of(memory, alloc, entries) else {
         return -errno::ENOMEM;
     };
@@ -77,6 +82,13 @@ pub fn core_reap_all_in<M: Memory>(
 {
     if !place.is_full {
         return -errno::EBADF;
+    }
+    if completions.len() == 1 {
+        let mut one = [Cqe::new(0, 0, [0; 64])];
+        let reaped = place.reap_all(alloc, &mut one);
+        give_completions(&one, reaped, completions);
+        *count = reaped as u64;
+        return 0;
     }
     let Ok(mut list) = memory.filled(alloc, Cqe::new(0, 0, [0; 64]), completions.len()) else {
         return -errno::ENOMEM;
