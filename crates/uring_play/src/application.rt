@@ -10,6 +10,9 @@ use std::thread;
 use uring_core::Cqe;
 use uring_threads::{AppEnd, AppPort, CloseRefusal, Item, SubmitRefusal};
 
+/// How many completions are reaped before a call is tried once more.
+const MOST_REAPED: u32 = 64;
+
 /// What the application's thread leaves.
 #[derive(Drop)]
 pub(crate) struct Applied<P: AppPort> {
@@ -143,7 +146,7 @@ fn reap_until<R: Wait, P: AppPort>(
     }
 }
 
-/// Reaps a completion, or lets other threads run. False, and nothing is done, if the threads are to stop.
+/// Reaps completions, or lets other threads run if this end sees none. False, and nothing is done, if the threads are to stop.
 fn goes_on<P: AppPort>(app: &mut AppEnd<P>, completions: &mut Vec<Cqe>, stop: &AtomicBool) -> bool
     requires { app.old.received ≡ completions.old.items }
     ensures submitted { app.new.submitted ≡ app.old.submitted }
@@ -154,10 +157,28 @@ fn goes_on<P: AppPort>(app: &mut AppEnd<P>, completions: &mut Vec<Cqe>, stop: &A
     if stop.load(Ordering::SeqCst) {
         return false;
     }
-    if !reap(app, completions) {
+    if !reap_some(app, completions) {
         thread::yield_now();
     }
     true
+}
+
+/// Reaps completions for as long as this end sees some, so that a call isn't tried anew for each of them, but no more than `MOST_REAPED`. Whether there was one.
+fn reap_some<P: AppPort>(app: &mut AppEnd<P>, completions: &mut Vec<Cqe>) -> bool
+    requires { app.old.received ≡ completions.old.items }
+    ensures submitted { app.new.submitted ≡ app.old.submitted }
+    ensures pairing { app.new.pairing ≡ app.old.pairing }
+    ensures sizes { app.new.sizes ≡ app.old.sizes }
+    ensures reaped { app.new.received ≡ completions.new.items }
+{
+    let mut has_reaped = false;
+    'reaping: for _ in 0..MOST_REAPED {
+        if !reap(app, completions) {
+            break 'reaping;
+        }
+        has_reaped = true;
+    }
+    has_reaped
 }
 
 /// Reaps a completion, if there is memory for it and this end sees one. Whether it did.
