@@ -87,7 +87,7 @@ int copy_behind(struct request *request, const struct request *before)
     int32_t next;
     if (request->mapping == CANCEL)
         return 0;
-    if (before)
+    if (before && request->entry.opcode == IORING_OP_LINK_TIMEOUT)      /* it matters to no other */
         copied.before = link_of(&before->entry);
     while ((next = wulgach_next_piece(submission_of(&request->entry), &copied, &piece)) > 0) {
         copied.fault = copy_piece(request, &piece);
