@@ -6,6 +6,7 @@
 #include "extras.h"
 #include "files.h"
 #include "groups.h"
+#include "passing.h"
 #include "paths.h"
 #include "polls.h"
 #include "ring.h"
@@ -67,7 +68,7 @@ bool is_stream(struct request *request)
     bool is_socket_call = is_of_sockets(request->entry.opcode);
     if (is_poll(request) || is_splice(request))
         return true;
-    if ((!is_transfer(request) && !is_socket_call) || fstat(request->fd, &status) < 0)
+    if ((!is_transfer(request) && !is_socket_call) || pass(SYS_fstat, request->fd, (long)&status, 0, 0, 0, 0) < 0)
         return false;
     /* A call of sockets on anything else fails at once. */
     if (is_socket_call)

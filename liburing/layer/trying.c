@@ -62,24 +62,25 @@ bool is_tried_at_once(const struct request *request)
     return is_read(request) && kind_of(request->fd) == WAS_FILE && may_be_tried(request);
 }
 
-static ssize_t move(const struct request *request)
+/* Reads by the kernel's call itself, which is quicker than the C library's: that is one at which threads are cancelled. Returns the
+ * negative of an error number. */
+static long read_by_kernel(const struct request *request, int flags)
 {
-    int count = (int)request->vector_count;
-    off_t offset = (off_t)request->entry.off;
-    return is_read(request) ? preadv2(request->fd, request->vectors, count, offset, 0) : pwritev2(request->fd, request->vectors, count, offset, 0);
+    return pass(SYS_preadv2, request->fd, (long)request->vectors, (long)request->vector_count, (long)request->entry.off, 0, flags);
 }
 
-/* Reads without waiting, by the kernel's call itself, which is quicker than the C library's: that is one at which threads are cancelled.
- * Returns the negative of an error number. */
-static long read_at_once(const struct request *request)
+static long move(const struct request *request)
 {
-    return pass(SYS_preadv2, request->fd, (long)request->vectors, (long)request->vector_count, (long)request->entry.off, 0, RWF_NOWAIT);
+    if (is_read(request))
+        return read_by_kernel(request, 0);
+    ssize_t count = pwritev2(request->fd, request->vectors, (int)request->vector_count, (off_t)request->entry.off, 0);
+    return count < 0 ? -errno : count;
 }
 
 /* What a device gave is its result, since the device has it no more; a file is read once more. */
 static int32_t try_at_once(struct request *request)
 {
-    long count = read_at_once(request);
+    long count = read_by_kernel(request, RWF_NOWAIT);
     if (count > 0 && (uint64_t)count == request->length)
         return (int32_t)count;
     find_kind(request);
@@ -91,10 +92,9 @@ static int32_t try_at_once(struct request *request)
 /* The kernel said just now that it is a file. A few have no offsets. */
 static int32_t try_at_offset(struct request *request)
 {
-    ssize_t count = move(request);
-    int error = count < 0 ? errno : 0;
-    if (error != ESPIPE)
-        return count < 0 ? -error : (int32_t)count;
+    long count = move(request);
+    if (count != -ESPIPE)
+        return (int32_t)count;
     find_kind(request);
     return NOT_MOVED;
 }

@@ -35,8 +35,10 @@ static bool is_plain(const ucontext_t *at)
     return mark == EXTENDED_STATE && is_behind_call && !(registers[REG_EFL] & STEPS) && !((uint32_t)at->uc_stack.ss_flags & AUTODISARM) && !has_shadow_stack();
 }
 
-/* rcx has where the call returns to, as behind any call. */
+/* rcx has where the call returns to, as behind any call. The last registers are taken from the frame with the stack in it, since signals
+ * may come again: their frames lie below the stack, and so below what is still to be read. */
 _Static_assert(offsetof(ucontext_t, uc_mcontext.gregs) == 40, "the registers stand where they are read");
+_Static_assert(REG_RSI == REG_RDI + 1 && REG_RBP == REG_RDI + 2 && REG_RBX == REG_RDI + 3 && REG_RDX == REG_RDI + 4 && REG_RAX == REG_RDI + 5 && REG_RCX == REG_RDI + 6 && REG_RSP == REG_RDI + 7, "the last ones stand in this order");
 
 __attribute__((noreturn)) static void jump_back(const ucontext_t *at)
 {
@@ -52,20 +54,21 @@ __attribute__((noreturn)) static void jump_back(const ucontext_t *at)
                      "mov %c[r13](%%rdi), %%r13\n\t"
                      "mov %c[r14](%%rdi), %%r14\n\t"
                      "mov %c[r15](%%rdi), %%r15\n\t"
-                     "mov %c[rsi](%%rdi), %%rsi\n\t"
-                     "mov %c[rbp](%%rdi), %%rbp\n\t"
-                     "mov %c[rbx](%%rdi), %%rbx\n\t"
-                     "mov %c[rdx](%%rdi), %%rdx\n\t"
-                     "mov %c[rax](%%rdi), %%rax\n\t"
-                     "mov %c[rip](%%rdi), %%rcx\n\t"
-                     "mov %c[rsp](%%rdi), %%rsp\n\t"
-                     "mov %c[own](%%rdi), %%rdi\n\t"
+                     "lea %c[own](%%rdi), %%rsp\n\t"
+                     "pop %%rdi\n\t"
+                     "pop %%rsi\n\t"
+                     "pop %%rbp\n\t"
+                     "pop %%rbx\n\t"
+                     "pop %%rdx\n\t"
+                     "pop %%rax\n\t"
+                     "pop %%rcx\n\t"
+                     "pop %%rsp\n\t"
                      "jmp *%%rcx"
                      :
                      : "D"(at), [vectors] "r"(vectors), "a"(-1), "d"(-1),
 #define PLACE(name, number) [name] "i"(40 + 8 * (number))
                        PLACE(r8, REG_R8), PLACE(r9, REG_R9), PLACE(r10, REG_R10), PLACE(r12, REG_R12), PLACE(r13, REG_R13), PLACE(r14, REG_R14), PLACE(r15, REG_R15),
-                       PLACE(own, REG_RDI), PLACE(rsi, REG_RSI), PLACE(rbp, REG_RBP), PLACE(rbx, REG_RBX), PLACE(rdx, REG_RDX), PLACE(rax, REG_RAX), PLACE(rsp, REG_RSP), PLACE(rip, REG_RIP), PLACE(flags, REG_EFL)
+                       PLACE(own, REG_RDI), PLACE(flags, REG_EFL)
 #undef PLACE
                      : "memory");
     __builtin_unreachable();
