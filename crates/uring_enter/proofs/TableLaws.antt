@@ -1,7 +1,7 @@
 -- The laws of tables.
-use Rattle.std.proofs.Common.{◌≡◌, ◌≢◌, ℕ, ◌+◌, ◌<◌, ◌≤◌, ◌⊎◌, Bool, true, false, ◌&&◌, nat_le, nat_lt, List, [], ◌∷◌, length, refl, inl, inr, arith, if◌then◌else◌}
+use Rattle.std.proofs.Common.{◌≡◌, ℕ, ◌<◌, ◌≤◌, ◌⊎◌, List, [], ◌∷◌, inl, inr, arith}
 use Rattle.std.proofs.lemmas.Bool.{cases_lt}
-use Rattle.uring_enter.specs.Tables.{Filing, Registered, Unregistered, Filled, Ranged, content, hint, start, start_by, range_from, range_end, IsFirstFree, NoneIsFree, IsGiven, IsGivenBy, GivesNone, GivesNoneBy}
+use Rattle.uring_enter.specs.Tables.{Filing, Registered, Unregistered, Filled, Ranged, content, hint, start, start_by, range_from, range_end, IsGivenBy, GivesNoneBy}
 use Rattle.uring_enter.specs.TableLaws.{GivesFreeSlots, GivesWhatIsFree, KeepsOthers}
 
 ordered : (log : List Filing) → range_from log ≤ range_end log

@@ -1,5 +1,5 @@
 -- Which slot a file gets.
-use Rattle.std.proofs.Common.{◌≡◌, ℕ, ◌<◌, ◌≤◌, List, slice_index_or, sym, inl, inr, ◌∙◌, refl, arith}
+use Rattle.std.proofs.Common.{◌≡◌, ℕ, ◌<◌, ◌≤◌, List, slice_index_or, sym, inl, inr, ◌∙◌, arith}
 use Rattle.uring_enter.specs.declared.table.Table.{Table}
 use Rattle.uring_enter.specs.Tables.{Filing, content, size, start_by, NoneIsFree, IsFirstFree, IsGiven, GivesNone, KeepsTable}
 

@@ -1,5 +1,5 @@
 -- What is copied next of what an entry points to, and which fault the whole of it has: the first of those of its pieces, in their order, and behind them all -22 (EINVAL) of a provided buffer for other than one vector, and of a linked timeout that stands where it may not. io_uring_enter(2), CQE ERRORS. The order is what the kernel does.
-use Rattle.std.specs.Prelude.{ℕ, ℤ, pos, ◌==◌, Bool, Option, Some, None, if◌then◌else◌}
+use Rattle.std.specs.Prelude.{ℕ, ℤ, pos, ◌==◌, Option, Some, None, if◌then◌else◌}
 use Rattle.uring_enter.specs.declared.submission.Submission.{Submission}
 use Rattle.uring_enter.specs.declared.member.Entry.{Entry}
 use Rattle.uring_enter.specs.declared.piece.Piece.{Piece}

@@ -1,5 +1,5 @@
 -- What becomes of the calls of io_uring_register(2) that change a table of registered files or buffers, and of the operations that do: faults, in the kernel's order, and what a row of a list does. io_uring_register(2), IORING_REGISTER_FILES2, IORING_REGISTER_FILES_UPDATE2, IORING_REGISTER_BUFFERS2 and ERRORS; io_uring_enter(2), `file_index` of IORING_OP_OPENAT and IORING_OP_CLOSE.
-use Rattle.std.specs.Prelude.{◌≡◌, ℕ, ℤ, pos, negsuc, ◌+◌, ◌-◌, ◌^◌, Bool, true, false, not, ◌&&◌, ◌||◌, ◌==◌, nat_lt, nat_le, min, List, Option, Some, None, if◌then◌else◌}
+use Rattle.std.specs.Prelude.{ℕ, ℤ, pos, negsuc, ◌+◌, ◌-◌, ◌^◌, Bool, not, ◌&&◌, ◌||◌, ◌==◌, nat_lt, nat_le, min, List, if◌then◌else◌}
 use Rattle.std.specs.Ordering.{int_eq}
 use Rattle.uring_enter.specs.declared.registering.Row.{Row}
 use Rattle.uring_enter.specs.declared.registering.Row.TheVariants.{Keeps, Empties, Fills, Refused}

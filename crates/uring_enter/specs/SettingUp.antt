@@ -1,6 +1,5 @@
 -- Which rings a set-up makes, and with which error it refuses others. io_uring_setup(2), DESCRIPTION and ERRORS; which flags want or can't have which, and the order of faults, are the kernel's, and the limits of the sizes our own rule.
 use Rattle.std.specs.Prelude.{◌≡◌, ℕ, ℤ, pos, ◌+◌, Bool, true, false, not, ◌&&◌, ◌||◌, ◌⊎◌, nat_le, min, Option, Some, None, if◌then◌else◌}
-use Rattle.std.specs.Int.RustNames.{bit_and}
 use Rattle.uring_entry.specs.Setup.{Setup, IsSetupFor}
 use Rattle.uring_enter.specs.declared.asked_ring.AskedRing.{AskedRing}
 use Rattle.uring_enter.specs.Clocks.{has_some}

@@ -1,6 +1,6 @@
 -- What holds of every table. io_uring_register(2), IORING_REGISTER_FILE_ALLOC_RANGE.
 use Rattle.std.specs.Prelude.{◌≡◌, ◌≢◌, ℕ, ◌<◌, ◌≤◌, List, ◌∷◌}
-use Rattle.uring_enter.specs.Tables.{Filing, Filled, Ranged, content, range_from, range_end, IsGiven, GivesNone}
+use Rattle.uring_enter.specs.Tables.{Filing, Filled, content, range_from, range_end, IsGiven, GivesNone}
 
 -- a file that asks for any slot gets a free one of those that are given out
 abbrev pub GivesFreeSlots : Type 0

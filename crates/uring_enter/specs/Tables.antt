@@ -1,5 +1,5 @@
 -- What the slots of a table of registered files or buffers hold, by what has happened, the newest first, and which slot a file gets that asks for any. io_uring_register(2), IORING_REGISTER_FILES, IORING_REGISTER_FILES_UPDATE and IORING_REGISTER_FILE_ALLOC_RANGE; where the search for a free slot begins, and the order of faults, are the kernel's.
-use Rattle.std.specs.Prelude.{◌≡◌, ℕ, ℤ, pos, ◌+◌, ◌^◌, ◌<◌, ◌≤◌, Bool, true, false, not, ◌&&◌, ◌||◌, ◌==◌, ◌⊎◌, nat_lt, nat_le, length, slice_index_or, List, [], ◌∷◌, Option, Some, None, if◌then◌else◌}
+use Rattle.std.specs.Prelude.{◌≡◌, ℕ, ℤ, pos, ◌+◌, ◌^◌, ◌<◌, ◌≤◌, Bool, true, false, ◌&&◌, ◌||◌, ◌==◌, ◌⊎◌, nat_lt, nat_le, length, slice_index_or, List, [], ◌∷◌, if◌then◌else◌}
 use Rattle.uring_enter.specs.declared.table.Table.{Table}
 use Rattle.uring_enter.specs.Replies.{error}
 
