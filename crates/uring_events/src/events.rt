@@ -9,7 +9,7 @@ use std::marker::Model;
 use uring_core::{Answer, Step};
 use uring_memory::Memory;
 
-/// Steps with their answers, in the order in which they were recorded. An event takes 40 bytes, and what is long in it comes on top: 128 for an entry, and 64 for the bytes of an end if they aren't zeros. An entry that is taken in the order in which entries were filled, and bytes that are reaped in the order of ends, take nothing more.
+/// Steps with their answers, in the order in which they were recorded. An event takes 40 bytes, and what is long in it comes on top: 128 for an entry, and 64 for the bytes of an end if they aren't zeros. As long as all entries are taken in the order in which they were filled, and all bytes are reaped in the order of ends, those of answers and completions take nothing more.
 #[derive(Drop)]
 pub struct Events {
     briefs: Vec<Brief>,

@@ -1,8 +1,9 @@
 //! What is long in events: entries, and the bytes of ends.
 
-ghost use Rattle.std.specs.Prelude.{◌≡◌, ℕ, ◌+◌, ◌<◌, ◌≤◌, true, length, vec_capacity, IsOk, OnOk};
+ghost use Rattle.std.specs.Prelude.{◌≡◌, ℕ, ◌+◌, ◌<◌, ◌≤◌, ◌↔◌, length, slice_index_or, vec_capacity, IsTrue, IsOk, OnOk};
+ghost use Rattle.uring_entry.specs.Requests.{no_bytes};
 ghost use Rattle.uring_core.specs.declared.answer.Answer.TheVariants as answer;
-ghost use Rattle.uring_events.specs.Store.{bytes_of, step_of, answer_of, IsStepWithin, IsAnswerWithin, Goes, IsSame, HasRoom};
+ghost use Rattle.uring_events.specs.Store.{entry_at, bytes_of, step_of, answer_of, IsStepWithin, IsAnswerWithin, Goes, IsSame, HasRoom};
 
 use crate::brief::{BriefAnswer, BriefStep};
 use std::alloc::{AllocError, Global};
@@ -171,6 +172,9 @@ impl Store {
         ensures within { IsAnswerWithin self.new result }
         ensures goes { Goes self.old self.new }
         ensures same { self.new.filled ≡ self.old.filled }
+        ensures next { self.old.next_filled < length self.old.filled.items
+            → entry ≡ entry_at self.old.filled.items self.old.next_filled
+            → self.new ≡ record self.old { next_filled = self.old.next_filled + 1 } }
     {
         let next = self.next_filled;
         if next < self.filled.len() && is_same_entry(&self.filled[next], &entry) {
@@ -217,6 +221,7 @@ impl Store {
         ensures within { result ≤ length self.new.bytes.items }
         ensures goes { Goes self.old self.new }
         ensures same { self.new.filled ≡ self.old.filled }
+        ensures zeros { bytes ≡ no_bytes → self.new ≡ self.old }
     {
         if is_same_bytes(&bytes, &ZEROS) {
             return 0;
@@ -232,6 +237,9 @@ impl Store {
         ensures within { result ≤ length self.new.bytes.items }
         ensures goes { Goes self.old self.new }
         ensures same { self.new.filled ≡ self.old.filled }
+        ensures next { self.old.next_bytes < length self.old.bytes.items
+            → bytes ≡ slice_index_or self.old.bytes.items self.old.next_bytes no_bytes
+            → self.new ≡ record self.old { next_bytes = self.old.next_bytes + 1 } }
     {
         let next = self.next_bytes;
         if next < self.bytes.len() && is_same_bytes(&self.bytes[next], &bytes) {
@@ -307,14 +315,14 @@ impl Store {
 
 /// Whether two entries are the same.
 fn is_same_entry(a: &Sqe, b: &Sqe) -> bool
-    ensures { result ≡ true → a.now ≡ b.now }
+    ensures { IsTrue result ↔ a.now ≡ b.now }
 {
     *a == *b
 }
 
 /// Whether bytes are the same.
 fn is_same_bytes(a: &[u8; 64], b: &[u8; 64]) -> bool
-    ensures { result ≡ true → a.now ≡ b.now }
+    ensures { IsTrue result ↔ a.now ≡ b.now }
 {
     *a == *b
 }

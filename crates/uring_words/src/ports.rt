@@ -1,5 +1,5 @@
 //! The two ports over shared words: submissions go through one table, completions through another.
-ghost use Rattle.std.specs.Prelude.{◌≡◌, ℕ, ◌≤◌, [], ◌∷◌, ◌++◌, length, Some, IfOk, IfErr, IsOk, OnOk};
+ghost use Rattle.std.specs.Prelude.{◌≡◌, ℕ, ◌≤◌, false, [], ◌∷◌, ◌++◌, length, Some, IfOk, IfErr, IsOk, OnOk};
 ghost use Rattle.uring_ports.specs.Dropped.{WereHad};
 ghost use Rattle.uring_ports.specs.Ports.{nothing_put, sizes_of, LeavesItems, LeavesCompletions};
 ghost use Rattle.uring_words.specs.Completion.Layout.{element_count as cq_element_count};
@@ -72,6 +72,10 @@ pub fn word_ports(alloc: Global, setup: &Setup) -> Result<(AppWords, KernelWords
     ensures kernel { IfOk result
         (λ ports. (ports.1.sizes ≡ sizes_of setup.now) × (ports.1.pulled ≡ nothing_put)
         × (ports.1.delivered ≡ []) × (ports.1.free ≡ setup.now.cq) × (ports.1.dropped ≡ [])) }
+    // All room is seen, and nothing else.
+    ensures seen { IfOk result
+        (λ ports. (ports.0.saw_room.places ≡ setup.now.sq)
+        × (ports.0.saw_completions.waiting ≡ []) × (ports.1.saw_calls.waits ≡ false)) }
 {
     word_ports_in(&alloc, alloc, setup)
 }
@@ -89,6 +93,10 @@ pub fn word_ports_in<M: TableMemory>(
     ensures kernel { IfOk result
         (λ ports. (ports.1.sizes ≡ sizes_of setup.now) × (ports.1.pulled ≡ nothing_put)
         × (ports.1.delivered ≡ []) × (ports.1.free ≡ setup.now.cq) × (ports.1.dropped ≡ [])) }
+    // All room is seen, and nothing else.
+    ensures seen { IfOk result
+        (λ ports. (ports.0.saw_room.places ≡ setup.now.sq)
+        × (ports.0.saw_completions.waiting ≡ []) × (ports.1.saw_calls.waits ≡ false)) }
     ensures granted { (n : ℕ) → M.grants memory.now n → element_count setup.now.sq ≤ n
         → cq_element_count setup.now.cq ≤ n → IsOk result }
 {

@@ -32,7 +32,7 @@ pub record AreSized (words : List ℕ) (homes : List (Option Cqe)) (a : AppSide)
   pub many : length words ≡ word_count
   pub cells : length homes ≡ d.size
 
--- What the application and the dispatcher know of the table, between any two steps. The application holds the cells at the counts from the head to the tail seen, and knows what stands there. From there to the tail they are at home, and hold what the dispatcher put there (rest). The dispatcher holds those from the tail to its end, and from there on they are at home again, as far as the ring goes above the head (free). What the application got, and then what it knows, begins what was put; the dropped word is the last that the dispatcher stored, and those that the application loaded are, in order, words that it had.
+-- What the application and the dispatcher know of the table, between any two steps. The cells at the counts from the tail seen to the tail are at home, and hold what the dispatcher put there (rest). From the end of the dispatcher's cells on they are at home again, as far as the ring goes above the head (free). The others may be out: of the application those from the head to the tail seen, of the dispatcher those from the tail to their end. What the application got, and then what it knows, begins what was put; the dropped word is the last that the dispatcher stored, and those that the application loaded are, in order, words that it had.
 pub record Agree (words : List ℕ) (homes : List (Option Cqe)) (a : AppSide) (d : KernelSide) : Type 0 where
   pub sized : AreSized words homes a d
   pub room : length d.put ≤ d.end

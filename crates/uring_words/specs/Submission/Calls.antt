@@ -31,7 +31,7 @@ items_of (position.More x ∷ ps) = x ∷ items_of ps
 items_of (position.Last x ∷ ps) = x ∷ items_of ps
 items_of (position.Close ∷ ps) = items_of ps
 
--- these positions end what goes on, whole calls and nothing behind the close mark. inside: whether they begin inside a call
+-- the rest of a call if inside is true, then whole calls, and nothing behind the close mark
 abbrev pub AreWholeFrom : Bool → List Position → Type 0
 AreWholeFrom inside [] = inside ≡ false
 AreWholeFrom inside (position.More x ∷ ps) = AreWholeFrom true ps

@@ -1,4 +1,4 @@
--- What each step on the submission ring's table changes of what its seat knows and holds, and what it tells. Of a step at the seat `before`, `found` is the word loaded or stored, and `st.word` the index in the table at which it stands: each load is named by its index. Of the slots that a seat holds, those that it has written or read stand behind the others.
+-- What each step on the submission ring's table changes of what its seat knows and holds, and what it tells. Of a step at the seat `before`, `found` is the word loaded or stored, and `st.word` the index in the table at which it stands: each load that tells something is named by its index. Of the slots that a seat holds, those that it has written or read stand behind the others.
 use Rattle.std.specs.Prelude.{◌≡◌, ℕ, ◌+◌, ◌≤◌, true, List, [], ◌++◌, length}
 use Rattle.atomic_table.specs.Table.{Me, Step}
 use Rattle.uring_entry.specs.IndexWords.{word_of}

@@ -1,4 +1,4 @@
-//! The table of the completion ring, its rule, and its steps. A step changes only what the seat that steps knows.
+//! The table of the completion ring, its rule, and its steps. A step changes only what the seat that steps knows and holds.
 
 use crate::completion::view::{AppSide, KernelSide};
 use crate::sides::{Shape, View};
@@ -29,7 +29,7 @@ impl TableRule<Cqe, Known, Shape> for RingRule {
     ghost first = { at_first };
 }
 
-/// The table of the completion ring, before its seats are taken.
+/// The table of the completion ring, which both ends own.
 pub type Ring = Table<Cqe, Known, Shape, RingRule, Global>;
 
 /// What one side may do to the words and cells, what it knows of them, and the cells that it holds.

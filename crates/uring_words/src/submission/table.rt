@@ -25,7 +25,7 @@ impl TableRule<Position, Known, Shape> for RingRule {
     ghost first = { at_first };
 }
 
-/// The table of the submission ring, before its seats are taken.
+/// The table of the submission ring, which both ends own.
 pub type Ring = Table<Position, Known, Shape, RingRule, Global>;
 
 /// The words and places of the submission ring, as both sides share them.

@@ -1,4 +1,3 @@
-use Rattle.std.proofs.Common.{◌≡◌, length}
 use Rattle.uring_events.proofs.Keeping.{grew, kept_event, fewer, one_more, events_more}
 use Rattle.uring_events.proofs.events.Events.push_reserved.Goals as goal
 
