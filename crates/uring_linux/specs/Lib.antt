@@ -1,0 +1,4 @@
+pub mod Drains
+pub mod LinuxRequests
+pub mod Issues
+pub mod Laws
