@@ -1,13 +1,7 @@
 -- How the drains of a ring stand, as Linux 6.18 was seen to keep them. What the kernel does is told in docs/PROTOCOL.md, Drains; the words are our own.
 use Rattle.std.specs.Prelude.{ℕ, Bool, true, false, not, ◌&&◌, ◌||◌, ◌==◌, nat_lt, nat_le, List, [], ◌∷◌, ◌++◌, length, if◌then◌else◌}
 use Rattle.std.specs.List.{list_any}
-
--- A group that is deferred: its members are the numbers from its first on and below its end.
-pub record Deferred : Type 0 where
-  pub from : ℕ
-  pub end : ℕ
-  -- whether the group drains
-  pub drains : Bool
+use Rattle.uring_linux.specs.declared.deferred.Deferred.{Deferred}
 
 -- How the drains of a ring stand.
 pub record Drains : Type 0 where

@@ -2,3 +2,4 @@ pub mod Drains
 pub mod LinuxRequests
 pub mod Issues
 pub mod Laws
+pub mod Slots

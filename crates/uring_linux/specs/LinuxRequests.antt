@@ -10,7 +10,8 @@ use Rattle.uring_entry.specs.Requests.{Requests, entry_of, is_linked, is_drain, 
 use Rattle.uring_entry.specs.Why.{failed_member_of}
 use Rattle.uring_entry.specs.Below.{some_below, least_below}
 use Rattle.uring_linux.specs.declared.errno.TheConstants.{EOPNOTSUPP}
-use Rattle.uring_linux.specs.Drains.{Drains, Deferred, no_drains, is_in_some, with_entry, still_deferred, deferred_with, with_deferred, with_ring}
+use Rattle.uring_linux.specs.declared.deferred.Deferred.{Deferred}
+use Rattle.uring_linux.specs.Drains.{Drains, no_drains, is_in_some, with_entry, still_deferred, deferred_with, with_deferred, with_ring}
 
 -- All that happened to the requests of a ring, and how its drains stand.
 pub record LinuxRequests : Type 0 where

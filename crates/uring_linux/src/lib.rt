@@ -2,8 +2,11 @@
 #![tactic(auto)]
 
 mod answers;
+mod deferred;
 pub mod errno;
 pub mod laws;
+mod slot;
+mod slots;
 
 pub use answers::Issued;
 pub use uring_dispatch::Posts;

@@ -1,0 +1,65 @@
+-- Glue. The requests that are kept, by their numbers.
+use Rattle.std.specs.Prelude.{◌≡◌, ℕ, suc, ◌+◌, ◌-◌, ◌<◌, ◌≤◌, Bool, true, false, not, ◌&&◌, ◌||◌, ◌==◌, nat_lt, List, length, slice_get, Option, Some, None, if◌then◌else◌}
+use Rattle.uring_entry.specs.Layout.{user_data_of}
+use Rattle.uring_entry.specs.Preparation.{is_faulty}
+use Rattle.uring_entry.specs.Requests.{Requests, entry_of, is_soft, is_last, is_running, has_started, has_ended, has_failed}
+use Rattle.uring_linux.specs.declared.slot.Slot.{Slot}
+use Rattle.uring_linux.specs.declared.slot.Test.{Test}
+use Rattle.uring_linux.specs.declared.slot.Test.TheVariants.{Unended, Faulty, Broken, Runs}
+use Rattle.uring_linux.specs.LinuxRequests.{is_refused_drain, has_fault}
+
+-- What is kept: the first number, the requests from there on, and how many more can be pushed.
+pub record Slots : Type 0 where
+  pub first : ℕ
+  pub items : List Slot
+  pub room : ℕ
+
+-- the number behind the last request
+abbrev pub end_of : Slots → ℕ
+end_of s = s.first + length s.items
+
+-- the request n, if it is kept
+unfoldable pub at : Slots → ℕ → Option Slot
+at s n = if nat_lt n s.first then None else slice_get s.items (n - s.first)
+
+-- n is kept
+pub record IsWithin (s : Slots) (n : ℕ) : Type 0 where
+  pub low : s.first ≤ n
+  pub high : n < end_of s
+
+-- whether what is kept passes a test
+abbrev pub passes : Test → Slot → Bool
+passes Unended q = not q.has_ended
+passes Faulty q = q.is_faulty || q.is_refused
+passes Broken q = is_soft q.entry && q.has_failed
+passes (Runs user_data) q = q.is_running && (user_data_of q.entry == user_data)
+
+-- whether a request passes a test
+abbrev pub said : Test → Requests → ℕ → Bool
+said Unended r n = not (has_ended r n)
+said Faulty r n = has_fault r n
+said Broken r n = is_soft (entry_of r n) && has_failed r n
+said (Runs user_data) r n = is_running r n && (user_data_of (entry_of r n) == user_data)
+
+-- what is kept of n is so
+pub record Tells (q : Slot) (r : Requests) (n : ℕ) : Type 0 where
+  pub entry : q.entry ≡ entry_of r n
+  pub faulty : q.is_faulty ≡ is_faulty (entry_of r n)
+  pub refused : q.is_refused ≡ is_refused_drain r n
+  pub last : q.is_last ≡ is_last r n
+  pub running : q.is_running ≡ is_running r n
+  pub ended : q.has_ended ≡ has_ended r n
+  pub failed : q.has_failed ≡ has_failed r n
+
+-- nothing happened to n
+pub record IsNew (r : Requests) (n : ℕ) : Type 0 where
+  pub started : has_started r n ≡ false
+  pub ended : has_ended r n ≡ false
+
+-- What is kept shows these requests: those before the first have ended, in whole groups.
+pub record Shows (s : Slots) (r : Requests) : Type 0 where
+  pub count : end_of s ≡ length r.accepted
+  pub told : (n : ℕ) (q : Slot) → at s n ≡ Some q → Tells q r n
+  pub gone : (n : ℕ) → n < s.first → has_ended r n ≡ true
+  pub begins : (k : ℕ) → suc k ≡ s.first → is_last r k ≡ true
+  pub later : (n : ℕ) → length r.accepted ≤ n → IsNew r n
