@@ -3,3 +3,5 @@ pub mod LinuxRequests
 pub mod Issues
 pub mod Laws
 pub mod Slots
+pub mod Members
+pub mod KeptDrains

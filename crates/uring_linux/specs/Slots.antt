@@ -1,5 +1,6 @@
 -- Glue. The requests that are kept, by their numbers.
 use Rattle.std.specs.Prelude.{◌≡◌, ℕ, suc, ◌+◌, ◌-◌, ◌<◌, ◌≤◌, Bool, true, false, not, ◌&&◌, ◌||◌, ◌==◌, nat_lt, List, length, slice_get, Option, Some, None, if◌then◌else◌}
+use Rattle.std.specs.List.{list_any}
 use Rattle.uring_entry.specs.Layout.{user_data_of}
 use Rattle.uring_entry.specs.Preparation.{is_faulty}
 use Rattle.uring_entry.specs.Requests.{Requests, entry_of, is_soft, is_last, is_running, has_started, has_ended, has_failed}
@@ -55,6 +56,7 @@ pub record Tells (q : Slot) (r : Requests) (n : ℕ) : Type 0 where
 pub record IsNew (r : Requests) (n : ℕ) : Type 0 where
   pub started : has_started r n ≡ false
   pub ended : has_ended r n ≡ false
+  pub cut : list_any (λ cut. cut == n + 1) r.cuts ≡ false
 
 -- What is kept shows these requests: those before the first have ended, in whole groups.
 pub record Shows (s : Slots) (r : Requests) : Type 0 where

@@ -3,8 +3,10 @@
 
 mod answers;
 mod deferred;
+mod drains;
 pub mod errno;
 pub mod laws;
+mod members;
 mod slot;
 mod slots;
 

@@ -1,15 +1,16 @@
 //! The requests that are kept, by their numbers, and searches among them.
 
-ghost use Rattle.std.specs.Prelude.{◌≡◌, ◌≢◌, ℕ, ◌+◌, ◌-◌, ◌^◌, ◌<◌, ◌≤◌, length, true, false, [], Some, None, option_copied, slice_get};
+ghost use Rattle.std.specs.Prelude.{◌≡◌, ◌≢◌, ℕ, ◌+◌, ◌-◌, ◌^◌, ◌<◌, ◌≤◌, length, true, false, [], Some, None, option_copied, slice_get, slice_set, ◌∷◌, ◌++◌, OnOk, OnErr, IsOk};
 ghost use Rattle.std.specs.VecDeque.{deque_len, deque_capacity};
 ghost use Rattle.uring_entry.specs.Requests.{Requests, is_last};
-ghost use Rattle.uring_entry.specs.Groups.{first_member, IsGroup};
+ghost use Rattle.uring_entry.specs.Groups.{first_member};
 ghost use Rattle.uring_linux.specs.Slots.{at, end_of, passes, said, Shows, IsWithin};
 
 use crate::slot::{Slot, Test};
-use std::alloc::Global;
+use std::alloc::{AllocError, Global};
 use std::collections::VecDeque;
 use std::marker::Model;
+use uring_memory::Memory;
 
 /// The requests from the first group on that isn't over, found by their numbers.
 #[derive(Drop)]
@@ -31,13 +32,6 @@ impl Model for Slots {
     ghost view = { λ s. record { first = s.first; items = s.items.items; room = s.room } };
 
     ghost invariant = { λ s. (deque_len s.items + s.room ≤ deque_capacity s.items) × (s.first + deque_len s.items + s.room < 2 ^ 63) };
-}
-
-/// The members of a group: the numbers from the first on and below the end.
-#[derive(Clone, Copy, Debug, PartialEq, Eq)]
-pub(crate) struct Span {
-    pub(crate) from: u64,
-    pub(crate) end: u64,
 }
 
 impl Slots {
@@ -79,7 +73,7 @@ impl Slots {
     }
 
     /// Whether request `n` passes a test.
-    fn passes(&self, test: Test, n: u64) -> bool
+    pub(crate) fn passes(&self, test: Test, n: u64) -> bool
         ensures { (r : Requests) → Shows self.now r → IsWithin self.now n → result ≡ said test r n }
     {
         match self.get(n) {
@@ -101,8 +95,46 @@ impl Slots {
         None
     }
 
+    /// Adds a request.
+    pub(crate) fn push(&mut self, slot: Slot)
+        requires { 0 < self.old.room }
+        ensures first { self.new.first ≡ self.old.first }
+        ensures items { self.new.items ≡ self.old.items ++ slot ∷ [] }
+        ensures room { self.new.room + 1 ≡ self.old.room }
+    {
+        self.items.push_back_reserved(slot);
+        self.room -= 1;
+    }
+
+    /// Says anew what is kept of request `n`.
+    pub(crate) fn write(&mut self, n: u64, slot: Slot)
+        requires { IsWithin self.old n }
+        ensures { self.new
+            ≡ record self.old { items = slice_set self.old.items (n - self.old.first) slot } }
+    {
+        put(&mut self.items, (n - self.first) as usize, slot);
+    }
+
+    /// Makes room for `count` more requests. Where memory is refused, nothing changes.
+    pub(crate) fn reserve_in<M: Memory>(&mut self, memory: &M, count: u64) -> Result<(), AllocError>
+        requires { end_of self.old + count < 2 ^ 63 }
+        ensures ok { OnOk result (self.new ≡ record self.old { room = count }) }
+        ensures err { OnErr result (self.new ≡ self.old) }
+        ensures granted { (n : ℕ) → M.grants memory.now n → length self.old.items + count ≤ n
+            → IsOk result }
+    {
+        memory.reserve_queue(&mut self.items, count as usize)?;
+        self.room = count;
+        Ok(())
+    }
+
+    /// Where the memory comes from.
+    pub(crate) fn allocator(&self) -> Global {
+        *self.items.allocator()
+    }
+
     /// Whether the kept request `n` is the last of its group.
-    fn is_last(&self, n: u64) -> bool
+    pub(crate) fn is_last(&self, n: u64) -> bool
         ensures { (r : Requests) → Shows self.now r → IsWithin self.now n → result ≡ is_last r n }
     {
         match self.get(n) {
@@ -122,6 +154,16 @@ fn passes(slot: &Slot, test: Test) -> bool
         Test::Broken => slot.entry.is_soft() && slot.has_failed,
         Test::Runs(user_data) => slot.is_running && slot.entry.user_data() == user_data,
     }
+}
+
+/// Writes a request in this place.
+fn put(items: &mut VecDeque<Slot>, place: usize, slot: Slot)
+    requires { place < deque_len items.old }
+    ensures items { items.new.items ≡ slice_set items.old.items place slot }
+    ensures len { deque_len items.new ≡ deque_len items.old }
+    ensures capacity { deque_capacity items.new ≡ deque_capacity items.old }
+{
+    items[place] = slot;
 }
 
 /// The request in this place, if there is one.
