@@ -5,3 +5,4 @@ pub mod Laws
 pub mod Slots
 pub mod Members
 pub mod KeptDrains
+pub mod LinuxDispatch

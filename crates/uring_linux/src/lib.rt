@@ -3,6 +3,7 @@
 
 mod answers;
 mod deferred;
+mod dispatch;
 mod drains;
 pub mod errno;
 pub mod laws;
@@ -11,4 +12,5 @@ mod slot;
 mod slots;
 
 pub use answers::Issued;
-pub use uring_dispatch::Posts;
+pub use dispatch::LinuxDispatch;
+pub use uring_dispatch::{Posts, ReserveError};

@@ -1,0 +1,97 @@
+//! The dispatcher: accepts requests, says which may start, issues them and ends them, as Linux 6.18 does.
+
+ghost use Rattle.std.specs.Prelude.{◌≡◌, ℕ, List, ◌+◌, ◌-◌, ◌^◌, ◌<◌, ◌≤◌, ◌↔◌, IsTrue, true, false, OnOk, OnErr, IsErrOf, length};
+ghost use Rattle.uring_entry.specs.Requests.{is_outstanding, operation_running, entry_outstanding, least_of};
+ghost use Rattle.uring_linux.specs.Issues.{issued, after_issue, posted_by, after_end};
+ghost use Rattle.uring_linux.specs.LinuxRequests.{LinuxRequests, no_request, with_accepted, with_cut, with_started, with_ended, next_of};
+ghost use Rattle.uring_linux.specs.Slots.{end_of};
+
+use crate::drains::Drains;
+use crate::slot::Slot;
+use crate::slots::Slots;
+use std::alloc::Global;
+use std::marker::Model;
+use uring_dispatch::ReserveError;
+use uring_entry::{Sqe, SqeFlags, prepare, succeeded};
+use uring_memory::Memory;
+
+/// The requests that were accepted, numbered from 0 in the order of their acceptance, with what was made of them, by the rules of Linux 6.18.
+///
+/// A submission call gives its entries one by one to `accept` and ends with `end_call`; every other call is made between submission calls. Searches go over all requests from the first group on that isn't over.
+#[derive(Drop)]
+pub struct LinuxDispatch {
+    slots: Slots,
+    drains: Drains,
+    // Whether an entry without a fault has asked for skipped success.
+    has_skipped: bool,
+    // How many more requests can be accepted: the memory of all that they need was asked for.
+    room: u64,
+    // Whether no submission call is open.
+    is_between_calls: bool,
+}
+
+impl Model for LinuxDispatch {
+    ghost use Rattle.uring_linux.specs.LinuxDispatch.{LinuxDispatch, dispatch_of, IsDispatch};
+
+    ghost Value = { LinuxDispatch };
+
+    ghost view = { λ d. dispatch_of d.slots d.drains d.has_skipped d.room d.is_between_calls };
+
+    ghost invariant = { λ d. IsDispatch d.slots d.drains d.room d.is_between_calls };
+}
+
+impl LinuxDispatch {
+    ghost use Rattle.uring_linux.specs.LinuxDispatch.{ShowsRequests};
+
+    /// The most requests that are ever accepted: 2^63 - 1. Our own rule.
+    pub const MAX_ACCEPTED: u64 = 9_223_372_036_854_775_807;
+
+    /// A dispatcher that has accepted nothing. It takes no memory yet.
+    pub fn new(alloc: Global) -> LinuxDispatch
+        ensures shows { ShowsRequests result no_request }
+        ensures between { result.is_between_calls ≡ true }
+    {
+        LinuxDispatch {
+            slots: Slots::new(alloc),
+            drains: Drains::new(alloc),
+            has_skipped: false,
+            room: 0,
+            is_between_calls: true,
+        }
+    }
+
+    /// Accepts an entry: its number is that of the requests accepted before it. It becomes one of the open submission call's.
+    ///
+    /// Condition: its memory was asked for by `reserve`.
+    pub fn accept(&mut self, entry: Sqe)
+        requires { 0 < self.old.room }
+        ensures shows { (l : LinuxRequests) → ShowsRequests self.old l
+            → ShowsRequests self.new (with_accepted l entry) }
+        ensures accepted { self.new.accepted ≡ self.old.accepted + 1 }
+        ensures room { self.new.room + 1 ≡ self.old.room }
+        ensures between { self.new.is_between_calls ≡ false }
+    {
+        let is_faulty = prepare(&entry).is_err();
+        let skips = entry.has(SqeFlags::CQE_SKIP_SUCCESS);
+        self.has_skipped = self.has_skipped || skips && !is_faulty;
+        let is_refused = entry.is_drain() && self.has_skipped;
+        let has_fault = is_faulty || is_refused;
+        let is_first = self.drains.from() == self.slots.end();
+        let is_drain = entry.is_drain() && !has_fault;
+        self.slots.push(Slot {
+            entry,
+            is_faulty,
+            is_refused,
+            is_last: !entry.is_linked(),
+            is_running: false,
+            has_ended: false,
+            has_failed: false,
+        });
+        self.drains.take(is_first, !has_fault, is_drain);
+        if !entry.is_linked() {
+            self.drains.accept_group(&self.slots);
+        }
+        self.room -= 1;
+        self.is_between_calls = false;
+    }
+}
