@@ -1,3 +1,4 @@
 pub mod SlotLemmas
 pub mod MemberLemmas
 pub mod SlotEvents
+pub mod Dispatches

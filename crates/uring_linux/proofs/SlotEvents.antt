@@ -8,13 +8,15 @@ use Rattle.std.proofs.Math.Seq.{get_or-append_seam}
 use Rattle.uring_entry.specs.Layout.{Sqe}
 use Rattle.uring_entry.specs.Preparation.{is_faulty}
 use Rattle.uring_entry.specs.Success.{is_success}
-use Rattle.uring_entry.specs.Requests.{Requests, entry_of, is_linked, is_drain, is_last, has_ended, has_started, with_accepted, with_cut, with_started, with_ended}
+use Rattle.uring_entry.specs.Requests.{Requests, no_request, entry_of, is_linked, is_drain, is_last, has_ended, has_started, with_accepted, with_cut, with_started, with_ended}
 use Rattle.uring_entry.proofs.BelowLemmas.{some_below-same}
-use Rattle.uring_entry.proofs.RequestLemmas.{get_or-push_other, entry_of-accepted_other, has_failed-accepted, has_ended-other, has_ended-same, has_failed-other, has_failed-same, is_running-started_same, is_running-started_other, is_running-ended_same, is_running-ended_other, added-other, added-same}
+use Rattle.uring_entry.specs.Below.{some_below}
+use Rattle.std.proofs.Math.Bool.{or-false}
+use Rattle.uring_entry.proofs.RequestLemmas.{get_or-push_other, entry_of-accepted_at, entry_of-accepted_other, has_failed-unended, has_failed-accepted, has_ended-other, has_ended-same, has_failed-other, has_failed-same, is_running-started_same, is_running-started_other, is_running-ended_same, is_running-ended_other, added-other, added-same}
 use Rattle.uring_entry.proofs.GroupEvents.{entry-same, is_last-cut, is_last-cut_last}
 use Rattle.uring_linux.specs.declared.slot.Slot.{Slot}
 use Rattle.uring_linux.specs.LinuxRequests.{is_skipping, has_skipped, is_refused_drain}
-use Rattle.uring_linux.specs.Slots.{Slots, at, end_of, Tells, Shows, IsWithin, IsNew}
+use Rattle.uring_linux.specs.Slots.{Slots, new_slot, at, end_of, Tells, Shows, IsWithin, IsNew}
 use Rattle.uring_linux.proofs.SlotLemmas.{at-low, at-high}
 
 -- Lists.
@@ -320,4 +322,59 @@ cut-shows_none s r h none = record {
   gone = h.gone;
   begins = λ k is. last-kept r k (h.begins k is);
   later = λ k le. new-cut r k le (h.later k le);
+}
+
+-- What is kept, whatever room there is.
+
+pub roomed : (first : ℕ) (items : List Slot) (room other : ℕ) (r : Requests)
+    → Shows (record { first = first; items = items; room = room }) r
+    → Shows (record { first = first; items = items; room = other }) r
+unfolding at
+roomed first items room other r h = record { count = h.count; told = h.told; gone = h.gone; begins = h.begins; later = h.later }
+
+pub pushed-shows : (s t : Slots) (q : Slot) (r : Requests) (e : Sqe) → t.first ≡ s.first
+    → t.items ≡ s.items ++ q ∷ [] → Shows (record s { room = 0 }) r
+    → Tells q (with_accepted r e) (length r.accepted) → Shows t (with_accepted r e)
+pushed-shows s t q r e first items h tells =
+    subst (λ f. Shows (record { first = f; items = t.items; room = t.room }) (with_accepted r e)) (sym first)
+    (subst (λ xs. Shows (record { first = s.first; items = xs; room = t.room }) (with_accepted r e)) (sym items)
+    (accepted-shows (record s { room = 0 }) q t.room r e h tells))
+
+-- whether skipped success was asked for, behind one more entry
+pub skipped-accepted : (r : Requests) (e : Sqe) (b : Bool)
+    → b ≡ some_below (λ m. is_skipping (entry_of r m)) (length r.accepted)
+    → (b || is_skipping e) ≡ some_below (λ m. is_skipping (entry_of (with_accepted r e) m)) (length r.accepted + 1)
+skipped-accepted r e b is =
+    let more : suc (length r.accepted) ≡ length r.accepted + 1 = omega arith in
+    ap (λ c. c || is_skipping e) is
+    ∙ ap (λ c. c || is_skipping e)
+    (some_below-same (λ m. is_skipping (entry_of r m)) (λ m. is_skipping (entry_of (with_accepted r e) m)) (length r.accepted)
+    (λ m low. sym (entry-same r e is_skipping m low)))
+    ∙ ap (λ x. some_below (λ m. is_skipping (entry_of (with_accepted r e) m)) (length r.accepted) || is_skipping x) (sym (entry_of-accepted_at r e))
+    ∙ ap (some_below (λ m. is_skipping (entry_of (with_accepted r e) m))) more
+
+pub tells-new : (r : Requests) (e : Sqe) (b : Bool) → IsNew r (length r.accepted)
+    → b ≡ has_skipped (with_accepted r e) (length r.accepted)
+    → Tells (new_slot e b) (with_accepted r e) (length r.accepted)
+tells-new r e b new is =
+    let here = sym (entry_of-accepted_at r e) in
+    record {
+      entry = here;
+      faulty = ap is_faulty here;
+      refused = ap (λ x. is_drain x && b) here ∙ ap (λ c. is_drain (entry_of (with_accepted r e) (length r.accepted)) && c) is;
+      last =
+        ap (λ x. not (is_linked x)) here
+        ∙ sym (ap (λ c. not (is_linked (entry_of (with_accepted r e) (length r.accepted))) || c) new.cut ∙ or-false _);
+      running = sym (and_left _ _ new.started);
+      ended = sym new.ended;
+      failed = sym (has_failed-unended (with_accepted r e) (length r.accepted) new.ended);
+    }
+
+pub none-shows : Shows (record { first = 0; items = []; room = 0 }) no_request
+none-shows = record {
+  count = refl;
+  told = λ n q is. let w = at-within (record { first = 0; items = []; room = 0 }) n q is in absurd (omega (arith, w.low, w.high));
+  gone = λ n lt. absurd (omega arith);
+  begins = λ k is. absurd (omega arith);
+  later = λ n le. record { started = refl; ended = refl; cut = refl };
 }

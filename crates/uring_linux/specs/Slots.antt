@@ -1,9 +1,9 @@
 -- Glue. The requests that are kept, by their numbers.
 use Rattle.std.specs.Prelude.{◌≡◌, ℕ, suc, ◌+◌, ◌-◌, ◌<◌, ◌≤◌, Bool, true, false, not, ◌&&◌, ◌||◌, ◌==◌, nat_lt, List, length, slice_get, Option, Some, None, if◌then◌else◌}
 use Rattle.std.specs.List.{list_any}
-use Rattle.uring_entry.specs.Layout.{user_data_of}
+use Rattle.uring_entry.specs.Layout.{Sqe, user_data_of}
 use Rattle.uring_entry.specs.Preparation.{is_faulty}
-use Rattle.uring_entry.specs.Requests.{Requests, entry_of, is_soft, is_last, is_running, has_started, has_ended, has_failed}
+use Rattle.uring_entry.specs.Requests.{Requests, entry_of, is_linked, is_drain, is_soft, is_last, is_running, has_started, has_ended, has_failed}
 use Rattle.uring_linux.specs.declared.slot.Slot.{Slot}
 use Rattle.uring_linux.specs.declared.slot.Test.{Test}
 use Rattle.uring_linux.specs.declared.slot.Test.TheVariants.{Unended, Faulty, Broken, Runs}
@@ -27,6 +27,18 @@ at s n = if nat_lt n s.first then None else slice_get s.items (n - s.first)
 pub record IsWithin (s : Slots) (n : ℕ) : Type 0 where
   pub low : s.first ≤ n
   pub high : n < end_of s
+
+-- what is kept of a new request of this entry, in a ring that has used skipped success or not
+abbrev pub new_slot : Sqe → (has_skipped : Bool) → Slot
+new_slot e has_skipped = record {
+  entry = e;
+  is_faulty = is_faulty e;
+  is_refused = is_drain e && has_skipped;
+  is_last = not (is_linked e);
+  is_running = false;
+  has_ended = false;
+  has_failed = false;
+}
 
 -- whether what is kept passes a test
 abbrev pub passes : Test → Slot → Bool

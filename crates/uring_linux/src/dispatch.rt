@@ -1,10 +1,12 @@
 //! The dispatcher: accepts requests, says which may start, issues them and ends them, as Linux 6.18 does.
 
-ghost use Rattle.std.specs.Prelude.{◌≡◌, ℕ, List, ◌+◌, ◌-◌, ◌^◌, ◌<◌, ◌≤◌, ◌↔◌, IsTrue, true, false, OnOk, OnErr, IsErrOf, length};
+ghost use Rattle.std.specs.Prelude.{◌≡◌, ◌||◌, ℕ, List, ◌+◌, ◌-◌, ◌^◌, ◌<◌, ◌≤◌, ◌↔◌, IsTrue, true, false, OnOk, OnErr, IsErrOf, length};
 ghost use Rattle.uring_entry.specs.Requests.{is_outstanding, operation_running, entry_outstanding, least_of};
 ghost use Rattle.uring_linux.specs.Issues.{issued, after_issue, posted_by, after_end};
-ghost use Rattle.uring_linux.specs.LinuxRequests.{LinuxRequests, no_request, with_accepted, with_cut, with_started, with_ended, next_of};
+ghost use Rattle.uring_linux.specs.LinuxRequests.{LinuxRequests, is_skipping, no_request, with_accepted, with_cut, with_started, with_ended, next_of};
+ghost use Rattle.uring_entry.specs.Preparation as preparation;
 ghost use Rattle.uring_linux.specs.Slots.{end_of};
+ghost use Rattle.uring_linux.specs.Slots as spec;
 
 use crate::drains::Drains;
 use crate::slot::Slot;
@@ -71,27 +73,60 @@ impl LinuxDispatch {
         ensures room { self.new.room + 1 ≡ self.old.room }
         ensures between { self.new.is_between_calls ≡ false }
     {
-        let is_faulty = prepare(&entry).is_err();
-        let skips = entry.has(SqeFlags::CQE_SKIP_SUCCESS);
-        self.has_skipped = self.has_skipped || skips && !is_faulty;
-        let is_refused = entry.is_drain() && self.has_skipped;
-        let has_fault = is_faulty || is_refused;
+        self.has_skipped = has_skipped(self.has_skipped, &entry);
+        let slot = new_slot(entry, self.has_skipped);
         let is_first = self.drains.from() == self.slots.end();
-        let is_drain = entry.is_drain() && !has_fault;
-        self.slots.push(Slot {
-            entry,
-            is_faulty,
-            is_refused,
-            is_last: !entry.is_linked(),
-            is_running: false,
-            has_ended: false,
-            has_failed: false,
-        });
-        self.drains.take(is_first, !has_fault, is_drain);
-        if !entry.is_linked() {
-            self.drains.accept_group(&self.slots);
-        }
+        self.slots.push(slot);
+        self.drains.accept(&self.slots, &slot, is_first);
         self.room -= 1;
         self.is_between_calls = false;
+    }
+    /// Ends a submission call: no group goes on past it. io_uring_enter(2), IOSQE_IO_LINK.
+    pub fn end_call(&mut self)
+        ensures shows { (l : LinuxRequests) → ShowsRequests self.old l
+            → ShowsRequests self.new (with_cut l) }
+        ensures accepted { self.new.accepted ≡ self.old.accepted }
+        ensures room { self.new.room ≡ self.old.room }
+        ensures between { self.new.is_between_calls ≡ true }
+    {
+        self.slots.close();
+        self.drains.end_call(&self.slots);
+        self.is_between_calls = true;
+    }
+}
+
+/// Whether an entry has asked for skipped success by then, behind this one.
+fn has_skipped(before: bool, entry: &Sqe) -> bool
+    ensures { result ≡ (before || is_skipping entry.now) }
+{
+    let skips = entry.has(SqeFlags::CQE_SKIP_SUCCESS);
+    let is_faulty = is_faulty(entry);
+    before || skips && !is_faulty
+}
+
+/// Whether an entry is faulty by itself.
+fn is_faulty(entry: &Sqe) -> bool
+    ensures { result ≡ preparation.is_faulty entry.now }
+{
+    match prepare(entry) {
+        Ok(_) => false,
+        Err(_) => true,
+    }
+}
+
+/// What is kept of a request that is accepted.
+fn new_slot(entry: Sqe, has_skipped: bool) -> Slot
+    ensures { result ≡ spec.new_slot entry has_skipped }
+{
+    let is_drain = entry.is_drain();
+    let is_linked = entry.is_linked();
+    Slot {
+        entry,
+        is_faulty: is_faulty(&entry),
+        is_refused: is_drain && has_skipped,
+        is_last: !is_linked,
+        is_running: false,
+        has_ended: false,
+        has_failed: false,
     }
 }

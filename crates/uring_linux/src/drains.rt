@@ -2,13 +2,14 @@
 
 ghost use Rattle.std.specs.Prelude.{◌≡◌, ℕ, ◌+◌, ◌<◌, ◌≤◌, true, false, OnOk, OnErr, IsOk, length};
 ghost use Rattle.std.specs.VecDeque.{deque_len, deque_capacity};
-ghost use Rattle.uring_entry.specs.Requests.{Requests};
+ghost use Rattle.uring_entry.specs.Requests.{Requests, is_linked};
 ghost use Rattle.uring_linux.specs.Drains.{no_drains, with_entry, is_in_some, still_deferred, from_drain, deferred_with, with_ring};
 ghost use Rattle.uring_linux.specs.LinuxRequests as linux;
 ghost use Rattle.uring_linux.specs.Slots.{Shows, end_of};
+ghost use Rattle.uring_linux.specs.KeptDrains.{accepted_drains, cut_drains, with_slot};
 
 use crate::deferred::Deferred;
-use crate::slot::Test;
+use crate::slot::{Slot, Test};
 use crate::slots::Slots;
 use std::alloc::{AllocError, Global};
 use std::collections::VecDeque;
@@ -98,6 +99,41 @@ impl Drains {
         } else {
             self.owed || is_drain
         };
+    }
+
+    /// The last of these requests is accepted, and its group with it if it has no link flag.
+    pub(crate) fn accept(&mut self, slots: &Slots, slot: &Slot, is_first: bool)
+        requires room { 0 < self.old.room }
+        requires low { slots.now.first ≤ self.old.drains.from }
+        ensures drains { (r : Requests) → Shows slots.now r → self.new.drains
+            ≡ accepted_drains r (is_linked slot.now.entry)
+            (with_slot self.old.drains is_first slot.now) }
+        ensures linked { is_linked slot.now.entry ≡ true → self.new.room ≡ self.old.room }
+        ensures from_linked { is_linked slot.now.entry ≡ true → self.new.drains.from ≡ self.old.drains.from }
+        ensures closed { is_linked slot.now.entry ≡ false → self.new.drains.from ≡ end_of slots.now }
+        ensures room { self.old.room ≤ self.new.room + 1 }
+    {
+        let has_fault = slot.is_faulty || slot.is_refused;
+        let is_drain = slot.entry.is_drain();
+        self.take(is_first, !has_fault, is_drain && !has_fault);
+        if !slot.entry.is_linked() {
+            self.accept_group(slots);
+        }
+    }
+
+    /// A call closes: the group that is amid is accepted, if there is one.
+    pub(crate) fn end_call(&mut self, slots: &Slots)
+        requires room { self.old.drains.from < end_of slots.now → 0 < self.old.room }
+        requires low { slots.now.first ≤ self.old.drains.from }
+        ensures drains { (r : Requests) → Shows slots.now r → self.new.drains ≡ cut_drains r self.old.drains }
+        ensures from { end_of slots.now ≤ self.new.drains.from }
+        ensures low { slots.now.first ≤ self.new.drains.from }
+        ensures amid { self.old.drains.from < end_of slots.now → self.old.room ≤ self.new.room + 1 }
+        ensures none { end_of slots.now ≤ self.old.drains.from → self.new.room ≡ self.old.room }
+    {
+        if self.from < slots.end() {
+            self.accept_group(slots);
+        }
     }
 
     /// The next group is accepted, which goes up to the last of these requests. In a ring that drains it is deferred, unless it has a fault.

@@ -2,7 +2,7 @@
 
 ghost use Rattle.std.specs.Prelude.{◌≡◌, ◌≢◌, ℕ, ◌+◌, ◌-◌, ◌^◌, ◌<◌, ◌≤◌, length, true, false, [], Some, None, option_copied, slice_get, slice_set, ◌∷◌, ◌++◌, OnOk, OnErr, IsOk};
 ghost use Rattle.std.specs.VecDeque.{deque_len, deque_capacity};
-ghost use Rattle.uring_entry.specs.Requests.{Requests, is_last};
+ghost use Rattle.uring_entry.specs.Requests.{Requests, is_last, with_cut};
 ghost use Rattle.uring_entry.specs.Groups.{first_member};
 ghost use Rattle.uring_linux.specs.Slots.{at, end_of, passes, said, Shows, IsWithin};
 
@@ -72,6 +72,16 @@ impl Slots {
         }
     }
 
+    /// The request `n`, any number, if it is kept.
+    pub(crate) fn copy(&self, n: u64) -> Option<Slot>
+        ensures { result ≡ at self.now n }
+    {
+        match self.get(n) {
+            Some(slot) => Some(*slot),
+            None => None,
+        }
+    }
+
     /// Whether request `n` passes a test.
     pub(crate) fn passes(&self, test: Test, n: u64) -> bool
         ensures { (r : Requests) → Shows self.now r → IsWithin self.now n → result ≡ said test r n }
@@ -113,6 +123,23 @@ impl Slots {
             ≡ record self.old { items = slice_set self.old.items (n - self.old.first) slot } }
     {
         put(&mut self.items, (n - self.first) as usize, slot);
+    }
+
+    /// Ends a submission call: the last request is the last of its group.
+    pub(crate) fn close(&mut self)
+        ensures shows { (r : Requests) → Shows self.old r → Shows self.new (with_cut r) }
+        ensures first { self.new.first ≡ self.old.first }
+        ensures end { end_of self.new ≡ end_of self.old }
+        ensures room { self.new.room ≡ self.old.room }
+    {
+        let end = self.end();
+        if self.first == end {
+            return;
+        }
+        let Some(slot) = self.copy(end - 1) else {
+            return;
+        };
+        self.write(end - 1, Slot { is_last: true, ..slot });
     }
 
     /// Makes room for `count` more requests. Where memory is refused, nothing changes.
