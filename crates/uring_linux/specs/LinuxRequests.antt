@@ -117,14 +117,10 @@ first_of r n = least_below (λ m. is_joined r m n) n
 abbrev pub breaker_of : Requests → ℕ → Option ℕ
 breaker_of r n = if is_in_faulty_group r n then first_of r n else failed_member_of r n
 
--- whether an end posts that this one's failure brought about, or that nobody's did
+-- Whether the end of n with this result posts a completion, if this one's failure brought it about or nobody's. Behind a member that failed and asks to skip nobody posts, and behind another everybody, whatever its own flags.
 abbrev pub posts_behind : Requests → Option ℕ → ℕ → ℤ → Bool
 posts_behind r None n res = posts_completion (entry_of r n) res
 posts_behind r (Some m) n res = not (has skip_success (entry_of r m))
-
--- Whether the end of n with this result posts a completion. Behind a member that failed and asks to skip nobody posts, and behind another everybody, whatever its own flags.
-abbrev pub posts : Requests → ℕ → ℤ → Bool
-posts r n res = posts_behind r (breaker_of r n) n res
 
 -- What each event makes of it.
 

@@ -1,19 +1,21 @@
 //! The dispatcher: accepts requests, says which may start, issues them and ends them, as Linux 6.18 does.
 
-ghost use Rattle.std.specs.Prelude.{◌≡◌, ◌||◌, ℕ, List, ◌+◌, ◌-◌, ◌^◌, ◌<◌, ◌≤◌, ◌↔◌, IsTrue, true, false, OnOk, OnErr, IsErrOf, length};
+ghost use Rattle.std.specs.Prelude.{◌≡◌, ◌||◌, ℕ, List, ◌+◌, ◌-◌, ◌^◌, ◌<◌, ◌≤◌, ◌↔◌, IsTrue, true, false, OnOk, OnErr, IsErrOf, length, None, Some};
 ghost use Rattle.uring_entry.specs.Requests.{is_outstanding, operation_running, entry_outstanding, least_of};
+ghost use Rattle.uring_linux.specs.Laws.{is_refusal};
 ghost use Rattle.uring_linux.specs.Issues.{issued, after_issue, posted_by, after_end};
 ghost use Rattle.uring_linux.specs.LinuxRequests.{LinuxRequests, is_skipping, no_request, with_accepted, with_cut, with_started, with_ended, next_of};
 ghost use Rattle.uring_entry.specs.Preparation as preparation;
 ghost use Rattle.uring_linux.specs.Slots.{end_of};
 ghost use Rattle.uring_linux.specs.Slots as spec;
 
+use crate::answers::Issued;
 use crate::drains::Drains;
 use crate::slot::Slot;
 use crate::slots::Slots;
 use std::alloc::Global;
 use std::marker::Model;
-use uring_dispatch::ReserveError;
+use uring_dispatch::{Posts, ReserveError};
 use uring_entry::{Sqe, SqeFlags, prepare, succeeded};
 use uring_memory::Memory;
 
@@ -22,8 +24,8 @@ use uring_memory::Memory;
 /// A submission call gives its entries one by one to `accept` and ends with `end_call`; every other call is made between submission calls. Searches go over all requests from the first group on that isn't over.
 #[derive(Drop)]
 pub struct LinuxDispatch {
-    slots: Slots,
-    drains: Drains,
+    pub(crate) slots: Slots,
+    pub(crate) drains: Drains,
     // Whether an entry without a fault has asked for skipped success.
     has_skipped: bool,
     // How many more requests can be accepted: the memory of all that they need was asked for.
@@ -92,6 +94,76 @@ impl LinuxDispatch {
         self.slots.close();
         self.drains.end_call(&self.slots);
         self.is_between_calls = true;
+    }
+
+    /// Issues request `n`, any number. It ends in its turn if it is doomed, with -22 (EINVAL) or -95 (EOPNOTSUPP) if it has a fault itself and else with -125 (ECANCELED), or if it is a cancel that may start, with -114 (EALREADY) or -2 (ENOENT), or with 0 if it is one of all; otherwise it starts if it may.
+    ///
+    /// Refused with `Unknown` if it isn't outstanding, with `Running` if it runs already, and with `NotReady` if an earlier member of its group hasn't ended, or its group is deferred. A refusal changes nothing. The order of these is our own rule.
+    pub fn issue(&mut self, n: u64) -> Issued
+        requires { IsTrue self.old.is_between_calls }
+        ensures answer { (l : LinuxRequests) → ShowsRequests self.old l → result ≡ issued l n }
+        ensures shows { (l : LinuxRequests) → ShowsRequests self.old l
+            → ShowsRequests self.new (after_issue l n result) }
+        ensures refused { is_refusal result ≡ true → self.new ≡ self.old }
+        ensures between { self.new.is_between_calls ≡ self.old.is_between_calls }
+    {
+        let issued = self.answer(n);
+        match issued {
+            Issued::Run(_) => self.start(n),
+            Issued::Ended(res, _) => self.end(n, res),
+            _ => {}
+        }
+        issued
+    }
+
+    /// Ends request `n`, any number, with this result, and tells what its end posts: `Some` exactly if it was running. Otherwise nothing changes. Our own rule.
+    pub fn end_running(&mut self, n: u64, res: i32) -> Option<Posts>
+        requires { IsTrue self.old.is_between_calls }
+        ensures answer { (l : LinuxRequests) → ShowsRequests self.old l → result ≡ posted_by l n res }
+        ensures shows { (l : LinuxRequests) (bytes : List ℕ) → ShowsRequests self.old l
+            → ShowsRequests self.new (after_end l n res bytes result) }
+        ensures refused { result ≡ None → self.new ≡ self.old }
+        ensures between { self.new.is_between_calls ≡ self.old.is_between_calls }
+    {
+        let posted = self.posted(n, res);
+        if posted.is_some() {
+            self.end(n, res);
+        }
+        posted
+    }
+
+    /// Starts request `n`.
+    fn start(&mut self, n: u64)
+        ensures shows { (l : LinuxRequests) → ShowsRequests self.old l
+            → is_outstanding l.requests n ≡ true → ShowsRequests self.new (with_started l n) }
+        ensures between { self.new.is_between_calls ≡ self.old.is_between_calls }
+    {
+        if let Some(slot) = self.slots.copy(n) {
+            let running = Slot {
+                is_running: true,
+                ..slot
+            };
+            self.slots.write(n, running);
+        }
+    }
+
+    /// Ends request `n` with this result, and lets go on what was deferred and may.
+    fn end(&mut self, n: u64, res: i32)
+        ensures shows { (l : LinuxRequests) (bytes : List ℕ) → ShowsRequests self.old l
+            → is_outstanding l.requests n ≡ true → ShowsRequests self.new (with_ended l n res bytes) }
+        ensures between { self.new.is_between_calls ≡ self.old.is_between_calls }
+    {
+        if let Some(slot) = self.slots.copy(n) {
+            let has_failed = !succeeded(&slot.entry, res);
+            let ended = Slot {
+                is_running: false,
+                has_ended: true,
+                has_failed,
+                ..slot
+            };
+            self.slots.write(n, ended);
+            self.drains.go_on(&self.slots);
+        }
     }
 }
 

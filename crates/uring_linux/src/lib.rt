@@ -1,6 +1,7 @@
 //! The requests of an io_uring pair of rings as Linux 6.18 keeps them: where the kernel differs from the manual pages in groups, drains, cancels and who posts.
 #![tactic(auto)]
 
+mod answer;
 mod answers;
 mod deferred;
 mod dispatch;

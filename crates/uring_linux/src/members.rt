@@ -1,6 +1,6 @@
 //! Groups among the requests that are kept: which members a group has, whose turn it is, and who is doomed.
 
-ghost use Rattle.std.specs.Prelude.{◌≡◌, ℕ, suc, ◌+◌, ◌<◌, ◌≤◌, ◌^◌, true, false};
+ghost use Rattle.std.specs.Prelude.{◌≡◌, ℕ, suc, ◌+◌, ◌<◌, ◌≤◌, ◌^◌, true, false, Some};
 ghost use Rattle.uring_entry.specs.Requests.{Requests, is_last, is_behind_failure};
 ghost use Rattle.uring_linux.specs.LinuxRequests as linux;
 ghost use Rattle.uring_linux.specs.Slots.{end_of, Shows, IsWithin};
@@ -101,8 +101,9 @@ impl Slots {
 
     /// Whose failure ends `n` as cancelled, if another's does.
     pub(crate) fn breaker(&self, n: u64, span: Span) -> Option<u64>
-        ensures { (r : Requests) → Shows self.now r → IsSpan self.now r n span.from span.end
+        ensures breaker { (r : Requests) → Shows self.now r → IsSpan self.now r n span.from span.end
             → result ≡ linux.breaker_of r n }
+        ensures within { (m : ℕ) → result ≡ Some m → (span.from ≤ m) × (m < n) }
     {
         if self.is_faulty(span) {
             before(Some(span.from), n)
@@ -114,7 +115,9 @@ impl Slots {
 
 /// This number, if it is before `n`.
 fn before(m: Option<u64>, n: u64) -> Option<u64>
-    ensures { result ≡ if_before m n }
+    ensures value { result ≡ if_before m n }
+    ensures same { (k : ℕ) → result ≡ Some k → m ≡ Some k }
+    ensures less { (k : ℕ) → result ≡ Some k → k < n }
 {
     match m {
         Some(number) if number < n => Some(number),

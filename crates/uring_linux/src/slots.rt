@@ -2,14 +2,19 @@
 
 ghost use Rattle.std.specs.Prelude.{◌≡◌, ◌≢◌, ℕ, ◌+◌, ◌-◌, ◌^◌, ◌<◌, ◌≤◌, length, true, false, [], Some, None, option_copied, slice_get, slice_set, ◌∷◌, ◌++◌, OnOk, OnErr, IsOk};
 ghost use Rattle.std.specs.VecDeque.{deque_len, deque_capacity};
-ghost use Rattle.uring_entry.specs.Requests.{Requests, is_last, with_cut};
+ghost use Rattle.uring_entry.specs.Requests.{Requests, entry_of, is_last, with_cut};
+ghost use Rattle.uring_entry.specs.Flags.{skip_success};
+ghost use Rattle.uring_entry.specs.Layout.{has};
 ghost use Rattle.uring_entry.specs.Groups.{first_member};
-ghost use Rattle.uring_linux.specs.Slots.{at, end_of, passes, said, Shows, IsWithin};
+ghost use Rattle.uring_linux.specs.Issues as issues;
+ghost use Rattle.uring_linux.specs.Slots.{at, end_of, passes, said, Tells, Shows, IsWithin};
 
 use crate::slot::{Slot, Test};
 use std::alloc::{AllocError, Global};
 use std::collections::VecDeque;
 use std::marker::Model;
+use uring_dispatch::Posts;
+use uring_entry::{SqeFlags, succeeded};
 use uring_memory::Memory;
 
 /// The requests from the first group on that isn't over, found by their numbers.
@@ -82,6 +87,35 @@ impl Slots {
         }
     }
 
+    /// Whether the entry of the kept request `n` asks for skipped success.
+    fn skips(&self, n: u64) -> bool
+        ensures { (r : Requests) → Shows self.now r → IsWithin self.now n
+            → result ≡ has skip_success (entry_of r n) }
+    {
+        match self.get(n) {
+            Some(slot) => slot.entry.has(SqeFlags::CQE_SKIP_SUCCESS),
+            None => false,
+        }
+    }
+
+    /// What the end of the kept request `n` posts with this result, whose failure ended it or nobody's.
+    pub(crate) fn posts_behind(&self, breaker: Option<u64>, slot: &Slot, res: i32) -> Posts
+        ensures { (r : Requests) (n : ℕ) → Shows self.now r → Tells slot.now r n
+            → ((m : ℕ) → breaker ≡ Some m → IsWithin self.now m)
+            → result ≡ issues.posts_as r breaker n res }
+    {
+        match breaker {
+            None => Posts::of(&slot.entry, succeeded(&slot.entry, res)),
+            Some(m) => {
+                if self.skips(m) {
+                    Posts::Nothing
+                } else {
+                    Posts::Completion(slot.entry.user_data())
+                }
+            }
+        }
+    }
+
     /// Whether request `n` passes a test.
     pub(crate) fn passes(&self, test: Test, n: u64) -> bool
         ensures { (r : Requests) → Shows self.now r → IsWithin self.now n → result ≡ said test r n }
@@ -94,8 +128,9 @@ impl Slots {
 
     /// The least of these numbers that passes a test.
     pub(crate) fn first_with(&self, test: Test, from: u64, end: u64) -> Option<u64>
-        ensures { (r : Requests) → Shows self.now r → self.now.first ≤ from → end ≤ end_of self.now
+        ensures first { (r : Requests) → Shows self.now r → self.now.first ≤ from → end ≤ end_of self.now
             → result ≡ first_member (said test r) from end }
+        ensures low { (m : ℕ) → result ≡ Some m → from ≤ m }
     {
         for n in from..end {
             if self.passes(test, n) {
@@ -133,7 +168,7 @@ impl Slots {
         ensures room { self.new.room ≡ self.old.room }
     {
         let end = self.end();
-        if self.first == end {
+        if end <= self.first {
             return;
         }
         let Some(slot) = self.copy(end - 1) else {

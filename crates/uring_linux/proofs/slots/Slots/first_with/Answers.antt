@@ -8,9 +8,9 @@ use Rattle.uring_linux.proofs.slots.Slots.first_with.Goals as goal
 pub loop-n-init : goal.loop-n-init
 loop-n-init c = λ r s a b k lt. and_left _ _ (lt-leb c.args.from k lt)
 
-pub returns-then-passes : goal.returns-then-passes
+pub returns-then-passes-clause-first : goal.returns-then-passes-clause-first
 unfolding first_member
-returns-then-passes c = λ r s a b.
+returns-then-passes-clause-first c = λ r s a b.
     sym
     (least_below-some (λ m. leb c.args.from m && said c.args.test r m) c.args.end c.loop-n.n (omega arith)
     (and_from _ _ (le-leb c.args.from c.loop-n.n (omega arith))
@@ -22,6 +22,6 @@ loop-n-preserved c = λ r s a b.
     below_more _ _ (c.loop-n.invariant r s a b)
     (and_right _ _ (sym (c.passes.ensures r s (record { low = omega arith; high = omega arith })) ∙ c.if-passes.false))
 
-pub returns : goal.returns
+pub returns-clause-first : goal.returns-clause-first
 unfolding first_member
-returns c = λ r s a b. sym (least_below-none (λ m. leb c.args.from m && said c.args.test r m) c.args.end (λ k lt. c.loop-n.invariant r s a b k (omega arith)))
+returns-clause-first c = λ r s a b. sym (least_below-none (λ m. leb c.args.from m && said c.args.test r m) c.args.end (λ k lt. c.loop-n.invariant r s a b k (omega arith)))

@@ -5,8 +5,8 @@ use Rattle.uring_linux.proofs.slots.Slots.is_behind_failure.Goals as goal
 
 pub returns-in-Some : goal.returns-in-Some
 returns-in-Some c = λ r s m.
-    sym (behind-is r _ _ c.args.n m.group m.low m.high ∙ ap (λ o. is_before o c.args.n) (sym (c.in-Some.ensures r s m.first m.last)))
+    sym (behind-is r _ _ c.args.n m.group m.low m.high ∙ ap (λ o. is_before o c.args.n) (sym (c.in-Some.ensures.first r s m.first m.last)))
 
 pub returns-in-None : goal.returns-in-None
 returns-in-None c = λ r s m.
-    sym (behind-is r _ _ c.args.n m.group m.low m.high ∙ ap (λ o. is_before o c.args.n) (sym (c.in-None.ensures r s m.first m.last)))
+    sym (behind-is r _ _ c.args.n m.group m.low m.high ∙ ap (λ o. is_before o c.args.n) (sym (c.in-None.ensures.first r s m.first m.last)))
