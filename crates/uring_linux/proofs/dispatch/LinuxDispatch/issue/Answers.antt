@@ -1,0 +1,8 @@
+use Rattle.std.proofs.Common.{rules, w32, ◌≡◌, sym, ◌∙◌, ap}
+use Rattle.std.proofs.lemmas.Int.{to_z-of_z}
+use Rattle.uring_entry.specs.Requests.{no_bytes}
+use Rattle.uring_linux.proofs.Standings.{ended-outstanding}
+use Rattle.uring_linux.proofs.dispatch.LinuxDispatch.issue.Goals as goal
+
+pub returns-in-Ended-clause-shows : goal.returns-in-Ended-clause-shows
+returns-in-Ended-clause-shows c = λ l h. ?
