@@ -3,7 +3,7 @@ use Rattle.std.proofs.Common.{◌≡◌, ℕ, ◌+◌, ◌<◌, ◌≤◌, ℤ, 
 use Rattle.std.specs.Prelude.{if◌then◌else◌, neg_ℤ}
 use Rattle.std.proofs.lemmas.Bool.{cases_lt, cases_eq, cases_Bool, and_left, and_right, and_from, and_parts, or_parts, or_left, both_ways, lt-ltb, le-ltb, le-leb, lt-leb, ne_eqb, not-true}
 use Rattle.uring_entry.specs.Layout.{Sqe, addr_of, user_data_of}
-use Rattle.uring_entry.specs.Preparation.{is_faulty, is_cancel_all}
+use Rattle.uring_entry.specs.Preparation.{is_faulty, is_cancel, is_cancel_all, operation_of}
 use Rattle.uring_entry.specs.Success as success
 use Rattle.uring_entry.specs.Below.{some_below}
 use Rattle.uring_entry.specs.Groups.{first_member}
@@ -19,7 +19,8 @@ use Rattle.uring_linux.specs.declared.answers.Issued.{Issued}
 use Rattle.uring_linux.specs.declared.answers.Issued.TheVariants.{Run, Ended, NotReady, Running, Unknown}
 use Rattle.uring_linux.specs.KeptDrains.{KeptDrains}
 use Rattle.uring_linux.specs.Drains.{Drains}
-use Rattle.uring_linux.specs.LinuxRequests.{LinuxRequests, has_fault, is_in_faulty_group, is_in_turn, is_doomed, is_deferred, is_found, found_by, cancel_result, doomed_result, after_going_on, with_started, with_ended}
+use Rattle.uring_linux.specs.LinuxRequests.{LinuxRequests, has_fault, is_in_faulty_group, is_in_turn, is_doomed, is_deferred, is_issuable, is_found, found_by, cancel_result, doomed_result, after_going_on, with_started, with_ended}
+use Rattle.uring_linux.specs.Laws.{is_refusal}
 use Rattle.uring_linux.specs.Issues.{issued, issued_ready, ended_with, after_end}
 use Rattle.uring_linux.specs.Slots.{Slots, at, end_of, said, Tells, Shows, IsWithin}
 use Rattle.uring_linux.specs.LinuxDispatch.{dispatch_of, ShowsRequests}
@@ -206,3 +207,28 @@ dispatch-ended s t d k b room left between amid l n q res bytes failed h here go
         skipped = h.held.skipped;
       };
     }
+
+-- What can be issued.
+
+issuable-asked : (o run turn doomed deferred cancel : Bool) (x y : Issued) → is_refusal x ≡ false → is_refusal y ≡ false
+    → (o && (not run && (turn && (doomed || not deferred)))) ≡ not (is_refusal (ask o run turn doomed deferred x y))
+issuable-asked false run turn doomed deferred cancel x y a b = refl
+issuable-asked true true turn doomed deferred cancel x y a b = refl
+issuable-asked true false false doomed deferred cancel x y a b = refl
+issuable-asked true false true true deferred cancel x y a b = sym (ap not a)
+issuable-asked true false true false true cancel x y a b = refl
+issuable-asked true false true false false cancel x y a b = sym (ap not b)
+
+ready-goes : (r : Requests) (n : ℕ) → is_refusal (issued_ready r n) ≡ false
+ready-goes r n = go (is_cancel (entry_of r n))
+  where
+    go : (b : Bool) → is_refusal (if b then ended_with r n (cancel_result r n) else Run (operation_of (entry_of r n))) ≡ false
+    go true = refl
+    go false = refl
+
+pub issuable-is : (l : LinuxRequests) (n : ℕ) → is_issuable l n ≡ not (is_refusal (issued l n))
+issuable-is l n = issuable-asked (is_outstanding l.requests n) (is_running l.requests n) (is_in_turn l.requests n) (is_doomed l.requests n) (is_deferred l n) false (ended_with l.requests n (doomed_result l.requests n)) (issued_ready l.requests n) refl (ready-goes l.requests n)
+
+pub some-running : (b : Bool) (p q : Posts) → Some q ≡ (if b then Some p else None) → b ≡ true
+some-running true p q e = refl
+some-running false p q e = absurd (cc)

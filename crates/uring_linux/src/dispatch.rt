@@ -8,6 +8,7 @@ ghost use Rattle.uring_linux.specs.LinuxRequests.{LinuxRequests, is_skipping, no
 ghost use Rattle.uring_entry.specs.Preparation as preparation;
 ghost use Rattle.uring_linux.specs.Slots.{end_of};
 ghost use Rattle.uring_linux.specs.Slots as spec;
+ghost use Rattle.uring_linux.specs.LinuxRequests as spec_of;
 
 use crate::answers::Issued;
 use crate::drains::Drains;
@@ -62,6 +63,60 @@ impl LinuxDispatch {
             room: 0,
             is_between_calls: true,
         }
+    }
+
+    /// Asks for the memory of `count` more requests, any number: so many can be accepted from here on.
+    ///
+    /// `Spent` comes if they and those accepted so far are more than `MAX_ACCEPTED`; otherwise `NoMemory` if memory is refused. Neither changes anything. Our own rule.
+    pub fn reserve(&mut self, count: u64) -> Result<(), ReserveError>
+        requires { IsTrue self.old.is_between_calls }
+        ensures ok { OnOk result (count ≤ self.new.room) }
+        ensures spent { IsErrOf result ReserveError.Spent
+            ↔ (2 ^ 63 - 1 < self.old.accepted + count) }
+        ensures no_memory { IsErrOf result ReserveError.NoMemory → self.old.room < count }
+        ensures err { OnErr result (self.new ≡ self.old) }
+        ensures accepted { self.new.accepted ≡ self.old.accepted }
+        ensures between { self.new.is_between_calls ≡ true }
+        ensures shows { (l : LinuxRequests) → ShowsRequests self.old l → ShowsRequests self.new l }
+    {
+        let memory = self.slots.allocator();
+        self.reserve_in(&memory, count)
+    }
+
+    /// As `reserve`, by this memory.
+    pub fn reserve_in<M: Memory>(&mut self, memory: &M, count: u64) -> Result<(), ReserveError>
+        requires { IsTrue self.old.is_between_calls }
+        ensures ok { OnOk result (count ≤ self.new.room) }
+        ensures spent { IsErrOf result ReserveError.Spent
+            ↔ (2 ^ 63 - 1 < self.old.accepted + count) }
+        ensures no_memory { IsErrOf result ReserveError.NoMemory → self.old.room < count }
+        ensures err { OnErr result (self.new ≡ self.old) }
+        ensures accepted { self.new.accepted ≡ self.old.accepted }
+        ensures between { self.new.is_between_calls ≡ true }
+        ensures shows { (l : LinuxRequests) → ShowsRequests self.old l → ShowsRequests self.new l }
+    {
+        if count > LinuxDispatch::MAX_ACCEPTED - self.accepted() {
+            return Err(ReserveError::Spent);
+        }
+        if count <= self.room {
+            return Ok(());
+        }
+        if self.slots.reserve_in(memory, count).is_err() {
+            return Err(ReserveError::NoMemory);
+        }
+        if self.drains.reserve_in(memory, count).is_err() {
+            return Err(ReserveError::NoMemory);
+        }
+        self.room = count;
+        Ok(())
+    }
+
+    /// How many requests were accepted: at most `MAX_ACCEPTED`.
+    pub fn accepted(&self) -> u64
+        ensures value { result ≡ self.now.accepted }
+        ensures limit { result ≤ 2 ^ 63 - 1 }
+    {
+        self.slots.end()
     }
 
     /// Accepts an entry: its number is that of the requests accepted before it. It becomes one of the open submission call's.
@@ -125,11 +180,34 @@ impl LinuxDispatch {
         ensures refused { result ≡ None → self.new ≡ self.old }
         ensures between { self.new.is_between_calls ≡ self.old.is_between_calls }
     {
-        let posted = self.posted(n, res);
-        if posted.is_some() {
-            self.end(n, res);
+        let Some(posts) = self.posted(n, res) else {
+            return None;
+        };
+        self.end(n, res);
+        Some(posts)
+    }
+
+    /// The least request that `issue` doesn't refuse, if there is one. Our own rule.
+    pub fn next(&self) -> Option<u64>
+        requires { IsTrue self.now.is_between_calls }
+        ensures { (l : LinuxRequests) → ShowsRequests self.now l → result ≡ next_of l }
+    {
+        for n in self.slots.first()..self.slots.end() {
+            if self.is_issuable(n) {
+                return Some(n);
+            }
         }
-        posted
+        None
+    }
+
+    /// Whether request `n` can be issued.
+    fn is_issuable(&self, n: u64) -> bool
+        ensures { (l : LinuxRequests) → ShowsRequests self.now l → result ≡ spec_of.is_issuable l n }
+    {
+        match self.answer(n) {
+            Issued::Run(_) | Issued::Ended(_, _) => true,
+            Issued::NotReady | Issued::Running | Issued::Unknown => false,
+        }
     }
 
     /// Starts request `n`.
