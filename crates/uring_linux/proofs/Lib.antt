@@ -1,5 +1,5 @@
-pub mod SlotLemmas
+pub mod WindowLemmas
 pub mod MemberLemmas
-pub mod SlotEvents
+pub mod WindowEvents
 pub mod Dispatches
 pub mod Standings

@@ -5,16 +5,16 @@ use Rattle.std.proofs.lemmas.Bool.{cases_lt, cases_eq, cases_Bool, and_left, and
 use Rattle.uring_entry.specs.Layout.{Sqe, addr_of, user_data_of}
 use Rattle.uring_entry.specs.Preparation.{is_faulty, is_cancel, is_cancel_all, operation_of}
 use Rattle.uring_entry.specs.Success as success
-use Rattle.uring_entry.specs.Below.{some_below}
+use Rattle.uring_entry.specs.Below.{some_below, least_below}
 use Rattle.uring_entry.specs.Groups.{first_member}
 use Rattle.uring_entry.specs.Requests as manual
-use Rattle.uring_entry.specs.Requests.{Requests, entry_of, has_ended, has_started, is_outstanding, is_running, is_in_group}
+use Rattle.uring_entry.specs.Requests.{Requests, entry_of, has_ended, has_started, is_outstanding, is_running, is_in_group, least_of}
 use Rattle.uring_entry.specs.declared.errno.TheConstants.{ENOENT, EALREADY}
-use Rattle.uring_entry.proofs.BelowLemmas.{some_below-none, some_below-some, some_below-same, some_below-out, is_some-least_below}
+use Rattle.uring_entry.proofs.BelowLemmas.{some_below-none, some_below-some, some_below-same, is_some-least_below, least_below-same}
 use Rattle.uring_entry.proofs.RequestLemmas.{is_in_own_group}
 use Rattle.uring_dispatch.specs.declared.answers.Posts.{Posts}
-use Rattle.uring_linux.specs.declared.slot.Slot.{Slot}
-use Rattle.uring_linux.specs.declared.slot.Test.TheVariants.{Runs}
+use Rattle.uring_linux.specs.declared.request.Request.{Request}
+use Rattle.uring_linux.specs.declared.request.Test.TheVariants.{Runs}
 use Rattle.uring_linux.specs.declared.answers.Issued.{Issued}
 use Rattle.uring_linux.specs.declared.answers.Issued.TheVariants.{Run, Ended, NotReady, Running, Unknown}
 use Rattle.uring_linux.specs.KeptDrains.{KeptDrains}
@@ -22,17 +22,17 @@ use Rattle.uring_linux.specs.Drains.{Drains}
 use Rattle.uring_linux.specs.LinuxRequests.{LinuxRequests, has_fault, is_in_faulty_group, is_in_turn, is_doomed, is_deferred, is_issuable, is_found, found_by, cancel_result, doomed_result, after_going_on, with_started, with_ended}
 use Rattle.uring_linux.specs.Laws.{is_refusal}
 use Rattle.uring_linux.specs.Issues.{issued, issued_ready, ended_with, after_end}
-use Rattle.uring_linux.specs.Slots.{Slots, at, end_of, said, Tells, Shows, IsWithin}
+use Rattle.uring_linux.specs.Window.{Window, at, end_of, said, Tells, Shows, IsWithin}
 use Rattle.uring_linux.specs.LinuxDispatch.{dispatch_of, ShowsRequests}
-use Rattle.uring_linux.proofs.SlotLemmas.{not_none}
-use Rattle.uring_linux.proofs.SlotEvents.{at-within, roomed, started-shows, ended-shows}
+use Rattle.uring_linux.proofs.WindowLemmas.{not_none}
+use Rattle.uring_linux.proofs.WindowEvents.{at-within, roomed, started-shows, ended-shows}
 
 -- what is kept shows the requests that the dispatcher does
-pub shown : (s : Slots) (d : KeptDrains) (b : Bool) (room : ℕ) (between : Bool) (l : LinuxRequests)
+pub shown : (s : Window) (d : KeptDrains) (b : Bool) (room : ℕ) (between : Bool) (l : LinuxRequests)
     → ShowsRequests (dispatch_of s d b room between) l → Shows s l.requests
-shown s d b room between l h = roomed s.first s.items 0 s.room l.requests h.held.slots
+shown s d b room between l h = roomed s.first s.items 0 s.room l.requests h.held.window
 
-pub outside-ended : (s : Slots) (r : Requests) (n : ℕ) → Shows s r → None ≡ at s n
+pub outside-ended : (s : Window) (r : Requests) (n : ℕ) → Shows s r → None ≡ at s n
     → is_outstanding r n ≡ false
 outside-ended s r n h none =
     elim (cases_lt n s.first) [
@@ -44,7 +44,7 @@ outside-ended s r n h none =
           ]
     ]
 
-pub outside-idle : (s : Slots) (r : Requests) (n : ℕ) → Shows s r → None ≡ at s n
+pub outside-idle : (s : Window) (r : Requests) (n : ℕ) → Shows s r → None ≡ at s n
     → is_running r n ≡ false
 outside-idle s r n h none =
     elim (cases_lt n s.first) [
@@ -56,17 +56,17 @@ outside-idle s r n h none =
           ]
     ]
 
-pub outstanding-ended : (q : Slot) (r : Requests) (n : ℕ) → Tells q r n → q.has_ended ≡ true
+pub outstanding-ended : (q : Request) (r : Requests) (n : ℕ) → Tells q r n → q.has_ended ≡ true
     → is_outstanding r n ≡ false
 outstanding-ended q r n t e = and_right _ _ (ap not (sym t.ended ∙ e))
 
-pub outstanding-going : (s : Slots) (q : Slot) (r : Requests) (n : ℕ) → Shows s r → at s n ≡ Some q
+pub outstanding-going : (s : Window) (q : Request) (r : Requests) (n : ℕ) → Shows s r → at s n ≡ Some q
     → q.has_ended ≡ false → is_outstanding r n ≡ true
 outstanding-going s q r n h here e =
     let w = at-within s n q here in
     and_from _ _ (lt-ltb n (length r.accepted) (omega (arith, w.high, h.count))) (ap not (sym (h.told n q here).ended ∙ e))
 
-pub running-outstanding : (s : Slots) (r : Requests) (n : ℕ) → Shows s r → is_running r n ≡ true
+pub running-outstanding : (s : Window) (r : Requests) (n : ℕ) → Shows s r → is_running r n ≡ true
     → is_outstanding r n ≡ true
 running-outstanding s r n h e =
     let parts = and_parts _ _ e in
@@ -140,7 +140,7 @@ found-at r n m first idle gone =
           ]
     ]
 
-pub found-is : (s : Slots) (r : Requests) (n : ℕ) → Shows s r → is_running r n ≡ false
+pub found-is : (s : Window) (r : Requests) (n : ℕ) → Shows s r → is_running r n ≡ false
     → is_some (first_member (said (Runs (addr_of (entry_of r n))) r) s.first (end_of s)) ≡ is_some (found_by r n)
 unfolding first_member found_by
 found-is s r n h idle =
@@ -151,7 +151,7 @@ found-is s r n h idle =
     ∙ sym (is_some-least_below (is_found r n) (length r.accepted))
 
 -- the same, from what a search answered
-pub found-at_last : (s : Slots) (r : Requests) (n : ℕ) (e : Sqe) (u first end : ℕ) (o : Option ℕ) → Shows s r
+pub found-at_last : (s : Window) (r : Requests) (n : ℕ) (e : Sqe) (u first end : ℕ) (o : Option ℕ) → Shows s r
     → is_running r n ≡ false → e ≡ entry_of r n → u ≡ addr_of e → first ≡ s.first → end ≡ end_of s
     → o ≡ first_member (said (Runs u) r) first end → is_some (found_by r n) ≡ is_some o
 found-at_last s r n e u first end o h idle ee eu ef en eo =
@@ -170,7 +170,7 @@ cancelled-one r n b one found =
 
 -- Events.
 
-pub dispatch-started : (s t : Slots) (d : KeptDrains) (b : Bool) (room left : ℕ) (between amid : Bool) (l : LinuxRequests) (n : ℕ) (q : Slot)
+pub dispatch-started : (s t : Window) (d : KeptDrains) (b : Bool) (room left : ℕ) (between amid : Bool) (l : LinuxRequests) (n : ℕ) (q : Request)
     → ShowsRequests (dispatch_of s d b room between) l → at s n ≡ Some q
     → is_outstanding l.requests n ≡ true
     → t ≡ record s { items = set s.items (n - s.first) (record q { is_running = true }) }
@@ -178,17 +178,17 @@ pub dispatch-started : (s t : Slots) (d : KeptDrains) (b : Bool) (room left : �
 dispatch-started s t d b room left between amid l n q h here going et =
     let out = and_parts _ _ going in
     let open_ = not-true _ out.1 in
-    let shows = subst (λ (x : Slots). Shows x (manual.with_started l.requests n)) (sym et) (started-shows s q l.requests n (shown s d b room between l h) here open_) in
+    let shows = subst (λ (x : Window). Shows x (manual.with_started l.requests n)) (sym et) (started-shows s q l.requests n (shown s d b room between l h) here open_) in
     record {
       accepted = shows.count;
       held = record {
-        slots = roomed t.first t.items t.room 0 (manual.with_started l.requests n) shows;
+        window = roomed t.first t.items t.room 0 (manual.with_started l.requests n) shows;
         drains = h.held.drains;
         skipped = h.held.skipped;
       };
     }
 
-pub dispatch-ended : (s t : Slots) (d k : KeptDrains) (b : Bool) (room left : ℕ) (between amid : Bool) (l : LinuxRequests) (n : ℕ) (q : Slot) (res : ℤ) (bytes : List ℕ) (failed : Bool)
+pub dispatch-ended : (s t : Window) (d k : KeptDrains) (b : Bool) (room left : ℕ) (between amid : Bool) (l : LinuxRequests) (n : ℕ) (q : Request) (res : ℤ) (bytes : List ℕ) (failed : Bool)
     → ShowsRequests (dispatch_of s d b room between) l → at s n ≡ Some q
     → is_outstanding l.requests n ≡ true → failed ≡ not (success.is_success q.entry res)
     → t ≡ record s { items = set s.items (n - s.first) (record q { is_running = false; has_ended = true; has_failed = failed }) }
@@ -198,11 +198,11 @@ dispatch-ended s t d k b room left between amid l n q res bytes failed h here go
     let out = and_parts _ _ going in
     let open_ = not-true _ out.1 in
     let r = manual.with_ended l.requests n res bytes in
-    let shows = subst (λ (x : Slots). Shows x r) (sym et) (ended-shows s q l.requests n res bytes failed (shown s d b room between l h) here open_ ef) in
+    let shows = subst (λ (x : Window). Shows x r) (sym et) (ended-shows s q l.requests n res bytes failed (shown s d b room between l h) here open_ ef) in
     record {
       accepted = shows.count;
       held = record {
-        slots = roomed t.first t.items t.room 0 r shows;
+        window = roomed t.first t.items t.room 0 r shows;
         drains = f r shows ∙ ap (λ (x : Drains). record x { deferred = after_going_on r x.deferred }) h.held.drains;
         skipped = h.held.skipped;
       };
@@ -232,3 +232,17 @@ issuable-is l n = issuable-asked (is_outstanding l.requests n) (is_running l.req
 pub some-running : (b : Bool) (p q : Posts) → Some q ≡ (if b then Some p else None) → b ≡ true
 some-running true p q e = refl
 some-running false p q e = absurd (cc)
+
+pub least-is : (s : Window) (r : Requests) → Shows s r
+    → first_member (λ m. not (has_ended r m)) s.first (end_of s) ≡ least_of r
+unfolding first_member
+least-is s r h =
+    least_below-same (λ m. leb s.first m && not (has_ended r m)) (is_outstanding r) (end_of s)
+    (λ m low.
+    elim (cases_lt m s.first) [
+      | inl before ↦ and_left _ _ (lt-leb s.first m before) ∙ sym (and_right _ _ (ap not (h.gone m before)))
+      | inr past ↦
+          ap (λ b. b && not (has_ended r m)) (le-leb s.first m past)
+          ∙ ap (λ b. b && not (has_ended r m)) (sym (lt-ltb m (length r.accepted) (omega (arith, low, h.count))))
+    ])
+    ∙ ap (least_below (is_outstanding r)) h.count

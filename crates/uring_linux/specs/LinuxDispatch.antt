@@ -5,11 +5,11 @@ use Rattle.uring_entry.specs.Below.{some_below}
 use Rattle.uring_linux.specs.Drains.{Drains}
 use Rattle.uring_linux.specs.KeptDrains.{KeptDrains}
 use Rattle.uring_linux.specs.LinuxRequests.{LinuxRequests, is_skipping}
-use Rattle.uring_linux.specs.Slots.{Slots, Shows, end_of}
+use Rattle.uring_linux.specs.Window.{Window, Shows, end_of}
 
 -- what the dispatcher keeps of the requests. Only `ShowsRequests` says what it means
 pub record Held : Type 0 where
-  pub slots : Slots
+  pub window : Window
   pub drains : Drains
   pub has_skipped : Bool
 
@@ -24,17 +24,17 @@ pub record LinuxDispatch : Type 0 where
   pub held : Held
 
 -- the dispatcher that keeps these. What more each of them has room for is not told
-abbrev pub dispatch_of : Slots → KeptDrains → (has_skipped : Bool) → (room : ℕ) → (between : Bool) → LinuxDispatch
+abbrev pub dispatch_of : Window → KeptDrains → (has_skipped : Bool) → (room : ℕ) → (between : Bool) → LinuxDispatch
 dispatch_of s d has_skipped room between = record {
   accepted = end_of s;
   room = room;
   is_between_calls = between;
-  held = record { slots = record s { room = 0 }; drains = d.drains; has_skipped = has_skipped };
+  held = record { window = record s { room = 0 }; drains = d.drains; has_skipped = has_skipped };
 }
 
 -- What is so whatever happened: there is the room that is told, also for the group that is amid, and between calls none is.
-pub record IsDispatch (s : Slots) (d : KeptDrains) (room : ℕ) (between : Bool) : Type 0 where
-  pub slots : room ≤ s.room
+pub record IsDispatch (s : Window) (d : KeptDrains) (room : ℕ) (between : Bool) : Type 0 where
+  pub window : room ≤ s.room
   pub groups : room ≤ d.room
   pub amid : d.drains.from < end_of s → room < d.room
   pub low : s.first ≤ d.drains.from
@@ -42,7 +42,7 @@ pub record IsDispatch (s : Slots) (d : KeptDrains) (room : ℕ) (between : Bool)
 
 -- what is kept stands for these requests
 pub record StandsFor (held : Held) (l : LinuxRequests) : Type 0 where
-  pub slots : Shows held.slots l.requests
+  pub window : Shows held.window l.requests
   pub drains : held.drains ≡ l.drains
   pub skipped : held.has_skipped
     ≡ some_below (λ m. is_skipping (entry_of l.requests m)) (length l.requests.accepted)

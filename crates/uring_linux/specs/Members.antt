@@ -2,24 +2,24 @@
 use Rattle.std.specs.Prelude.{◌≡◌, ℕ, suc, ◌<◌, ◌≤◌, true, false, nat_lt, Option, Some, None, length, if◌then◌else◌}
 use Rattle.uring_entry.specs.Requests.{Requests, is_last}
 use Rattle.uring_entry.specs.Groups.{IsGroup}
-use Rattle.uring_linux.specs.Slots.{Slots, end_of}
+use Rattle.uring_linux.specs.Window.{Window, end_of}
 
 -- the group of n begins here
-pub record IsStart (s : Slots) (r : Requests) (n from : ℕ) : Type 0 where
+pub record IsStart (s : Window) (r : Requests) (n from : ℕ) : Type 0 where
   pub kept : s.first ≤ from
   pub within : from ≤ n
   pub begins : (k : ℕ) → suc k ≡ from → is_last r k ≡ true
   pub joined : (k : ℕ) → from ≤ k → k < n → is_last r k ≡ false
 
 -- the group of n ends here
-pub record IsEnd (s : Slots) (r : Requests) (n end : ℕ) : Type 0 where
+pub record IsEnd (s : Window) (r : Requests) (n end : ℕ) : Type 0 where
   pub kept : end ≤ end_of s
   pub within : n < end
   pub joined : (k : ℕ) → n ≤ k → suc k < end → is_last r k ≡ false
   pub ends : (k : ℕ) → suc k ≡ end → end < length r.accepted → is_last r k ≡ true
 
 -- n is a member of this group, which is kept
-pub record IsSpan (s : Slots) (r : Requests) (n from end : ℕ) : Type 0 where
+pub record IsSpan (s : Window) (r : Requests) (n from end : ℕ) : Type 0 where
   pub group : IsGroup r from end
   pub low : from ≤ n
   pub high : n < end

@@ -8,14 +8,14 @@ ghost use Rattle.uring_linux.specs.LinuxRequests as linux;
 ghost use Rattle.uring_linux.specs.LinuxRequests.{LinuxRequests};
 ghost use Rattle.uring_linux.specs.LinuxDispatch.{ShowsRequests};
 ghost use Rattle.uring_linux.specs.Members.{IsSpan};
-ghost use Rattle.uring_linux.specs.Slots.{Tells, Shows};
+ghost use Rattle.uring_linux.specs.Window.{Tells, Shows};
 
 use crate::answers::Issued;
 use crate::dispatch::LinuxDispatch;
 use crate::errno::EOPNOTSUPP;
 use crate::members::Span;
-use crate::slot::{Slot, Test};
-use crate::slots::Slots;
+use crate::request::{Request, Test};
+use crate::window::Window;
 use uring_dispatch::Posts;
 use uring_entry::errno::{EALREADY, ECANCELED, EINVAL, ENOENT};
 use uring_entry::{Sqe, opcode, prepare};
@@ -25,73 +25,73 @@ impl LinuxDispatch {
     pub(crate) fn answer(&self, n: u64) -> Issued
         ensures { (l : LinuxRequests) → ShowsRequests self.now l → result ≡ issued l n }
     {
-        let Some(slot) = self.slots.copy(n) else {
+        let Some(request) = self.window.copy(n) else {
             return Issued::Unknown;
         };
-        if slot.has_ended {
+        if request.has_ended {
             return Issued::Unknown;
         }
-        if slot.is_running {
+        if request.is_running {
             return Issued::Running;
         }
-        let span = self.slots.span_of(n);
-        if !self.slots.is_in_turn(n, span) {
+        let span = self.window.span_of(n);
+        if !self.window.is_in_turn(n, span) {
             return Issued::NotReady;
         }
-        if self.slots.is_doomed(n, span) {
-            return self.slots.ended(n, &slot, span, doomed_result(&slot));
+        if self.window.is_doomed(n, span) {
+            return self.window.ended(n, &request, span, doomed_result(&request));
         }
         if self.drains.is_deferred(n) {
             return Issued::NotReady;
         }
-        self.slots.ready(n, &slot, span)
+        self.window.ready(n, &request, span)
     }
 
     /// What the end of request `n` with this result posts, if it runs.
     pub(crate) fn posted(&self, n: u64, res: i32) -> Option<Posts>
         ensures { (l : LinuxRequests) → ShowsRequests self.now l → result ≡ posted_by l n res }
     {
-        let Some(slot) = self.slots.copy(n) else {
+        let Some(request) = self.window.copy(n) else {
             return None;
         };
-        if !slot.is_running {
+        if !request.is_running {
             return None;
         }
-        let span = self.slots.span_of(n);
-        Some(self.slots.posts(n, &slot, span, res))
+        let span = self.window.span_of(n);
+        Some(self.window.posts(n, &request, span, res))
     }
 }
 
-impl Slots {
+impl Window {
     /// What the end of the kept request `n` posts with this result.
-    fn posts(&self, n: u64, slot: &Slot, span: Span, res: i32) -> Posts
-        ensures { (r : Requests) → Shows self.now r → Tells slot.now r n
+    fn posts(&self, n: u64, request: &Request, span: Span, res: i32) -> Posts
+        ensures { (r : Requests) → Shows self.now r → Tells request.now r n
             → IsSpan self.now r n span.from span.end → result ≡ posts_of r n res }
     {
         let breaker = self.breaker(n, span);
-        self.posts_behind(breaker, slot, res)
+        self.posts_behind(breaker, request, res)
     }
 
     /// The kept request `n` ends as it is issued.
-    fn ended(&self, n: u64, slot: &Slot, span: Span, res: i32) -> Issued
-        ensures { (r : Requests) → Shows self.now r → Tells slot.now r n
+    fn ended(&self, n: u64, request: &Request, span: Span, res: i32) -> Issued
+        ensures { (r : Requests) → Shows self.now r → Tells request.now r n
             → IsSpan self.now r n span.from span.end → result ≡ ended_with r n res }
     {
-        let posts = self.posts(n, slot, span, res);
+        let posts = self.posts(n, request, span, res);
         Issued::Ended(res, posts)
     }
 
     /// The kept request `n` may start.
-    fn ready(&self, n: u64, slot: &Slot, span: Span) -> Issued
-        ensures { (r : Requests) → Shows self.now r → Tells slot.now r n
+    fn ready(&self, n: u64, request: &Request, span: Span) -> Issued
+        ensures { (r : Requests) → Shows self.now r → Tells request.now r n
             → IsSpan self.now r n span.from span.end → is_faulty (entry_of r n) ≡ false
             → is_running r n ≡ false → result ≡ issued_ready r n }
     {
-        if slot.entry.opcode() == opcode::ASYNC_CANCEL {
-            let res = self.cancel_result(&slot.entry);
-            return self.ended(n, slot, span, res);
+        if request.entry.opcode() == opcode::ASYNC_CANCEL {
+            let res = self.cancel_result(&request.entry);
+            return self.ended(n, request, span, res);
         }
-        match prepare(&slot.entry) {
+        match prepare(&request.entry) {
             Ok(op) => Issued::Run(op),
             Err(_) => Issued::NotReady,
         }
@@ -113,12 +113,12 @@ impl Slots {
 }
 
 /// What a doomed request ends with.
-fn doomed_result(slot: &Slot) -> i32
-    ensures { (r : Requests) (n : ℕ) → Tells slot.now r n → result ≡ linux.doomed_result r n }
+fn doomed_result(request: &Request) -> i32
+    ensures { (r : Requests) (n : ℕ) → Tells request.now r n → result ≡ linux.doomed_result r n }
 {
-    if slot.is_faulty {
+    if request.is_faulty {
         -EINVAL
-    } else if slot.is_refused {
+    } else if request.is_refused {
         -EOPNOTSUPP
     } else {
         -ECANCELED

@@ -6,14 +6,14 @@ ghost use Rattle.uring_linux.specs.Laws.{is_refusal};
 ghost use Rattle.uring_linux.specs.Issues.{issued, after_issue, posted_by, after_end};
 ghost use Rattle.uring_linux.specs.LinuxRequests.{LinuxRequests, is_skipping, no_request, with_accepted, with_cut, with_started, with_ended, next_of};
 ghost use Rattle.uring_entry.specs.Preparation as preparation;
-ghost use Rattle.uring_linux.specs.Slots.{end_of};
-ghost use Rattle.uring_linux.specs.Slots as spec;
+ghost use Rattle.uring_linux.specs.Window.{end_of};
+ghost use Rattle.uring_linux.specs.Window as spec;
 ghost use Rattle.uring_linux.specs.LinuxRequests as spec_of;
 
 use crate::answers::Issued;
 use crate::drains::Drains;
-use crate::slot::Slot;
-use crate::slots::Slots;
+use crate::request::{Request, Test};
+use crate::window::Window;
 use std::alloc::Global;
 use std::marker::Model;
 use uring_dispatch::{Posts, ReserveError};
@@ -22,10 +22,10 @@ use uring_memory::Memory;
 
 /// The requests that were accepted, numbered from 0 in the order of their acceptance, with what was made of them, by the rules of Linux 6.18.
 ///
-/// A submission call gives its entries one by one to `accept` and ends with `end_call`; every other call is made between submission calls. Searches go over all requests from the first group on that isn't over.
+/// A submission call gives its entries one by one to `accept` and ends with `end_call`; every other call is made between submission calls. It keeps all requests that were accepted, and searches go over them one after the other.
 #[derive(Drop)]
 pub struct LinuxDispatch {
-    pub(crate) slots: Slots,
+    pub(crate) window: Window,
     pub(crate) drains: Drains,
     // Whether an entry without a fault has asked for skipped success.
     has_skipped: bool,
@@ -40,9 +40,9 @@ impl Model for LinuxDispatch {
 
     ghost Value = { LinuxDispatch };
 
-    ghost view = { λ d. dispatch_of d.slots d.drains d.has_skipped d.room d.is_between_calls };
+    ghost view = { λ d. dispatch_of d.window d.drains d.has_skipped d.room d.is_between_calls };
 
-    ghost invariant = { λ d. IsDispatch d.slots d.drains d.room d.is_between_calls };
+    ghost invariant = { λ d. IsDispatch d.window d.drains d.room d.is_between_calls };
 }
 
 impl LinuxDispatch {
@@ -57,7 +57,7 @@ impl LinuxDispatch {
         ensures between { result.is_between_calls ≡ true }
     {
         LinuxDispatch {
-            slots: Slots::new(alloc),
+            window: Window::new(alloc),
             drains: Drains::new(alloc),
             has_skipped: false,
             room: 0,
@@ -79,7 +79,7 @@ impl LinuxDispatch {
         ensures between { self.new.is_between_calls ≡ true }
         ensures shows { (l : LinuxRequests) → ShowsRequests self.old l → ShowsRequests self.new l }
     {
-        let memory = self.slots.allocator();
+        let memory = self.window.allocator();
         self.reserve_in(&memory, count)
     }
 
@@ -101,7 +101,7 @@ impl LinuxDispatch {
         if count <= self.room {
             return Ok(());
         }
-        if self.slots.reserve_in(memory, count).is_err() {
+        if self.window.reserve_in(memory, count).is_err() {
             return Err(ReserveError::NoMemory);
         }
         if self.drains.reserve_in(memory, count).is_err() {
@@ -116,7 +116,7 @@ impl LinuxDispatch {
         ensures value { result ≡ self.now.accepted }
         ensures limit { result ≤ 2 ^ 63 - 1 }
     {
-        self.slots.end()
+        self.window.end()
     }
 
     /// Accepts an entry: its number is that of the requests accepted before it. It becomes one of the open submission call's.
@@ -131,10 +131,10 @@ impl LinuxDispatch {
         ensures between { self.new.is_between_calls ≡ false }
     {
         self.has_skipped = has_skipped(self.has_skipped, &entry);
-        let slot = new_slot(entry, self.has_skipped);
-        let is_first = self.drains.from() == self.slots.end();
-        self.slots.push(slot);
-        self.drains.accept(&self.slots, &slot, is_first);
+        let request = new_request(entry, self.has_skipped);
+        let is_first = self.drains.from() == self.window.end();
+        self.window.push(request);
+        self.drains.accept(&self.window, &request, is_first);
         self.room -= 1;
         self.is_between_calls = false;
     }
@@ -146,8 +146,8 @@ impl LinuxDispatch {
         ensures room { self.new.room ≡ self.old.room }
         ensures between { self.new.is_between_calls ≡ true }
     {
-        self.slots.close();
-        self.drains.end_call(&self.slots);
+        self.window.close();
+        self.drains.end_call(&self.window);
         self.is_between_calls = true;
     }
 
@@ -187,12 +187,37 @@ impl LinuxDispatch {
         Some(posts)
     }
 
-    /// The least request that `issue` doesn't refuse, if there is one. Our own rule.
+    /// The entry of request `n`: `Some` exactly if it is outstanding, that is accepted and not ended.
+    pub fn entry(&self, n: u64) -> Option<Sqe>
+        requires { IsTrue self.now.is_between_calls }
+        ensures { (l : LinuxRequests) → ShowsRequests self.now l
+            → result ≡ entry_outstanding l.requests n }
+    {
+        let Some(request) = self.window.copy(n) else {
+            return None;
+        };
+        if request.has_ended {
+            return None;
+        }
+        Some(request.entry)
+    }
+
+    /// The least outstanding request, if there is one.
+    pub fn least(&self) -> Option<u64>
+        requires { IsTrue self.now.is_between_calls }
+        ensures { (l : LinuxRequests) → ShowsRequests self.now l → result ≡ least_of l.requests }
+    {
+        let first = self.window.first();
+        let end = self.window.end();
+        self.window.first_with(Test::Unended, first, end)
+    }
+
+    /// The least request that `issue` doesn't refuse, if there is one. It looks at one after the other. Our own rule.
     pub fn next(&self) -> Option<u64>
         requires { IsTrue self.now.is_between_calls }
         ensures { (l : LinuxRequests) → ShowsRequests self.now l → result ≡ next_of l }
     {
-        for n in self.slots.first()..self.slots.end() {
+        for n in self.window.first()..self.window.end() {
             if self.is_issuable(n) {
                 return Some(n);
             }
@@ -216,12 +241,12 @@ impl LinuxDispatch {
             → is_outstanding l.requests n ≡ true → ShowsRequests self.new (with_started l n) }
         ensures between { self.new.is_between_calls ≡ self.old.is_between_calls }
     {
-        if let Some(slot) = self.slots.copy(n) {
-            let running = Slot {
+        if let Some(request) = self.window.copy(n) {
+            let running = Request {
                 is_running: true,
-                ..slot
+                ..request
             };
-            self.slots.write(n, running);
+            self.window.write(n, running);
         }
     }
 
@@ -231,16 +256,16 @@ impl LinuxDispatch {
             → is_outstanding l.requests n ≡ true → ShowsRequests self.new (with_ended l n res bytes) }
         ensures between { self.new.is_between_calls ≡ self.old.is_between_calls }
     {
-        if let Some(slot) = self.slots.copy(n) {
-            let has_failed = !succeeded(&slot.entry, res);
-            let ended = Slot {
+        if let Some(request) = self.window.copy(n) {
+            let has_failed = !succeeded(&request.entry, res);
+            let ended = Request {
                 is_running: false,
                 has_ended: true,
                 has_failed,
-                ..slot
+                ..request
             };
-            self.slots.write(n, ended);
-            self.drains.go_on(&self.slots);
+            self.window.write(n, ended);
+            self.drains.go_on(&self.window);
         }
     }
 }
@@ -265,12 +290,12 @@ fn is_faulty(entry: &Sqe) -> bool
 }
 
 /// What is kept of a request that is accepted.
-fn new_slot(entry: Sqe, has_skipped: bool) -> Slot
-    ensures { result ≡ spec.new_slot entry has_skipped }
+fn new_request(entry: Sqe, has_skipped: bool) -> Request
+    ensures { result ≡ spec.new_request entry has_skipped }
 {
     let is_drain = entry.is_drain();
     let is_linked = entry.is_linked();
-    Slot {
+    Request {
         entry,
         is_faulty: is_faulty(&entry),
         is_refused: is_drain && has_skipped,

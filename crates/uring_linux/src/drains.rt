@@ -5,12 +5,12 @@ ghost use Rattle.std.specs.VecDeque.{deque_len, deque_capacity};
 ghost use Rattle.uring_entry.specs.Requests.{Requests, is_linked};
 ghost use Rattle.uring_linux.specs.Drains.{no_drains, with_entry, is_in_some, still_deferred, from_drain, deferred_with, with_ring};
 ghost use Rattle.uring_linux.specs.LinuxRequests as linux;
-ghost use Rattle.uring_linux.specs.Slots.{Shows, end_of};
-ghost use Rattle.uring_linux.specs.KeptDrains.{accepted_drains, cut_drains, with_slot};
+ghost use Rattle.uring_linux.specs.Window.{Shows, end_of};
+ghost use Rattle.uring_linux.specs.KeptDrains.{accepted_drains, cut_drains, with_request};
 
 use crate::deferred::Deferred;
-use crate::slot::{Slot, Test};
-use crate::slots::Slots;
+use crate::request::{Request, Test};
+use crate::window::Window;
 use std::alloc::{AllocError, Global};
 use std::collections::VecDeque;
 use std::marker::Model;
@@ -102,62 +102,62 @@ impl Drains {
     }
 
     /// The last of these requests is accepted, and its group with it if it has no link flag.
-    pub(crate) fn accept(&mut self, slots: &Slots, slot: &Slot, is_first: bool)
+    pub(crate) fn accept(&mut self, window: &Window, request: &Request, is_first: bool)
         requires room { 0 < self.old.room }
-        requires low { slots.now.first ≤ self.old.drains.from }
-        ensures drains { (r : Requests) → Shows slots.now r → self.new.drains
-            ≡ accepted_drains r (is_linked slot.now.entry)
-            (with_slot self.old.drains is_first slot.now) }
-        ensures linked { is_linked slot.now.entry ≡ true → self.new.room ≡ self.old.room }
-        ensures from_linked { is_linked slot.now.entry ≡ true → self.new.drains.from ≡ self.old.drains.from }
-        ensures closed { is_linked slot.now.entry ≡ false → self.new.drains.from ≡ end_of slots.now }
+        requires low { window.now.first ≤ self.old.drains.from }
+        ensures drains { (r : Requests) → Shows window.now r → self.new.drains
+            ≡ accepted_drains r (is_linked request.now.entry)
+            (with_request self.old.drains is_first request.now) }
+        ensures linked { is_linked request.now.entry ≡ true → self.new.room ≡ self.old.room }
+        ensures from_linked { is_linked request.now.entry ≡ true → self.new.drains.from ≡ self.old.drains.from }
+        ensures closed { is_linked request.now.entry ≡ false → self.new.drains.from ≡ end_of window.now }
         ensures room { self.old.room ≤ self.new.room + 1 }
     {
-        let has_fault = slot.is_faulty || slot.is_refused;
-        let is_drain = slot.entry.is_drain();
+        let has_fault = request.is_faulty || request.is_refused;
+        let is_drain = request.entry.is_drain();
         self.take(is_first, !has_fault, is_drain && !has_fault);
-        if !slot.entry.is_linked() {
-            self.accept_group(slots);
+        if !request.entry.is_linked() {
+            self.accept_group(window);
         }
     }
 
     /// A call closes: the group that is amid is accepted, if there is one.
-    pub(crate) fn end_call(&mut self, slots: &Slots)
-        requires room { self.old.drains.from < end_of slots.now → 0 < self.old.room }
-        requires low { slots.now.first ≤ self.old.drains.from }
-        ensures drains { (r : Requests) → Shows slots.now r → self.new.drains ≡ cut_drains r self.old.drains }
-        ensures from { end_of slots.now ≤ self.new.drains.from }
-        ensures low { slots.now.first ≤ self.new.drains.from }
-        ensures amid { self.old.drains.from < end_of slots.now → self.old.room ≤ self.new.room + 1 }
-        ensures none { end_of slots.now ≤ self.old.drains.from → self.new.room ≡ self.old.room }
+    pub(crate) fn end_call(&mut self, window: &Window)
+        requires room { self.old.drains.from < end_of window.now → 0 < self.old.room }
+        requires low { window.now.first ≤ self.old.drains.from }
+        ensures drains { (r : Requests) → Shows window.now r → self.new.drains ≡ cut_drains r self.old.drains }
+        ensures from { end_of window.now ≤ self.new.drains.from }
+        ensures low { window.now.first ≤ self.new.drains.from }
+        ensures amid { self.old.drains.from < end_of window.now → self.old.room ≤ self.new.room + 1 }
+        ensures none { end_of window.now ≤ self.old.drains.from → self.new.room ≡ self.old.room }
     {
-        if self.from < slots.end() {
-            self.accept_group(slots);
+        if self.from < window.end() {
+            self.accept_group(window);
         }
     }
 
     /// The next group is accepted, which goes up to the last of these requests. In a ring that drains it is deferred, unless it has a fault.
-    pub(crate) fn accept_group(&mut self, slots: &Slots)
+    pub(crate) fn accept_group(&mut self, window: &Window)
         requires room { 0 < self.old.room }
-        requires low { slots.now.first ≤ self.old.drains.from }
-        ensures drains { (r : Requests) → Shows slots.now r
+        requires low { window.now.first ≤ self.old.drains.from }
+        ensures drains { (r : Requests) → Shows window.now r
             → self.new.drains ≡ linux.with_group r self.old.drains }
-        ensures from { self.new.drains.from ≡ end_of slots.now }
+        ensures from { self.new.drains.from ≡ end_of window.now }
         ensures room { self.old.room ≤ self.new.room + 1 }
     {
-        let end = slots.end();
-        let is_faulty = has_fault_from(slots, self.from);
+        let end = window.end();
+        let is_faulty = has_fault_from(window, self.from);
         if self.ring && !is_faulty {
-            self.defer(end, slots);
+            self.defer(end, window);
         }
         self.from = end;
         self.group = false;
     }
 
     /// Defers the next group, which goes up to here, and lets go on what may.
-    fn defer(&mut self, end: u64, slots: &Slots)
+    fn defer(&mut self, end: u64, window: &Window)
         requires room { 0 < self.old.room }
-        ensures drains { (r : Requests) → Shows slots.now r → self.new.drains
+        ensures drains { (r : Requests) → Shows window.now r → self.new.drains
             ≡ with_ring
             (record self.old.drains { deferred = linux.after_going_on r (deferred_with self.old.drains end) })
             self.old.drains.group }
@@ -169,40 +169,40 @@ impl Drains {
             drains: self.group,
         });
         self.room -= 1;
-        self.go_on(slots);
+        self.go_on(window);
         let is_over = self.deferred.is_empty();
         self.ring = self.ring && (self.group || !is_over);
     }
 
     /// Lets go on what is deferred and need not be any more.
-    pub(crate) fn go_on(&mut self, slots: &Slots)
-        ensures drains { (r : Requests) → Shows slots.now r → self.new.drains
+    pub(crate) fn go_on(&mut self, window: &Window)
+        ensures drains { (r : Requests) → Shows window.now r → self.new.drains
             ≡ record self.old.drains { deferred = linux.after_going_on r self.old.drains.deferred } }
         ensures room { self.new.room ≡ self.old.room }
         ensures from { self.new.drains.from ≡ self.old.drains.from }
     {
-        let is_alone = is_alone(&self.deferred, slots);
+        let is_alone = is_alone(&self.deferred, window);
         go_on(&mut self.deferred, is_alone);
     }
 }
 
 /// Whether a request from this number on has a fault.
-fn has_fault_from(slots: &Slots, from: u64) -> bool
-    requires { slots.now.first ≤ from }
-    ensures { (r : Requests) → Shows slots.now r → result ≡ linux.is_faulty_from r from }
+fn has_fault_from(window: &Window, from: u64) -> bool
+    requires { window.now.first ≤ from }
+    ensures { (r : Requests) → Shows window.now r → result ≡ linux.is_faulty_from r from }
 {
-    match slots.first_with(Test::Faulty, from, slots.end()) {
+    match window.first_with(Test::Faulty, from, window.end()) {
         Some(_) => true,
         None => false,
     }
 }
 
 /// Whether all that is outstanding belongs to these groups.
-fn is_alone(groups: &VecDeque<Deferred>, slots: &Slots) -> bool
-    ensures { (r : Requests) → Shows slots.now r → result ≡ linux.is_alone r groups.now.items }
+fn is_alone(groups: &VecDeque<Deferred>, window: &Window) -> bool
+    ensures { (r : Requests) → Shows window.now r → result ≡ linux.is_alone r groups.now.items }
 {
-    for n in slots.first()..slots.end() {
-        if slots.passes(Test::Unended, n) && !is_in_some(groups, n) {
+    for n in window.first()..window.end() {
+        if window.passes(Test::Unended, n) && !is_in_some(groups, n) {
             return false;
         }
     }

@@ -9,8 +9,8 @@ mod drains;
 pub mod errno;
 pub mod laws;
 mod members;
-mod slot;
-mod slots;
+mod request;
+mod window;
 
 pub use answers::Issued;
 pub use dispatch::LinuxDispatch;

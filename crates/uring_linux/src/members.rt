@@ -3,11 +3,11 @@
 ghost use Rattle.std.specs.Prelude.{◌≡◌, ℕ, suc, ◌+◌, ◌<◌, ◌≤◌, ◌^◌, true, false, Some};
 ghost use Rattle.uring_entry.specs.Requests.{Requests, is_last, is_behind_failure};
 ghost use Rattle.uring_linux.specs.LinuxRequests as linux;
-ghost use Rattle.uring_linux.specs.Slots.{end_of, Shows, IsWithin};
+ghost use Rattle.uring_linux.specs.Window.{end_of, Shows, IsWithin};
 ghost use Rattle.uring_linux.specs.Members.{IsStart, IsEnd, IsSpan, if_before};
 
-use crate::slot::Test;
-use crate::slots::Slots;
+use crate::request::Test;
+use crate::window::Window;
 
 /// The members of a group: the numbers from the first on and below the end.
 #[derive(Clone, Copy, Debug, PartialEq, Eq)]
@@ -16,7 +16,7 @@ pub(crate) struct Span {
     pub(crate) end: u64,
 }
 
-impl Slots {
+impl Window {
     /// The group of the kept request `n`.
     pub(crate) fn span_of(&self, n: u64) -> Span
         requires { IsWithin self.now n }

@@ -5,5 +5,5 @@ use Rattle.uring_linux.proofs.dispatch.LinuxDispatch.end_call.Goals as goal
 
 pub returns-clause-shows : goal.returns-clause-shows
 returns-clause-shows c = λ l h.
-    dispatch-cut c.self.inside.slots c.close.new.self c.self.inside.drains c.end_call.new.self c.self.inside.has_skipped c.self.inside.room _ c.self.inside.is_between_calls _ l
+    dispatch-cut c.self.inside.window c.close.new.self c.self.inside.drains c.end_call.new.self c.self.inside.has_skipped c.self.inside.room _ c.self.inside.is_between_calls _ l
     (subst (λ (d : LinuxDispatch). ShowsRequests d l) (sym c.self.view_is) h) c.close.ensures.shows c.end_call.ensures.drains
