@@ -1,5 +1,5 @@
 -- What the dispatcher shows behind each event.
-use Rattle.std.proofs.Common.{◌≡◌, ℕ, ◌+◌, ◌<◌, ◌≤◌, length, Bool, true, false, not, ◌&&◌, ◌||◌, ◌==◌, List, [], ◌∷◌, ◌++◌, refl, sym, ◌∙◌, ap, subst, arith, length-append}
+use Rattle.std.proofs.Common.{◌≡◌, ℕ, ◌+◌, length, Bool, true, false, not, ◌&&◌, ◌||◌, ◌==◌, [], ◌∷◌, ◌++◌, refl, sym, ◌∙◌, ap, subst, arith, length-append}
 use Rattle.uring_entry.specs.Layout.{Sqe}
 use Rattle.uring_entry.specs.Preparation.{is_faulty}
 use Rattle.uring_entry.specs.Requests as manual
@@ -47,11 +47,11 @@ dispatch-accepted s t d k b c room left between amid e q l first h ec eq ef ei i
       held = record {
         window = roomed t.first t.items t.room 0 (manual.with_accepted r e) shows;
         drains =
-          f (manual.with_accepted r e) shows
-          ∙ ap (λ (x : Request). accepted_drains (manual.with_accepted r e) (is_linked x.entry) (with_request d.drains first q)) eq
-          ∙ ap (accepted_drains (manual.with_accepted r e) (is_linked e))
-          (taken q d.drains l.drains first (d.drains.from == end_of s) (manual.with_accepted r e) n tells h.held.drains is
-          (ap (λ (x : Drains). x.from == end_of s) h.held.drains ∙ ap (λ x. l.drains.from == x) h.held.window.count));
+            f (manual.with_accepted r e) shows
+            ∙ ap (λ (x : Request). accepted_drains (manual.with_accepted r e) (is_linked x.entry) (with_request d.drains first q)) eq
+            ∙ ap (accepted_drains (manual.with_accepted r e) (is_linked e))
+            (taken q d.drains l.drains first (d.drains.from == end_of s) (manual.with_accepted r e) n tells h.held.drains is
+            (ap (λ (x : Drains). x.from == end_of s) h.held.drains ∙ ap (λ x. l.drains.from == x) h.held.window.count));
         skipped = skip ∙ ap (some_below (λ m. is_skipping (entry_of (manual.with_accepted r e) m))) more;
       };
     }

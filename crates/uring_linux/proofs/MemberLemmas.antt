@@ -1,16 +1,15 @@
 -- What the definitions say of a member, from its group.
-use Rattle.std.proofs.Common.{◌≡◌, ℕ, suc, ◌<◌, ◌≤◌, length, Bool, true, false, not, ◌&&◌, ◌||◌, leb, ltb, Option, Some, None, is_some, refl, sym, ◌∙◌, ap, arith, inl, inr}
+use Rattle.std.proofs.Common.{◌≡◌, ℕ, ◌<◌, ◌≤◌, length, not, ◌&&◌, leb, Option, Some, None, is_some, refl, sym, ◌∙◌, ap, arith, inl, inr}
 use Rattle.std.specs.Prelude.{if◌then◌else◌}
 use Rattle.std.proofs.lemmas.Bool.{cases_lt, and_left, and_right, le-leb, lt-leb, lt-ltb, le-ltb}
 use Rattle.std.proofs.Math.Bool.{and-true}
-use Rattle.uring_entry.specs.Below.{some_below, least_below}
-use Rattle.uring_entry.specs.Requests.{Requests, entry_of, has_ended, is_joined, is_in_group, is_behind_failure}
+use Rattle.uring_entry.specs.Requests.{Requests, has_ended, is_joined, is_in_group}
 use Rattle.uring_entry.specs.Groups.{IsGroup, first_member, is_before, first_broken}
 use Rattle.uring_entry.specs.Why.{failed_member_of}
 use Rattle.uring_entry.proofs.BelowLemmas.{some_below-same, some_below-between, least_below-none, least_below-some, is_some-least_below}
-use Rattle.uring_entry.proofs.GroupLemmas.{joined-member, in_group-member, behind-is}
+use Rattle.uring_entry.proofs.GroupLemmas.{joined-member, in_group-member}
 use Rattle.uring_entry.proofs.WhyLemmas.{failed_member-before, failed_member-none}
-use Rattle.uring_linux.specs.LinuxRequests.{has_fault, is_in_faulty_group, is_in_turn, keeps_back, first_of, breaker_of}
+use Rattle.uring_linux.specs.LinuxRequests.{has_fault, is_in_faulty_group, is_in_turn, keeps_back, first_of}
 use Rattle.uring_linux.specs.Members.{if_before}
 
 pub turn-is : (r : Requests) (from end n : ℕ) → IsGroup r from end → from ≤ n → n < end

@@ -1,5 +1,5 @@
 -- How a request stands, from what is kept of it, and what its issue is answered.
-use Rattle.std.proofs.Common.{◌≡◌, ℕ, ◌+◌, ◌<◌, ◌≤◌, ℤ, pos, length, Bool, true, false, not, ◌&&◌, ◌||◌, ◌==◌, leb, ltb, Option, Some, None, is_some, refl, sym, ◌∙◌, ap, subst, arith, inl, inr, List, set, ◌-◌}
+use Rattle.std.proofs.Common.{◌≡◌, ℕ, ◌<◌, ℤ, pos, length, Bool, true, false, not, ◌&&◌, ◌||◌, ◌==◌, leb, Option, Some, None, is_some, refl, sym, ◌∙◌, ap, subst, arith, inl, inr, List, set, ◌-◌}
 use Rattle.std.specs.Prelude.{if◌then◌else◌, neg_ℤ}
 use Rattle.std.proofs.lemmas.Bool.{cases_lt, cases_eq, cases_Bool, and_left, and_right, and_from, and_parts, or_parts, or_left, both_ways, lt-ltb, le-ltb, le-leb, lt-leb, ne_eqb, not-true}
 use Rattle.uring_entry.specs.Layout.{Sqe, addr_of, user_data_of}
@@ -10,7 +10,7 @@ use Rattle.uring_entry.specs.Groups.{first_member}
 use Rattle.uring_entry.specs.Requests as manual
 use Rattle.uring_entry.specs.Requests.{Requests, entry_of, has_ended, has_started, is_outstanding, is_running, is_in_group, least_of}
 use Rattle.uring_entry.specs.declared.errno.TheConstants.{ENOENT, EALREADY}
-use Rattle.uring_entry.proofs.BelowLemmas.{some_below-none, some_below-some, some_below-same, is_some-least_below, least_below-same}
+use Rattle.uring_entry.proofs.BelowLemmas.{some_below-some, some_below-same, is_some-least_below, least_below-same}
 use Rattle.uring_entry.proofs.RequestLemmas.{is_in_own_group}
 use Rattle.uring_dispatch.specs.declared.answers.Posts.{Posts}
 use Rattle.uring_linux.specs.declared.request.Request.{Request}
@@ -22,7 +22,7 @@ use Rattle.uring_linux.specs.Drains.{Drains}
 use Rattle.uring_linux.specs.LinuxRequests.{LinuxRequests, has_fault, is_in_faulty_group, is_in_turn, is_doomed, is_deferred, is_issuable, is_found, found_by, cancel_result, doomed_result, after_going_on, with_started, with_ended}
 use Rattle.uring_linux.specs.Laws.{is_refusal}
 use Rattle.uring_linux.specs.Issues.{issued, issued_ready, ended_with, after_end}
-use Rattle.uring_linux.specs.Window.{Window, at, end_of, said, Tells, Shows, IsWithin}
+use Rattle.uring_linux.specs.Window.{Window, at, end_of, said, Tells, Shows}
 use Rattle.uring_linux.specs.LinuxDispatch.{dispatch_of, ShowsRequests}
 use Rattle.uring_linux.proofs.WindowLemmas.{not_none}
 use Rattle.uring_linux.proofs.WindowEvents.{at-within, roomed, started-shows, ended-shows}

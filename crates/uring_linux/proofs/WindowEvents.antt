@@ -1,18 +1,18 @@
 -- What each event changes in what is kept.
-use Rattle.std.proofs.Common.{◌≡◌, ◌≢◌, ℕ, suc, ◌+◌, ◌-◌, ◌<◌, ◌≤◌, ℤ, length, Bool, true, false, not, ◌&&◌, ◌||◌, ◌==◌, List, [], ◌∷◌, ◌++◌, set, slice_get, Option, Some, None, refl, sym, ◌∙◌, ap, subst, arith, inl, inr, length-append, length-set}
+use Rattle.std.proofs.Common.{◌≡◌, ◌≢◌, ℕ, suc, ◌+◌, ◌-◌, ◌<◌, ◌≤◌, ℤ, length, Bool, true, false, not, ◌&&◌, ◌||◌, ◌==◌, List, [], ◌∷◌, ◌++◌, set, slice_get, Some, None, refl, sym, ◌∙◌, ap, subst, arith, inl, inr, length-append, length-set}
 use Rattle.std.specs.List.{list_any}
-use Rattle.std.proofs.lemmas.Bool.{cases_lt, cases_eq, eq-eqb, ne_eqb, and_left, and_right, or_left}
+use Rattle.std.proofs.lemmas.Bool.{cases_lt, cases_eq, ne_eqb, and_left}
 use Rattle.std.proofs.lemmas.Option.{slice_get_past, slice_get-get_or, slice_get_within}
 use Rattle.std.proofs.lemmas.List.{get_or-set_same, get_or-set_other}
 use Rattle.std.proofs.Math.Seq.{get_or-append_seam}
 use Rattle.uring_entry.specs.Layout.{Sqe}
 use Rattle.uring_entry.specs.Preparation.{is_faulty}
 use Rattle.uring_entry.specs.Success.{is_success}
-use Rattle.uring_entry.specs.Requests.{Requests, no_request, entry_of, is_linked, is_drain, is_last, has_ended, has_started, with_accepted, with_cut, with_started, with_ended}
+use Rattle.uring_entry.specs.Requests.{Requests, no_request, entry_of, is_linked, is_drain, is_last, has_ended, with_accepted, with_cut, with_started, with_ended}
 use Rattle.uring_entry.proofs.BelowLemmas.{some_below-same}
 use Rattle.uring_entry.specs.Below.{some_below}
 use Rattle.std.proofs.Math.Bool.{or-false}
-use Rattle.uring_entry.proofs.RequestLemmas.{get_or-push_other, entry_of-accepted_at, entry_of-accepted_other, has_failed-unended, has_failed-accepted, has_ended-other, has_ended-same, has_failed-other, has_failed-same, is_running-started_same, is_running-started_other, is_running-ended_same, is_running-ended_other, added-other, added-same}
+use Rattle.uring_entry.proofs.RequestLemmas.{get_or-push_other, entry_of-accepted_at, entry_of-accepted_other, has_failed-unended, has_failed-accepted, has_ended-other, has_ended-same, has_failed-other, has_failed-same, is_running-started_same, is_running-started_other, is_running-ended_same, is_running-ended_other, added-other}
 use Rattle.uring_entry.proofs.GroupEvents.{entry-same, is_last-cut, is_last-cut_last}
 use Rattle.uring_linux.specs.declared.request.Request.{Request}
 use Rattle.uring_linux.specs.LinuxRequests.{is_skipping, has_skipped, is_refused_drain}
@@ -130,16 +130,16 @@ accepted-shows s q room r e h t =
     record {
       count = omega (arith, long, more, count);
       told = λ n x is.
-        elim (cases_eq n (end_of s)) [
-          | inl same ↦
-              let here : x ≡ q = let f : Some x ≡ Some q = sym is ∙ ap (at _) same ∙ at-push_here s q room in cc in
-              subst (λ y. Tells y (with_accepted r e) n) (sym here)
-              (subst (λ k. Tells q (with_accepted r e) k) (sym (same ∙ count)) t)
-          | inr other ↦
-              let was : at s n ≡ Some x = sym (at-push_other s q room n other) ∙ is in
-              let w = at-within s n x was in
-              tells-accepted x r e n (h.told n x was) (omega (arith, w.high, count)) (h.later (length r.accepted) (omega arith))
-        ];
+          elim (cases_eq n (end_of s)) [
+            | inl same ↦
+                let here : x ≡ q = let f : Some x ≡ Some q = sym is ∙ ap (at _) same ∙ at-push_here s q room in cc in
+                subst (λ y. Tells y (with_accepted r e) n) (sym here)
+                (subst (λ k. Tells q (with_accepted r e) k) (sym (same ∙ count)) t)
+            | inr other ↦
+                let was : at s n ≡ Some x = sym (at-push_other s q room n other) ∙ is in
+                let w = at-within s n x was in
+                tells-accepted x r e n (h.told n x was) (omega (arith, w.high, count)) (h.later (length r.accepted) (omega arith))
+          ];
       gone = h.gone;
       begins = λ k is. last-accepted r e k (omega (arith, is, count)) ∙ h.begins k is;
       later = λ n le. let new = h.later n (omega (arith, le, more)) in record { started = new.started; ended = new.ended; cut = new.cut };
@@ -162,12 +162,12 @@ written-shows s q r t n h w f here =
     record {
       count = omega (arith, long, count, f.count);
       told = λ k x is.
-        elim (cases_eq k n) [
-          | inl same ↦
-              let one : x ≡ q = let g : Some x ≡ Some q = sym is ∙ ap (at _) same ∙ at-set_here s q n w in cc in
-              subst (λ y. Tells y t k) (sym one) (subst (λ j. Tells q t j) (sym same) here)
-          | inr other ↦ f.others x k other (h.told k x (sym (at-set_other s q n k w.low other) ∙ is))
-        ];
+          elim (cases_eq k n) [
+            | inl same ↦
+                let one : x ≡ q = let g : Some x ≡ Some q = sym is ∙ ap (at _) same ∙ at-set_here s q n w in cc in
+                subst (λ y. Tells y t k) (sym one) (subst (λ j. Tells q t j) (sym same) here)
+            | inr other ↦ f.others x k other (h.told k x (sym (at-set_other s q n k w.low other) ∙ is))
+          ];
       gone = λ k lt. f.gone k (h.gone k lt);
       begins = λ k is. f.begins k (h.begins k is);
       later = λ k le. let few : length r.accepted ≤ k = omega (arith, le, f.count) in f.later k few (h.later k few);
@@ -199,11 +199,11 @@ started-shows s q r n h here going =
       gone = λ k e. e;
       begins = λ k e. e;
       later = λ k le new.
-        record {
-          started = added-other (λ m. m == k) r.started n (ne_eqb n k (λ e. absurd (omega (arith, e, le, w.high, h.count)))) ∙ new.started;
-          ended = new.ended;
-          cut = new.cut;
-        };
+          record {
+            started = added-other (λ m. m == k) r.started n (ne_eqb n k (λ e. absurd (omega (arith, e, le, w.high, h.count)))) ∙ new.started;
+            ended = new.ended;
+            cut = new.cut;
+          };
     })
     (record {
       entry = t.entry;
@@ -240,17 +240,17 @@ ended-shows s q r n res bytes failed h here going is =
       count = refl;
       others = λ x k ne was. tells-ended x r n res bytes k ne was;
       gone = λ k e.
-        elim (cases_eq k n) [
-          | inl same ↦ ap (has_ended (with_ended r n res bytes)) same ∙ has_ended-same r n res bytes
-          | inr other ↦ has_ended-other r n res bytes k other ∙ e
-        ];
+          elim (cases_eq k n) [
+            | inl same ↦ ap (has_ended (with_ended r n res bytes)) same ∙ has_ended-same r n res bytes
+            | inr other ↦ has_ended-other r n res bytes k other ∙ e
+          ];
       begins = λ k e. e;
       later = λ k le new.
-        record {
-          started = new.started;
-          ended = has_ended-other r n res bytes k (λ e. absurd (omega (arith, e, le, w.high, h.count))) ∙ new.ended;
-          cut = new.cut;
-        };
+          record {
+            started = new.started;
+            ended = has_ended-other r n res bytes k (λ e. absurd (omega (arith, e, le, w.high, h.count))) ∙ new.ended;
+            cut = new.cut;
+          };
     })
     (record {
       entry = t.entry;
@@ -363,8 +363,8 @@ tells-new r e b new is =
       faulty = ap is_faulty here;
       refused = ap (λ x. is_drain x && b) here ∙ ap (λ c. is_drain (entry_of (with_accepted r e) (length r.accepted)) && c) is;
       last =
-        ap (λ x. not (is_linked x)) here
-        ∙ sym (ap (λ c. not (is_linked (entry_of (with_accepted r e) (length r.accepted))) || c) new.cut ∙ or-false _);
+          ap (λ x. not (is_linked x)) here
+          ∙ sym (ap (λ c. not (is_linked (entry_of (with_accepted r e) (length r.accepted))) || c) new.cut ∙ or-false _);
       running = sym (and_left _ _ new.started);
       ended = sym new.ended;
       failed = sym (has_failed-unended (with_accepted r e) (length r.accepted) new.ended);

@@ -1,5 +1,5 @@
 -- What is kept, by numbers, and what it tells.
-use Rattle.std.proofs.Common.{◌≡◌, ℕ, suc, ◌+◌, ◌-◌, ◌<◌, ◌≤◌, length, Bool, true, false, not, ◌&&◌, ◌||◌, ◌==◌, List, slice_get, Option, Some, None, refl, sym, ◌∙◌, ap, arith, inl, inr}
+use Rattle.std.proofs.Common.{◌≡◌, ℕ, ◌-◌, ◌<◌, ◌≤◌, length, not, ◌&&◌, ◌||◌, ◌==◌, List, slice_get, Some, None, ◌∙◌, ap, arith, inl, inr}
 use Rattle.std.specs.Prelude.{if◌then◌else◌}
 use Rattle.std.proofs.lemmas.Bool.{lt-ltb, le-ltb}
 use Rattle.std.proofs.lemmas.Option.{slice_get_cases}
@@ -9,7 +9,7 @@ use Rattle.uring_entry.specs.Requests.{Requests, entry_of, is_soft, is_running}
 use Rattle.uring_linux.specs.declared.request.Request.{Request}
 use Rattle.uring_linux.specs.declared.request.Test.{Test}
 use Rattle.uring_linux.specs.declared.request.Test.TheVariants.{Unended, Faulty, Broken, Runs}
-use Rattle.uring_linux.specs.Window.{Window, at, end_of, passes, said, Tells, Shows, IsWithin}
+use Rattle.uring_linux.specs.Window.{Window, at, passes, said, Tells, IsWithin}
 
 pub at-low : (s : Window) (n : ℕ) → n < s.first → at s n ≡ None
 unfolding at

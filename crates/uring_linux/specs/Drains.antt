@@ -1,5 +1,5 @@
 -- How the drains of a ring stand, as Linux 6.18 was seen to keep them. What the kernel does is told in docs/PROTOCOL.md, Drains; the words are our own.
-use Rattle.std.specs.Prelude.{ℕ, Bool, true, false, not, ◌&&◌, ◌||◌, ◌==◌, nat_lt, nat_le, List, [], ◌∷◌, ◌++◌, length, if◌then◌else◌}
+use Rattle.std.specs.Prelude.{ℕ, Bool, true, false, not, ◌&&◌, ◌||◌, nat_lt, nat_le, List, [], ◌∷◌, ◌++◌, if◌then◌else◌}
 use Rattle.std.specs.List.{list_any}
 use Rattle.uring_linux.specs.declared.deferred.Deferred.{Deferred}
 

@@ -1,6 +1,6 @@
 -- Glue. The dispatcher as its callers see it.
 use Rattle.std.specs.Prelude.{◌≡◌, ℕ, ◌<◌, ◌≤◌, Bool, true, length}
-use Rattle.uring_entry.specs.Requests.{Requests, entry_of}
+use Rattle.uring_entry.specs.Requests.{entry_of}
 use Rattle.uring_entry.specs.Below.{some_below}
 use Rattle.uring_linux.specs.Drains.{Drains}
 use Rattle.uring_linux.specs.KeptDrains.{KeptDrains}
@@ -45,7 +45,7 @@ pub record StandsFor (held : Held) (l : LinuxRequests) : Type 0 where
   pub window : Shows held.window l.requests
   pub drains : held.drains ≡ l.drains
   pub skipped : held.has_skipped
-    ≡ some_below (λ m. is_skipping (entry_of l.requests m)) (length l.requests.accepted)
+      ≡ some_below (λ m. is_skipping (entry_of l.requests m)) (length l.requests.accepted)
 
 -- The dispatcher shows these requests: everything it answers is as the definitions on them say.
 pub record ShowsRequests (d : LinuxDispatch) (l : LinuxRequests) : Type 0 where

@@ -143,8 +143,8 @@ with_group r d =
     if not d.ring || is_faulty_from r d.from
     then with_deferred d (length r.accepted) d.deferred
     else with_ring
-      (with_deferred d (length r.accepted) (after_going_on r (deferred_with d (length r.accepted))))
-      d.group
+    (with_deferred d (length r.accepted) (after_going_on r (deferred_with d (length r.accepted))))
+    d.group
 
 -- the last entry is taken
 abbrev pub with_last_entry : Requests → ℕ → Drains → Drains

@@ -39,7 +39,9 @@ impl LinuxDispatch {
             return Issued::NotReady;
         }
         if self.window.is_doomed(n, span) {
-            return self.window.ended(n, &request, span, doomed_result(&request));
+            return self
+                .window
+                .ended(n, &request, span, doomed_result(&request));
         }
         if self.drains.is_deferred(n) {
             return Issued::NotReady;

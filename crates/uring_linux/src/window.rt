@@ -174,7 +174,13 @@ impl Window {
         let Some(request) = self.copy(end - 1) else {
             return;
         };
-        self.write(end - 1, Request { is_last: true, ..request });
+        self.write(
+            end - 1,
+            Request {
+                is_last: true,
+                ..request
+            },
+        );
     }
 
     /// Makes room for `count` more requests. Where memory is refused, nothing changes.

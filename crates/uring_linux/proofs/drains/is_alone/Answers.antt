@@ -1,5 +1,5 @@
-use Rattle.std.proofs.Common.{◌≡◌, not, ◌&&◌, length, sym, ◌∙◌, ap, arith, below_more}
-use Rattle.std.proofs.lemmas.Bool.{and_left, and_right, and_from}
+use Rattle.std.proofs.Common.{not, ◌&&◌, length, sym, ◌∙◌, ap, arith}
+use Rattle.std.proofs.lemmas.Bool.{and_left, and_from}
 use Rattle.uring_entry.specs.Requests.{has_ended}
 use Rattle.uring_entry.proofs.BelowLemmas.{some_below-none, some_below-some}
 use Rattle.uring_linux.specs.Drains.{is_in_some}

@@ -1,4 +1,4 @@
-use Rattle.std.proofs.Common.{◌≡◌, ◌==◌, sym, ◌∙◌, ap, subst}
+use Rattle.std.proofs.Common.{◌==◌, sym, ◌∙◌, ap, subst}
 use Rattle.uring_linux.specs.LinuxDispatch.{LinuxDispatch, ShowsRequests}
 use Rattle.uring_linux.proofs.Dispatches.{dispatch-accepted}
 use Rattle.uring_linux.proofs.dispatch.LinuxDispatch.accept.Goals as goal

@@ -1,4 +1,4 @@
-use Rattle.std.proofs.Common.{rules, w32, ◌≡◌, arith, sym, ◌∙◌, ap, subst, Some, None, true, false, refl}
+use Rattle.std.proofs.Common.{rules, w32, arith, sym, ◌∙◌, ap, subst, true, false, refl}
 use Rattle.std.proofs.lemmas.Int.{to_z-of_z}
 use Rattle.uring_linux.specs.Issues.{ended_with}
 use Rattle.uring_linux.specs.LinuxDispatch.{LinuxDispatch, ShowsRequests}

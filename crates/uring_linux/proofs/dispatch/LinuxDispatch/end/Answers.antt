@@ -1,4 +1,4 @@
-use Rattle.std.proofs.Common.{rules, w32, ◌≡◌, not, arith, sym, ◌∙◌, ap, subst}
+use Rattle.std.proofs.Common.{rules, w32, not, sym, ◌∙◌, ap, subst}
 use Rattle.std.proofs.lemmas.Bool.{both_ways}
 use Rattle.std.proofs.lemmas.Int.{to_z-of_z}
 use Rattle.uring_linux.specs.LinuxDispatch.{LinuxDispatch, ShowsRequests}

@@ -1,4 +1,4 @@
-use Rattle.std.proofs.Common.{◌≡◌, sym, subst}
+use Rattle.std.proofs.Common.{sym, subst}
 use Rattle.uring_linux.specs.LinuxDispatch.{LinuxDispatch, ShowsRequests}
 use Rattle.uring_linux.proofs.Dispatches.{dispatch-cut}
 use Rattle.uring_linux.proofs.dispatch.LinuxDispatch.end_call.Goals as goal

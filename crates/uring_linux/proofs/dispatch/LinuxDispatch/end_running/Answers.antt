@@ -1,7 +1,6 @@
-use Rattle.std.proofs.Common.{rules, w32, ◌≡◌, sym}
+use Rattle.std.proofs.Common.{rules, w32}
 use Rattle.std.proofs.lemmas.Int.{to_z-of_z}
 use Rattle.uring_entry.specs.Requests.{is_running}
-use Rattle.uring_linux.specs.Issues.{posts_of}
 use Rattle.uring_linux.proofs.Standings.{some-running, running-outstanding}
 use Rattle.uring_linux.proofs.dispatch.LinuxDispatch.end_running.Goals as goal
 

@@ -1,4 +1,4 @@
-use Rattle.std.proofs.Common.{rules, w32, ◌≡◌, sym}
+use Rattle.std.proofs.Common.{rules, w32, sym}
 use Rattle.std.proofs.lemmas.Int.{to_z-of_z}
 use Rattle.uring_entry.specs.Requests.{no_bytes}
 use Rattle.uring_linux.proofs.Standings.{ended-outstanding}

@@ -1,4 +1,4 @@
-use Rattle.std.proofs.Common.{◌≡◌, length, arith, sym, ◌∙◌, ap}
+use Rattle.std.proofs.Common.{length, arith, sym, ◌∙◌, ap}
 use Rattle.uring_entry.proofs.BelowLemmas.{least_below-none, least_below-some}
 use Rattle.uring_linux.specs.LinuxRequests.{is_issuable}
 use Rattle.uring_linux.specs.LinuxDispatch.{LinuxDispatch}

@@ -1,6 +1,6 @@
 use Rattle.std.proofs.Common.{◌≡◌, ℕ, ◌<◌, false}
 use Rattle.uring_linux.specs.LinuxRequests.{LinuxRequests, is_issuable}
-use Rattle.uring_linux.specs.LinuxDispatch.{ShowsRequests, dispatch_of}
+use Rattle.uring_linux.specs.LinuxDispatch.{ShowsRequests}
 use Rattle.uring_linux.proofs.dispatch.LinuxDispatch.next.Given as goal
 
 abbrev pub invariant-loop-n : goal.invariant-loop-n

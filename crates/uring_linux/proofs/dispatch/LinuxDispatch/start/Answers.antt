@@ -1,4 +1,4 @@
-use Rattle.std.proofs.Common.{◌≡◌, arith, sym, ◌∙◌, ap, subst}
+use Rattle.std.proofs.Common.{sym, ◌∙◌, subst}
 use Rattle.std.proofs.lemmas.Bool.{both_ways}
 use Rattle.uring_linux.specs.LinuxDispatch.{LinuxDispatch, ShowsRequests}
 use Rattle.uring_linux.proofs.WindowEvents.{at-within}

@@ -1,9 +1,5 @@
-use Rattle.std.proofs.Common.{◌≡◌, ℕ, Option, Some, None, is_some, arith, sym, ◌∙◌, ap, true, false}
-use Rattle.uring_entry.specs.Layout.{addr_of}
-use Rattle.uring_entry.specs.Groups.{first_member}
+use Rattle.std.proofs.Common.{Some, None, arith, sym, ◌∙◌, ap, true, false}
 use Rattle.uring_entry.specs.Preparation.{is_cancel_all}
-use Rattle.uring_linux.specs.declared.request.Test.TheVariants.{Runs}
-use Rattle.uring_linux.specs.Window.{said, end_of}
 use Rattle.uring_linux.proofs.Standings.{found-at_last, cancelled-one}
 use Rattle.uring_linux.proofs.window.Window.cancel_result.Goals as goal
 

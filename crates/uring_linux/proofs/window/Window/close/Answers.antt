@@ -1,4 +1,4 @@
-use Rattle.std.proofs.Common.{◌≡◌, ◌+◌, ◌≤◌, length, arith, sym, ◌∙◌, ap, subst}
+use Rattle.std.proofs.Common.{arith, sym, ◌∙◌, ap, subst}
 use Rattle.uring_entry.specs.Requests.{with_cut}
 use Rattle.uring_linux.specs.Window.{Window, Shows}
 use Rattle.uring_linux.proofs.WindowLemmas.{not_none}

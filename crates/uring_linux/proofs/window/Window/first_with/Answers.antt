@@ -1,7 +1,7 @@
-use Rattle.std.proofs.Common.{◌≡◌, ◌&&◌, leb, sym, ◌∙◌, arith, below_more}
+use Rattle.std.proofs.Common.{◌&&◌, leb, sym, ◌∙◌, arith, below_more}
 use Rattle.std.proofs.lemmas.Bool.{and_left, and_right, and_from, lt-leb, le-leb}
 use Rattle.uring_entry.specs.Groups.{first_member}
-use Rattle.uring_linux.specs.Window.{IsWithin, said}
+use Rattle.uring_linux.specs.Window.{said}
 use Rattle.uring_entry.proofs.BelowLemmas.{least_below-none, least_below-some}
 use Rattle.uring_linux.proofs.window.Window.first_with.Goals as goal
 

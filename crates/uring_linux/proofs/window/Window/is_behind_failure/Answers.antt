@@ -1,4 +1,4 @@
-use Rattle.std.proofs.Common.{◌≡◌, arith, sym, ◌∙◌, ap}
+use Rattle.std.proofs.Common.{sym, ◌∙◌, ap}
 use Rattle.uring_entry.specs.Groups.{is_before}
 use Rattle.uring_entry.proofs.GroupLemmas.{behind-is}
 use Rattle.uring_linux.proofs.window.Window.is_behind_failure.Goals as goal

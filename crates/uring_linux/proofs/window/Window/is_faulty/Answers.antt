@@ -1,4 +1,4 @@
-use Rattle.std.proofs.Common.{◌≡◌, arith, is_some, sym, ◌∙◌, ap}
+use Rattle.std.proofs.Common.{is_some, sym, ◌∙◌, ap}
 use Rattle.uring_linux.proofs.MemberLemmas.{faulty-is}
 use Rattle.uring_linux.proofs.window.Window.is_faulty.Goals as goal
 

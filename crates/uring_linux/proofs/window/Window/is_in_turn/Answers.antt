@@ -1,4 +1,4 @@
-use Rattle.std.proofs.Common.{◌≡◌, arith, not, is_some, sym, ◌∙◌, ap}
+use Rattle.std.proofs.Common.{arith, not, is_some, sym, ◌∙◌, ap}
 use Rattle.uring_linux.proofs.MemberLemmas.{turn-is}
 use Rattle.uring_linux.proofs.window.Window.is_in_turn.Goals as goal
 

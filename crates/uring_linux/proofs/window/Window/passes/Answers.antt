@@ -1,4 +1,4 @@
-use Rattle.std.proofs.Common.{sym, ◌∙◌, arith}
+use Rattle.std.proofs.Common.{sym, ◌∙◌}
 use Rattle.uring_linux.proofs.WindowLemmas.{not_none, agrees}
 use Rattle.uring_linux.proofs.window.Window.passes.Goals as goal
 
