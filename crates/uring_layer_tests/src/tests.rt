@@ -1,8 +1,9 @@
-//! Tests of the public calls of entries, rings, files and dispatcher.
+//! Tests of the public calls of entries, rings, files and both dispatchers.
 
 mod dispatch;
 mod entry;
 mod files;
+mod linux_dispatch;
 mod rings;
 
 use std::process::Abort;

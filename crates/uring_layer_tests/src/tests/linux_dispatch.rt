@@ -1,0 +1,189 @@
+//! What Linux 6.18 was seen to do with drains, faults, cancels and silent members. The answers were written by hand from docs/PROTOCOL.md.
+
+ghost use Rattle.std.specs.Prelude.{IsTrue};
+
+use super::{check_done, first_false};
+use std::alloc::Global;
+use std::test::Fail;
+use uring_entry::Sqe;
+use uring_linux::{Issued, LinuxDispatch, Posts, ReserveError};
+
+const DRAIN: u8 = 2;
+
+const LINK: u8 = 4;
+
+const SKIP: u8 = 64;
+
+/// A call of one entry.
+fn one(dispatch: &mut LinuxDispatch, entry: Sqe) -> Result<(), ReserveError>
+    requires { IsTrue dispatch.old.is_between_calls }
+    ensures { IsTrue dispatch.new.is_between_calls }
+{
+    dispatch.reserve(1)?;
+    dispatch.accept(entry);
+    dispatch.end_call();
+    Ok(())
+}
+
+/// A call of two entries.
+fn two(dispatch: &mut LinuxDispatch, first: Sqe, second: Sqe) -> Result<(), ReserveError>
+    requires { IsTrue dispatch.old.is_between_calls }
+    ensures { IsTrue dispatch.new.is_between_calls }
+{
+    dispatch.reserve(2)?;
+    dispatch.accept(first);
+    dispatch.accept(second);
+    dispatch.end_call();
+    Ok(())
+}
+
+/// Whether the issue of this request starts it.
+fn starts(dispatch: &mut LinuxDispatch, n: u64) -> bool
+    requires { IsTrue dispatch.old.is_between_calls }
+    ensures { IsTrue dispatch.new.is_between_calls }
+{
+    matches!(dispatch.issue(n), Issued::Run(_))
+}
+
+/// Whether this request waits.
+fn waits(dispatch: &mut LinuxDispatch, n: u64) -> bool
+    requires { IsTrue dispatch.old.is_between_calls }
+    ensures { IsTrue dispatch.new.is_between_calls }
+{
+    matches!(dispatch.issue(n), Issued::NotReady)
+}
+
+/// Whether the issue of this request ends it with this result, and posts a completion or none.
+fn ends(dispatch: &mut LinuxDispatch, n: u64, res: i32, posts: bool) -> bool
+    requires { IsTrue dispatch.old.is_between_calls }
+    ensures { IsTrue dispatch.new.is_between_calls }
+{
+    match dispatch.issue(n) {
+        Issued::Ended(given, Posts::Completion(_)) => given == res && posts,
+        Issued::Ended(given, Posts::Nothing) => given == res && !posts,
+        _ => false,
+    }
+}
+
+/// Ends a running no-op.
+fn finish(dispatch: &mut LinuxDispatch, n: u64) -> bool
+    requires { IsTrue dispatch.old.is_between_calls }
+    ensures { IsTrue dispatch.new.is_between_calls }
+{
+    dispatch.end_running(n, 0).is_some()
+}
+
+/// Nobody waits for a group whose draining member has a fault.
+fn faulty_drain(alloc: Global) -> Result<Option<usize>, Fail> {
+    let mut dispatch = LinuxDispatch::new(alloc);
+    one(&mut dispatch, Sqe::nop(0, 0))?;
+    let first = starts(&mut dispatch, 0);
+    two(
+        &mut dispatch,
+        Sqe::with_opcode(99, 1, DRAIN),
+        Sqe::nop(2, 0),
+    )?;
+    let behind = starts(&mut dispatch, 2);
+    let faulty = ends(&mut dispatch, 1, -22, true);
+    Ok(first_false(&[first, behind, faulty]))
+}
+
+/// If the flag stands on a healthy member of a faulty group, later requests wait for all earlier ones.
+fn drain_of_a_faulty_group(alloc: Global) -> Result<Option<usize>, Fail> {
+    let mut dispatch = LinuxDispatch::new(alloc);
+    one(&mut dispatch, Sqe::nop(0, 0))?;
+    let first = starts(&mut dispatch, 0);
+    two(
+        &mut dispatch,
+        Sqe::nop(1, DRAIN | LINK),
+        Sqe::with_opcode(99, 2, 0),
+    )?;
+    one(&mut dispatch, Sqe::nop(3, 0))?;
+    let out_of_turn = waits(&mut dispatch, 2);
+    let head = ends(&mut dispatch, 1, -125, true);
+    let faulty = ends(&mut dispatch, 2, -22, true);
+    let held = waits(&mut dispatch, 3);
+    let ended = finish(&mut dispatch, 0);
+    let behind = starts(&mut dispatch, 3);
+    Ok(first_false(&[first, out_of_turn, head, faulty, held, ended, behind]))
+}
+
+/// If a member that isn't the head of its chain drains, the group after that chain drains too, even in a later call.
+fn owed_drain(alloc: Global) -> Result<Option<usize>, Fail> {
+    let mut dispatch = LinuxDispatch::new(alloc);
+    two(&mut dispatch, Sqe::nop(0, LINK), Sqe::nop(1, DRAIN))?;
+    let first = starts(&mut dispatch, 0);
+    one(&mut dispatch, Sqe::nop(2, 0))?;
+    one(&mut dispatch, Sqe::nop(3, 0))?;
+    let ended = finish(&mut dispatch, 0);
+    let second = starts(&mut dispatch, 1) && finish(&mut dispatch, 1);
+    let held = waits(&mut dispatch, 3);
+    let owed = starts(&mut dispatch, 2) && finish(&mut dispatch, 2);
+    let last = starts(&mut dispatch, 3);
+    Ok(first_false(&[first, ended, second, held, owed, last]))
+}
+
+/// A request of a later call waits for a running request that was accepted behind the drain in its own call.
+fn held_by_a_later_one(alloc: Global) -> Result<Option<usize>, Fail> {
+    let mut dispatch = LinuxDispatch::new(alloc);
+    two(&mut dispatch, Sqe::nop(1, DRAIN), Sqe::nop(2, 0))?;
+    let drain = starts(&mut dispatch, 0) && finish(&mut dispatch, 0);
+    let running = starts(&mut dispatch, 1);
+    one(&mut dispatch, Sqe::nop(3, 0))?;
+    let held = waits(&mut dispatch, 2);
+    let ended = finish(&mut dispatch, 1);
+    let behind = starts(&mut dispatch, 2);
+    Ok(first_false(&[drain, running, held, ended, behind]))
+}
+
+/// A drain fails once the ring has used skipped success.
+fn drain_beside_skip(alloc: Global) -> Result<Option<usize>, Fail> {
+    let mut dispatch = LinuxDispatch::new(alloc);
+    two(&mut dispatch, Sqe::nop(0, SKIP), Sqe::nop(1, DRAIN))?;
+    Ok(first_false(&[ends(&mut dispatch, 1, -95, true)]))
+}
+
+/// A cancel finds what runs, and not what is held back, which runs later.
+fn cancels(alloc: Global) -> Result<Option<usize>, Fail> {
+    let mut dispatch = LinuxDispatch::new(alloc);
+    two(&mut dispatch, Sqe::nop(7, LINK), Sqe::nop(8, 0))?;
+    two(&mut dispatch, Sqe::cancel(1, 0, 8), Sqe::cancel(2, 0, 7))?;
+    let running = starts(&mut dispatch, 0);
+    let nobody = ends(&mut dispatch, 2, -2, true);
+    let found = ends(&mut dispatch, 3, -114, true);
+    let ended = finish(&mut dispatch, 0);
+    let later = starts(&mut dispatch, 1);
+    Ok(first_false(&[running, nobody, found, ended, later]))
+}
+
+/// Behind a failure that skips nobody posts, also in a chain with a fault whose head skips.
+fn silent_members(alloc: Global) -> Result<Option<usize>, Fail> {
+    let mut dispatch = LinuxDispatch::new(alloc);
+    two(
+        &mut dispatch,
+        Sqe::nop(1, LINK | SKIP),
+        Sqe::with_opcode(99, 2, 0),
+    )?;
+    let head = ends(&mut dispatch, 0, -125, true);
+    let silent = ends(&mut dispatch, 1, -22, false);
+    two(&mut dispatch, Sqe::nop(3, LINK | SKIP), Sqe::nop(4, 0))?;
+    let running = starts(&mut dispatch, 2);
+    let failed = matches!(dispatch.end_running(2, -5), Some(Posts::Completion(3)));
+    let cancelled = ends(&mut dispatch, 3, -125, false);
+    Ok(first_false(&[head, silent, running, failed, cancelled]))
+}
+
+#[test]
+fn drains_as_linux_does(rt: HostRuntime) -> Result<(), Fail> {
+    check_done(&rt, faulty_drain(rt.alloc()))?;
+    check_done(&rt, drain_of_a_faulty_group(rt.alloc()))?;
+    check_done(&rt, owed_drain(rt.alloc()))?;
+    check_done(&rt, held_by_a_later_one(rt.alloc()))
+}
+
+#[test]
+fn refuses_cancels_and_stays_silent_as_linux_does(rt: HostRuntime) -> Result<(), Fail> {
+    check_done(&rt, drain_beside_skip(rt.alloc()))?;
+    check_done(&rt, cancels(rt.alloc()))?;
+    check_done(&rt, silent_members(rt.alloc()))
+}

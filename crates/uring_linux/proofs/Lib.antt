@@ -1,0 +1,5 @@
+pub mod WindowLemmas
+pub mod MemberLemmas
+pub mod WindowEvents
+pub mod Dispatches
+pub mod Standings

@@ -1,0 +1,248 @@
+-- How a request stands, from what is kept of it, and what its issue is answered.
+use Rattle.std.proofs.Common.{◌≡◌, ℕ, ◌<◌, ℤ, pos, length, Bool, true, false, not, ◌&&◌, ◌||◌, ◌==◌, leb, Option, Some, None, is_some, refl, sym, ◌∙◌, ap, subst, arith, inl, inr, List, set, ◌-◌}
+use Rattle.std.specs.Prelude.{if◌then◌else◌, neg_ℤ}
+use Rattle.std.proofs.lemmas.Bool.{cases_lt, cases_eq, cases_Bool, and_left, and_right, and_from, and_parts, or_parts, or_left, both_ways, lt-ltb, le-ltb, le-leb, lt-leb, ne_eqb, not-true}
+use Rattle.uring_entry.specs.Layout.{Sqe, addr_of, user_data_of}
+use Rattle.uring_entry.specs.Preparation.{is_faulty, is_cancel, is_cancel_all, operation_of}
+use Rattle.uring_entry.specs.Success as success
+use Rattle.uring_entry.specs.Below.{some_below, least_below}
+use Rattle.uring_entry.specs.Groups.{first_member}
+use Rattle.uring_entry.specs.Requests as manual
+use Rattle.uring_entry.specs.Requests.{Requests, entry_of, has_ended, has_started, is_outstanding, is_running, is_in_group, least_of}
+use Rattle.uring_entry.specs.declared.errno.TheConstants.{ENOENT, EALREADY}
+use Rattle.uring_entry.proofs.BelowLemmas.{some_below-some, some_below-same, is_some-least_below, least_below-same}
+use Rattle.uring_entry.proofs.RequestLemmas.{is_in_own_group}
+use Rattle.uring_dispatch.specs.declared.answers.Posts.{Posts}
+use Rattle.uring_linux.specs.declared.request.Request.{Request}
+use Rattle.uring_linux.specs.declared.request.Test.TheVariants.{Runs}
+use Rattle.uring_linux.specs.declared.answers.Issued.{Issued}
+use Rattle.uring_linux.specs.declared.answers.Issued.TheVariants.{Run, Ended, NotReady, Running, Unknown}
+use Rattle.uring_linux.specs.KeptDrains.{KeptDrains}
+use Rattle.uring_linux.specs.Drains.{Drains}
+use Rattle.uring_linux.specs.LinuxRequests.{LinuxRequests, has_fault, is_in_faulty_group, is_in_turn, is_doomed, is_deferred, is_issuable, is_found, found_by, cancel_result, doomed_result, after_going_on, with_started, with_ended}
+use Rattle.uring_linux.specs.Laws.{is_refusal}
+use Rattle.uring_linux.specs.Issues.{issued, issued_ready, ended_with, after_end}
+use Rattle.uring_linux.specs.Window.{Window, at, end_of, said, Tells, Shows}
+use Rattle.uring_linux.specs.LinuxDispatch.{dispatch_of, ShowsRequests}
+use Rattle.uring_linux.proofs.WindowLemmas.{not_none}
+use Rattle.uring_linux.proofs.WindowEvents.{at-within, roomed, started-shows, ended-shows}
+
+-- what is kept shows the requests that the dispatcher does
+pub shown : (s : Window) (d : KeptDrains) (b : Bool) (room : ℕ) (between : Bool) (l : LinuxRequests)
+    → ShowsRequests (dispatch_of s d b room between) l → Shows s l.requests
+shown s d b room between l h = roomed s.first s.items 0 s.room l.requests h.held.window
+
+pub outside-ended : (s : Window) (r : Requests) (n : ℕ) → Shows s r → None ≡ at s n
+    → is_outstanding r n ≡ false
+outside-ended s r n h none =
+    elim (cases_lt n s.first) [
+      | inl low ↦ and_right _ _ (ap not (h.gone n low))
+      | inr high ↦
+          elim (cases_lt n (end_of s)) [
+            | inl inside ↦ absurd (not_none s n (record { low = high; high = inside }) none)
+            | inr past ↦ and_left _ _ (le-ltb n (length r.accepted) (omega (arith, past, h.count)))
+          ]
+    ]
+
+pub outside-idle : (s : Window) (r : Requests) (n : ℕ) → Shows s r → None ≡ at s n
+    → is_running r n ≡ false
+outside-idle s r n h none =
+    elim (cases_lt n s.first) [
+      | inl low ↦ and_right _ _ (ap not (h.gone n low))
+      | inr high ↦
+          elim (cases_lt n (end_of s)) [
+            | inl inside ↦ absurd (not_none s n (record { low = high; high = inside }) none)
+            | inr past ↦ and_left _ _ (h.later n (omega (arith, past, h.count))).started
+          ]
+    ]
+
+pub outstanding-ended : (q : Request) (r : Requests) (n : ℕ) → Tells q r n → q.has_ended ≡ true
+    → is_outstanding r n ≡ false
+outstanding-ended q r n t e = and_right _ _ (ap not (sym t.ended ∙ e))
+
+pub outstanding-going : (s : Window) (q : Request) (r : Requests) (n : ℕ) → Shows s r → at s n ≡ Some q
+    → q.has_ended ≡ false → is_outstanding r n ≡ true
+outstanding-going s q r n h here e =
+    let w = at-within s n q here in
+    and_from _ _ (lt-ltb n (length r.accepted) (omega (arith, w.high, h.count))) (ap not (sym (h.told n q here).ended ∙ e))
+
+pub running-outstanding : (s : Window) (r : Requests) (n : ℕ) → Shows s r → is_running r n ≡ true
+    → is_outstanding r n ≡ true
+running-outstanding s r n h e =
+    let parts = and_parts _ _ e in
+    elim (cases_lt n (length r.accepted)) [
+      | inl low ↦ and_from _ _ (lt-ltb n (length r.accepted) low) parts.1
+      | inr past ↦ absurd (both_ways _ (h.later n past).started parts.0)
+    ]
+
+-- who is not in a group with a fault has none
+pub healthy : (r : Requests) (n : ℕ) → n < length r.accepted → is_doomed r n ≡ false
+    → is_faulty (entry_of r n) ≡ false
+unfolding is_in_faulty_group
+healthy r n lt e =
+    let none = (or_parts _ _ e).0 in
+    elim (cases_Bool (is_faulty (entry_of r n))) [
+      | inl faulty ↦
+          absurd
+          (both_ways _ none
+          (some_below-some (λ m. is_in_group r m n && has_fault r m) (length r.accepted) n lt (and_from _ _ (is_in_own_group r n) (or_left _ _ faulty))))
+      | inr fine ↦ fine
+    ]
+
+-- Answers.
+
+abbrev ask : (o run turn doomed deferred : Bool) (x y : Issued) → Issued
+ask o run turn doomed deferred x y =
+    if not o then Unknown else if run then Running else if not turn then NotReady else if doomed then x else if deferred then NotReady else y
+
+pub asked : (l : LinuxRequests) (n : ℕ) (o run turn doomed deferred : Bool)
+    → is_outstanding l.requests n ≡ o → is_running l.requests n ≡ run → is_in_turn l.requests n ≡ turn
+    → is_doomed l.requests n ≡ doomed → is_deferred l n ≡ deferred
+    → issued l n ≡ ask o run turn doomed deferred (ended_with l.requests n (doomed_result l.requests n)) (issued_ready l.requests n)
+asked l n o run turn doomed deferred a b c d e =
+    let r = l.requests in
+    let x = ended_with r n (doomed_result r n) in
+    let y = issued_ready r n in
+    ap (λ z. ask z (is_running r n) (is_in_turn r n) (is_doomed r n) (is_deferred l n) x y) a
+    ∙ ap (λ z. ask o z (is_in_turn r n) (is_doomed r n) (is_deferred l n) x y) b
+    ∙ ap (λ z. ask o run z (is_doomed r n) (is_deferred l n) x y) c
+    ∙ ap (λ z. ask o run turn z (is_deferred l n) x y) d
+    ∙ ap (λ z. ask o run turn doomed z x y) e
+
+pub ended-outstanding : (l : LinuxRequests) (n : ℕ) (res : ℤ) (p : Posts) → issued l n ≡ Ended res p
+    → is_outstanding l.requests n ≡ true
+ended-outstanding l n res p e = go (is_outstanding l.requests n) _ e
+  where
+    go : (o : Bool) (x : Issued) → (if not o then Unknown else x) ≡ Ended res p → o ≡ true
+    go true x e = refl
+    go false x e = absurd (cc)
+
+pub after_some : (l : LinuxRequests) (n : ℕ) (res : ℤ) (bytes : List ℕ) (o : Option Posts) → is_some o ≡ true
+    → after_end l n res bytes o ≡ with_ended l n res bytes
+after_some l n res bytes None e = absurd (both_ways false refl e)
+after_some l n res bytes (Some p) e = refl
+
+-- Cancels.
+
+found-at : (r : Requests) (n m first : ℕ) → is_running r n ≡ false
+    → (m < first → has_ended r m ≡ true)
+    → (leb first m && said (Runs (addr_of (entry_of r n))) r m) ≡ is_found r n m
+found-at r n m first idle gone =
+    elim (cases_lt m first) [
+      | inl low ↦ and_left _ _ (lt-leb first m low) ∙ sym (and_left _ _ (and_right _ _ (ap not (gone low))))
+      | inr high ↦
+          ap (λ b. b && said (Runs (addr_of (entry_of r n))) r m) (le-leb first m high)
+          ∙ elim (cases_eq m n) [
+            | inl same ↦
+                let quiet = ap (is_running r) same ∙ idle in
+                and_left _ _ quiet ∙ sym (and_left _ _ quiet)
+            | inr other ↦ ap (λ b. is_running r m && (not b && (user_data_of (entry_of r m) == addr_of (entry_of r n)))) (sym (ne_eqb m n other))
+          ]
+    ]
+
+pub found-is : (s : Window) (r : Requests) (n : ℕ) → Shows s r → is_running r n ≡ false
+    → is_some (first_member (said (Runs (addr_of (entry_of r n))) r) s.first (end_of s)) ≡ is_some (found_by r n)
+unfolding first_member found_by
+found-is s r n h idle =
+    is_some-least_below (λ m. leb s.first m && said (Runs (addr_of (entry_of r n))) r m) (end_of s)
+    ∙ some_below-same (λ m. leb s.first m && said (Runs (addr_of (entry_of r n))) r m) (is_found r n) (end_of s)
+    (λ m low. found-at r n m s.first idle (h.gone m))
+    ∙ ap (some_below (is_found r n)) h.count
+    ∙ sym (is_some-least_below (is_found r n) (length r.accepted))
+
+-- the same, from what a search answered
+pub found-at_last : (s : Window) (r : Requests) (n : ℕ) (e : Sqe) (u first end : ℕ) (o : Option ℕ) → Shows s r
+    → is_running r n ≡ false → e ≡ entry_of r n → u ≡ addr_of e → first ≡ s.first → end ≡ end_of s
+    → o ≡ first_member (said (Runs u) r) first end → is_some (found_by r n) ≡ is_some o
+found-at_last s r n e u first end o h idle ee eu ef en eo =
+    sym
+    (ap is_some eo ∙ ap (λ x. is_some (first_member (said (Runs x) r) first end)) (eu ∙ ap addr_of ee)
+    ∙ ap (λ x. is_some (first_member (said (Runs (addr_of (entry_of r n))) r) x end)) ef
+    ∙ ap (λ x. is_some (first_member (said (Runs (addr_of (entry_of r n))) r) s.first x)) en
+    ∙ found-is s r n h idle)
+
+pub cancelled-one : (r : Requests) (n : ℕ) (b : Bool) → is_cancel_all (entry_of r n) ≡ false
+    → is_some (found_by r n) ≡ b
+    → cancel_result r n ≡ (if b then neg_ℤ EALREADY else neg_ℤ ENOENT)
+cancelled-one r n b one found =
+    ap (λ x. if x then pos 0 else (if is_some (found_by r n) then neg_ℤ EALREADY else neg_ℤ ENOENT)) one
+    ∙ ap (λ x. if x then neg_ℤ EALREADY else neg_ℤ ENOENT) found
+
+-- Events.
+
+pub dispatch-started : (s t : Window) (d : KeptDrains) (b : Bool) (room left : ℕ) (between amid : Bool) (l : LinuxRequests) (n : ℕ) (q : Request)
+    → ShowsRequests (dispatch_of s d b room between) l → at s n ≡ Some q
+    → is_outstanding l.requests n ≡ true
+    → t ≡ record s { items = set s.items (n - s.first) (record q { is_running = true }) }
+    → ShowsRequests (dispatch_of t d b left amid) (with_started l n)
+dispatch-started s t d b room left between amid l n q h here going et =
+    let out = and_parts _ _ going in
+    let open_ = not-true _ out.1 in
+    let shows = subst (λ (x : Window). Shows x (manual.with_started l.requests n)) (sym et) (started-shows s q l.requests n (shown s d b room between l h) here open_) in
+    record {
+      accepted = shows.count;
+      held = record {
+        window = roomed t.first t.items t.room 0 (manual.with_started l.requests n) shows;
+        drains = h.held.drains;
+        skipped = h.held.skipped;
+      };
+    }
+
+pub dispatch-ended : (s t : Window) (d k : KeptDrains) (b : Bool) (room left : ℕ) (between amid : Bool) (l : LinuxRequests) (n : ℕ) (q : Request) (res : ℤ) (bytes : List ℕ) (failed : Bool)
+    → ShowsRequests (dispatch_of s d b room between) l → at s n ≡ Some q
+    → is_outstanding l.requests n ≡ true → failed ≡ not (success.is_success q.entry res)
+    → t ≡ record s { items = set s.items (n - s.first) (record q { is_running = false; has_ended = true; has_failed = failed }) }
+    → ((r : Requests) → Shows t r → k.drains ≡ record d.drains { deferred = after_going_on r d.drains.deferred })
+    → ShowsRequests (dispatch_of t k b left amid) (with_ended l n res bytes)
+dispatch-ended s t d k b room left between amid l n q res bytes failed h here going ef et f =
+    let out = and_parts _ _ going in
+    let open_ = not-true _ out.1 in
+    let r = manual.with_ended l.requests n res bytes in
+    let shows = subst (λ (x : Window). Shows x r) (sym et) (ended-shows s q l.requests n res bytes failed (shown s d b room between l h) here open_ ef) in
+    record {
+      accepted = shows.count;
+      held = record {
+        window = roomed t.first t.items t.room 0 r shows;
+        drains = f r shows ∙ ap (λ (x : Drains). record x { deferred = after_going_on r x.deferred }) h.held.drains;
+        skipped = h.held.skipped;
+      };
+    }
+
+-- What can be issued.
+
+issuable-asked : (o run turn doomed deferred cancel : Bool) (x y : Issued) → is_refusal x ≡ false → is_refusal y ≡ false
+    → (o && (not run && (turn && (doomed || not deferred)))) ≡ not (is_refusal (ask o run turn doomed deferred x y))
+issuable-asked false run turn doomed deferred cancel x y a b = refl
+issuable-asked true true turn doomed deferred cancel x y a b = refl
+issuable-asked true false false doomed deferred cancel x y a b = refl
+issuable-asked true false true true deferred cancel x y a b = sym (ap not a)
+issuable-asked true false true false true cancel x y a b = refl
+issuable-asked true false true false false cancel x y a b = sym (ap not b)
+
+ready-goes : (r : Requests) (n : ℕ) → is_refusal (issued_ready r n) ≡ false
+ready-goes r n = go (is_cancel (entry_of r n))
+  where
+    go : (b : Bool) → is_refusal (if b then ended_with r n (cancel_result r n) else Run (operation_of (entry_of r n))) ≡ false
+    go true = refl
+    go false = refl
+
+pub issuable-is : (l : LinuxRequests) (n : ℕ) → is_issuable l n ≡ not (is_refusal (issued l n))
+issuable-is l n = issuable-asked (is_outstanding l.requests n) (is_running l.requests n) (is_in_turn l.requests n) (is_doomed l.requests n) (is_deferred l n) false (ended_with l.requests n (doomed_result l.requests n)) (issued_ready l.requests n) refl (ready-goes l.requests n)
+
+pub some-running : (b : Bool) (p q : Posts) → Some q ≡ (if b then Some p else None) → b ≡ true
+some-running true p q e = refl
+some-running false p q e = absurd (cc)
+
+pub least-is : (s : Window) (r : Requests) → Shows s r
+    → first_member (λ m. not (has_ended r m)) s.first (end_of s) ≡ least_of r
+unfolding first_member
+least-is s r h =
+    least_below-same (λ m. leb s.first m && not (has_ended r m)) (is_outstanding r) (end_of s)
+    (λ m low.
+    elim (cases_lt m s.first) [
+      | inl before ↦ and_left _ _ (lt-leb s.first m before) ∙ sym (and_right _ _ (ap not (h.gone m before)))
+      | inr past ↦
+          ap (λ b. b && not (has_ended r m)) (le-leb s.first m past)
+          ∙ ap (λ b. b && not (has_ended r m)) (sym (lt-ltb m (length r.accepted) (omega (arith, low, h.count))))
+    ])
+    ∙ ap (least_below (is_outstanding r)) h.count

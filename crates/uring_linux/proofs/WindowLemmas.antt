@@ -1,0 +1,46 @@
+-- What is kept, by numbers, and what it tells.
+use Rattle.std.proofs.Common.{◌≡◌, ℕ, ◌-◌, ◌<◌, ◌≤◌, length, not, ◌&&◌, ◌||◌, ◌==◌, List, slice_get, Some, None, ◌∙◌, ap, arith, inl, inr}
+use Rattle.std.specs.Prelude.{if◌then◌else◌}
+use Rattle.std.proofs.lemmas.Bool.{lt-ltb, le-ltb}
+use Rattle.std.proofs.lemmas.Option.{slice_get_cases}
+use Rattle.uring_entry.specs.Layout.{user_data_of}
+use Rattle.uring_entry.specs.Preparation.{is_faulty}
+use Rattle.uring_entry.specs.Requests.{Requests, entry_of, is_soft, is_running}
+use Rattle.uring_linux.specs.declared.request.Request.{Request}
+use Rattle.uring_linux.specs.declared.request.Test.{Test}
+use Rattle.uring_linux.specs.declared.request.Test.TheVariants.{Unended, Faulty, Broken, Runs}
+use Rattle.uring_linux.specs.Window.{Window, at, passes, said, Tells, IsWithin}
+
+pub at-low : (s : Window) (n : ℕ) → n < s.first → at s n ≡ None
+unfolding at
+at-low s n lt = ap (λ b. if b then None else slice_get s.items (n - s.first)) (lt-ltb n s.first lt)
+
+pub at-high : (s : Window) (n : ℕ) → s.first ≤ n → at s n ≡ slice_get s.items (n - s.first)
+unfolding at
+at-high s n le = ap (λ b. if b then None else slice_get s.items (n - s.first)) (le-ltb n s.first le)
+
+there : (xs : List Request) (i : ℕ) → i < length xs → (q : Request) × (slice_get xs i ≡ Some q)
+there xs i lt =
+    elim (slice_get_cases xs i).1 [
+      | inl inside ↦ (inside.0, inside.2)
+      | inr past ↦ absurd (omega (arith, past.0))
+    ]
+
+-- what is kept of n
+pub kept : (s : Window) (n : ℕ) → IsWithin s n → (q : Request) × (at s n ≡ Some q)
+kept s n w =
+    let low = w.low in
+    let high = w.high in
+    let found = there s.items (n - s.first) (omega arith) in
+    (found.0, at-high s n low ∙ found.1)
+
+pub not_none : (s : Window) (n : ℕ) → IsWithin s n → None ≡ at s n → ⊥
+not_none s n w e = let q = kept s n w in let f : None ≡ Some q.0 = e ∙ q.1 in absurd (cc)
+
+-- what passes a test is what the test says
+pub agrees : (t : Test) (q : Request) (r : Requests) (n : ℕ) → Tells q r n → passes t q ≡ said t r n
+agrees Unended q r n t = ap not t.ended
+agrees Faulty q r n t = ap (λ b. b || q.is_refused) t.faulty ∙ ap (λ b. is_faulty (entry_of r n) || b) t.refused
+agrees Broken q r n t = ap (λ e. is_soft e && q.has_failed) t.entry ∙ ap (λ b. is_soft (entry_of r n) && b) t.failed
+agrees (Runs u) q r n t =
+    ap (λ b. b && (user_data_of q.entry == u)) t.running ∙ ap (λ e. is_running r n && (user_data_of e == u)) t.entry

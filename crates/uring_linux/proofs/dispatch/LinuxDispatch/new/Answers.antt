@@ -1,0 +1,5 @@
+use Rattle.uring_linux.proofs.Dispatches.{dispatch-new}
+use Rattle.uring_linux.proofs.dispatch.LinuxDispatch.new.Goals as goal
+
+pub returns-clause-shows : goal.returns-clause-shows
+returns-clause-shows c = dispatch-new _ _ c.new.ensures c.new-2.ensures

@@ -1,0 +1,79 @@
+-- Glue. The requests that are kept, by their numbers.
+use Rattle.std.specs.Prelude.{◌≡◌, ℕ, suc, ◌+◌, ◌-◌, ◌<◌, ◌≤◌, Bool, true, false, not, ◌&&◌, ◌||◌, ◌==◌, nat_lt, List, length, slice_get, Option, Some, None, if◌then◌else◌}
+use Rattle.std.specs.List.{list_any}
+use Rattle.uring_entry.specs.Layout.{Sqe, user_data_of}
+use Rattle.uring_entry.specs.Preparation.{is_faulty}
+use Rattle.uring_entry.specs.Requests.{Requests, entry_of, is_linked, is_drain, is_soft, is_last, is_running, has_started, has_ended, has_failed}
+use Rattle.uring_linux.specs.declared.request.Request.{Request}
+use Rattle.uring_linux.specs.declared.request.Test.{Test}
+use Rattle.uring_linux.specs.declared.request.Test.TheVariants.{Unended, Faulty, Broken, Runs}
+use Rattle.uring_linux.specs.LinuxRequests.{is_refused_drain, has_fault}
+
+-- What is kept: the first number, the requests from there on, and how many more can be pushed.
+pub record Window : Type 0 where
+  pub first : ℕ
+  pub items : List Request
+  pub room : ℕ
+
+-- the number behind the last request
+abbrev pub end_of : Window → ℕ
+end_of s = s.first + length s.items
+
+-- the request n, if it is kept
+unfoldable pub at : Window → ℕ → Option Request
+at s n = if nat_lt n s.first then None else slice_get s.items (n - s.first)
+
+-- n is kept
+pub record IsWithin (s : Window) (n : ℕ) : Type 0 where
+  pub low : s.first ≤ n
+  pub high : n < end_of s
+
+-- what is kept of a new request of this entry, in a ring that has used skipped success or not
+abbrev pub new_request : Sqe → (has_skipped : Bool) → Request
+new_request e has_skipped = record {
+  entry = e;
+  is_faulty = is_faulty e;
+  is_refused = is_drain e && has_skipped;
+  is_last = not (is_linked e);
+  is_running = false;
+  has_ended = false;
+  has_failed = false;
+}
+
+-- whether what is kept passes a test
+abbrev pub passes : Test → Request → Bool
+passes Unended q = not q.has_ended
+passes Faulty q = q.is_faulty || q.is_refused
+passes Broken q = is_soft q.entry && q.has_failed
+passes (Runs user_data) q = q.is_running && (user_data_of q.entry == user_data)
+
+-- whether a request passes a test
+abbrev pub said : Test → Requests → ℕ → Bool
+said Unended r n = not (has_ended r n)
+said Faulty r n = has_fault r n
+said Broken r n = is_soft (entry_of r n) && has_failed r n
+said (Runs user_data) r n = is_running r n && (user_data_of (entry_of r n) == user_data)
+
+-- what is kept of n is so
+pub record Tells (q : Request) (r : Requests) (n : ℕ) : Type 0 where
+  pub entry : q.entry ≡ entry_of r n
+  pub faulty : q.is_faulty ≡ is_faulty (entry_of r n)
+  pub refused : q.is_refused ≡ is_refused_drain r n
+  pub last : q.is_last ≡ is_last r n
+  pub running : q.is_running ≡ is_running r n
+  pub ended : q.has_ended ≡ has_ended r n
+  pub failed : q.has_failed ≡ has_failed r n
+
+-- nothing happened to n
+pub record IsNew (r : Requests) (n : ℕ) : Type 0 where
+  pub started : has_started r n ≡ false
+  pub ended : has_ended r n ≡ false
+  pub cut : list_any (λ cut. cut == n + 1) r.cuts ≡ false
+
+-- What is kept shows these requests: those before the first have ended, in whole groups.
+pub record Shows (s : Window) (r : Requests) : Type 0 where
+  pub count : end_of s ≡ length r.accepted
+  pub told : (n : ℕ) (q : Request) → at s n ≡ Some q → Tells q r n
+  pub gone : (n : ℕ) → n < s.first → has_ended r n ≡ true
+  pub begins : (k : ℕ) → suc k ≡ s.first → is_last r k ≡ true
+  pub later : (n : ℕ) → length r.accepted ≤ n → IsNew r n

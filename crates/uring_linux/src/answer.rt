@@ -1,0 +1,128 @@
+//! What the issue of a request is answered.
+
+ghost use Rattle.std.specs.Prelude.{◌≡◌, ℕ, true, false, Some, None};
+ghost use Rattle.uring_entry.specs.Requests.{Requests, entry_of, is_running};
+ghost use Rattle.uring_entry.specs.Preparation.{is_faulty};
+ghost use Rattle.uring_linux.specs.Issues.{issued, issued_ready, ended_with, posts_of, posted_by};
+ghost use Rattle.uring_linux.specs.LinuxRequests as linux;
+ghost use Rattle.uring_linux.specs.LinuxRequests.{LinuxRequests};
+ghost use Rattle.uring_linux.specs.LinuxDispatch.{ShowsRequests};
+ghost use Rattle.uring_linux.specs.Members.{IsSpan};
+ghost use Rattle.uring_linux.specs.Window.{Tells, Shows};
+
+use crate::answers::Issued;
+use crate::dispatch::LinuxDispatch;
+use crate::errno::EOPNOTSUPP;
+use crate::members::Span;
+use crate::request::{Request, Test};
+use crate::window::Window;
+use uring_dispatch::Posts;
+use uring_entry::errno::{EALREADY, ECANCELED, EINVAL, ENOENT};
+use uring_entry::{Sqe, opcode, prepare};
+
+impl LinuxDispatch {
+    /// What the issue of request `n` is answered.
+    pub(crate) fn answer(&self, n: u64) -> Issued
+        ensures { (l : LinuxRequests) → ShowsRequests self.now l → result ≡ issued l n }
+    {
+        let Some(request) = self.window.copy(n) else {
+            return Issued::Unknown;
+        };
+        if request.has_ended {
+            return Issued::Unknown;
+        }
+        if request.is_running {
+            return Issued::Running;
+        }
+        let span = self.window.span_of(n);
+        if !self.window.is_in_turn(n, span) {
+            return Issued::NotReady;
+        }
+        if self.window.is_doomed(n, span) {
+            return self
+                .window
+                .ended(n, &request, span, doomed_result(&request));
+        }
+        if self.drains.is_deferred(n) {
+            return Issued::NotReady;
+        }
+        self.window.ready(n, &request, span)
+    }
+
+    /// What the end of request `n` with this result posts, if it runs.
+    pub(crate) fn posted(&self, n: u64, res: i32) -> Option<Posts>
+        ensures { (l : LinuxRequests) → ShowsRequests self.now l → result ≡ posted_by l n res }
+    {
+        let Some(request) = self.window.copy(n) else {
+            return None;
+        };
+        if !request.is_running {
+            return None;
+        }
+        let span = self.window.span_of(n);
+        Some(self.window.posts(n, &request, span, res))
+    }
+}
+
+impl Window {
+    /// What the end of the kept request `n` posts with this result.
+    fn posts(&self, n: u64, request: &Request, span: Span, res: i32) -> Posts
+        ensures { (r : Requests) → Shows self.now r → Tells request.now r n
+            → IsSpan self.now r n span.from span.end → result ≡ posts_of r n res }
+    {
+        let breaker = self.breaker(n, span);
+        self.posts_behind(breaker, request, res)
+    }
+
+    /// The kept request `n` ends as it is issued.
+    fn ended(&self, n: u64, request: &Request, span: Span, res: i32) -> Issued
+        ensures { (r : Requests) → Shows self.now r → Tells request.now r n
+            → IsSpan self.now r n span.from span.end → result ≡ ended_with r n res }
+    {
+        let posts = self.posts(n, request, span, res);
+        Issued::Ended(res, posts)
+    }
+
+    /// The kept request `n` may start.
+    fn ready(&self, n: u64, request: &Request, span: Span) -> Issued
+        ensures { (r : Requests) → Shows self.now r → Tells request.now r n
+            → IsSpan self.now r n span.from span.end → is_faulty (entry_of r n) ≡ false
+            → is_running r n ≡ false → result ≡ issued_ready r n }
+    {
+        if request.entry.opcode() == opcode::ASYNC_CANCEL {
+            let res = self.cancel_result(&request.entry);
+            return self.ended(n, request, span, res);
+        }
+        match prepare(&request.entry) {
+            Ok(op) => Issued::Run(op),
+            Err(_) => Issued::NotReady,
+        }
+    }
+
+    /// What a cancel of this entry, which may start, ends with.
+    fn cancel_result(&self, entry: &Sqe) -> i32
+        ensures { (r : Requests) (n : ℕ) → Shows self.now r → entry.now ≡ entry_of r n
+            → is_running r n ≡ false → result ≡ linux.cancel_result r n }
+    {
+        if entry.is_cancel_all() {
+            return 0;
+        }
+        match self.first_with(Test::Runs(entry.addr()), self.first(), self.end()) {
+            Some(_) => -EALREADY,
+            None => -ENOENT,
+        }
+    }
+}
+
+/// What a doomed request ends with.
+fn doomed_result(request: &Request) -> i32
+    ensures { (r : Requests) (n : ℕ) → Tells request.now r n → result ≡ linux.doomed_result r n }
+{
+    if request.is_faulty {
+        -EINVAL
+    } else if request.is_refused {
+        -EOPNOTSUPP
+    } else {
+        -ECANCELED
+    }
+}

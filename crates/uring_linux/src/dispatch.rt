@@ -1,0 +1,307 @@
+//! The dispatcher: accepts requests, says which may start, issues them and ends them, as Linux 6.18 does.
+
+ghost use Rattle.std.specs.Prelude.{◌≡◌, ◌||◌, ℕ, List, ◌+◌, ◌-◌, ◌^◌, ◌<◌, ◌≤◌, ◌↔◌, IsTrue, true, false, OnOk, OnErr, IsErrOf, length, None, Some};
+ghost use Rattle.uring_entry.specs.Requests.{is_outstanding, operation_running, entry_outstanding, least_of};
+ghost use Rattle.uring_linux.specs.Laws.{is_refusal};
+ghost use Rattle.uring_linux.specs.Issues.{issued, after_issue, posted_by, after_end};
+ghost use Rattle.uring_linux.specs.LinuxRequests.{LinuxRequests, is_skipping, no_request, with_accepted, with_cut, with_started, with_ended, next_of};
+ghost use Rattle.uring_entry.specs.Preparation as preparation;
+ghost use Rattle.uring_linux.specs.Window.{end_of};
+ghost use Rattle.uring_linux.specs.Window as spec;
+ghost use Rattle.uring_linux.specs.LinuxRequests as spec_of;
+
+use crate::answers::Issued;
+use crate::drains::Drains;
+use crate::request::{Request, Test};
+use crate::window::Window;
+use std::alloc::Global;
+use std::marker::Model;
+use uring_dispatch::{Posts, ReserveError};
+use uring_entry::{Sqe, SqeFlags, prepare, succeeded};
+use uring_memory::Memory;
+
+/// The requests that were accepted, numbered from 0 in the order of their acceptance, with what was made of them, by the rules of Linux 6.18.
+///
+/// A submission call gives its entries one by one to `accept` and ends with `end_call`; every other call is made between submission calls. It keeps all requests that were accepted, and searches go over them one after the other.
+#[derive(Drop)]
+pub struct LinuxDispatch {
+    pub(crate) window: Window,
+    pub(crate) drains: Drains,
+    // Whether an entry without a fault has asked for skipped success.
+    has_skipped: bool,
+    // How many more requests can be accepted: the memory of all that they need was asked for.
+    room: u64,
+    // Whether no submission call is open.
+    is_between_calls: bool,
+}
+
+impl Model for LinuxDispatch {
+    ghost use Rattle.uring_linux.specs.LinuxDispatch.{LinuxDispatch, dispatch_of, IsDispatch};
+
+    ghost Value = { LinuxDispatch };
+
+    ghost view = { λ d. dispatch_of d.window d.drains d.has_skipped d.room d.is_between_calls };
+
+    ghost invariant = { λ d. IsDispatch d.window d.drains d.room d.is_between_calls };
+}
+
+impl LinuxDispatch {
+    ghost use Rattle.uring_linux.specs.LinuxDispatch.{ShowsRequests};
+
+    /// The most requests that are ever accepted: 2^63 - 1. Our own rule.
+    pub const MAX_ACCEPTED: u64 = 9_223_372_036_854_775_807;
+
+    /// A dispatcher that has accepted nothing. It takes no memory yet.
+    pub fn new(alloc: Global) -> LinuxDispatch
+        ensures shows { ShowsRequests result no_request }
+        ensures between { result.is_between_calls ≡ true }
+    {
+        LinuxDispatch {
+            window: Window::new(alloc),
+            drains: Drains::new(alloc),
+            has_skipped: false,
+            room: 0,
+            is_between_calls: true,
+        }
+    }
+
+    /// Asks for the memory of `count` more requests, any number: so many can be accepted from here on.
+    ///
+    /// `Spent` comes if they and those accepted so far are more than `MAX_ACCEPTED`; otherwise `NoMemory` if memory is refused. Neither changes anything. Our own rule.
+    pub fn reserve(&mut self, count: u64) -> Result<(), ReserveError>
+        requires { IsTrue self.old.is_between_calls }
+        ensures ok { OnOk result (count ≤ self.new.room) }
+        ensures spent { IsErrOf result ReserveError.Spent
+            ↔ (2 ^ 63 - 1 < self.old.accepted + count) }
+        ensures no_memory { IsErrOf result ReserveError.NoMemory → self.old.room < count }
+        ensures err { OnErr result (self.new ≡ self.old) }
+        ensures accepted { self.new.accepted ≡ self.old.accepted }
+        ensures between { self.new.is_between_calls ≡ true }
+        ensures shows { (l : LinuxRequests) → ShowsRequests self.old l → ShowsRequests self.new l }
+    {
+        let memory = self.window.allocator();
+        self.reserve_in(&memory, count)
+    }
+
+    /// As `reserve`, by this memory.
+    pub fn reserve_in<M: Memory>(&mut self, memory: &M, count: u64) -> Result<(), ReserveError>
+        requires { IsTrue self.old.is_between_calls }
+        ensures ok { OnOk result (count ≤ self.new.room) }
+        ensures spent { IsErrOf result ReserveError.Spent
+            ↔ (2 ^ 63 - 1 < self.old.accepted + count) }
+        ensures no_memory { IsErrOf result ReserveError.NoMemory → self.old.room < count }
+        ensures err { OnErr result (self.new ≡ self.old) }
+        ensures accepted { self.new.accepted ≡ self.old.accepted }
+        ensures between { self.new.is_between_calls ≡ true }
+        ensures shows { (l : LinuxRequests) → ShowsRequests self.old l → ShowsRequests self.new l }
+    {
+        if count > LinuxDispatch::MAX_ACCEPTED - self.accepted() {
+            return Err(ReserveError::Spent);
+        }
+        if count <= self.room {
+            return Ok(());
+        }
+        if self.window.reserve_in(memory, count).is_err() {
+            return Err(ReserveError::NoMemory);
+        }
+        if self.drains.reserve_in(memory, count).is_err() {
+            return Err(ReserveError::NoMemory);
+        }
+        self.room = count;
+        Ok(())
+    }
+
+    /// How many requests were accepted: at most `MAX_ACCEPTED`.
+    pub fn accepted(&self) -> u64
+        ensures value { result ≡ self.now.accepted }
+        ensures limit { result ≤ 2 ^ 63 - 1 }
+    {
+        self.window.end()
+    }
+
+    /// Accepts an entry: its number is that of the requests accepted before it. It becomes one of the open submission call's.
+    ///
+    /// Condition: its memory was asked for by `reserve`.
+    pub fn accept(&mut self, entry: Sqe)
+        requires { 0 < self.old.room }
+        ensures shows { (l : LinuxRequests) → ShowsRequests self.old l
+            → ShowsRequests self.new (with_accepted l entry) }
+        ensures accepted { self.new.accepted ≡ self.old.accepted + 1 }
+        ensures room { self.new.room + 1 ≡ self.old.room }
+        ensures between { self.new.is_between_calls ≡ false }
+    {
+        self.has_skipped = has_skipped(self.has_skipped, &entry);
+        let request = new_request(entry, self.has_skipped);
+        let is_first = self.drains.from() == self.window.end();
+        self.window.push(request);
+        self.drains.accept(&self.window, &request, is_first);
+        self.room -= 1;
+        self.is_between_calls = false;
+    }
+    /// Ends a submission call: no group goes on past it. io_uring_enter(2), IOSQE_IO_LINK.
+    pub fn end_call(&mut self)
+        ensures shows { (l : LinuxRequests) → ShowsRequests self.old l
+            → ShowsRequests self.new (with_cut l) }
+        ensures accepted { self.new.accepted ≡ self.old.accepted }
+        ensures room { self.new.room ≡ self.old.room }
+        ensures between { self.new.is_between_calls ≡ true }
+    {
+        self.window.close();
+        self.drains.end_call(&self.window);
+        self.is_between_calls = true;
+    }
+
+    /// Issues request `n`, any number. It ends in its turn if it is doomed, with -22 (EINVAL) or -95 (EOPNOTSUPP) if it has a fault itself and else with -125 (ECANCELED), or if it is a cancel that may start, with -114 (EALREADY) or -2 (ENOENT), or with 0 if it is one of all; otherwise it starts if it may.
+    ///
+    /// Refused with `Unknown` if it isn't outstanding, with `Running` if it runs already, and with `NotReady` if an earlier member of its group hasn't ended, or its group is deferred. A refusal changes nothing. The order of these is our own rule.
+    pub fn issue(&mut self, n: u64) -> Issued
+        requires { IsTrue self.old.is_between_calls }
+        ensures answer { (l : LinuxRequests) → ShowsRequests self.old l → result ≡ issued l n }
+        ensures shows { (l : LinuxRequests) → ShowsRequests self.old l
+            → ShowsRequests self.new (after_issue l n result) }
+        ensures refused { is_refusal result ≡ true → self.new ≡ self.old }
+        ensures between { self.new.is_between_calls ≡ self.old.is_between_calls }
+    {
+        let issued = self.answer(n);
+        match issued {
+            Issued::Run(_) => self.start(n),
+            Issued::Ended(res, _) => self.end(n, res),
+            _ => {}
+        }
+        issued
+    }
+
+    /// Ends request `n`, any number, with this result, and tells what its end posts: `Some` exactly if it was running. Otherwise nothing changes. Our own rule.
+    pub fn end_running(&mut self, n: u64, res: i32) -> Option<Posts>
+        requires { IsTrue self.old.is_between_calls }
+        ensures answer { (l : LinuxRequests) → ShowsRequests self.old l → result ≡ posted_by l n res }
+        ensures shows { (l : LinuxRequests) (bytes : List ℕ) → ShowsRequests self.old l
+            → ShowsRequests self.new (after_end l n res bytes result) }
+        ensures refused { result ≡ None → self.new ≡ self.old }
+        ensures between { self.new.is_between_calls ≡ self.old.is_between_calls }
+    {
+        let Some(posts) = self.posted(n, res) else {
+            return None;
+        };
+        self.end(n, res);
+        Some(posts)
+    }
+
+    /// The entry of request `n`: `Some` exactly if it is outstanding, that is accepted and not ended.
+    pub fn entry(&self, n: u64) -> Option<Sqe>
+        requires { IsTrue self.now.is_between_calls }
+        ensures { (l : LinuxRequests) → ShowsRequests self.now l
+            → result ≡ entry_outstanding l.requests n }
+    {
+        let Some(request) = self.window.copy(n) else {
+            return None;
+        };
+        if request.has_ended {
+            return None;
+        }
+        Some(request.entry)
+    }
+
+    /// The least outstanding request, if there is one.
+    pub fn least(&self) -> Option<u64>
+        requires { IsTrue self.now.is_between_calls }
+        ensures { (l : LinuxRequests) → ShowsRequests self.now l → result ≡ least_of l.requests }
+    {
+        let first = self.window.first();
+        let end = self.window.end();
+        self.window.first_with(Test::Unended, first, end)
+    }
+
+    /// The least request that `issue` doesn't refuse, if there is one. It looks at one after the other. Our own rule.
+    pub fn next(&self) -> Option<u64>
+        requires { IsTrue self.now.is_between_calls }
+        ensures { (l : LinuxRequests) → ShowsRequests self.now l → result ≡ next_of l }
+    {
+        for n in self.window.first()..self.window.end() {
+            if self.is_issuable(n) {
+                return Some(n);
+            }
+        }
+        None
+    }
+
+    /// Whether request `n` can be issued.
+    fn is_issuable(&self, n: u64) -> bool
+        ensures { (l : LinuxRequests) → ShowsRequests self.now l → result ≡ spec_of.is_issuable l n }
+    {
+        match self.answer(n) {
+            Issued::Run(_) | Issued::Ended(_, _) => true,
+            Issued::NotReady | Issued::Running | Issued::Unknown => false,
+        }
+    }
+
+    /// Starts request `n`.
+    fn start(&mut self, n: u64)
+        ensures shows { (l : LinuxRequests) → ShowsRequests self.old l
+            → is_outstanding l.requests n ≡ true → ShowsRequests self.new (with_started l n) }
+        ensures between { self.new.is_between_calls ≡ self.old.is_between_calls }
+    {
+        if let Some(request) = self.window.copy(n) {
+            let running = Request {
+                is_running: true,
+                ..request
+            };
+            self.window.write(n, running);
+        }
+    }
+
+    /// Ends request `n` with this result, and lets go on what was deferred and may.
+    fn end(&mut self, n: u64, res: i32)
+        ensures shows { (l : LinuxRequests) (bytes : List ℕ) → ShowsRequests self.old l
+            → is_outstanding l.requests n ≡ true → ShowsRequests self.new (with_ended l n res bytes) }
+        ensures between { self.new.is_between_calls ≡ self.old.is_between_calls }
+    {
+        if let Some(request) = self.window.copy(n) {
+            let has_failed = !succeeded(&request.entry, res);
+            let ended = Request {
+                is_running: false,
+                has_ended: true,
+                has_failed,
+                ..request
+            };
+            self.window.write(n, ended);
+            self.drains.go_on(&self.window);
+        }
+    }
+}
+
+/// Whether an entry has asked for skipped success by then, behind this one.
+fn has_skipped(before: bool, entry: &Sqe) -> bool
+    ensures { result ≡ (before || is_skipping entry.now) }
+{
+    let skips = entry.has(SqeFlags::CQE_SKIP_SUCCESS);
+    let is_faulty = is_faulty(entry);
+    before || skips && !is_faulty
+}
+
+/// Whether an entry is faulty by itself.
+fn is_faulty(entry: &Sqe) -> bool
+    ensures { result ≡ preparation.is_faulty entry.now }
+{
+    match prepare(entry) {
+        Ok(_) => false,
+        Err(_) => true,
+    }
+}
+
+/// What is kept of a request that is accepted.
+fn new_request(entry: Sqe, has_skipped: bool) -> Request
+    ensures { result ≡ spec.new_request entry has_skipped }
+{
+    let is_drain = entry.is_drain();
+    let is_linked = entry.is_linked();
+    Request {
+        entry,
+        is_faulty: is_faulty(&entry),
+        is_refused: is_drain && has_skipped,
+        is_last: !is_linked,
+        is_running: false,
+        has_ended: false,
+        has_failed: false,
+    }
+}

@@ -1,0 +1,17 @@
+//! The requests of an io_uring pair of rings as Linux 6.18 keeps them: where the kernel differs from the manual pages in groups, drains, cancels and who posts.
+#![tactic(auto)]
+
+mod answer;
+mod answers;
+mod deferred;
+mod dispatch;
+mod drains;
+pub mod errno;
+pub mod laws;
+mod members;
+mod request;
+mod window;
+
+pub use answers::Issued;
+pub use dispatch::LinuxDispatch;
+pub use uring_dispatch::{Posts, ReserveError};

@@ -1,0 +1,35 @@
+//! What is kept of one request.
+
+use uring_entry::Sqe;
+
+/// What is kept of one request.
+#[derive(Clone, Copy, Debug, PartialEq, Eq)]
+pub(crate) struct Request {
+    pub(crate) entry: Sqe,
+    /// Whether its entry is faulty by itself.
+    pub(crate) is_faulty: bool,
+    /// Whether it is a drain that the ring refuses.
+    pub(crate) is_refused: bool,
+    /// Whether it is the last member of its group.
+    pub(crate) is_last: bool,
+    pub(crate) is_running: bool,
+    pub(crate) has_ended: bool,
+    /// Whether it ended without success.
+    pub(crate) has_failed: bool,
+}
+
+/// What a request is looked at for.
+#[derive(Clone, Copy, Debug, PartialEq, Eq)]
+pub(crate) enum Test {
+    /// It hasn't ended.
+    Unended,
+
+    /// It has a fault.
+    Faulty,
+
+    /// It has a soft link, and failed.
+    Broken,
+
+    /// It runs, and has this user data.
+    Runs(u64),
+}
