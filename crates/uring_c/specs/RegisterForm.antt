@@ -1,7 +1,7 @@
 -- What a row of a list does, in words that C can read.
 use Rattle.std.specs.Prelude.{ℕ, ℤ, pos}
-use Rattle.uring_enter.specs.declared.registering.Row.{Row}
-use Rattle.uring_enter.specs.declared.registering.Row.TheVariants.{Keeps, Empties, Fills, Refused}
+use Rattle.uring_register.specs.declared.registering.Row.{Row}
+use Rattle.uring_register.specs.declared.registering.Row.TheVariants.{Keeps, Empties, Fills, Refused}
 
 -- kinds count in the order of `Row`, from 0. Our own rule
 abbrev pub word_of_row : Row → ℕ

@@ -1,14 +1,14 @@
 //! What is registered with a ring, for C: functions of `c/wulgach_register.h`. The words of slots are the caller's memory.
 ghost use Rattle.std.specs.Prelude.{◌≡◌, ◌≢◌, ◌+◌, ◌≤◌, ◌<◌, pos, negsuc, length, ℕ, true, false, Option, None, Some, List, [], ◌∷◌};
-ghost use Rattle.uring_enter.specs.declared.restrictions.Restriction.{Restriction};
-ghost use Rattle.uring_enter.specs.Restricting.{KeepsRestrictions, row_fault, allows_entry, allows_call};
-ghost use Rattle.uring_enter.specs.Restricting.{restricting_fault as fault_of_list};
-ghost use Rattle.uring_enter.specs.Restricting.{enabling_fault as fault_of_enabling};
-ghost use Rattle.uring_enter.specs.Tables.{Filing, Registered, Unregistered, Filled, KeepsTable, IsGiven, GivesNone, range_fault, behind_range, size, content};
-ghost use Rattle.uring_enter.specs.Registering as spec;
+ghost use Rattle.uring_register.specs.declared.restrictions.Restriction.{Restriction};
+ghost use Rattle.uring_register.specs.Restricting.{KeepsRestrictions, row_fault, allows_entry, allows_call};
+ghost use Rattle.uring_register.specs.Restricting.{restricting_fault as fault_of_list};
+ghost use Rattle.uring_register.specs.Restricting.{enabling_fault as fault_of_enabling};
+ghost use Rattle.uring_register.specs.Tables.{Filing, Registered, Unregistered, Filled, KeepsTable, IsGiven, GivesNone, range_fault, behind_range, size, content};
+ghost use Rattle.uring_register.specs.Registering as spec;
 ghost use Rattle.uring_c.specs.RegisterForm.{word_of_row, fault_of_row};
 
-use uring_enter::{
+use uring_register::{
     Restriction, Restrictions, Row, Table, buffer_row, enabling_fault, file_row, restricting_fault,
     updated,
 };

@@ -1,6 +1,6 @@
 -- Histories from events written oldest first: what `history_of` makes of a list with one event more, and of two lists.
 -- From std's lemmas on `reverse`. `follow_next` is one round of `run` of `uring_machine`.
--- Stable: other crates may import `history_of-snoc`, `history_of-cons`, `history_of-append` and `zip_next`.
+-- Stable: other crates may import `history_of_snoc`, `history_of_cons`, `history_of_append` and `zip_next`.
 use Rattle.std.proofs.Common.{◌≡◌, ℕ, ◌+◌, ◌<◌, List, [], ◌∷◌, ◌++◌, length, take, get_or, refl, sym, ap, ◌∙◌, arith, append_assoc}
 use Rattle.std.specs.List.{zip}
 use Rattle.std.proofs.lemmas.List.{take_more, length-take-le, reverse-append}
@@ -11,29 +11,29 @@ use Rattle.uring_core.specs.Core.{IsNoFinish}
 use Rattle.uring_core.specs.declared.answer.Answer.{Answer}
 
 -- what happened last stands first
-pub history_of-snoc : (events : List Event) (e : Event)
+pub history_of_snoc : (events : List Event) (e : Event)
     → history_of (events ++ e ∷ []) ≡ e ∷ history_of events
-history_of-snoc events e = reverse-append events (e ∷ [])
+history_of_snoc events e = reverse-append events (e ∷ [])
 
 -- what happened first stands right behind what was before
-pub history_of-cons : (e : Event) (events : List Event) (before : History)
+pub history_of_cons : (e : Event) (events : List Event) (before : History)
     → history_of (e ∷ events) ++ before ≡ history_of events ++ e ∷ before
-history_of-cons e events before = ap (λ h. h ++ before) (reverse-append (e ∷ []) events) ∙ append_assoc (history_of events) (e ∷ []) before
+history_of_cons e events before = ap (λ h. h ++ before) (reverse-append (e ∷ []) events) ∙ append_assoc (history_of events) (e ∷ []) before
 
 -- what happened later stands before what happened earlier
-pub history_of-append : (earlier later : List Event) (before : History)
+pub history_of_append : (earlier later : List Event) (before : History)
     → history_of (earlier ++ later) ++ before ≡ history_of later ++ (history_of earlier ++ before)
-history_of-append earlier later before = ap (λ h. h ++ before) (reverse-append earlier later) ∙ append_assoc (history_of later) (history_of earlier) before
+history_of_append earlier later before = ap (λ h. h ++ before) (reverse-append earlier later) ∙ append_assoc (history_of later) (history_of earlier) before
 
 -- the last step stands beside the last answer
-zip-snoc : (steps : List Step) (answers : List Answer) (s : Step) (a : Answer)
+zip_snoc : (steps : List Step) (answers : List Answer) (s : Step) (a : Answer)
     → length steps ≡ length answers
     → zip (steps ++ s ∷ []) (answers ++ a ∷ []) ≡ zip steps answers ++ (s, a) ∷ []
-zip-snoc [] [] s a e = refl
-zip-snoc [] (first ∷ answers) s a e = absurd (omega (arith, e))
-zip-snoc (first ∷ steps) [] s a e = absurd (omega (arith, e))
-zip-snoc (first ∷ steps) (answer ∷ answers) s a e =
-    ap (λ events. (first, answer) ∷ events) (zip-snoc steps answers s a (omega (arith, e)))
+zip_snoc [] [] s a e = refl
+zip_snoc [] (first ∷ answers) s a e = absurd (omega (arith, e))
+zip_snoc (first ∷ steps) [] s a e = absurd (omega (arith, e))
+zip_snoc (first ∷ steps) (answer ∷ answers) s a e =
+    ap (λ events. (first, answer) ∷ events) (zip_snoc steps answers s a (omega (arith, e)))
 
 -- one step more, with its answer
 pub zip_next : (steps : List Step) (i : ℕ) (answers pushed : List Answer) (s : Step) (a : Answer)
@@ -41,7 +41,7 @@ pub zip_next : (steps : List Step) (i : ℕ) (answers pushed : List Answer) (s :
     → zip (take (i + 1) steps) pushed ≡ zip (take i steps) answers ++ (s, a) ∷ []
 zip_next steps i answers pushed s a lt at many more =
     rw (take_more steps i s lt, ← at, more)
-    (zip-snoc (take i steps) answers s a (length-take-le i steps (omega arith) ∙ sym many))
+    (zip_snoc (take i steps) answers s a (length-take-le i steps (omega arith) ∙ sym many))
 
 pub follow_next : (h : History) (steps : List Step) (i : ℕ) (answers pushed : List Answer) (s : Step) (a : Answer)
     → i < length steps → s ≡ get_or steps i s → length answers ≡ i → pushed ≡ answers ++ a ∷ []
@@ -49,7 +49,7 @@ pub follow_next : (h : History) (steps : List Step) (i : ℕ) (answers pushed : 
     ≡ (s, a) ∷ (history_of (zip (take i steps) answers) ++ h)
 follow_next h steps i answers pushed s a lt at many more =
     ap (λ events. history_of events ++ h) (zip_next steps i answers pushed s a lt at many more)
-    ∙ ap (λ k. k ++ h) (history_of-snoc (zip (take i steps) answers) (s, a))
+    ∙ ap (λ k. k ++ h) (history_of_snoc (zip (take i steps) answers) (s, a))
 
 -- what isn't a Finish is no finish
 pub no_finish : (s : Step) → ((n : ℕ) → s ≡ step.Finish n → ⊥) → IsNoFinish s

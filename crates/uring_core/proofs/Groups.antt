@@ -9,8 +9,8 @@ use Rattle.uring_entry.specs.Layout.{Sqe, zero_entry}
 use Rattle.uring_entry.specs.Success.{is_success}
 use Rattle.uring_entry.specs.Preparation.{is_faulty}
 use Rattle.uring_entry.specs.Requests.{Requests, entry_of, has_failed, is_soft, is_last, is_linked, is_joined, is_in_group, some_member, is_in_faulty_group, is_behind_failure, is_cancelled, is_doomed, with_call}
-use Rattle.uring_entry.proofs.BelowLemmas.{some_below-same, some_below-between}
-use Rattle.uring_entry.proofs.RequestLemmas.{is_joined-no, list_any-push}
+use Rattle.uring_entry.proofs.BelowLemmas.{some_below_same, some_below_between}
+use Rattle.uring_entry.proofs.RequestLemmas.{is_joined_no, list_any_push}
 use Rattle.uring_core.proofs.SoundRequests.{IsSoundRequests, IsFree, EndsDoomed}
 use Rattle.uring_core.proofs.ListCounts.{any_kept}
 
@@ -33,7 +33,7 @@ module _ (r : Requests) (entries : List Sqe) (cut : (length r.accepted ≡ 0) �
   last_kept k lt =
       let l = longer in
       ap (λ e. not (is_linked e) || list_any (λ c. c == k + 1) (with_call r entries).cuts) (entry_kept k (omega arith))
-      ∙ ap (λ b. not (is_linked (entry_of r k)) || b) (list_any-push (λ c. c == k + 1) r.cuts (length (with_call r entries).accepted) ∙ or_none _ _ (ne_eqb _ _ (λ same. omega arith))) where
+      ∙ ap (λ b. not (is_linked (entry_of r k)) || b) (list_any_push (λ c. c == k + 1) r.cuts (length (with_call r entries).accepted) ∙ or_none _ _ (ne_eqb _ _ (λ same. omega arith))) where
         or_none : (x y : Bool) → y ≡ false → (x || y) ≡ x
         or_none true y e = refl
         or_none false y e = e
@@ -41,11 +41,11 @@ module _ (r : Requests) (entries : List Sqe) (cut : (length r.accepted ≡ 0) �
   pub join_kept : (m n : ℕ) → n < length r.accepted
       → is_joined (with_call r entries) m n ≡ is_joined r m n
   unfolding is_joined
-  join_kept m n lt = ap not (some_below-same (λ k. leb m k && is_last (with_call r entries) k) (λ k. leb m k && is_last r k) n (λ k below. ap (λ b. leb m k && b) (last_kept k (omega arith))))
+  join_kept m n lt = ap not (some_below_same (λ k. leb m k && is_last (with_call r entries) k) (λ k. leb m k && is_last r k) n (λ k below. ap (λ b. leb m k && b) (last_kept k (omega arith))))
 
   -- what is accepted now is of no group before
   apart : (m n : ℕ) → m < length r.accepted → length r.accepted ≤ n → is_joined (with_call r entries) m n ≡ false
-  apart m n lt le = is_joined-no (with_call r entries) m n (length r.accepted - 1) (omega arith) (omega arith) (last_before (length r.accepted - 1) (omega arith))
+  apart m n lt le = is_joined_no (with_call r entries) m n (length r.accepted - 1) (omega arith) (omega arith) (last_before (length r.accepted - 1) (omega arith))
 
   group_kept : (m n : ℕ) → m < length r.accepted → n < length r.accepted → is_in_group (with_call r entries) m n ≡ is_in_group r m n
   group_kept m n lt below = join_kept (min m n) (max m n) (omega arith)
@@ -57,9 +57,9 @@ module _ (r : Requests) (entries : List Sqe) (cut : (length r.accepted ≡ 0) �
       → some_member (with_call r entries) p n ≡ some_member r p n
   unfolding some_member
   member_kept p n below =
-      some_below-between (λ m. is_in_group (with_call r entries) m n && p (entry_of (with_call r entries) m)) (length r.accepted) (length (with_call r entries).accepted) longer
+      some_below_between (λ m. is_in_group (with_call r entries) m n && p (entry_of (with_call r entries) m)) (length r.accepted) (length (with_call r entries).accepted) longer
       (λ k le lt. and_left _ _ (group_apart k n le below))
-      ∙ some_below-same (λ m. is_in_group (with_call r entries) m n && p (entry_of (with_call r entries) m)) (λ m. is_in_group r m n && p (entry_of r m)) (length r.accepted)
+      ∙ some_below_same (λ m. is_in_group (with_call r entries) m n && p (entry_of (with_call r entries) m)) (λ m. is_in_group r m n && p (entry_of r m)) (length r.accepted)
       (λ k lt. ap (λ b. b && p (entry_of (with_call r entries) k)) (group_kept k n lt below) ∙ ap (λ e. is_in_group r k n && p e) (entry_kept k lt))
 
   failed_kept : (k : ℕ) → k < length r.accepted → has_failed (with_call r entries) k ≡ has_failed r k
@@ -68,7 +68,7 @@ module _ (r : Requests) (entries : List Sqe) (cut : (length r.accepted ≡ 0) �
   behind_kept : (n : ℕ) → n < length r.accepted → is_behind_failure (with_call r entries) n ≡ is_behind_failure r n
   unfolding is_behind_failure
   behind_kept n below =
-      some_below-same (λ m. is_joined (with_call r entries) m n && is_soft (entry_of (with_call r entries) m) && has_failed (with_call r entries) m) (λ m. is_joined r m n && is_soft (entry_of r m) && has_failed r m) n
+      some_below_same (λ m. is_joined (with_call r entries) m n && is_soft (entry_of (with_call r entries) m) && has_failed (with_call r entries) m) (λ m. is_joined r m n && is_soft (entry_of r m) && has_failed r m) n
       (λ k lt.
       ap (λ b. b && is_soft (entry_of (with_call r entries) k) && has_failed (with_call r entries) k) (join_kept k n below)
       ∙ ap (λ e. is_joined r k n && is_soft e && has_failed (with_call r entries) k) (entry_kept k (omega arith))
@@ -95,7 +95,7 @@ module _ (r : Requests) (entries : List Sqe) (cut : (length r.accepted ≡ 0) �
         ended_accepted = λ n e. omega (arith, s.ended_accepted n e);
         starts_once = s.starts_once;
         ends_once = s.ends_once;
-        cut_at_end = inr (list_any-push (λ c. c == length (with_call r entries).accepted) r.cuts (length (with_call r entries).accepted) ∙ or_right (list_any (λ c. c == length (with_call r entries).accepted) r.cuts) _ (eq-eqb (length (with_call r entries).accepted) _ refl));
+        cut_at_end = inr (list_any_push (λ c. c == length (with_call r entries).accepted) r.cuts (length (with_call r entries).accepted) ∙ or_right (list_any (λ c. c == length (with_call r entries).accepted) r.cuts) _ (eq-eqb (length (with_call r entries).accepted) _ refl));
         started_free = λ n e. call_free n (s.started_accepted n e) (s.started_free n e);
         ended_how = λ n e. elim (s.ended_how n e) [ inl doomed ↦ inl (ends_kept n (s.ended_accepted n e) doomed) | inr free ↦ inr (call_free n (s.ended_accepted n e) free) ];
       }

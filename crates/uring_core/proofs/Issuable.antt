@@ -5,7 +5,7 @@ use Rattle.std.proofs.Common.{◌≡◌, ℕ, length, Option, Some, None, ap, Bo
 use Rattle.std.proofs.lemmas.Bool.{and_parts, not-true}
 use Rattle.uring_entry.specs.Requests.{Requests, is_outstanding, entry_of, is_doomed, is_ready, is_running, is_issuable, next_of, doomed_result, cancel_result, no_bytes}
 use Rattle.uring_entry.specs.Preparation.{is_cancel}
-use Rattle.uring_entry.proofs.BelowLemmas.{least_below-tells}
+use Rattle.uring_entry.proofs.BelowLemmas.{least_below_tells}
 use Rattle.uring_core.specs.World.{World}
 use Rattle.uring_core.specs.StepAnswers.{IsEnded, IsIssued, issue_answer, next_answer_of}
 use Rattle.uring_core.specs.declared.answer.Answer.{Answer}
@@ -49,4 +49,4 @@ next_is (Some m) n e = let same : m ≡ n = cc in ap Some same
 pub next_tells : (r : Requests) (n : ℕ) → answer.Next n ≡ next_answer_of (next_of r)
     → is_issuable r n ≡ true
 next_tells r n e =
-    (least_below-tells (is_issuable r) (length r.accepted) n (next_is (next_of r) n e)).holds
+    (least_below_tells (is_issuable r) (length r.accepted) n (next_is (next_of r) n e)).holds

@@ -4,7 +4,7 @@ use Rattle.std.specs.List.{list_any}
 use Rattle.std.proofs.lemmas.Bool.{cases_Bool, and_parts, or_cases, or_left, or_right, or_parts}
 use Rattle.std.proofs.lemmas.List.Folds.{list_any-append}
 use Rattle.std.proofs.lemmas.List.Sums.{sum_by_push, sum_by-cons}
-use Rattle.uring_entry.proofs.RequestLemmas.{list_any-push}
+use Rattle.uring_entry.proofs.RequestLemmas.{list_any_push}
 
 -- what passes stays, and what passes newly is the new element
 pub any_kept : {X : Type 0} (p : X → Bool) (xs ys : List X) → list_any p xs ≡ true
@@ -13,7 +13,7 @@ any_kept p xs ys e = list_any-append p xs ys ∙ or_left _ _ e
 
 pub any_new : {X : Type 0} (p : X → Bool) (xs : List X) (x : X) → list_any p (xs ++ x ∷ []) ≡ true
     → (list_any p xs ≡ true) ⊎ (p x ≡ true)
-any_new p xs x e = or_cases _ _ (sym (list_any-push p xs x) ∙ e)
+any_new p xs x e = or_cases _ _ (sym (list_any_push p xs x) ∙ e)
 
 -- a count of what passes
 pub count_none : {X : Type 0} (p : X → Bool) (xs : List X) → list_any p xs ≡ false

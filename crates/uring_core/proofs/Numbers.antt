@@ -14,7 +14,7 @@ use Rattle.uring_core.proofs.SubmissionMoves.{SubmissionMove, stays, begins, tak
 use Rattle.uring_core.proofs.SoundRings.{IsSoundSubmission, open_taken, open_count, stopped_between}
 use Rattle.uring_core.proofs.Sound.{sound_of}
 use Rattle.uring_core.proofs.CoreTakes.{few_entries}
-use Rattle.uring_dispatch.proofs.Counting.{count_below-within}
+use Rattle.uring_dispatch.proofs.Counting.{count_below_within}
 
 -- the requests accepted, with those that the open call may still accept, are fewer than 2 ^ 63
 abbrev AreFew : World → Type 0
@@ -44,4 +44,4 @@ few_accepted g ((s, a) ∷ before) lawful = few_kept g (world g before) s a _ (s
 -- fewer than 2 ^ 63 are outstanding
 pub few_outstanding : (g : Setup) (h : History) → IsLawfulApart g h
     → outstanding_in (world g h).requests ≤ 2 ^ 63 - 1
-few_outstanding g h lawful = omega (arith, few_accepted g h lawful, count_below-within (is_outstanding (world g h).requests) (length (world g h).requests.accepted))
+few_outstanding g h lawful = omega (arith, few_accepted g h lawful, count_below_within (is_outstanding (world g h).requests) (length (world g h).requests.accepted))

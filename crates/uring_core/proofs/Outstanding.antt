@@ -1,55 +1,55 @@
 -- How many requests are outstanding: none exactly if the count is 0, and one less with each end of one of them.
 -- By induction over the numbers below the count of accepted requests.
--- Stable: other crates may import `none_outstanding`, `all_ended`, `ended_less` and `count_below-zero`.
+-- Stable: other crates may import `none_outstanding`, `all_ended`, `ended_less` and `count_below_zero`.
 use Rattle.std.proofs.Common.{◌≡◌, ◌≢◌, ℕ, zero, suc, ◌+◌, ◌<◌, Bool, true, false, not, ◌&&◌, ltb, cond, ℤ, List, length, refl, sym, ◌∙◌, ap, arith}
 use Rattle.std.proofs.lemmas.Bool.{and_parts, ltb-true, false_from_ne_true}
 use Rattle.uring_entry.specs.Requests.{Requests, has_ended, is_outstanding, with_ended, outstanding_in}
-use Rattle.uring_entry.proofs.RequestLemmas.{has_ended-same, has_ended-other}
+use Rattle.uring_entry.proofs.RequestLemmas.{has_ended_same, has_ended_other}
 use Rattle.uring_entry.specs.Below.{count_below}
-use Rattle.uring_dispatch.proofs.Counting.{count_below-changed, count_below-some}
+use Rattle.uring_dispatch.proofs.Counting.{count_below_changed, count_below_some}
 use Rattle.uring_dispatch.specs.Window.{one_if}
 
 -- a number less
-count_below-less : (p q : ℕ → Bool) (n m : ℕ) → m < n → p m ≡ true → q m ≡ false
+count_below_less : (p q : ℕ → Bool) (n m : ℕ) → m < n → p m ≡ true → q m ≡ false
     → ((k : ℕ) → k ≢ m → q k ≡ p k) → count_below q n + 1 ≡ count_below p n
-count_below-less p q n m lt is isnt same =
-    let changed = count_below-changed p q n m lt same in
+count_below_less p q n m lt is isnt same =
+    let changed = count_below_changed p q n m lt same in
     let one : one_if (p m) ≡ 1 = ap one_if is in
     let none : one_if (q m) ≡ 0 = ap one_if isnt in
     omega arith
 
 -- none is counted
-count_below-none : (p : ℕ → Bool) (n : ℕ) → count_below p n ≡ 0 → (k : ℕ) → k < n → p k ≡ false
-count_below-none p n none k lt =
-    false_from_ne_true _ (λ here. omega (arith, none, count_below-some p n k lt here))
+count_below_none : (p : ℕ → Bool) (n : ℕ) → count_below p n ≡ 0 → (k : ℕ) → k < n → p k ≡ false
+count_below_none p n none k lt =
+    false_from_ne_true _ (λ here. omega (arith, none, count_below_some p n k lt here))
 
 -- nothing is counted that isn't there
-pub count_below-zero : (p : ℕ → Bool) (n : ℕ) → ((k : ℕ) → k < n → p k ≡ false)
+pub count_below_zero : (p : ℕ → Bool) (n : ℕ) → ((k : ℕ) → k < n → p k ≡ false)
     → count_below p n ≡ 0
-count_below-zero p zero none = refl
-count_below-zero p (suc n) none =
+count_below_zero p zero none = refl
+count_below_zero p (suc n) none =
     let here : ◌≡◌ {A = ℕ} (cond (p n) 1 0) 0 = ap (λ b. cond b 1 0) (none n (omega arith)) in
-    omega (arith, here, count_below-zero p n (λ k lt. none k (omega arith)))
+    omega (arith, here, count_below_zero p n (λ k lt. none k (omega arith)))
 
 -- where none is counted, none is outstanding
 pub none_outstanding : (r : Requests) → outstanding_in r ≡ 0 → (n : ℕ) → is_outstanding r n ≡ false
 none_outstanding r none n = by_bound (ltb n (length r.accepted)) refl where
   by_bound : (within : Bool) → ltb n (length r.accepted) ≡ within → (within && not (has_ended r n)) ≡ false
-  by_bound true is = ap (λ b. b && not (has_ended r n)) (sym is) ∙ count_below-none (is_outstanding r) (length r.accepted) none n (ltb-true _ _ is)
+  by_bound true is = ap (λ b. b && not (has_ended r n)) (sym is) ∙ count_below_none (is_outstanding r) (length r.accepted) none n (ltb-true _ _ is)
   by_bound false is = refl
 
 -- where none is outstanding, none is counted
 pub all_ended : (r : Requests) → ((n : ℕ) → is_outstanding r n ≡ false) → outstanding_in r ≡ 0
-all_ended r none = count_below-zero (is_outstanding r) (length r.accepted) (λ n lt. none n)
+all_ended r none = count_below_zero (is_outstanding r) (length r.accepted) (λ n lt. none n)
 
 -- an end of an outstanding request makes it one less
 pub ended_less : (r : Requests) (n : ℕ) (res : ℤ) (bytes : List ℕ) → is_outstanding r n ≡ true
     → outstanding_in (with_ended r n res bytes) + 1 ≡ outstanding_in r
 ended_less r n res bytes outstanding =
     let within = ltb-true _ _ (and_parts _ _ outstanding).0 in
-    count_below-less (is_outstanding r) (is_outstanding (with_ended r n res bytes)) (length r.accepted) n within outstanding
-    (gone (ltb n (length r.accepted)) _ (has_ended-same r n res bytes))
-    (λ k other. ap (λ b. ltb k (length r.accepted) && not b) (has_ended-other r n res bytes k other)) where
+    count_below_less (is_outstanding r) (is_outstanding (with_ended r n res bytes)) (length r.accepted) n within outstanding
+    (gone (ltb n (length r.accepted)) _ (has_ended_same r n res bytes))
+    (λ k other. ap (λ b. ltb k (length r.accepted) && not b) (has_ended_other r n res bytes k other)) where
       gone : (within ended : Bool) → ended ≡ true → (within && not ended) ≡ false
       gone true true e = refl
       gone false true e = refl

@@ -11,9 +11,9 @@ use Rattle.uring_entry.specs.Success.{is_success}
 use Rattle.uring_entry.specs.Preparation.{is_faulty, is_cancel, is_cancel_all}
 use Rattle.uring_entry.specs.declared.errno.TheConstants.{EINVAL, EALREADY, ECANCELED}
 use Rattle.uring_entry.specs.Requests.{Requests, entry_of, has_started, has_ended, has_failed, is_running, is_outstanding, is_joined, some_member, is_in_faulty_group, is_cancelled, is_doomed, is_ready, is_candidate, target_of, targets_of, choices_of, count_result, result_for, cancel_result, doomed_result, no_bytes, chosen_by, with_ended, with_issued_end}
-use Rattle.uring_entry.proofs.RequestLemmas.{is_doomed-faulty, is_doomed-behind, is_doomed-cancelled, one_success, never_success, target-in, list_any-push, all_success}
+use Rattle.uring_entry.proofs.RequestLemmas.{is_doomed_faulty, is_doomed_behind, is_doomed_cancelled, one_success, never_success, target_in, list_any_push, all_success}
 use Rattle.uring_core.proofs.ListCounts.{any_looser, any_kept, any_new, count_once_more}
-use Rattle.uring_entry.proofs.EventLemmas.{is_doomed-tells, is_behind_failure-tells, is_behind_failure-from, target_of-tells}
+use Rattle.uring_entry.proofs.EventLemmas.{is_doomed_tells, is_behind_failure_tells, is_behind_failure_from, target_of_tells}
 use Rattle.uring_core.proofs.SoundRequests.{IsFree, is_otherwise, EndsDoomed, IsSoundRequests, outstanding_tells, idle_tells, ready_first}
 use Rattle.uring_core.specs.Events.{Chose}
 
@@ -60,32 +60,32 @@ module _ (r : Requests) (n : ℕ) (res : ℤ) (bytes : List ℕ) (cancelled : Li
   pub end_doom : (m : ℕ) → is_doomed r m ≡ true
       → is_doomed (ended_as r n res bytes cancelled) m ≡ true
   end_doom m doomed =
-      elim (is_doomed-tells r m doomed) [
-        | inl faulty ↦ is_doomed-faulty (ended_as r n res bytes cancelled) m (end_fault m ∙ faulty)
+      elim (is_doomed_tells r m doomed) [
+        | inl faulty ↦ is_doomed_faulty (ended_as r n res bytes cancelled) m (end_fault m ∙ faulty)
         | inr (inl behind) ↦
-            let t = is_behind_failure-tells r m behind in
+            let t = is_behind_failure_tells r m behind in
             let f = t.1 in
-            is_doomed-behind (ended_as r n res bytes cancelled) m (is_behind_failure-from (ended_as r n res bytes cancelled) m t.0 (record { before = f.before; joined = end_join t.0 m ∙ f.joined; soft = f.soft; failed = fail_kept t.0 f.failed }))
-        | inr (inr gone) ↦ is_doomed-cancelled (ended_as r n res bytes cancelled) m (choice.kept m gone)
+            is_doomed_behind (ended_as r n res bytes cancelled) m (is_behind_failure_from (ended_as r n res bytes cancelled) m t.0 (record { before = f.before; joined = end_join t.0 m ∙ f.joined; soft = f.soft; failed = fail_kept t.0 f.failed }))
+        | inr (inr gone) ↦ is_doomed_cancelled (ended_as r n res bytes cancelled) m (choice.kept m gone)
       ]
 
   -- who is doomed newly is a later member of n's group, or chosen
   end_doomed : (m : ℕ) → is_doomed (ended_as r n res bytes cancelled) m ≡ true → (is_doomed r m ≡ true) ⊎ (((n < m) × (is_joined r n m ≡ true)) ⊎ IsChosen r n m)
   end_doomed m doomed =
-      elim (is_doomed-tells (ended_as r n res bytes cancelled) m doomed) [
-        | inl faulty ↦ inl (is_doomed-faulty r m (sym (end_fault m) ∙ faulty))
+      elim (is_doomed_tells (ended_as r n res bytes cancelled) m doomed) [
+        | inl faulty ↦ inl (is_doomed_faulty r m (sym (end_fault m) ∙ faulty))
         | inr (inl behind) ↦
-            let t = is_behind_failure-tells (ended_as r n res bytes cancelled) m behind in
+            let t = is_behind_failure_tells (ended_as r n res bytes cancelled) m behind in
             let k = t.0 in
             let f = t.1 in
             let joined : is_joined r k m ≡ true = sym (end_join k m) ∙ f.joined in
             elim (cases_eq k n) [
               | inl same ↦ inr (inl (subst (λ j. (j < m) × (is_joined r j m ≡ true)) same (f.before, joined)))
-              | inr differ ↦ inl (is_doomed-behind r m (is_behind_failure-from r m k (record { before = f.before; joined = joined; soft = f.soft; failed = fail_other k differ f.failed })))
+              | inr differ ↦ inl (is_doomed_behind r m (is_behind_failure_from r m k (record { before = f.before; joined = joined; soft = f.soft; failed = fail_other k differ f.failed })))
             ]
         | inr (inr gone) ↦
             elim (choice.added m gone) [
-              | inl old ↦ inl (is_doomed-cancelled r m old)
+              | inl old ↦ inl (is_doomed_cancelled r m old)
               | inr new ↦ inr (inr new)
             ]
       ]
@@ -111,13 +111,13 @@ module _ (r : Requests) (n : ℕ) (res : ℤ) (bytes : List ℕ) (cancelled : Li
   -- the ends of another stay its ends
   ends_doomed_kept : (m : ℕ) → m ≢ n → EndsDoomed r m → EndsDoomed (ended_as r n res bytes cancelled) m
   ends_doomed_kept m differ d =
-      list_any-push (is_otherwise r m) r.ended (record { number = n; res = res; bytes = bytes })
+      list_any_push (is_otherwise r m) r.ended (record { number = n; res = res; bytes = bytes })
       ∙ or_from _ _ d (and_left (eqb n m) _ (ne_eqb n m (λ same. differ (sym same))))
 
   -- the first end of a doomed request
   ends_doomed_first : has_ended r n ≡ false → res ≡ doomed_result r n → EndsDoomed (ended_as r n res bytes cancelled) n
   ends_doomed_first unended is =
-      list_any-push (is_otherwise r n) r.ended (record { number = n; res = res; bytes = bytes })
+      list_any_push (is_otherwise r n) r.ended (record { number = n; res = res; bytes = bytes })
       ∙ or_from _ _ (false_from_ne_true _ (λ some. both_ways _ unended (any_looser (λ e. e.number == n) (λ e. not (int_eq e.res (doomed_result r n))) r.ended some)))
       (and_right (eqb n n) _ (not_from_true _ ((Decides-int_eq res (doomed_result r n)).1 is)))
 
@@ -182,7 +182,7 @@ chose_so r n res m cancel success there = by_all (is_cancel_all (entry_of r n)) 
   by_all : (all : Bool) → is_cancel_all (entry_of r n) ≡ all → list_any (λ k. k == m) (cond all (targets_of r n) (option_to_list (target_of r n))) ≡ true → Chose r n res m
   by_all true is among =
       let number = a_number res (sym (all_success (entry_of r n) res is) ∙ success) in
-      inr (record { all = is; count = number.0; result = number.1; target = target-in r n m among })
+      inr (record { all = is; count = number.0; result = number.1; target = target_in r n m among })
   by_all false is among =
       inl
       (record {
@@ -232,7 +232,7 @@ module _ (r : Requests) (n : ℕ) where
   is_chosen : (m : ℕ) → Chose r n (cancel_result r n) m → IsChosen r n m
   is_chosen m (inl c) =
       let result : result_for r (Some m) ≡ cancel_result r n = ap (result_for r) (sym c.target) ∙ sym (ap (λ b. cond b (count_result (length (targets_of r n))) (result_for r (target_of r n))) c.one) in
-      chosen_at m (target_of-tells r n m c.target).holds (result_tells r m ((Decides-int_eq (result_for r (Some m)) (pos 0)).1 (result ∙ c.result)))
+      chosen_at m (target_of_tells r n m c.target).holds (result_tells r m ((Decides-int_eq (result_for r (Some m)) (pos 0)).1 (result ∙ c.result)))
   is_chosen m (inr c) = let p = and_parts _ _ c.target in chosen_at m p.0 (not-true _ p.1)
 
   -- who is chosen by the end of n with this result

@@ -10,7 +10,7 @@ use Rattle.uring_entry.specs.Layout.{Sqe, zero_entry}
 use Rattle.uring_entry.specs.Preparation.{fault_of, is_faulty, is_cancel, operation_of}
 use Rattle.uring_entry.specs.Requests.{Requests, entry_of, has_started, is_running, operation_running, with_call}
 use Rattle.uring_entry.specs.declared.operation.Op.{Op}
-use Rattle.uring_entry.proofs.RequestLemmas.{is_doomed-own_fault}
+use Rattle.uring_entry.proofs.RequestLemmas.{is_doomed_own_fault}
 use Rattle.uring_files.specs.Operations.{IsForFiles}
 use Rattle.uring_files.proofs.Prepared.{prepared}
 use Rattle.uring_core.specs.Core.{Core, FitsApart, IsCore}
@@ -53,7 +53,7 @@ running_asks g h n lawful running =
     let i : IsSoundRequests r = (sound_of g h lawful).requests in
     let started : has_started r n ≡ true = (and_parts _ _ running).0 in
     let right : is_faulty (entry_of r n) ≡ false =
-    false_from_ne_true _ (λ faulty. both_ways _ (i.started_free n started).spared (is_doomed-own_fault r n (i.started_accepted n started) faulty)) in
+    false_from_ne_true _ (λ faulty. both_ways _ (i.started_free n started).spared (is_doomed_own_fault r n (i.started_accepted n started) faulty)) in
     prepared (entry_of r n) (not_some (fault_of (entry_of r n)) right) (no_cancel g h lawful n started)
 
 -- what runs has this operation

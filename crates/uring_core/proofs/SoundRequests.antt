@@ -4,8 +4,8 @@ use Rattle.std.specs.List.{list_any}
 use Rattle.std.specs.Ordering.{int_eq}
 use Rattle.std.proofs.lemmas.Bool.{and_parts, and_cases, both_ways, eqb-true, ltb-true, not-true, not-false, or_left}
 use Rattle.uring_entry.specs.Requests.{Requests, Ending, no_request, has_started, has_ended, is_running, is_outstanding, is_joined, is_doomed, is_ready, doomed_result, with_started, waits_for}
-use Rattle.uring_entry.proofs.EventLemmas.{is_doomed-started, is_joined-started}
-use Rattle.uring_entry.proofs.RequestLemmas.{is_ready-inside}
+use Rattle.uring_entry.proofs.EventLemmas.{is_doomed_started, is_joined_started}
+use Rattle.uring_entry.proofs.RequestLemmas.{is_ready_inside}
 use Rattle.uring_core.proofs.ListCounts.{any_new, count_once_more}
 
 -- The invariant.
@@ -50,8 +50,8 @@ first_requests =
 -- a start changes neither groups nor who is doomed
 start_free : (r : Requests) (n m : ℕ) → IsFree r m → IsFree (with_started r n) m
 start_free r n m f = record {
-  spared = is_doomed-started r n m ∙ f.spared;
-  first = λ k lt e. f.first k lt (sym (is_joined-started r n k m) ∙ e);
+  spared = is_doomed_started r n m ∙ f.spared;
+  first = λ k lt e. f.first k lt (sym (is_joined_started r n k m) ∙ e);
 }
 
 -- what is outstanding is accepted, and hasn't ended
@@ -72,7 +72,7 @@ idle_tells r n idle open_end =
 pub waited : (r : Requests) (n m : ℕ) → is_ready r n ≡ true → m < n → waits_for r n m ≡ true
     → has_ended r m ≡ true
 waited r n m ready lt waits =
-    elim (and_cases (not (has_ended r m)) _ (is_ready-inside r n m ready lt)) [
+    elim (and_cases (not (has_ended r m)) _ (is_ready_inside r n m ready lt)) [
       | inl over ↦ not-false _ over
       | inr apart ↦ absurd (both_ways _ apart waits)
     ]

@@ -26,13 +26,13 @@ as_called p g s a b h same told f =
     subst (λ x. FitsApart p ((s, x) ∷ h)) (told (subst (λ k. CalledForApart k (world k h) s a) same f.lawful.0)) f
 
 -- the last entry is put in last
-pub after_entries-snoc : (g : Setup) (slot : ℕ) (entries : List Sqe) (entry : Sqe) (h : History)
+pub after_entries_snoc : (g : Setup) (slot : ℕ) (entries : List Sqe) (entry : Sqe) (h : History)
     → after_entries g slot (entries ++ entry ∷ []) h
     ≡ after_index g (slot + length entries) (after_fill g (slot + length entries) entry (after_entries g slot entries h))
-after_entries-snoc g slot [] entry h =
+after_entries_snoc g slot [] entry h =
     ap (λ s. after_index g s (after_fill g s entry h)) (omega arith)
-after_entries-snoc g slot (first ∷ later) entry h =
-    after_entries-snoc g (slot + 1) later entry (after_index g slot (after_fill g slot first h))
+after_entries_snoc g slot (first ∷ later) entry h =
+    after_entries_snoc g (slot + 1) later entry (after_index g slot (after_fill g slot first h))
     ∙ ap (λ s. after_index g s (after_fill g s entry (after_entries g (slot + 1) later (after_index g slot (after_fill g slot first h))))) (omega arith)
 
 -- the entry of this place is put in
@@ -43,7 +43,7 @@ pub entries_next : (g : Setup) (entries : List Sqe) (i slot : ℕ) (entry : Sqe)
 entries_next g entries i slot entry h at within is =
     let many : 0 + length (take i entries) ≡ slot = omega (arith, at, length-take-le i entries (omega arith)) in
     rw (take_more entries i entry within, ← is)
-    (after_entries-snoc g 0 (take i entries) entry h
+    (after_entries_snoc g 0 (take i entries) entry h
     ∙ ap (λ s. after_index g s (after_fill g s entry (after_entries g 0 (take i entries) h))) many)
 
 -- one position more is taken
@@ -53,12 +53,12 @@ pub takes_next : (g : Setup) (n : ℕ) (h : History)
 takes_next g n h = ap (λ k. after_takes g k h) (let one : n + 1 ≡ suc n = omega arith in one)
 
 -- the last completion is reaped last
-pub after_reaps-snoc : (completions : List Cqe) (completion : Cqe) (h : History)
+pub after_reaps_snoc : (completions : List Cqe) (completion : Cqe) (h : History)
     → after_reaps (completions ++ completion ∷ []) h
     ≡ (step.Reap, answer.Reaped completion) ∷ after_reaps completions h
-after_reaps-snoc [] completion h = refl
-after_reaps-snoc (first ∷ later) completion h =
-    after_reaps-snoc later completion ((step.Reap, answer.Reaped first) ∷ h)
+after_reaps_snoc [] completion h = refl
+after_reaps_snoc (first ∷ later) completion h =
+    after_reaps_snoc later completion ((step.Reap, answer.Reaped first) ∷ h)
 
 -- the completion of this place is reaped
 pub reaps_next : (completions : List Cqe) (i : ℕ) (completion : Cqe) (h : History)
@@ -67,7 +67,7 @@ pub reaps_next : (completions : List Cqe) (i : ℕ) (completion : Cqe) (h : Hist
     ≡ (step.Reap, answer.Reaped completion) ∷ after_reaps (take i completions) h
 reaps_next completions i completion h within =
     let next : take (i + 1) (set completions i completion) ≡ take i completions ++ completion ∷ [] = grind (arith, common_steps) in
-    ap (λ xs. after_reaps xs h) next ∙ after_reaps-snoc (take i completions) completion h
+    ap (λ xs. after_reaps xs h) next ∙ after_reaps_snoc (take i completions) completion h
 
 -- a reap that gave none: none is shown
 pub none_shown : (o : Option Cqe) → answer.Nothing ≡ reap_answer_of o → o ≡ None

@@ -6,8 +6,8 @@ use Rattle.std.proofs.Math.Numerals.{lt_of_le_of_ne}
 use Rattle.uring_entry.specs.Layout.{Sqe}
 use Rattle.uring_entry.specs.Preparation.{is_faulty}
 use Rattle.uring_entry.specs.Requests.{Requests, is_linked, is_drain, with_cut}
-use Rattle.uring_entry.proofs.RequestLemmas.{added-other}
-use Rattle.uring_entry.proofs.GroupEvents.{group-cut, is_last-cut_last}
+use Rattle.uring_entry.proofs.RequestLemmas.{added_other}
+use Rattle.uring_entry.proofs.GroupEvents.{group_cut, is_last_cut_last}
 use Rattle.uring_entry.proofs.BelowLemmas.{is_some_value}
 use Rattle.uring_dispatch.specs.declared.request.Request.{Request}
 use Rattle.uring_dispatch.specs.declared.group.Group.{Group}
@@ -23,17 +23,17 @@ older : (w v : Window) (q : Request) (k : ℕ) (x : Request) → Changes w v (en
 older w v q k x c is ne = sym (c.others k ne) ∙ is
 
 -- the group that was joined, or the new one
-joined-kept : (w v : Window) (g h : Groups) (entry : Sqe) (request : Request) → IsSound w g
+joined_kept : (w v : Window) (g h : Groups) (entry : Sqe) (request : Request) → IsSound w g
     → Accepts w v g h entry request → (o : Option Group) → last_group g.records g.last ≡ o
     → IsKept v (with_member o (end_of w) (is_drain entry) (is_faulty entry))
-joined-kept w v g h entry request s a None e = record {
+joined_kept w v g h entry request s a None e = record {
   from = omega arith;
   to = omega arith;
   end = omega (arith, a.end);
   over = λ m high low. absurd (omega arith);
   here = ap is_some a.changes.here;
 }
-joined-kept w v g h entry request s a (Some q) e =
+joined_kept w v g h entry request s a (Some q) e =
     let k = s.kept request.group q (a.joins ∙ e) in
     let last = is_some_value g.last (sym a.kept ∙ ap is_some e) in
     let top : q.end ≡ end_of w = s.last request.group q (last.1 ∙ ap Some (sym (a.key last.0 last.1))) (a.joins ∙ e) in
@@ -45,27 +45,27 @@ joined-kept w v g h entry request s a (Some q) e =
       here = ap is_some (a.changes.others q.least (λ same. absurd (omega (arith, k.to, same)))) ∙ k.here;
     }
 
-member-from : (o : Option Group) (n : ℕ) (d f : Bool) (k : ℕ) → (with_member o n d f).from ≤ k
+member_from : (o : Option Group) (n : ℕ) (d f : Bool) (k : ℕ) → (with_member o n d f).from ≤ k
     → k < n → (q : Group) × (o ≡ Some q) × (q.from ≤ k)
-member-from None n d f k a b = absurd (omega arith)
-member-from (Some q) n d f k a b = (q, refl, a)
+member_from None n d f k a b = absurd (omega arith)
+member_from (Some q) n d f k a b = (q, refl, a)
 
-member-end : (o : Option Group) (n : ℕ) (d f : Bool) → (with_member o n d f).end ≡ n + 1
-member-end None n d f = refl
-member-end (Some q) n d f = refl
+member_end : (o : Option Group) (n : ℕ) (d f : Bool) → (with_member o n d f).end ≡ n + 1
+member_end None n d f = refl
+member_end (Some q) n d f = refl
 
-member-low : (o : Option Group) (n : ℕ) (d f : Bool) → ((q : Group) → o ≡ Some q → q.from ≤ n)
+member_low : (o : Option Group) (n : ℕ) (d f : Bool) → ((q : Group) → o ≡ Some q → q.from ≤ n)
     → (with_member o n d f).from ≤ n
-member-low None n d f h = omega arith
-member-low (Some q) n d f h = h q refl
+member_low None n d f h = omega arith
+member_low (Some q) n d f h = h q refl
 
-pub accept-sound : (w v : Window) (g h : Groups) (entry : Sqe) (request : Request) → IsSound w g
+pub accept_sound : (w v : Window) (g h : Groups) (entry : Sqe) (request : Request) → IsSound w g
     → Accepts w v g h entry request → IsSound v h
-accept-sound w v g h entry request s a =
+accept_sound w v g h entry request s a =
     let p : Group = with_member (last_group g.records g.last) (end_of w) (is_drain entry) (is_faulty entry) in
-    let top : p.end ≡ end_of w + 1 = member-end (last_group g.records g.last) (end_of w) (is_drain entry) (is_faulty entry) in
+    let top : p.end ≡ end_of w + 1 = member_end (last_group g.records g.last) (end_of w) (is_drain entry) (is_faulty entry) in
     let low : p.from ≤ end_of w =
-    member-low (last_group g.records g.last) (end_of w) (is_drain entry) (is_faulty entry)
+    member_low (last_group g.records g.last) (end_of w) (is_drain entry) (is_faulty entry)
     (λ q e. let k = s.kept request.group q (a.joins ∙ e) in omega (arith, k.from, k.to, k.end))
     in
     record {
@@ -102,7 +102,7 @@ accept-sound w v g h entry request s a =
                       let one : p ≡ x = same_Some _ _ (sym a.exchange.here ∙ ap (group_at h) (sym here) ∙ found) in
                       let low1 : p.from ≤ k = let f : p.from ≡ x.from = ap (λ (z : Group). z.from) one in omega arith in
                       let top1 : k < end_of w = let f : p.end ≡ x.end = ap (λ (z : Group). z.end) one in lt_of_le_of_ne (omega arith) before in
-                      let q = member-from (last_group g.records g.last) (end_of w) (is_drain entry) (is_faulty entry) k low1 top1 in
+                      let q = member_from (last_group g.records g.last) (end_of w) (is_drain entry) (is_faulty entry) k low1 top1 in
                       let last = is_some_value g.last (sym a.kept ∙ ap is_some q.1) in
                       let end : q.0.end ≡ end_of w = s.last request.group q.0 (last.1 ∙ ap Some (sym (a.key last.0 last.1))) (a.joins ∙ q.1) in
                       s.members request.group q.0 k y (a.joins ∙ q.1) q.2 (omega arith) was ∙ sym here
@@ -114,7 +114,7 @@ accept-sound w v g h entry request s a =
             | inl here ↦
                 let one : p ≡ x = same_Some _ _ (sym a.exchange.here ∙ ap (group_at h) (sym here) ∙ found) in
                 let P : Group → Type 0 = λ z. IsKept v z in
-                subst P one (joined-kept w v g h entry request s a (last_group g.records g.last) refl)
+                subst P one (joined_kept w v g h entry request s a (last_group g.records g.last) refl)
             | inr other ↦
                 let k = s.kept key x (sym (a.exchange.others key other) ∙ found) in
                 record {
@@ -137,8 +137,8 @@ accept-sound w v g h entry request s a =
 
 -- A call ends.
 
-pub cut-sound : (w : Window) (g : Groups) → IsSound w g → IsSound w (record g { last = None })
-cut-sound w g s = record {
+pub cut_sound : (w : Window) (g : Groups) → IsSound w g → IsSound w (record g { last = None })
+cut_sound w g s = record {
   linked = s.linked;
   members = s.members;
   kept = s.kept;
@@ -146,9 +146,9 @@ cut-sound w g s = record {
   last = λ key q e found. let f : None ≡ Some key = e in cc;
 }
 
-pub cut-held : (w : Window) (g : Groups) (r : Requests) → AreHeld w g r
+pub cut_held : (w : Window) (g : Groups) (r : Requests) → AreHeld w g r
     → AreHeld w (record g { last = None }) (with_cut r)
-cut-held w g r h = record {
+cut_held w g r h = record {
   count = h.count;
   outstanding = h.outstanding;
   running = h.running;
@@ -158,14 +158,14 @@ cut-held w g r h = record {
       record { entry = old.entry; op = old.op; unended = old.unended; cancelled = old.cancelled; running = old.running; sound = old.sound };
   groups = λ key q e.
       let old = h.groups key q e in
-      record { group = group-cut r q.from q.end old.group; fault = old.fault; drain = old.drain; broken = old.broken };
-  last = λ k e. is_last-cut_last r k e;
+      record { group = group_cut r q.from q.end old.group; fault = old.fault; drain = old.drain; broken = old.broken };
+  last = λ k e. is_last_cut_last r k e;
   untouched = λ n le.
       let old = h.untouched n le in
       record {
         started = old.started;
         ended = old.ended;
         cancelled = old.cancelled;
-        cut = added-other (λ cut. cut == n + 1) r.cuts (length r.accepted) (ne_eqb _ _ (λ e. absurd (omega arith))) ∙ old.cut;
+        cut = added_other (λ cut. cut == n + 1) r.cuts (length r.accepted) (ne_eqb _ _ (λ e. absurd (omega arith))) ∙ old.cut;
       };
 }

@@ -7,7 +7,7 @@ use Rattle.uring_entry.specs.Preparation.{is_faulty}
 use Rattle.uring_entry.specs.Groups.{is_before}
 use Rattle.uring_entry.specs.Requests.{is_drain}
 use Rattle.uring_number_set.specs.NumberSet.{NumberSet, holds, start_of, stop_of, HasSame}
-use Rattle.uring_number_set.proofs.BlockLemmas.{holds-same}
+use Rattle.uring_number_set.proofs.BlockLemmas.{holds_same}
 use Rattle.uring_dispatch.specs.declared.request.Request.{Request}
 use Rattle.uring_dispatch.specs.declared.group.Group.{Group}
 use Rattle.uring_dispatch.specs.declared.waiting.Waiting.{Waiting}
@@ -17,40 +17,40 @@ use Rattle.uring_dispatch.specs.Held.{IsSound}
 use Rattle.uring_dispatch.specs.Waiting.{waits_at_head, waits_doomed, IsListedAt, Reaches, IsListed, GrowsTo, Starts, CanGrow, StandsAsBefore}
 use Rattle.uring_dispatch.proofs.HeldLemmas.{some_none, vacant, linked}
 use Rattle.uring_dispatch.specs.Accepts.{Accepts}
-use Rattle.uring_dispatch.proofs.WaitingLemmas.{told-before, stands-apart, stands-in}
+use Rattle.uring_dispatch.proofs.WaitingLemmas.{told_before, stands_apart, stands_in}
 
 -- An entry is accepted.
 
 -- a fault that is new is that of the new member
-fault-cases : (o : Option ℕ) (faulty : Bool) (n : ℕ)
+fault_cases : (o : Option ℕ) (faulty : Bool) (n : ℕ)
     → (is_some (found_or o faulty n) ≡ is_some o) ⊎ (found_or o faulty n ≡ Some n)
-fault-cases (Some m) faulty n = inl refl
-fault-cases None true n = inr refl
-fault-cases None false n = inl refl
+fault_cases (Some m) faulty n = inl refl
+fault_cases None true n = inr refl
+fault_cases None false n = inl refl
 
-pub low-member : (s : Waiting) (o : Option Group) (n : ℕ) (d f : Bool) → Starts s n
+pub low_member : (s : Waiting) (o : Option Group) (n : ℕ) (d f : Bool) → Starts s n
     → ((q : Group) → o ≡ Some q → Starts s q.least) → Starts s (with_member o n d f).least
-low-member s None n d f own old = own
-low-member s (Some q) n d f own old = old q refl
+low_member s None n d f own old = own
+low_member s (Some q) n d f own old = old q refl
 
 -- what is covered begins before each group's least member
-pub starts-least : (w : Window) (g : Groups) (s : Waiting) (key : ℕ) (q : Group) → IsSound w g
+pub starts_least : (w : Window) (g : Groups) (s : Waiting) (key : ℕ) (q : Group) → IsSound w g
     → IsListed w g s → group_at g key ≡ Some q → Starts s q.least
-starts-least w g s key q sound l is =
+starts_least w g s key q sound l is =
     let kept = sound.kept key q is in
     record { heads = l.heads.low q.least kept.here; doomed = l.doomed.low q.least kept.here }
 
-pub can-grow : (w : Window) (s : NumberSet) (n room : ℕ) → Reaches w s → n ≡ end_of w → 0 < room
+pub can_grow : (w : Window) (s : NumberSet) (n room : ℕ) → Reaches w s → n ≡ end_of w → 0 < room
     → end_of w + room ≤ s.limit → CanGrow s n
-can-grow w s n room r is some fits =
+can_grow w s n room r is some fits =
     let a = r.start in
     let b = r.stop in
     record { start = omega arith; stop = omega arith; room = omega arith }
 
-reaches-accepted : (w v : Window) (s t : NumberSet) (n : ℕ) (q : Request) → Reaches w s
+reaches_accepted : (w v : Window) (s t : NumberSet) (n : ℕ) (q : Request) → Reaches w s
     → GrowsTo s t n → n ≡ end_of w → end_of v ≡ end_of w + 1
     → ((k : ℕ) → k ≢ end_of w → at v k ≡ at w k) → Reaches v t
-reaches-accepted w v s t n q r grows is end others =
+reaches_accepted w v s t n q r grows is end others =
     let a = r.start in
     let b = grows.start in
     let c = grows.covered in
@@ -72,32 +72,32 @@ reaches-accepted w v s t n q r grows is end others =
         omega arith
     few (inr high) = let most = grows.few (n / 64 + 1) (omega arith) (omega arith) in omega arith
 
-pub accept-listed : (w v : Window) (g h : Groups) (entry : Sqe) (request : Request) (s t : Waiting) (n : ℕ)
+pub accept_listed : (w v : Window) (g h : Groups) (entry : Sqe) (request : Request) (s t : Waiting) (n : ℕ)
     → IsSound w g → IsListed w g s → Accepts w v g h entry request → n ≡ end_of w
     → IsListedAt v h t n
     → ((p : Group) → group_at h request.group ≡ Some p → p.fault ≡ Some n → (k : ℕ) → p.least ≤ k → k < n → IsListedAt v h t k)
     → ((k : ℕ) → IsListedAt v h s k → IsListedAt v h t k) → GrowsTo s.heads t.heads n
     → GrowsTo s.doomed t.doomed n → IsListed v h t
-accept-listed w v g h entry request s t n sound l a is own members told heads doomed = record {
+accept_listed w v g h entry request s t n sound l a is own members told heads doomed = record {
   told = λ k.
       elim (cases_eq k (end_of w)) [
         | inl same ↦ let P : ℕ → Type 0 = λ j. IsListedAt v h t j in subst P (is ∙ sym same) own
         | inr other ↦ older k other (at w k) refl
       ];
-  heads = reaches-accepted w v s.heads t.heads n request l.heads heads is a.end (λ k ne. a.changes.others k ne);
-  doomed = reaches-accepted w v s.doomed t.doomed n request l.doomed doomed is a.end (λ k ne. a.changes.others k ne);
+  heads = reaches_accepted w v s.heads t.heads n request l.heads heads is a.end (λ k ne. a.changes.others k ne);
+  doomed = reaches_accepted w v s.doomed t.doomed n request l.doomed doomed is a.end (λ k ne. a.changes.others k ne);
 }
   where
     stays : (k : ℕ) → StandsAsBefore w v g h k → IsListedAt v h t k
-    stays k b = told k (told-before w v g h s k (l.told k) b)
+    stays k b = told k (told_before w v g h s k (l.told k) b)
 
     older : (k : ℕ) → k ≢ end_of w → (o : Option Request) → at w k ≡ o → IsListedAt v h t k
-    older k ne None e = stays k (stands-apart w v g h k (a.changes.others k ne) (λ x there. some_none x _ e there))
+    older k ne None e = stays k (stands_apart w v g h k (a.changes.others k ne) (λ x there. some_none x _ e there))
     older k ne (Some x) e =
         elim (cases_eq x.group request.group) [
           | inr apart ↦
               stays k
-              (stands-apart w v g h k (a.changes.others k ne)
+              (stands_apart w v g h k (a.changes.others k ne)
               (λ y there.
               let one : x ≡ y = some-one x y (sym e ∙ there) in
               let P : Request → Type 0 = λ z. group_at h z.group ≡ group_at g z.group in
@@ -108,10 +108,10 @@ accept-listed w v g h entry request s t n sound l a is own members told heads do
               let was : group_at g request.group ≡ Some q = ap (group_at g) (sym here) ∙ link.found in
               let p : Group = with_member (Some q) (end_of w) (is_drain entry) (is_faulty entry) in
               let now : group_at h request.group ≡ Some p = a.exchange.here ∙ ap (λ o. Some (with_member o (end_of w) (is_drain entry) (is_faulty entry))) (sym a.joins ∙ was) in
-              elim (fault-cases q.fault (is_faulty entry) (end_of w)) [
+              elim (fault_cases q.fault (is_faulty entry) (end_of w)) [
                 | inl same ↦
                     stays k
-                    (stands-in w v g h k x p q (a.changes.others k ne) e link.found (ap (group_at h) here ∙ now) refl (ap (λ b. b || is_before q.broken k) same))
+                    (stands_in w v g h k x p q (a.changes.others k ne) e link.found (ap (group_at h) here ∙ now) refl (ap (λ b. b || is_before q.broken k) same))
                 | inr fresh ↦
                     let kept = sound.kept request.group q was in
                     let end = kept.end in
@@ -130,14 +130,14 @@ accept-listed w v g h entry request s t n sound l a is own members told heads do
         some-one y z e = cc
 
 -- A call ends.
-pub cut-listed : (w : Window) (g : Groups) (s : Waiting) → IsListed w g s
+pub cut_listed : (w : Window) (g : Groups) (s : Waiting) → IsListed w g s
     → IsListed w (record g { last = None }) s
-cut-listed w g s l = record { told = λ n. let t = l.told n in record { head = t.head; doomed = t.doomed }; heads = l.heads; doomed = l.doomed }
+cut_listed w g s l = record { told = λ n. let t = l.told n in record { head = t.head; doomed = t.doomed }; heads = l.heads; doomed = l.doomed }
 
 -- Memory is asked for.
 
-reaches-same : (w : Window) (s t : NumberSet) → Reaches w s → HasSame s t → Reaches w t
-reaches-same w s t r h =
+reaches_same : (w : Window) (s t : NumberSet) → Reaches w s → HasSame s t → Reaches w t
+reaches_same w s t r h =
     let a = r.start in
     let b = r.stop in
     let c = h.start in
@@ -145,22 +145,22 @@ reaches-same w s t r h =
     let e = r.few in
     record { start = omega arith; stop = omega arith; few = omega arith; low = λ n there. let low = r.low n there in omega arith }
 
-pub same-listed : (w : Window) (g : Groups) (s t : Waiting) → IsListed w g s
+pub same_listed : (w : Window) (g : Groups) (s t : Waiting) → IsListed w g s
     → HasSame s.heads t.heads → HasSame s.doomed t.doomed → IsListed w g t
-same-listed w g s t l x y = record {
+same_listed w g s t l x y = record {
   told = λ n.
       let t1 = l.told n in
-      record { head = holds-same s.heads t.heads x.same.same n ∙ t1.head; doomed = holds-same s.doomed t.doomed y.same.same n ∙ t1.doomed };
-  heads = reaches-same w s.heads t.heads l.heads x;
-  doomed = reaches-same w s.doomed t.doomed l.doomed y;
+      record { head = holds_same s.heads t.heads x.same.same n ∙ t1.head; doomed = holds_same s.doomed t.doomed y.same.same n ∙ t1.doomed };
+  heads = reaches_same w s.heads t.heads l.heads x;
+  doomed = reaches_same w s.doomed t.doomed l.doomed y;
 }
 
 -- Nothing waits at first.
-pub empty-listed : (w : Window) (g : Groups) (s : Waiting) → ((n : ℕ) → at w n ≡ None)
+pub empty_listed : (w : Window) (g : Groups) (s : Waiting) → ((n : ℕ) → at w n ≡ None)
     → end_of w ≡ 0 → ((n : ℕ) → holds s.heads n ≡ false) → ((n : ℕ) → holds s.doomed n ≡ false)
     → start_of s.heads ≡ 0 → stop_of s.heads ≡ 0 → start_of s.doomed ≡ 0 → stop_of s.doomed ≡ 0
     → IsListed w g s
-empty-listed w g s none end heads doomed a b c d = record {
+empty_listed w g s none end heads doomed a b c d = record {
   told = λ n. record { head = heads n ∙ sym (ap (λ o. waits_at_head g o n) (none n)); doomed = doomed n ∙ sym (ap (λ o. waits_doomed g o n) (none n)) };
   heads = record { start = omega arith; stop = omega arith; few = omega arith; low = λ n there. absurd (both_ways _ (ap is_some (none n)) there) };
   doomed = record { start = omega arith; stop = omega arith; few = omega arith; low = λ n there. absurd (both_ways _ (ap is_some (none n)) there) };

@@ -10,8 +10,8 @@ use Rattle.uring_dispatch.specs.Groups.{Groups, group_at, IsBeyond}
 use Rattle.uring_dispatch.specs.Held.{has_member, IsSound, AreHeld}
 use Rattle.uring_dispatch.specs.Waiting.{IsListed}
 use Rattle.uring_dispatch.specs.Grouped.{HasSameRecords}
-use Rattle.uring_dispatch.proofs.WindowFront.{at-room}
-use Rattle.uring_dispatch.proofs.WaitingLemmas.{told-before, stands-apart, reaches-fewer, same-reach}
+use Rattle.uring_dispatch.proofs.WindowFront.{at_room}
+use Rattle.uring_dispatch.proofs.WaitingLemmas.{told_before, stands_apart, reaches_fewer, same_reach}
 
 -- each number has its request, and each key its group
 pub record IsAlike (w v : Window) (g h : Groups) : Type 0 where
@@ -23,20 +23,20 @@ pub record IsAlike (w v : Window) (g h : Groups) : Type 0 where
   pub barriers : h.barriers ≡ g.barriers
   pub last : h.last ≡ g.last
 
-pub alike-room : (w : Window) (g : Groups) (a b : ℕ)
+pub alike_room : (w : Window) (g : Groups) (a b : ℕ)
     → IsAlike w (record w { room = a }) g (record g { room = b })
-alike-room w g a b =
-    record { rows = λ n. at-room w a n; end = refl; outstanding = refl; running = refl; groups = λ key. refl; barriers = refl; last = refl }
+alike_room w g a b =
+    record { rows = λ n. at_room w a n; end = refl; outstanding = refl; running = refl; groups = λ key. refl; barriers = refl; last = refl }
 
-pub alike-back : (w : Window) (g : Groups) (a b : ℕ)
+pub alike_back : (w : Window) (g : Groups) (a b : ℕ)
     → IsAlike (record w { room = a }) w (record g { room = b }) g
-alike-back w g a b =
-    record { rows = λ n. sym (at-room w a n); end = refl; outstanding = refl; running = refl; groups = λ key. refl; barriers = refl; last = refl }
+alike_back w g a b =
+    record { rows = λ n. sym (at_room w a n); end = refl; outstanding = refl; running = refl; groups = λ key. refl; barriers = refl; last = refl }
 
-pub alike-from : (w v : Window) (g h : Groups) → record v { room = 0 } ≡ record w { room = 0 }
+pub alike_from : (w v : Window) (g h : Groups) → record v { room = 0 } ≡ record w { room = 0 }
     → record h { room = 0 } ≡ record g { room = 0 } → IsAlike w v g h
-alike-from w v g h a b = record {
-  rows = λ n. sym (at-room v 0 n) ∙ ap (λ (z : Window). at z n) a ∙ at-room w 0 n;
+alike_from w v g h a b = record {
+  rows = λ n. sym (at_room v 0 n) ∙ ap (λ (z : Window). at z n) a ∙ at_room w 0 n;
   end = ap (λ (z : Window). end_of z) a;
   outstanding = ap (λ (z : Window). z.outstanding) a;
   running = ap (λ (z : Window). z.running) a;
@@ -45,12 +45,12 @@ alike-from w v g h a b = record {
   last = ap (λ (z : Groups). z.last) b;
 }
 
-pub alike-records : (d e : Grouped) → HasSameRecords d e
+pub alike_records : (d e : Grouped) → HasSameRecords d e
     → IsAlike d.window e.window d.groups e.groups
-alike-records d e s = alike-from d.window e.window d.groups e.groups s.window s.groups
+alike_records d e s = alike_from d.window e.window d.groups e.groups s.window s.groups
 
-pub sound-alike : (w v : Window) (g h : Groups) → IsAlike w v g h → IsSound w g → IsSound v h
-sound-alike w v g h a s =
+pub sound_alike : (w v : Window) (g h : Groups) → IsAlike w v g h → IsSound w g → IsSound v h
+sound_alike w v g h a s =
     let P : ℕ → Type 0 = λ n. IsBeyond g.barriers n in
     let Q : List Barrier → Type 0 = λ xs. IsBeyond xs (end_of v) in
     record {
@@ -69,9 +69,9 @@ sound-alike w v g h a s =
       last = λ key q e found. s.last key q (sym a.last ∙ e) (sym (a.groups key) ∙ found) ∙ sym a.end;
     }
 
-pub held-alike : (w v : Window) (g h : Groups) (r : Requests) → IsAlike w v g h → AreHeld w g r
+pub held_alike : (w v : Window) (g h : Groups) (r : Requests) → IsAlike w v g h → AreHeld w g r
     → AreHeld v h r
-held-alike w v g h r a held = record {
+held_alike w v g h r a held = record {
   count = held.count ∙ sym a.end;
   outstanding = a.outstanding ∙ held.outstanding;
   running = a.running ∙ held.running;
@@ -82,30 +82,30 @@ held-alike w v g h r a held = record {
   untouched = held.untouched;
 }
 
-pub listed-alike : (w v : Window) (g h : Groups) (s : Waiting) → IsAlike w v g h → IsListed w g s
+pub listed_alike : (w v : Window) (g h : Groups) (s : Waiting) → IsAlike w v g h → IsListed w g s
     → IsListed v h s
-listed-alike w v g h s a l =
+listed_alike w v g h s a l =
     let fewer : (k : ℕ) → is_some (at v k) ≡ true → is_some (at w k) ≡ true = λ k some. ap is_some (sym (a.rows k)) ∙ some in
     record {
-      told = λ n. told-before w v g h s n (l.told n) (stands-apart w v g h n (a.rows n) (λ x e. a.groups x.group));
-      heads = reaches-fewer w v s.heads s.heads l.heads a.end fewer (same-reach s.heads);
-      doomed = reaches-fewer w v s.doomed s.doomed l.doomed a.end fewer (same-reach s.doomed);
+      told = λ n. told_before w v g h s n (l.told n) (stands_apart w v g h n (a.rows n) (λ x e. a.groups x.group));
+      heads = reaches_fewer w v s.heads s.heads l.heads a.end fewer (same_reach s.heads);
+      doomed = reaches_fewer w v s.doomed s.doomed l.doomed a.end fewer (same_reach s.doomed);
     }
 
 -- what asking for memory leaves, whatever it answers
 
-pub reserved-window : {E : Type 0} (x : Result (Unit {0}) E) (w v : Window) (count : ℕ)
+pub reserved_window : {E : Type 0} (x : Result (Unit {0}) E) (w v : Window) (count : ℕ)
     → OnOk x (v ≡ record w { room = count }) → OnErr x (v ≡ w)
     → (record v { room = 0 } ≡ record w { room = 0 }) × ((k : ℕ) → k ≤ count → k ≤ w.room → k ≤ v.room)
-reserved-window (Ok u) w v count ok err =
+reserved_window (Ok u) w v count ok err =
     (ap (λ (z : Window). record z { room = 0 }) ok, λ k a b. let same : v.room ≡ count = ap (λ (z : Window). z.room) ok in omega arith)
-reserved-window (Err u) w v count ok err =
+reserved_window (Err u) w v count ok err =
     (ap (λ (z : Window). record z { room = 0 }) err, λ k a b. let same : v.room ≡ w.room = ap (λ (z : Window). z.room) err in omega arith)
 
-pub reserved-groups : {E : Type 0} (x : Result (Unit {0}) E) (g h : Groups) (count : ℕ)
+pub reserved_groups : {E : Type 0} (x : Result (Unit {0}) E) (g h : Groups) (count : ℕ)
     → OnOk x (h ≡ record g { room = count }) → OnErr x (h ≡ g)
     → (record h { room = 0 } ≡ record g { room = 0 }) × ((k : ℕ) → k ≤ count → k ≤ g.room → k ≤ h.room)
-reserved-groups (Ok u) g h count ok err =
+reserved_groups (Ok u) g h count ok err =
     (ap (λ (z : Groups). record z { room = 0 }) ok, λ k a b. let same : h.room ≡ count = ap (λ (z : Groups). z.room) ok in omega arith)
-reserved-groups (Err u) g h count ok err =
+reserved_groups (Err u) g h count ok err =
     (ap (λ (z : Groups). record z { room = 0 }) err, λ k a b. let same : h.room ≡ g.room = ap (λ (z : Groups). z.room) err in omega arith)

@@ -14,15 +14,15 @@ use Rattle.uring_dispatch.specs.Held.{AreHeld}
 use Rattle.uring_dispatch.specs.Accepts.{Accepts}
 use Rattle.uring_dispatch.specs.Noted.{IsBetween, KeepsBetween}
 use Rattle.uring_dispatch.specs.ByUserData.{HasPlaces, KeepsFrom, AreFound, Spans, GoesOn}
-use Rattle.uring_dispatch.proofs.WindowFront.{at-past}
-use Rattle.uring_dispatch.proofs.HeldLemmas.{some_none, candidate-none, candidate-other_data}
+use Rattle.uring_dispatch.proofs.WindowFront.{at_past}
+use Rattle.uring_dispatch.proofs.HeldLemmas.{some_none, candidate_none, candidate_other_data}
 use Rattle.uring_dispatch.proofs.Alike.{IsAlike}
 
 -- What the events keep.
 
-pub found-on : (w v : Window) (x : ByUserData) → AreFound w x → GoesOn w v → HasPlaces x (end_of v)
+pub found_on : (w v : Window) (x : ByUserData) → AreFound w x → GoesOn w v → HasPlaces x (end_of v)
     → AreFound v x
-found-on w v x f on places =
+found_on w v x f on places =
     let stop = f.stop in
     let end = on.end in
     record {
@@ -33,16 +33,16 @@ found-on w v x f on places =
       places = places;
     }
 
-pub goes-alike : (w v : Window) (g h : Groups) → IsAlike w v g h → GoesOn w v
-goes-alike w v g h a = record {
+pub goes_alike : (w v : Window) (g h : Groups) → IsAlike w v g h → GoesOn w v
+goes_alike w v g h a = record {
   end = let end = a.end in omega arith;
   kept = λ n p lt e. (p, sym (a.rows n) ∙ e, refl);
 }
 
 -- a request was started, or chosen
-pub goes-changed : (w v : Window) (n : ℕ) (q p : Request) → at w n ≡ Some q
+pub goes_changed : (w v : Window) (n : ℕ) (q p : Request) → at w n ≡ Some q
     → Changes w v n (Some p) → end_of v ≡ end_of w → p.entry ≡ q.entry → GoesOn w v
-goes-changed w v n q p there c end entry = record {
+goes_changed w v n q p there c end entry = record {
   end = omega arith;
   kept = λ k x lt e.
       elim (cases_eq k n) [
@@ -53,8 +53,8 @@ goes-changed w v n q p there c end entry = record {
       ];
 }
 
-pub goes-ended : (w v : Window) (n : ℕ) → Changes w v n None → end_of v ≡ end_of w → GoesOn w v
-goes-ended w v n c end = record {
+pub goes_ended : (w v : Window) (n : ℕ) → Changes w v n None → end_of v ≡ end_of w → GoesOn w v
+goes_ended w v n c end = record {
   end = omega arith;
   kept = λ k p lt e.
       elim (cases_eq k n) [
@@ -63,26 +63,26 @@ goes-ended w v n c end = record {
       ];
 }
 
-pub goes-accepted : (w v : Window) (g h : Groups) (entry : Sqe) (request : Request)
+pub goes_accepted : (w v : Window) (g h : Groups) (entry : Sqe) (request : Request)
     → Accepts w v g h entry request → GoesOn w v
-goes-accepted w v g h entry request a = record {
+goes_accepted w v g h entry request a = record {
   end = let end = a.end in omega arith;
   kept = λ n p lt e. (p, sym (a.changes.others n (λ same. omega (arith, same))) ∙ e, refl);
 }
 
 -- What the changes of what is noted keep.
 
-pub found-none : (w : Window) (x : ByUserData) → end_of w ≡ 0 → x.stop ≡ 0 → AreFound w x
-found-none w x end stop = record {
+pub found_none : (w : Window) (x : ByUserData) → end_of w ≡ 0 → x.stop ≡ 0 → AreFound w x
+found_none w x end stop = record {
   stop = omega arith;
   between = λ n q e lt. absurd (omega (arith, lt));
   places = omega arith;
 }
 
-pub found-dropped : (w : Window) (x y : ByUserData) (n : ℕ) → AreFound w x → n ≤ end_of w
+pub found_dropped : (w : Window) (x y : ByUserData) (n : ℕ) → AreFound w x → n ≤ end_of w
     → ((k : ℕ) → k < n → at w k ≡ None) → x.stop ≤ y.stop
     → ((k : ℕ) → x.stop ≤ k → n ≤ k → y.stop ≤ k) → y.ends ≡ x.ends → AreFound w y
-found-dropped w x y n f within before up no_more ends =
+found_dropped w x y n f within before up no_more ends =
     let places = f.places in
     record {
       stop = no_more (end_of w) f.stop within;
@@ -98,10 +98,10 @@ found-dropped w x y n f within before up no_more ends =
       places = rw ends (omega arith);
     }
 
-pub found-renewed : (w : Window) (x y : ByUserData) (first : ℕ) → AreFound w x → KeepsFrom x y first
+pub found_renewed : (w : Window) (x y : ByUserData) (first : ℕ) → AreFound w x → KeepsFrom x y first
     → first ≤ end_of w → ((k : ℕ) → k < first → at w k ≡ None) → HasPlaces y (end_of w)
     → AreFound w y
-found-renewed w x y first f same within before places = record {
+found_renewed w x y first f same within before places = record {
   stop =
       elim (cases_lt (end_of w) y.stop) [
         | inl past ↦ let looked = same.stop (end_of w) within past in absurd (omega (arith, looked, f.stop))
@@ -119,9 +119,9 @@ found-renewed w x y first f same within before places = record {
 }
 
 -- the number n was looked at, which isn't outstanding
-pub found-past : (w : Window) (x y : ByUserData) (n : ℕ) → AreFound w x → x.stop ≡ n
+pub found_past : (w : Window) (x y : ByUserData) (n : ℕ) → AreFound w x → x.stop ≡ n
     → n < end_of w → at w n ≡ None → y.stop ≡ n + 1 → y.ends ≡ x.ends → AreFound w y
-found-past w x y n f is within none stop ends =
+found_past w x y n f is within none stop ends =
     let places = f.places in
     record {
       stop = omega arith;
@@ -134,12 +134,12 @@ found-past w x y n f is within none stop ends =
     }
 
 -- the number n was looked at, and noted
-pub found-next : (w : Window) (x y : ByUserData) (n : ℕ) (q : Request) → AreFound w x → x.stop ≡ n
+pub found_next : (w : Window) (x y : ByUserData) (n : ℕ) (q : Request) → AreFound w x → x.stop ≡ n
     → n < end_of w → at w n ≡ Some q → y.stop ≡ n + 1
     → IsBetween (get nat_eq y.ends) (user_data_of q.entry) n
     → KeepsBetween w (get nat_eq x.ends) (get nat_eq y.ends) n
     → spare x.ends ≤ spare y.ends + 1 → AreFound w y
-found-next w x y n q f is within there stop here kept spares =
+found_next w x y n q f is within there stop here kept spares =
     let places = f.places in
     record {
       stop = omega arith;
@@ -157,29 +157,29 @@ found-next w x y n q f is within there stop here kept spares =
 
 -- What a search makes of it.
 
-within-end : (w : Window) (n : ℕ) (q : Request) → at w n ≡ Some q → n < end_of w
-within-end w n q e =
+within_end : (w : Window) (n : ℕ) (q : Request) → at w n ≡ Some q → n < end_of w
+within_end w n q e =
     elim (cases_lt n (end_of w)) [
       | inl lt ↦ lt
-      | inr past ↦ some_none q _ (at-past w n past) e
+      | inr past ↦ some_none q _ (at_past w n past) e
     ]
 
-pub some-within : (w : Window) (n : ℕ) → is_some (at w n) ≡ true → n < end_of w
-some-within w n e = go (at w n) refl e
+pub some_within : (w : Window) (n : ℕ) → is_some (at w n) ≡ true → n < end_of w
+some_within w n e = go (at w n) refl e
   where
     go : (o : Option Request) → at w n ≡ o → is_some o ≡ true → n < end_of w
-    go (Some q) is s = within-end w n q is
+    go (Some q) is s = within_end w n q is
     go None is s = absurd (false≢true s)
 
-pub spans-all : (w : Window) (named_data : ℕ) → Spans w named_data 0 (end_of w)
-spans-all w named_data n q e named = (omega arith, within-end w n q e)
+pub spans_all : (w : Window) (named_data : ℕ) → Spans w named_data 0 (end_of w)
+spans_all w named_data n q e named = (omega arith, within_end w n q e)
 
-pub spans-noted : (w : Window) (x : ByUserData) (named_data from to : ℕ) → AreFound w x
+pub spans_noted : (w : Window) (x : ByUserData) (named_data from to : ℕ) → AreFound w x
     → x.stop ≡ end_of w → end_of w < 2 ^ 63
     → ((n : ℕ) → n < 2 ^ 63 → IsBetween (get nat_eq x.ends) named_data n → (from ≤ n) × (n < to))
     → Spans w named_data from to
-spans-noted w x named_data from to f full fits noted n q e named =
-    let lt = within-end w n q e in
+spans_noted w x named_data from to f full fits noted n q e named =
+    let lt = within_end w n q e in
     noted n (omega arith) (subst (λ d. IsBetween (get nat_eq x.ends) d n) named (f.between n q e (omega arith)))
 
 pub outside : (w : Window) (g : Groups) (r : Requests) (n k named_data from to : ℕ) → AreHeld w g r
@@ -188,10 +188,10 @@ pub outside : (w : Window) (g : Groups) (r : Requests) (n k named_data from to :
 outside w g r n k named_data from to h named spans out = go (at w k) refl
   where
     go : (o : Option Request) → at w k ≡ o → is_candidate r n k ≡ false
-    go None e = candidate-none w g r n k h e
+    go None e = candidate_none w g r n k h e
     go (Some q) e =
         elim (cases_eq (user_data_of q.entry) named_data) [
-          | inr other ↦ candidate-other_data w g r n k q named_data h e named other
+          | inr other ↦ candidate_other_data w g r n k q named_data h e named other
           | inl same ↦
               let inside = spans k q e same in
               elim out [

@@ -12,7 +12,7 @@ use Rattle.uring_entry.specs.Preparation.{is_cancel, is_cancel_all}
 use Rattle.uring_entry.specs.Success.{is_success}
 use Rattle.uring_entry.specs.Below.{all_below}
 use Rattle.uring_entry.specs.Requests.{Requests, entry_of, is_joined, some_member, is_in_faulty_group, is_behind_failure, is_cancelled, is_doomed, is_running, is_outstanding, is_target, target_of, targets_of, choices_of, count_result, chosen_by, cancel_result, result_for, no_bytes, with_cancelled, with_ended, with_issued_end}
-use Rattle.uring_entry.proofs.BelowLemmas.{all_below-past, all_below-none}
+use Rattle.uring_entry.proofs.BelowLemmas.{all_below_past, all_below_none}
 use Rattle.uring_entry.proofs.RequestLemmas.{one_success, all_success, never_success}
 use Rattle.uring_dispatch.specs.declared.request.Request.{Request}
 use Rattle.uring_dispatch.specs.Window.{Window, at, runs, Changes, chosen, IsAsBefore, HasSameRequests}
@@ -23,34 +23,34 @@ use Rattle.uring_dispatch.specs.Grouped.{Shows}
 use Rattle.uring_dispatch.specs.declared.outstanding.Outstanding.{Outstanding}
 use Rattle.uring_dispatch.specs.Choosing.{HasChosen}
 use Rattle.uring_dispatch.specs.declared.waiting.Waiting.{Waiting}
-use Rattle.uring_dispatch.proofs.HeldLemmas.{running-none, running-some}
+use Rattle.uring_dispatch.proofs.HeldLemmas.{running_none, running_some}
 use Rattle.uring_dispatch.specs.ByUserData.{KeepsPlaces}
 use Rattle.uring_dispatch.specs.declared.by_user_data.ByUserData.{ByUserData}
 use Rattle.uring_dispatch.specs.declared.grouped.Grouped.{Grouped}
 
 -- What the end of a request as it is issued dooms.
 
-none-cancelled : (r : Requests) → with_cancelled r [] ≡ r
-none-cancelled r = ap (λ all. record r { cancelled = all }) (append-nil r.cancelled)
+none_cancelled : (r : Requests) → with_cancelled r [] ≡ r
+none_cancelled r = ap (λ all. record r { cancelled = all }) (append-nil r.cancelled)
 
 -- one that fails dooms nobody
-pub failing-chooses : (r : Requests) (n below : ℕ) → chosen_by r n (negsuc below) ≡ []
-failing-chooses r n below =
+pub failing_chooses : (r : Requests) (n below : ℕ) → chosen_by r n (negsuc below) ≡ []
+failing_chooses r n below =
     ap (λ b. if is_cancel (entry_of r n) && b then choices_of r n else []) (never_success (entry_of r n) below)
     ∙ ap (λ b. if b then choices_of r n else []) (and-false (is_cancel (entry_of r n)))
 
-pub held-failing : (v : Window) (h : Groups) (r : Requests) (n below : ℕ) → AreHeld v h r
+pub held_failing : (v : Window) (h : Groups) (r : Requests) (n below : ℕ) → AreHeld v h r
     → AreHeld v h (with_cancelled r (chosen_by r n (negsuc below)))
-held-failing v h r n below held =
-    subst (λ xs. AreHeld v h (with_cancelled r xs)) (sym (failing-chooses r n below))
-    (subst (λ q. AreHeld v h q) (sym (none-cancelled r)) held)
+held_failing v h r n below held =
+    subst (λ xs. AreHeld v h (with_cancelled r xs)) (sym (failing_chooses r n below))
+    (subst (λ q. AreHeld v h q) (sym (none_cancelled r)) held)
 
-pub ends-failing : (v : Window) (h : Groups) (r : Requests) (n below : ℕ)
+pub ends_failing : (v : Window) (h : Groups) (r : Requests) (n below : ℕ)
     → AreHeld v h (with_ended r n (negsuc below) no_bytes)
     → AreHeld v h (with_issued_end r n (negsuc below))
-ends-failing v h r n below held =
+ends_failing v h r n below held =
     subst (λ q. AreHeld v h (with_ended q n (negsuc below) no_bytes))
-    (sym (none-cancelled r) ∙ sym (ap (with_cancelled r) (failing-chooses r n below))) held
+    (sym (none_cancelled r) ∙ sym (ap (with_cancelled r) (failing_chooses r n below))) held
 
 -- a cancel of one that ends with 0 dooms what it chose
 pub one_chosen : (r : Requests) (n m : ℕ) → is_cancel (entry_of r n) ≡ true
@@ -86,92 +86,92 @@ cancel_succeeds r n is = by_all (is_cancel_all (entry_of r n)) refl
 
 -- A cancel chooses one.
 
-still-there : (w v : Window) (m k : ℕ) (p : Request) → at w m ≡ Some p
+still_there : (w v : Window) (m k : ℕ) (p : Request) → at w m ≡ Some p
     → Changes w v m (Some (chosen p)) → is_some (at v k) ≡ is_some (at w k)
-still-there w v m k p there c =
+still_there w v m k p there c =
     elim (cases_eq k m) [
       | inl same ↦ ap (λ j. is_some (at v j)) same ∙ ap is_some c.here ∙ sym (ap is_some there) ∙ ap (λ j. is_some (at w j)) (sym same)
       | inr other ↦ ap is_some (c.others k other)
     ]
 
-runs-still : (w v : Window) (m k : ℕ) (p : Request) → at w m ≡ Some p
+runs_still : (w v : Window) (m k : ℕ) (p : Request) → at w m ≡ Some p
     → Changes w v m (Some (chosen p)) → runs (at v k) ≡ runs (at w k)
-runs-still w v m k p there c =
+runs_still w v m k p there c =
     elim (cases_eq k m) [
       | inl same ↦ ap (λ j. runs (at v j)) same ∙ ap runs c.here ∙ sym (ap runs there) ∙ ap (λ j. runs (at w j)) (sym same)
       | inr other ↦ ap runs (c.others k other)
     ]
 
-pub choose-same : (w v : Window) (m : ℕ) (p : Request) → at w m ≡ Some p
+pub choose_same : (w v : Window) (m : ℕ) (p : Request) → at w m ≡ Some p
     → Changes w v m (Some (chosen p)) → IsAsBefore w v → v.running ≡ w.running → HasSameRequests w v
-choose-same w v m p there c as_before running = record {
+choose_same w v m p there c as_before running = record {
   as_before = as_before;
   running = running;
-  there = λ k. still-there w v m k p there c;
-  runs_on = λ k. runs-still w v m k p there c;
+  there = λ k. still_there w v m k p there c;
+  runs_on = λ k. runs_still w v m k p there c;
 }
 
-same-none : (w : Window) → HasSameRequests w w
-same-none w = record { as_before = record { end = refl; outstanding = refl; room = refl }; running = refl; there = λ k. refl; runs_on = λ k. refl }
+same_none : (w : Window) → HasSameRequests w w
+same_none w = record { as_before = record { end = refl; outstanding = refl; room = refl }; running = refl; there = λ k. refl; runs_on = λ k. refl }
 
-same-both : (u v w : Window) → HasSameRequests u v → HasSameRequests v w → HasSameRequests u w
-same-both u v w a b = record {
+same_both : (u v w : Window) → HasSameRequests u v → HasSameRequests v w → HasSameRequests u w
+same_both u v w a b = record {
   as_before = record { end = b.as_before.end ∙ a.as_before.end; outstanding = b.as_before.outstanding ∙ a.as_before.outstanding; room = b.as_before.room ∙ a.as_before.room };
   running = b.running ∙ a.running;
   there = λ k. b.there k ∙ a.there k;
   runs_on = λ k. b.runs_on k ∙ a.runs_on k;
 }
 
-memory-both : (s t u : Waiting) → HasMemory s t → HasMemory t u → HasMemory s u
-memory-both s t u a b =
+memory_both : (s t u : Waiting) → HasMemory s t → HasMemory t u → HasMemory s u
+memory_both s t u a b =
     let x = a.heads in
     let y = a.doomed in
     let z = b.heads in
     let v = b.doomed in
     record { heads = omega arith; doomed = omega arith }
 
-pub chosen-nobody : (d : Outstanding) → HasChosen d d
-chosen-nobody d =
-    record { same = same-none d.grouped.window; groups = refl; memory = record { heads = omega arith; doomed = omega arith }; places = omega arith }
+pub chosen_nobody : (d : Outstanding) → HasChosen d d
+chosen_nobody d =
+    record { same = same_none d.grouped.window; groups = refl; memory = record { heads = omega arith; doomed = omega arith }; places = omega arith }
 
-pub chosen-both : (a b c : Outstanding) → HasChosen a b → HasChosen b c → HasChosen a c
-chosen-both a b c x y = record {
-  same = same-both a.grouped.window b.grouped.window c.grouped.window x.same y.same;
+pub chosen_both : (a b c : Outstanding) → HasChosen a b → HasChosen b c → HasChosen a c
+chosen_both a b c x y = record {
+  same = same_both a.grouped.window b.grouped.window c.grouped.window x.same y.same;
   groups = y.groups ∙ x.groups;
-  memory = memory-both a.waiting b.waiting c.waiting x.memory y.memory;
+  memory = memory_both a.waiting b.waiting c.waiting x.memory y.memory;
   places = let p = x.places in let q = y.places in omega (arith, p, q);
 }
 
 -- Targets.
 
-pub runs-held : (w : Window) (g : Groups) (r : Requests) (m : ℕ) → AreHeld w g r
+pub runs_held : (w : Window) (g : Groups) (r : Requests) (m : ℕ) → AreHeld w g r
     → is_running r m ≡ runs (at w m)
-runs-held w g r m h = go (at w m) refl
+runs_held w g r m h = go (at w m) refl
   where
     go : (o : Option Request) → at w m ≡ o → is_running r m ≡ runs o
-    go None e = running-none w g r m h e
-    go (Some q) e = running-some w g r m q h e
+    go None e = running_none w g r m h e
+    go (Some q) e = running_some w g r m q h e
 
 -- what a cancel ends with that chose m, by whether m is running
-pub result-some : (r : Requests) (m : ℕ) (o : Option ℕ) (b : Bool) → Some m ≡ o → is_running r m ≡ b
+pub result_some : (r : Requests) (m : ℕ) (o : Option ℕ) (b : Bool) → Some m ≡ o → is_running r m ≡ b
     → (if b then negsuc 113 else pos 0) ≡ result_for r o
-result-some r m o b e runs =
+result_some r m o b e runs =
     ap (λ x. if x then negsuc 113 else pos 0) (sym runs) ∙ ap (result_for r) e
 
 -- who isn't among those chosen stays as it was
-doomed-still : (r : Requests) (these : List ℕ) (m : ℕ) → list_any (λ k. k == m) these ≡ false
+doomed_still : (r : Requests) (these : List ℕ) (m : ℕ) → list_any (λ k. k == m) these ≡ false
     → is_doomed (with_cancelled r these) m ≡ is_doomed r m
 unfolding is_doomed is_behind_failure some_member is_joined
-doomed-still r these m out =
+doomed_still r these m out =
     ap (λ b. (is_in_faulty_group r m || is_behind_failure r m) || b)
     (list_any-append (λ k. k == m) r.cancelled these ∙ ap (λ b. is_cancelled r m || b) out ∙ or-false (is_cancelled r m))
 
 -- whether the next is a target doesn't depend on the targets before it
-pub target-next : (r : Requests) (n m : ℕ)
+pub target_next : (r : Requests) (n m : ℕ)
     → is_target (with_cancelled r (all_below (is_target r n) m)) n m ≡ is_target r n m
-target-next r n m =
+target_next r n m =
     let these = all_below (is_target r n) m in
-    ap (λ b. ((is_outstanding r m && not (m == n) && (user_data_of (entry_of r m) == addr_of (entry_of r n))) && not b) && not (is_running r m)) (doomed-still r these m (all_below-past (is_target r n) m m (omega arith)))
+    ap (λ b. ((is_outstanding r m && not (m == n) && (user_data_of (entry_of r m) == addr_of (entry_of r n))) && not b) && not (is_running r m)) (doomed_still r these m (all_below_past (is_target r n) m m (omega arith)))
 
 -- The search for targets.
 
@@ -184,12 +184,12 @@ pub record AreChosen (old now : Outstanding) (n user_data m count : ℕ) : Type 
   pub shows : (r : Requests) → Shows old.grouped r → user_data ≡ addr_of (entry_of r n)
       → Shows now.grouped (with_cancelled r (all_below (is_target r n) m))
 
-pub chosen-none : (d e : Outstanding) (n user_data m : ℕ) → e.grouped ≡ d.grouped → HasChosen d e
+pub chosen_none : (d e : Outstanding) (n user_data m : ℕ) → e.grouped ≡ d.grouped → HasChosen d e
     → ((r : Requests) → Shows d.grouped r → user_data ≡ addr_of (entry_of r n) → (k : ℕ) → k < m → is_target r n k ≡ false)
     → AreChosen d e n user_data m 0
-chosen-none d e n user_data m same chosen none =
+chosen_none d e n user_data m same chosen none =
     let nobody : (r : Requests) → Shows d.grouped r → user_data ≡ addr_of (entry_of r n) → all_below (is_target r n) m ≡ [] =
-    λ r h named. all_below-none (is_target r n) m (none r h named)
+    λ r h named. all_below_none (is_target r n) m (none r h named)
     in
     record {
       chosen = chosen;
@@ -197,50 +197,50 @@ chosen-none d e n user_data m same chosen none =
       count_is = λ r h named. sym (ap (λ (xs : List ℕ). length xs) (nobody r h named));
       shows = λ r h named.
           subst (λ (z : Grouped). Shows z (with_cancelled r (all_below (is_target r n) m))) (sym same)
-          (subst (λ xs. Shows d.grouped (with_cancelled r xs)) (sym (nobody r h named)) (subst (λ q. Shows d.grouped q) (sym (none-cancelled r)) h));
+          (subst (λ xs. Shows d.grouped (with_cancelled r xs)) (sym (nobody r h named)) (subst (λ q. Shows d.grouped q) (sym (none_cancelled r)) h));
     }
 
 -- only what is noted of user data differs
-pub chosen-noted : (d e : Outstanding) → e.grouped.window ≡ d.grouped.window
+pub chosen_noted : (d e : Outstanding) → e.grouped.window ≡ d.grouped.window
     → e.grouped.groups ≡ d.grouped.groups → e.waiting ≡ d.waiting
     → (x y : ByUserData) → d.by_user_data ≡ x → e.by_user_data ≡ y → KeepsPlaces x y → HasChosen d e
-chosen-noted d e window groups waiting x y before after places = record {
-  same = subst (λ (z : Window). HasSameRequests d.grouped.window z) (sym window) (same-none d.grouped.window);
+chosen_noted d e window groups waiting x y before after places = record {
+  same = subst (λ (z : Window). HasSameRequests d.grouped.window z) (sym window) (same_none d.grouped.window);
   groups = groups;
   memory = subst (λ (z : Waiting). HasMemory d.waiting z) (sym waiting) (record { heads = omega arith; doomed = omega arith });
   places = subst (λ z. KeepsPlaces z e.by_user_data) (sym before) (subst (λ z. KeepsPlaces x z) (sym after) places);
 }
 
-one-more : (p : ℕ → Bool) (m : ℕ) → p m ≡ true → all_below p (m + 1) ≡ all_below p m ++ m ∷ []
-one-more p m e = let next : m + 1
+one_more : (p : ℕ → Bool) (m : ℕ) → p m ≡ true → all_below p (m + 1) ≡ all_below p m ++ m ∷ []
+one_more p m e = let next : m + 1
     ≡ suc m = omega arith in ap (all_below p) next ∙ ap (λ b. all_below p m ++ cond b (m ∷ []) []) e
 
-none-more : (p : ℕ → Bool) (m : ℕ) → p m ≡ false → all_below p (m + 1) ≡ all_below p m
-none-more p m e = let next : m + 1
+none_more : (p : ℕ → Bool) (m : ℕ) → p m ≡ false → all_below p (m + 1) ≡ all_below p m
+none_more p m e = let next : m + 1
     ≡ suc m = omega arith in ap (all_below p) next ∙ ap (λ b. all_below p m ++ cond b (m ∷ []) []) e ∙ append-nil (all_below p m)
 
 -- what the test of the next number answers
-target-tested : (old now : Outstanding) (n user_data m count : ℕ) (tested : Bool)
+target_tested : (old now : Outstanding) (n user_data m count : ℕ) (tested : Bool)
     → AreChosen old now n user_data m count
     → ((r : Requests) → Shows now.grouped r → user_data ≡ addr_of (entry_of r n) → tested ≡ is_target r n m)
     → (r : Requests) → Shows old.grouped r → user_data ≡ addr_of (entry_of r n) → is_target r n m ≡ tested
-target-tested old now n user_data m count tested c test r h named =
-    sym (test (with_cancelled r (all_below (is_target r n) m)) (c.shows r h named) named ∙ target-next r n m)
+target_tested old now n user_data m count tested c test r h named =
+    sym (test (with_cancelled r (all_below (is_target r n) m)) (c.shows r h named) named ∙ target_next r n m)
 
 -- the next number is a target, and was chosen
-pub chosen-more : (old now next : Outstanding) (n user_data m count : ℕ)
+pub chosen_more : (old now next : Outstanding) (n user_data m count : ℕ)
     → AreChosen old now n user_data m count
     → ((r : Requests) → Shows now.grouped r → user_data ≡ addr_of (entry_of r n) → true ≡ is_target r n m)
     → HasChosen now next
     → ((r : Requests) → Shows now.grouped r → Shows next.grouped (with_cancelled r (m ∷ [])))
     → AreChosen old next n user_data (m + 1) (count + 1)
-chosen-more old now next n user_data m count c test chosen shows =
+chosen_more old now next n user_data m count c test chosen shows =
     let few = c.few in
     let more : (r : Requests) → Shows old.grouped r → user_data ≡ addr_of (entry_of r n) → all_below (is_target r n) (m + 1) ≡ all_below (is_target r n) m ++ m ∷ [] =
-    λ r h named. one-more (is_target r n) m (target-tested old now n user_data m count true c test r h named)
+    λ r h named. one_more (is_target r n) m (target_tested old now n user_data m count true c test r h named)
     in
     record {
-      chosen = chosen-both old now next c.chosen chosen;
+      chosen = chosen_both old now next c.chosen chosen;
       few = omega arith;
       count_is = λ r h named.
           ap (λ k. k + 1) (c.count_is r h named) ∙ sym (length-append (all_below (is_target r n) m) (m ∷ []))
@@ -252,14 +252,14 @@ chosen-more old now next n user_data m count c test chosen shows =
     }
 
 -- the next number is none
-pub chosen-past : (old now : Outstanding) (n user_data m count : ℕ)
+pub chosen_past : (old now : Outstanding) (n user_data m count : ℕ)
     → AreChosen old now n user_data m count
     → ((r : Requests) → Shows now.grouped r → user_data ≡ addr_of (entry_of r n) → false ≡ is_target r n m)
     → AreChosen old now n user_data (m + 1) count
-chosen-past old now n user_data m count c test =
+chosen_past old now n user_data m count c test =
     let few = c.few in
     let same_ones : (r : Requests) → Shows old.grouped r → user_data ≡ addr_of (entry_of r n) → all_below (is_target r n) (m + 1) ≡ all_below (is_target r n) m =
-    λ r h named. none-more (is_target r n) m (target-tested old now n user_data m count false c test r h named)
+    λ r h named. none_more (is_target r n) m (target_tested old now n user_data m count false c test r h named)
     in
     record {
       chosen = c.chosen;
@@ -269,7 +269,7 @@ chosen-past old now n user_data m count c test =
     }
 
 -- all numbers were tested
-pub chosen-all : (r : Requests) (n m : ℕ) → m ≡ length r.accepted
+pub chosen_all : (r : Requests) (n m : ℕ) → m ≡ length r.accepted
     → all_below (is_target r n) m ≡ targets_of r n
 unfolding targets_of
-chosen-all r n m all = ap (all_below (is_target r n)) all
+chosen_all r n m all = ap (all_below (is_target r n)) all

@@ -9,88 +9,88 @@ use Rattle.std.proofs.lemmas.Nat.Bits.{bit_at-suc, bit_at_lowest}
 use Rattle.uring_entry.specs.Below.{count_below, all_below}
 use Rattle.uring_dispatch.specs.Window.{one_if}
 
-pub count_below-same : (p q : ℕ → Bool) (n : ℕ) → ((k : ℕ) → k < n → p k ≡ q k)
+pub count_below_same : (p q : ℕ → Bool) (n : ℕ) → ((k : ℕ) → k < n → p k ≡ q k)
     → count_below p n ≡ count_below q n
-count_below-same p q zero h = refl
-count_below-same p q (suc n) h =
-    ap (λ c. c + one_if (p n)) (count_below-same p q n (λ k lt. h k (omega arith))) ∙ ap (λ b. count_below q n + one_if b) (h n (omega arith))
+count_below_same p q zero h = refl
+count_below_same p q (suc n) h =
+    ap (λ c. c + one_if (p n)) (count_below_same p q n (λ k lt. h k (omega arith))) ∙ ap (λ b. count_below q n + one_if b) (h n (omega arith))
 
 -- two tests that differ at one number
-pub count_below-changed : (p q : ℕ → Bool) (n k : ℕ) → k < n → ((j : ℕ) → j ≢ k → q j ≡ p j)
+pub count_below_changed : (p q : ℕ → Bool) (n k : ℕ) → k < n → ((j : ℕ) → j ≢ k → q j ≡ p j)
     → count_below q n + one_if (p k) ≡ count_below p n + one_if (q k)
-count_below-changed p q zero k lt h = absurd (omega arith)
-count_below-changed p q (suc n) k lt h =
+count_below_changed p q zero k lt h = absurd (omega arith)
+count_below_changed p q (suc n) k lt h =
     elim (cases_eq k n) [
       | inl same ↦
-          let before : count_below q n ≡ count_below p n = count_below-same q p n (λ j low. h j (λ e. absurd (omega arith))) in
+          let before : count_below q n ≡ count_below p n = count_below_same q p n (λ j low. h j (λ e. absurd (omega arith))) in
           let here : one_if (p k) ≡ one_if (p n) = ap (λ j. one_if (p j)) same in
           let there : one_if (q k) ≡ one_if (q n) = ap (λ j. one_if (q j)) same in
           omega arith
       | inr other ↦
-          let before = count_below-changed p q n k (omega arith) h in
+          let before = count_below_changed p q n k (omega arith) h in
           let here : one_if (q n) ≡ one_if (p n) = ap one_if (h n (λ e. other (sym e))) in
           omega arith
     ]
 
-pub count_below-within : (p : ℕ → Bool) (n : ℕ) → count_below p n ≤ n
-count_below-within p zero = omega arith
-count_below-within p (suc n) =
-    let before = count_below-within p n in
+pub count_below_within : (p : ℕ → Bool) (n : ℕ) → count_below p n ≤ n
+count_below_within p zero = omega arith
+count_below_within p (suc n) =
+    let before = count_below_within p n in
     elim (p n) as (λ b. count_below p n + one_if b ≤ suc n) [ true ↦ omega arith | false ↦ omega arith ]
 
 -- a count of which one number is part isn't zero
-pub count_below-some : (p : ℕ → Bool) (n k : ℕ) → k < n → p k ≡ true → 0 < count_below p n
-count_below-some p zero k lt e = absurd (omega arith)
-count_below-some p (suc n) k lt e =
+pub count_below_some : (p : ℕ → Bool) (n k : ℕ) → k < n → p k ≡ true → 0 < count_below p n
+count_below_some p zero k lt e = absurd (omega arith)
+count_below_some p (suc n) k lt e =
     elim (cases_eq k n) [
       | inl same ↦ let one : one_if (p n) ≡ 1 = ap one_if (ap p (sym same) ∙ e) in omega arith
-      | inr other ↦ let before = count_below-some p n k (omega arith) e in omega arith
+      | inr other ↦ let before = count_below_some p n k (omega arith) e in omega arith
     ]
 
-pub count_below-zero : (p : ℕ → Bool) (n : ℕ) → ((k : ℕ) → k < n → p k ≡ false)
+pub count_below_zero : (p : ℕ → Bool) (n : ℕ) → ((k : ℕ) → k < n → p k ≡ false)
     → count_below p n ≡ 0
-count_below-zero p zero none = refl
-count_below-zero p (suc n) none =
-    let before = count_below-zero p n (λ k lt. none k (omega arith)) in
+count_below_zero p zero none = refl
+count_below_zero p (suc n) none =
+    let before = count_below_zero p n (λ k lt. none k (omega arith)) in
     let here : one_if (p n) ≡ 0 = ap one_if (none n (omega arith)) in
     omega arith
 
 -- nothing from n on is counted
-pub count_below-past : (p : ℕ → Bool) (n m : ℕ) → n ≤ m → ((k : ℕ) → n ≤ k → p k ≡ false)
+pub count_below_past : (p : ℕ → Bool) (n m : ℕ) → n ≤ m → ((k : ℕ) → n ≤ k → p k ≡ false)
     → count_below p m ≡ count_below p n
-count_below-past p n zero le none = let same : n ≡ 0 = omega arith in ap (count_below p) (sym same)
-count_below-past p n (suc m) le none =
+count_below_past p n zero le none = let same : n ≡ 0 = omega arith in ap (count_below p) (sym same)
+count_below_past p n (suc m) le none =
     elim (cases_eq n (suc m)) [
       | inl same ↦ ap (count_below p) (sym same)
       | inr other ↦
-          let rest = count_below-past p n m (omega arith) none in
+          let rest = count_below_past p n m (omega arith) none in
           let here : one_if (p m) ≡ 0 = ap one_if (none m (omega arith)) in
           omega arith
     ]
 
 -- a count goes on behind a number
-pub count_below-apart : (p : ℕ → Bool) (n k : ℕ)
+pub count_below_apart : (p : ℕ → Bool) (n k : ℕ)
     → count_below p (n + k) ≡ count_below p n + count_below (λ i. p (n + i)) k
-count_below-apart p n zero = let same : n + 0 ≡ n = omega arith in ap (count_below p) same ∙ omega arith
-count_below-apart p n (suc k) =
+count_below_apart p n zero = let same : n + 0 ≡ n = omega arith in ap (count_below p) same ∙ omega arith
+count_below_apart p n (suc k) =
     let more : n + suc k ≡ suc (n + k) = omega arith in
-    let rest = count_below-apart p n k in
+    let rest = count_below_apart p n k in
     ap (count_below p) more ∙ omega arith
 
 -- the first number apart
-count_below-front : (p : ℕ → Bool) (n : ℕ)
+count_below_front : (p : ℕ → Bool) (n : ℕ)
     → count_below p (suc n) ≡ one_if (p 0) + count_below (λ i. p (suc i)) n
-count_below-front p zero = omega arith
-count_below-front p (suc n) = let rest = count_below-front p n in omega arith
+count_below_front p zero = omega arith
+count_below_front p (suc n) = let rest = count_below_front p n in omega arith
 
 -- the bits of a number
-pub ones-counted : (n k : ℕ) → n < 2 ^ k → count_ones n ≡ count_below (λ i. bit_at n i == 1) k
-ones-counted n zero lt = let few = ones_le_self n in omega arith
-ones-counted n (suc k) lt =
+pub ones_counted : (n k : ℕ) → n < 2 ^ k → count_ones n ≡ count_below (λ i. bit_at n i == 1) k
+ones_counted n zero lt = let few = ones_le_self n in omega arith
+ones_counted n (suc k) lt =
     let step = ones_step n in
-    let rest = ones-counted (n / 2) k (omega arith) in
-    let shifted = count_below-same (λ i. bit_at n (suc i) == 1) (λ i. bit_at (n / 2) i == 1) k (λ i low. ap (λ b. b == 1) (bit_at-suc n i)) in
-    let front = count_below-front (λ i. bit_at n i == 1) k in
+    let rest = ones_counted (n / 2) k (omega arith) in
+    let shifted = count_below_same (λ i. bit_at n (suc i) == 1) (λ i. bit_at (n / 2) i == 1) k (λ i low. ap (λ b. b == 1) (bit_at-suc n i)) in
+    let front = count_below_front (λ i. bit_at n i == 1) k in
     let lowest : one_if (bit_at n 0 == 1) ≡ n % 2 =
     ap (λ b. one_if (b == 1)) (bit_at_lowest n)
     ∙ elim (cases_eq (n % 2) 1) [
@@ -102,74 +102,74 @@ ones-counted n (suc k) lt =
 
 -- The list of all that are counted.
 
-pub length-all_below : (p : ℕ → Bool) (n : ℕ) → length (all_below p n) ≡ count_below p n
-length-all_below p zero = refl
-length-all_below p (suc n) =
+pub length_all_below : (p : ℕ → Bool) (n : ℕ) → length (all_below p n) ≡ count_below p n
+length_all_below p zero = refl
+length_all_below p (suc n) =
     length-append (all_below p n) (cond (p n) (n ∷ []) [])
-    ∙ ap (λ c. c + length (cond (p n) (n ∷ []) [])) (length-all_below p n)
+    ∙ ap (λ c. c + length (cond (p n) (n ∷ []) [])) (length_all_below p n)
     ∙ elim (p n) as (λ b. count_below p n + length (cond b (n ∷ []) []) ≡ count_below p n + one_if b) [ true ↦ refl | false ↦ refl ]
 
-get-left : (xs ys : List ℕ) (i x : ℕ) → slice_get xs i ≡ Some x → slice_get (xs ++ ys) i ≡ Some x
-get-left [] ys i x e = absurd (let f : None ≡ Some x = e in cc)
-get-left (y ∷ xs) ys zero x e = e
-get-left (y ∷ xs) ys (suc i) x e = get-left xs ys i x e
+get_left : (xs ys : List ℕ) (i x : ℕ) → slice_get xs i ≡ Some x → slice_get (xs ++ ys) i ≡ Some x
+get_left [] ys i x e = absurd (let f : None ≡ Some x = e in cc)
+get_left (y ∷ xs) ys zero x e = e
+get_left (y ∷ xs) ys (suc i) x e = get_left xs ys i x e
 
-get-last : (xs : List ℕ) (x : ℕ) → slice_get (xs ++ x ∷ []) (length xs) ≡ Some x
-get-last [] x = refl
-get-last (y ∷ xs) x = get-last xs x
+get_last : (xs : List ℕ) (x : ℕ) → slice_get (xs ++ x ∷ []) (length xs) ≡ Some x
+get_last [] x = refl
+get_last (y ∷ xs) x = get_last xs x
 
 -- a number that is counted stands behind those before it
-pub get-all_below : (p : ℕ → Bool) (n m : ℕ) → m < n → p m ≡ true
+pub get_all_below : (p : ℕ → Bool) (n m : ℕ) → m < n → p m ≡ true
     → slice_get (all_below p n) (count_below p m) ≡ Some m
-get-all_below p zero m lt e = absurd (omega arith)
-get-all_below p (suc n) m lt e =
+get_all_below p zero m lt e = absurd (omega arith)
+get_all_below p (suc n) m lt e =
     elim (cases_eq m n) [
       | inl same ↦
           ap (λ k. slice_get (all_below p n ++ cond (p n) (n ∷ []) []) (count_below p k)) same
           ∙ ap (λ b. slice_get (all_below p n ++ cond b (n ∷ []) []) (count_below p n)) (ap p (sym same) ∙ e)
-          ∙ ap (slice_get (all_below p n ++ n ∷ [])) (sym (length-all_below p n)) ∙ get-last (all_below p n) n ∙ ap Some (sym same)
-      | inr other ↦ get-left (all_below p n) _ (count_below p m) m (get-all_below p n m (omega arith) e)
+          ∙ ap (slice_get (all_below p n ++ n ∷ [])) (sym (length_all_below p n)) ∙ get_last (all_below p n) n ∙ ap Some (sym same)
+      | inr other ↦ get_left (all_below p n) _ (count_below p m) m (get_all_below p n m (omega arith) e)
     ]
 
 -- what stands at a place of two lists is in one of them
-get-either : (xs ys : List ℕ) (k x : ℕ) → slice_get (xs ++ ys) k ≡ Some x
+get_either : (xs ys : List ℕ) (k x : ℕ) → slice_get (xs ++ ys) k ≡ Some x
     → (slice_get xs k ≡ Some x) ⊎ ((j : ℕ) × (slice_get ys j ≡ Some x))
-get-either [] ys k x e = inr (k, e)
-get-either (y ∷ xs) ys zero x e = inl e
-get-either (y ∷ xs) ys (suc k) x e = get-either xs ys k x e
+get_either [] ys k x e = inr (k, e)
+get_either (y ∷ xs) ys zero x e = inl e
+get_either (y ∷ xs) ys (suc k) x e = get_either xs ys k x e
 
-get-one : (holds : Bool) (n j x : ℕ) → slice_get (cond holds (n ∷ []) []) j ≡ Some x
+get_one : (holds : Bool) (n j x : ℕ) → slice_get (cond holds (n ∷ []) []) j ≡ Some x
     → (n ≡ x) × (holds ≡ true)
-get-one false n j x e = absurd (let f : None ≡ Some x = e in cc)
-get-one true n zero x e = (same_Some n x e, refl)
-get-one true n (suc j) x e = absurd (let f : None ≡ Some x = e in cc)
+get_one false n j x e = absurd (let f : None ≡ Some x = e in cc)
+get_one true n zero x e = (same_Some n x e, refl)
+get_one true n (suc j) x e = absurd (let f : None ≡ Some x = e in cc)
 
 -- what stands at a place is counted
-pub all_below-gives : (p : ℕ → Bool) (n k x : ℕ) → slice_get (all_below p n) k ≡ Some x
+pub all_below_gives : (p : ℕ → Bool) (n k x : ℕ) → slice_get (all_below p n) k ≡ Some x
     → (x < n) × (p x ≡ true)
-all_below-gives p zero k x e = absurd (let f : None ≡ Some x = e in cc)
-all_below-gives p (suc n) k x e =
-    elim (get-either (all_below p n) (cond (p n) (n ∷ []) []) k x e) [
-      | inl below ↦ let found = all_below-gives p n k x below in (omega (arith, found.0), found.1)
-      | inr here ↦ let is = get-one (p n) n here.0 x here.1 in (omega (arith, is.0), ap p (sym is.0) ∙ is.1)
+all_below_gives p zero k x e = absurd (let f : None ≡ Some x = e in cc)
+all_below_gives p (suc n) k x e =
+    elim (get_either (all_below p n) (cond (p n) (n ∷ []) []) k x e) [
+      | inl below ↦ let found = all_below_gives p n k x below in (omega (arith, found.0), found.1)
+      | inr here ↦ let is = get_one (p n) n here.0 x here.1 in (omega (arith, is.0), ap p (sym is.0) ∙ is.1)
     ]
 
 -- The numbers of a block of 64.
 
 -- those before one of them
-pub block-before : (p : ℕ → Bool) (block place i : ℕ)
+pub block_before : (p : ℕ → Bool) (block place i : ℕ)
     → ((j : ℕ) → j < i → (bit_at block j == 1) ≡ p (64 * place + j))
     → count_below p (64 * place + i)
     ≡ count_below p (64 * place) + count_below (λ j. bit_at block j == 1) i
-block-before p block place i told =
-    count_below-apart p (64 * place) i
-    ∙ ap (λ c. count_below p (64 * place) + c) (sym (count_below-same (λ j. bit_at block j == 1) (λ j. p (64 * place + j)) i told))
+block_before p block place i told =
+    count_below_apart p (64 * place) i
+    ∙ ap (λ c. count_below p (64 * place) + c) (sym (count_below_same (λ j. bit_at block j == 1) (λ j. p (64 * place + j)) i told))
 
 -- all of them
-pub block-counted : (p : ℕ → Bool) (block place size : ℕ) → size ≡ 64 → block < 2 ^ size
+pub block_counted : (p : ℕ → Bool) (block place size : ℕ) → size ≡ 64 → block < 2 ^ size
     → ((j : ℕ) → j < size → (bit_at block j == 1) ≡ p (64 * place + j))
     → count_below p (64 * (place + 1)) ≡ count_below p (64 * place) + count_ones block
-block-counted p block place size is fits told =
+block_counted p block place size is fits told =
     let stop : 64 * (place + 1) ≡ 64 * place + size = omega arith in
-    ap (count_below p) stop ∙ block-before p block place size told
-    ∙ ap (λ c. count_below p (64 * place) + c) (sym (ones-counted block size fits))
+    ap (count_below p) stop ∙ block_before p block place size told
+    ∙ ap (λ c. count_below p (64 * place) + c) (sym (ones_counted block size fits))

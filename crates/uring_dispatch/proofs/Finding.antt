@@ -11,13 +11,13 @@ use Rattle.uring_dispatch.specs.Window.{Window, at}
 use Rattle.uring_dispatch.specs.Groups.{Groups}
 use Rattle.uring_dispatch.specs.Held.{IsSound, AreHeld}
 use Rattle.uring_dispatch.specs.Cancels.{found_as, found_for, found_by, operation_outstanding}
-use Rattle.uring_dispatch.proofs.HeldLemmas.{outstanding-none, outstanding-some}
+use Rattle.uring_dispatch.proofs.HeldLemmas.{outstanding_none, outstanding_some}
 
 -- what is outstanding is to do what its entry asks for
-pub operation-held : (w : Window) (g : Groups) (r : Requests) (n : ℕ) (request : Request)
+pub operation_held : (w : Window) (g : Groups) (r : Requests) (n : ℕ) (request : Request)
     → IsSound w g → AreHeld w g r → at w n ≡ Some request → operation_outstanding r n ≡ request.op
-operation-held w g r n request s h e =
-    ap (λ b. if b && not (is_faulty (entry_of r n)) then Some (operation_of (entry_of r n)) else None) (outstanding-some w g r n request s h e)
+operation_held w g r n request s h e =
+    ap (λ b. if b && not (is_faulty (entry_of r n)) then Some (operation_of (entry_of r n)) else None) (outstanding_some w g r n request s h e)
     ∙ go (is_faulty (entry_of r n))
     ∙ sym (h.shown n request e).op
   where
@@ -25,24 +25,24 @@ operation-held w g r n request s h e =
     go true = refl
     go false = refl
 
-pub finds-gone : (w : Window) (g : Groups) (r : Requests) (n : ℕ) → AreHeld w g r → at w n ≡ None
+pub finds_gone : (w : Window) (g : Groups) (r : Requests) (n : ℕ) → AreHeld w g r → at w n ≡ None
     → None ≡ found_by r n
-finds-gone w g r n h e =
-    sym (ap (λ b. found_for r n (if b && not (is_faulty (entry_of r n)) then Some (operation_of (entry_of r n)) else None)) (outstanding-none w g r n h e))
+finds_gone w g r n h e =
+    sym (ap (λ b. found_for r n (if b && not (is_faulty (entry_of r n)) then Some (operation_of (entry_of r n)) else None)) (outstanding_none w g r n h e))
 
 -- by what it is to do
-pub finds-by : (w : Window) (g : Groups) (r : Requests) (n : ℕ) (request : Request) (op : Option Op)
+pub finds_by : (w : Window) (g : Groups) (r : Requests) (n : ℕ) (request : Request) (op : Option Op)
     → IsSound w g → AreHeld w g r → at w n ≡ Some request → request.op ≡ op
     → found_for r n op ≡ found_by r n
-finds-by w g r n request op s h e is =
-    sym (ap (found_for r n) (operation-held w g r n request s h e ∙ is))
+finds_by w g r n request op s h e is =
+    sym (ap (found_for r n) (operation_held w g r n request s h e ∙ is))
 
 -- what is no cancel finds nothing
-pub finds-other : (r : Requests) (n : ℕ) (op : Op) → ((t : ℕ) (all : Bool) → op ≡ Cancel t all → ⊥)
+pub finds_other : (r : Requests) (n : ℕ) (op : Op) → ((t : ℕ) (all : Bool) → op ≡ Cancel t all → ⊥)
     → None ≡ found_for r n (Some op)
-finds-other r n (Cancel t all) other = absurd (other t all refl)
-finds-other r n _ other = refl
+finds_other r n (Cancel t all) other = absurd (other t all refl)
+finds_other r n _ other = refl
 
 -- by the request that it may choose
-pub found-none : (r : Requests) (n : ℕ) → None ≡ target_of r n → Nobody ≡ found_as r (target_of r n)
-found-none r n e = ap (found_as r) e
+pub found_none : (r : Requests) (n : ℕ) → None ≡ target_of r n → Nobody ≡ found_as r (target_of r n)
+found_none r n e = ap (found_as r) e

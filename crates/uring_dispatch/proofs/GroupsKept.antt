@@ -8,18 +8,18 @@ use Rattle.uring_dispatch.specs.declared.group.Barrier.{Barrier}
 use Rattle.uring_dispatch.specs.Groups.{drain_of, covers, IsSorted, IsBeyond, AreGroups, IsLiveFront, with_member, with_barrier, starts_at, last_group, Groups, group_at, HasBarrierBefore, IsFirstDraining}
 use Rattle.std.specs.Prelude.{if◌then◌else◌, MatchOption}
 use Rattle.std.proofs.lemmas.Option.{none-some}
-use Rattle.uring_dispatch.proofs.BarrierLemmas.{front-least, beyond-next, beyond-push, sorted-push, covered-push, covered-pushed}
+use Rattle.uring_dispatch.proofs.BarrierLemmas.{front_least, beyond_next, beyond_push, sorted_push, covered_push, covered_pushed}
 
 -- What accepting a request keeps.
 
-pub covered-accept : (records : List (Option Group)) (barriers : List Barrier) (old : Option Group) (key n d : ℕ) (drains faulty : Bool)
+pub covered_accept : (records : List (Option Group)) (barriers : List Barrier) (old : Option Group) (key n d : ℕ) (drains faulty : Bool)
     → ((number : ℕ) → drain_of old ≡ Some number → list_any (covers key number) barriers ≡ true)
     → (with_member old n drains faulty).drain ≡ Some d → d ≢ n
     → list_any (covers key d) barriers ≡ true
-covered-accept records barriers None key n d true faulty was e ne =
+covered_accept records barriers None key n d true faulty was e ne =
     absurd (ne (let f : Some n ≡ Some d = e in cc))
-covered-accept records barriers None key n d false faulty was e ne = let f : None ≡ Some d = e in cc
-covered-accept records barriers (Some q) key n d drains faulty was e ne = from q.drain refl
+covered_accept records barriers None key n d false faulty was e ne = let f : None ≡ Some d = e in cc
+covered_accept records barriers (Some q) key n d drains faulty was e ne = from q.drain refl
   where
     from : (o : Option ℕ) → q.drain ≡ o → list_any (covers key d) barriers ≡ true
     from (Some m) is = was d (is ∙ (sym (ap (λ x. found_or x drains n) is) ∙ e))
@@ -29,48 +29,48 @@ covered-accept records barriers (Some q) key n d drains faulty was e ne = from q
         first true f = absurd (ne (cc))
         first false f = cc
 
-pub starts_at-yes : (o : Option ℕ) (n : ℕ) → starts_at o n ≡ true → o ≡ Some n
-starts_at-yes None n e = absurd (false≢true e)
-starts_at-yes (Some d) n e = ap Some (eqb-true d n e)
+pub starts_at_yes : (o : Option ℕ) (n : ℕ) → starts_at o n ≡ true → o ≡ Some n
+starts_at_yes None n e = absurd (false≢true e)
+starts_at_yes (Some d) n e = ap Some (eqb-true d n e)
 
-pub starts_at-no : (o : Option ℕ) (n : ℕ) → starts_at o n ≡ false → o ≢ Some n
-starts_at-no o n e same = both_ways _ e (ap (λ x. starts_at x n) same ∙ eq-eqb n n refl)
+pub starts_at_no : (o : Option ℕ) (n : ℕ) → starts_at o n ≡ false → o ≢ Some n
+starts_at_no o n e same = both_ways _ e (ap (λ x. starts_at x n) same ∙ eq-eqb n n refl)
 
-with-added : (barriers : List Barrier) (o : Option ℕ) (n key : ℕ) → o ≡ Some n
+with_added : (barriers : List Barrier) (o : Option ℕ) (n key : ℕ) → o ≡ Some n
     → with_barrier barriers o n key ≡ barriers ++ record { number = n; key = key } ∷ []
-with-added barriers o n key is =
+with_added barriers o n key is =
     ap (λ x. with_barrier barriers x n key) is ∙ ap (λ b. if b then barriers ++ record { number = n; key = key } ∷ [] else barriers) (eq-eqb n n refl)
 
-with-cases : (barriers : List Barrier) (o : Option ℕ) (n key : ℕ)
+with_cases : (barriers : List Barrier) (o : Option ℕ) (n key : ℕ)
     → ((o ≡ Some n) × (with_barrier barriers o n key ≡ barriers ++ record { number = n; key = key } ∷ []))
     ⊎ (with_barrier barriers o n key ≡ barriers)
-with-cases barriers o n key =
+with_cases barriers o n key =
     elim (cases_Bool (starts_at o n)) [
-      | inl starts ↦ let is = starts_at-yes o n starts in inl (is, with-added barriers o n key is)
+      | inl starts ↦ let is = starts_at_yes o n starts in inl (is, with_added barriers o n key is)
       | inr not_here ↦ inr (ap (λ b. if b then barriers ++ record { number = n; key = key } ∷ [] else barriers) not_here)
     ]
 
-covered-with : (barriers : List Barrier) (o : Option ℕ) (n key k d : ℕ)
+covered_with : (barriers : List Barrier) (o : Option ℕ) (n key k d : ℕ)
     → list_any (covers k d) barriers ≡ true
     → list_any (covers k d) (with_barrier barriers o n key) ≡ true
-covered-with barriers o n key k d e =
-    elim (with-cases barriers o n key) [
-      | inl added ↦ rw added.1 (covered-push barriers _ k d e)
+covered_with barriers o n key k d e =
+    elim (with_cases barriers o n key) [
+      | inl added ↦ rw added.1 (covered_push barriers _ k d e)
       | inr same ↦ rw same e
     ]
 
-pub beyond-with : (barriers : List Barrier) (o : Option ℕ) (n key : ℕ) → IsBeyond barriers n
+pub beyond_with : (barriers : List Barrier) (o : Option ℕ) (n key : ℕ) → IsBeyond barriers n
     → IsBeyond (with_barrier barriers o n key) (n + 1)
-beyond-with barriers o n key e =
-    elim (with-cases barriers o n key) [
-      | inl added ↦ rw added.1 (beyond-push barriers n key e)
-      | inr same ↦ rw same (beyond-next barriers n e)
+beyond_with barriers o n key e =
+    elim (with_cases barriers o n key) [
+      | inl added ↦ rw added.1 (beyond_push barriers n key e)
+      | inr same ↦ rw same (beyond_next barriers n e)
     ]
 
-kept-drain : (old : Option Group) (n d : ℕ) (drains faulty : Bool) → drain_of old ≡ Some d
+kept_drain : (old : Option Group) (n d : ℕ) (drains faulty : Bool) → drain_of old ≡ Some d
     → (with_member old n drains faulty).drain ≡ Some d
-kept-drain None n d drains faulty e = let f : None ≡ Some d = e in cc
-kept-drain (Some q) n d drains faulty e =
+kept_drain None n d drains faulty e = let f : None ≡ Some d = e in cc
+kept_drain (Some q) n d drains faulty e =
     let f : q.drain ≡ Some d = e in ap (λ o. found_or o drains n) f
 
 -- A request was accepted into the group of this key.
@@ -79,11 +79,11 @@ pub record IsAccepted (records new : List (Option Group)) (last : Option ℕ) (k
   pub here : get_or new key None ≡ Some (with_member (last_group records last) n drains faulty)
   pub others : (k : ℕ) → k ≢ key → get_or new k None ≡ get_or records k None
 
-pub accept-groups : (records new : List (Option Group)) (barriers : List Barrier) (last next : Option ℕ) (key n : ℕ) (drains faulty : Bool)
+pub accept_groups : (records new : List (Option Group)) (barriers : List Barrier) (last next : Option ℕ) (key n : ℕ) (drains faulty : Bool)
     → AreGroups records barriers last → IsBeyond barriers n
     → IsAccepted records new last key n drains faulty → ((k : ℕ) → next ≡ Some k → k ≡ key)
     → AreGroups new (with_barrier barriers (with_member (last_group records last) n drains faulty).drain n key) next
-accept-groups records new barriers last next key n drains faulty g beyond a only =
+accept_groups records new barriers last next key n drains faulty g beyond a only =
     let q : Group = with_member (last_group records last) n drains faulty in
     record {
       covered = λ k d e.
@@ -93,17 +93,17 @@ accept-groups records new barriers last next key n drains faulty g beyond a only
                 elim (cases_eq d n) [
                   | inl now ↦
                       let from : q.drain ≡ Some n = is ∙ ap Some now in
-                      rw (same, now, with-added barriers q.drain n key from) (covered-pushed barriers key n)
+                      rw (same, now, with_added barriers q.drain n key from) (covered_pushed barriers key n)
                   | inr before ↦
                       rw same
-                      (covered-with barriers q.drain n key key d
-                      (covered-accept records barriers (last_group records last) key n d drains faulty (λ number f. g.covered key number (ap drain_of a.was ∙ f)) is before))
+                      (covered_with barriers q.drain n key key d
+                      (covered_accept records barriers (last_group records last) key n d drains faulty (λ number f. g.covered key number (ap drain_of a.was ∙ f)) is before))
                 ]
-            | inr other ↦ covered-with barriers q.drain n key k d (g.covered k d (ap drain_of (sym (a.others k other)) ∙ e))
+            | inr other ↦ covered_with barriers q.drain n key k d (g.covered k d (ap drain_of (sym (a.others k other)) ∙ e))
           ];
       sorted =
-          elim (with-cases barriers q.drain n key) [
-            | inl added ↦ rw added.1 (sorted-push barriers n key g.sorted beyond)
+          elim (with_cases barriers q.drain n key) [
+            | inl added ↦ rw added.1 (sorted_push barriers n key g.sorted beyond)
             | inr same ↦ rw same g.sorted
           ];
       opened = λ k e. ap (λ j. is_some (get_or new j None)) (only k e) ∙ ap is_some a.here;
@@ -112,29 +112,29 @@ accept-groups records new barriers last next key n drains faulty g beyond a only
 same_head : (b c : Barrier) (xs ys : List Barrier) → b ∷ xs ≡ c ∷ ys → b ≡ c
 same_head b c xs ys e = cc
 
-front-of : (barriers : List Barrier) (b c : Barrier) (rest : List Barrier)
+front_of : (barriers : List Barrier) (b c : Barrier) (rest : List Barrier)
     → barriers ++ b ∷ [] ≡ c ∷ rest → (b ≡ c) ⊎ ((more : List Barrier) × (barriers ≡ c ∷ more))
-front-of [] b c rest e = inl (same_head b c [] rest e)
-front-of (d ∷ more) b c rest e =
+front_of [] b c rest e = inl (same_head b c [] rest e)
+front_of (d ∷ more) b c rest e =
     inr (more, ap (λ x. x ∷ more) (same_head d c (more ++ b ∷ []) rest e))
 
-pub accept-front : (records new : List (Option Group)) (barriers : List Barrier) (last : Option ℕ) (key n : ℕ) (drains faulty : Bool)
+pub accept_front : (records new : List (Option Group)) (barriers : List Barrier) (last : Option ℕ) (key n : ℕ) (drains faulty : Bool)
     → IsLiveFront records barriers → IsAccepted records new last key n drains faulty
     → IsLiveFront new (with_barrier barriers (with_member (last_group records last) n drains faulty).drain n key)
-accept-front records new barriers last key n drains faulty live a b rest e =
+accept_front records new barriers last key n drains faulty live a b rest e =
     let q : Group = with_member (last_group records last) n drains faulty in
     let old : (more : List Barrier) → barriers ≡ b ∷ more → drain_of (get_or new b.key None) ≡ Some b.number =
     λ more is.
     elim (cases_eq b.key key) [
       | inl same ↦
           ap (λ j. drain_of (get_or new j None)) same ∙ ap drain_of a.here
-          ∙ kept-drain (last_group records last) n b.number drains faulty (ap drain_of (sym a.was) ∙ ap (λ j. drain_of (get_or records j None)) (sym same) ∙ live b more is)
+          ∙ kept_drain (last_group records last) n b.number drains faulty (ap drain_of (sym a.was) ∙ ap (λ j. drain_of (get_or records j None)) (sym same) ∙ live b more is)
       | inr other ↦ ap drain_of (a.others b.key other) ∙ live b more is
     ]
     in
-    elim (with-cases barriers q.drain n key) [
+    elim (with_cases barriers q.drain n key) [
       | inl added ↦
-          elim (front-of barriers (record { number = n; key = key }) b rest (sym added.1 ∙ e)) [
+          elim (front_of barriers (record { number = n; key = key }) b rest (sym added.1 ∙ e)) [
             | inl first ↦
                 ap (λ (x : Barrier). drain_of (get_or new x.key None)) (sym first) ∙ ap drain_of a.here ∙ added.0 ∙ ap (λ (x : Barrier). Some x.number) first
             | inr longer ↦ old longer.0 longer.1
@@ -149,12 +149,12 @@ only_key false key k o is e = cc
 
 -- What letting go a group keeps.
 
-pub remove-groups : (records new : List (Option Group)) (barriers left : List Barrier) (last : Option ℕ) (key : ℕ)
+pub remove_groups : (records new : List (Option Group)) (barriers left : List Barrier) (last : Option ℕ) (key : ℕ)
     → AreGroups records barriers last → get_or new key None ≡ None
     → ((k : ℕ) → k ≢ key → get_or new k None ≡ get_or records k None)
     → ((k d : ℕ) → drain_of (get_or new k None) ≡ Some d → list_any (covers k d) barriers ≡ true → list_any (covers k d) left ≡ true)
     → (IsSorted barriers → IsSorted left) → last ≡ None → AreGroups new left last
-remove-groups records new barriers left last key g gone others covered sorted closed = record {
+remove_groups records new barriers left last key g gone others covered sorted closed = record {
   covered = λ k d e.
       elim (cases_eq k key) [
         | inl same ↦
@@ -172,26 +172,26 @@ head_is [] b lt e = absurd (omega arith)
 head_is (c ∷ rest) b lt e = (rest, ap (λ x. x ∷ rest) (sym e))
 
 -- the first barrier decides
-pub before-held : (g : Groups) (b : Barrier) (n : ℕ) → IsLiveFront g.records g.barriers
+pub before_held : (g : Groups) (b : Barrier) (n : ℕ) → IsLiveFront g.records g.barriers
     → 0 < length g.barriers → b ≡ get_or g.barriers 0 b → b.number < n → HasBarrierBefore g n
-before-held g b n live lt e low =
+before_held g b n live lt e low =
     let head = head_is g.barriers b lt e in
     record { key = b.key; number = b.number; drains = live b head.0 head.1; before = low }
 
-pub before-free : (records : List (Option Group)) (barriers : List Barrier) (last : Option ℕ) (b : Barrier) (n : ℕ)
+pub before_free : (records : List (Option Group)) (barriers : List Barrier) (last : Option ℕ) (b : Barrier) (n : ℕ)
     → AreGroups records barriers last → 0 < length barriers → b ≡ get_or barriers 0 b → n ≤ b.number
     → (key number : ℕ) → drain_of (get_or records key None) ≡ Some number → n ≤ number
-before-free records barriers last b n a lt e low key number drains =
+before_free records barriers last b n a lt e low key number drains =
     let head = head_is barriers b lt e in
     let P : List Barrier → Type 0 = λ x. IsSorted x × (list_any (covers key number) x ≡ true) in
     let both = subst P head.1 (a.sorted, a.covered key number drains) in
-    let least = front-least b head.0 key number both.0 both.1 in
+    let least = front_least b head.0 key number both.0 both.1 in
     omega arith
 
-pub none-free : (records : List (Option Group)) (barriers : List Barrier) (last : Option ℕ) (n : ℕ)
+pub none_free : (records : List (Option Group)) (barriers : List Barrier) (last : Option ℕ) (n : ℕ)
     → AreGroups records barriers last → length barriers ≡ 0 → (key number : ℕ)
     → drain_of (get_or records key None) ≡ Some number → n ≤ number
-none-free records barriers last n a none key number drains =
+none_free records barriers last n a none key number drains =
     absurd (empty barriers none (a.covered key number drains))
   where
     empty : (xs : List Barrier) → length xs ≡ 0 → list_any (covers key number) xs ≡ true → ⊥
@@ -199,32 +199,32 @@ none-free records barriers last n a none key number drains =
     empty (x ∷ xs) e any = omega arith
 
 -- the first barrier's group drains from the least number on
-pub first-draining : (g : Groups) (b : Barrier) (o : Option Group)
+pub first_draining : (g : Groups) (b : Barrier) (o : Option Group)
     → AreGroups g.records g.barriers g.last → IsLiveFront g.records g.barriers
     → 0 < length g.barriers → b ≡ get_or g.barriers 0 b → o ≡ group_at g b.key
     → MatchOption o ((key number : ℕ) → drain_of (group_at g key) ≡ Some number → ⊥) (IsFirstDraining g)
-first-draining g b None a live lt e is =
+first_draining g b None a live lt e is =
     let head = head_is g.barriers b lt e in
     let drains : None ≡ Some b.number = ap drain_of is ∙ live b head.0 head.1 in
     absurd cc
-first-draining g b (Some p) a live lt e is =
+first_draining g b (Some p) a live lt e is =
     let head = head_is g.barriers b lt e in
     record {
       key = b.key;
       number = b.number;
       here = sym is;
       drains = ap drain_of is ∙ live b head.0 head.1;
-      first = before-free g.records g.barriers g.last b b.number a lt e (omega arith);
+      first = before_free g.records g.barriers g.last b b.number a lt e (omega arith);
     }
 
-pub sorted-pop : (b : Barrier) (rest : List Barrier) → IsSorted (b ∷ rest) → IsSorted rest
-sorted-pop b rest s = s.1
+pub sorted_pop : (b : Barrier) (rest : List Barrier) → IsSorted (b ∷ rest) → IsSorted rest
+sorted_pop b rest s = s.1
 
 pub head_at : (barriers : List Barrier) (b : Barrier) (rest : List Barrier) (x : Barrier)
     → barriers ≡ b ∷ rest → x ≡ get_or barriers 0 x → x ≡ b
 head_at barriers b rest x e is = is ∙ ap (λ xs. get_or xs 0 x) e
 
-pub last-kept : (records : List (Option Group)) (barriers : List Barrier) (last : Option ℕ)
+pub last_kept : (records : List (Option Group)) (barriers : List Barrier) (last : Option ℕ)
     → AreGroups records barriers last → is_some (last_group records last) ≡ is_some last
-last-kept records barriers None a = refl
-last-kept records barriers (Some key) a = a.opened key refl
+last_kept records barriers None a = refl
+last_kept records barriers (Some key) a = a.opened key refl

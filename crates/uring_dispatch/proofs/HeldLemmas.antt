@@ -6,7 +6,7 @@ use Rattle.std.proofs.lemmas.Option.{same_Some}
 use Rattle.uring_entry.specs.Requests.{Requests, entry_of, has_started, has_ended, is_outstanding, is_running, is_cancelled, is_draining, is_doomed, is_ready, is_issuable, is_candidate}
 use Rattle.uring_entry.specs.Layout.{user_data_of, addr_of}
 use Rattle.uring_entry.specs.Groups.{is_before, first_broken}
-use Rattle.uring_entry.proofs.GroupLemmas.{draining-is, doomed-is, ready-yes, ready-not_member, ready-not_alone, ready-not_behind, groups-apart, first_member-inside}
+use Rattle.uring_entry.proofs.GroupLemmas.{draining_is, doomed_is, ready_yes, ready_not_member, ready_not_alone, ready_not_behind, groups_apart, first_member_inside}
 use Rattle.uring_entry.proofs.BelowLemmas.{is_some_value}
 use Rattle.uring_dispatch.specs.declared.request.Request.{Request}
 use Rattle.uring_dispatch.specs.declared.group.Group.{Group}
@@ -41,9 +41,9 @@ pub member : (o : Option Group) (p : Group) (n : ℕ) → o ≡ Some p → p.fro
 member o p n e from to = ap (λ x. has_member x n) e ∙ and_from _ _ (le-leb p.from n from) (lt-ltb n p.end to)
 
 -- a number with a request is outstanding
-pub shown-within : (w : Window) (g : Groups) (r : Requests) (n : ℕ) (q : Request) → IsSound w g
+pub shown_within : (w : Window) (g : Groups) (r : Requests) (n : ℕ) (q : Request) → IsSound w g
     → AreHeld w g r → at w n ≡ Some q → n < length r.accepted
-shown-within w g r n q s h e =
+shown_within w g r n q s h e =
     let group = linked _ _ n q s e in
     let kept = s.kept q.group group.group group.found in
     let a = kept.end in
@@ -51,17 +51,17 @@ shown-within w g r n q s h e =
     omega (arith, h.count)
 
 -- a number that is given and hasn't ended has a request
-pub open-request : (w : Window) (g : Groups) (r : Requests) (n : ℕ) → AreHeld w g r
+pub open_request : (w : Window) (g : Groups) (r : Requests) (n : ℕ) → AreHeld w g r
     → n < length r.accepted → has_ended r n ≡ false → (q : Request) × (at w n ≡ Some q)
-open-request w g r n h lt going = go (at w n) refl
+open_request w g r n h lt going = go (at w n) refl
   where
     go : (o : Option Request) → at w n ≡ o → (q : Request) × (at w n ≡ Some q)
     go None e = absurd (both_ways _ going (h.ended n e lt))
     go (Some q) e = (q, e)
 
-pub open-here : (w : Window) (g : Groups) (r : Requests) (n : ℕ) → AreHeld w g r
+pub open_here : (w : Window) (g : Groups) (r : Requests) (n : ℕ) → AreHeld w g r
     → is_some (at w n) ≡ true → has_ended r n ≡ false
-open-here w g r n h here = let q = is_some_value (at w n) here in (h.shown n q.0 q.1).unended
+open_here w g r n h here = let q = is_some_value (at w n) here in (h.shown n q.0 q.1).unended
 
 -- the facts of a request's group
 pub record InGroup (r : Requests) (n : ℕ) (q : Group) : Type 0 where
@@ -69,10 +69,10 @@ pub record InGroup (r : Requests) (n : ℕ) (q : Group) : Type 0 where
   pub to : n < q.end
   pub shown : IsShownGroup r q
 
-pub in-group : (w : Window) (g : Groups) (r : Requests) (n : ℕ) (request : Request) (q : Group)
+pub in_group : (w : Window) (g : Groups) (r : Requests) (n : ℕ) (request : Request) (q : Group)
     → IsSound w g → AreHeld w g r → at w n ≡ Some request → group_at g request.group ≡ Some q
     → InGroup r n q
-in-group w g r n request q s h e is =
+in_group w g r n request q s h e is =
     let group = linked _ _ n request s e in
     let same : group.group ≡ q = same_Some _ _ (sym group.found ∙ is) in
     record {
@@ -81,34 +81,34 @@ in-group w g r n request q s h e is =
       shown = h.groups request.group q is;
     }
 
-pub doomed-held : (w : Window) (g : Groups) (r : Requests) (n : ℕ) (request : Request) (q : Group)
+pub doomed_held : (w : Window) (g : Groups) (r : Requests) (n : ℕ) (request : Request) (q : Group)
     → IsSound w g → AreHeld w g r → at w n ≡ Some request → group_at g request.group ≡ Some q
     → is_doomed r n ≡ ((is_some q.fault || is_before q.broken n) || request.is_cancelled)
-doomed-held w g r n request q s h e is =
-    let i = in-group w g r n request q s h e is in
-    doomed-is r q.from q.end n i.shown.group i.from i.to
+doomed_held w g r n request q s h e is =
+    let i = in_group w g r n request q s h e is in
+    doomed_is r q.from q.end n i.shown.group i.from i.to
     ∙ ap (λ b. (is_some b || is_before (first_broken r q.from q.end) n) || is_cancelled r n) (sym i.shown.fault)
     ∙ ap (λ b. (is_some q.fault || is_before b n) || is_cancelled r n) (sym i.shown.broken)
     ∙ ap (λ b. (is_some q.fault || is_before q.broken n) || b) (sym (h.shown n request e).cancelled)
 
-pub draining-held : (w : Window) (g : Groups) (r : Requests) (n : ℕ) (request : Request) (q : Group)
+pub draining_held : (w : Window) (g : Groups) (r : Requests) (n : ℕ) (request : Request) (q : Group)
     → IsSound w g → AreHeld w g r → at w n ≡ Some request → group_at g request.group ≡ Some q
     → is_draining r n ≡ is_some q.drain
-draining-held w g r n request q s h e is =
-    let i = in-group w g r n request q s h e is in
-    draining-is r q.from q.end n i.shown.group i.from i.to ∙ ap is_some (sym i.shown.drain)
+draining_held w g r n request q s h e is =
+    let i = in_group w g r n request q s h e is in
+    draining_is r q.from q.end n i.shown.group i.from i.to ∙ ap is_some (sym i.shown.drain)
 
 -- a kept group's least member is outstanding, and drains if the group does
-pub least-open : (w : Window) (g : Groups) (r : Requests) (key : ℕ) (q : Group) → IsSound w g
+pub least_open : (w : Window) (g : Groups) (r : Requests) (key : ℕ) (q : Group) → IsSound w g
     → AreHeld w g r → group_at g key ≡ Some q → has_ended r q.least ≡ false
-least-open w g r key q s h is = open-here w g r q.least h (s.kept key q is).here
+least_open w g r key q s h is = open_here w g r q.least h (s.kept key q is).here
 
 -- What isn't the least of its group waits for that one.
-pub not-least : (w : Window) (g : Groups) (r : Requests) (n : ℕ) (request : Request) (q : Group)
+pub not_least : (w : Window) (g : Groups) (r : Requests) (n : ℕ) (request : Request) (q : Group)
     → IsSound w g → AreHeld w g r → at w n ≡ Some request → group_at g request.group ≡ Some q
     → q.least ≢ n → is_ready r n ≡ false
-not-least w g r n request q s h e is ne =
-    let i = in-group w g r n request q s h e is in
+not_least w g r n request q s h e is ne =
+    let i = in_group w g r n request q s h e is in
     let kept = s.kept request.group q is in
     let low : q.least < n =
     elim (cases_lt q.least n) [
@@ -120,72 +120,72 @@ not-least w g r n request q s h e is ne =
           ]
     ]
     in
-    ready-not_member r q.from q.end n q.least i.shown.group i.to kept.from low (least-open w g r request.group q s h is)
+    ready_not_member r q.from q.end n q.least i.shown.group i.to kept.from low (least_open w g r request.group q s h is)
 
 -- A request waits if a kept group, this one, drains from a number before its group on.
-behind-group : (w : Window) (g : Groups) (r : Requests) (n : ℕ) (request : Request) (q : Group) (key number : ℕ) (p : Group)
+behind_group : (w : Window) (g : Groups) (r : Requests) (n : ℕ) (request : Request) (q : Group) (key number : ℕ) (p : Group)
     → IsSound w g → AreHeld w g r → at w n ≡ Some request → group_at g request.group ≡ Some q
     → group_at g key ≡ Some p → p.drain ≡ Some number → number < q.from → is_ready r n ≡ false
-behind-group w g r n request q key number p s h e is found drains before =
-    let i = in-group w g r n request q s h e is in
+behind_group w g r n request q key number p s h e is found drains before =
+    let i = in_group w g r n request q s h e is in
     let kept = s.kept key p found in
     let shown = h.groups key p found in
-    let member = first_member-inside _ p.from p.end number (sym shown.drain ∙ drains) in
+    let member = first_member_inside _ p.from p.end number (sym shown.drain ∙ drains) in
     let low : p.least < q.from =
     elim (cases_lt p.least q.from) [
       | inl lt ↦ lt
-      | inr le ↦ absurd (groups-apart r p.from p.end q.from q.end number shown.group i.shown.group member.0 member.1 before (omega (arith, kept.to)))
+      | inr le ↦ absurd (groups_apart r p.from p.end q.from q.end number shown.group i.shown.group member.0 member.1 before (omega (arith, kept.to)))
     ]
     in
     let from = i.from in
-    ready-not_behind r n p.least (omega arith) (least-open w g r key p s h found)
-    (draining-is r p.from p.end p.least shown.group kept.from kept.to ∙ ap is_some (sym shown.drain ∙ drains))
+    ready_not_behind r n p.least (omega arith) (least_open w g r key p s h found)
+    (draining_is r p.from p.end p.least shown.group kept.from kept.to ∙ ap is_some (sym shown.drain ∙ drains))
 
 -- A group that drains from a number before this group on has an outstanding member before it.
-pub behind-barrier : (w : Window) (g : Groups) (r : Requests) (n : ℕ) (request : Request) (q : Group)
+pub behind_barrier : (w : Window) (g : Groups) (r : Requests) (n : ℕ) (request : Request) (q : Group)
     → IsSound w g → AreHeld w g r → at w n ≡ Some request → group_at g request.group ≡ Some q
     → HasBarrierBefore g q.from → is_ready r n ≡ false
-behind-barrier w g r n request q s h e is b =
+behind_barrier w g r n request q s h e is b =
     let other = drain-group (group_at g b.key) b.number b.drains in
-    behind-group w g r n request q b.key b.number other.0 s h e is other.1 other.2 b.before
+    behind_group w g r n request q b.key b.number other.0 s h e is other.1 other.2 b.before
   where
     drain-group : (o : Option Group) (d : ℕ) → drain_of o ≡ Some d → (p : Group) × (o ≡ Some p) × (p.drain ≡ Some d)
     drain-group None d e = let f : None ≡ Some d = e in cc
     drain-group (Some p) d e = (p, refl, e)
 
 -- A group that drains waits for all that is earlier.
-pub not-alone : (w : Window) (g : Groups) (r : Requests) (n : ℕ) (request : Request) (q : Group)
+pub not_alone : (w : Window) (g : Groups) (r : Requests) (n : ℕ) (request : Request) (q : Group)
     → IsSound w g → AreHeld w g r → at w n ≡ Some request → group_at g request.group ≡ Some q
     → is_some q.drain ≡ true → HasBefore w q.from → is_ready r n ≡ false
-not-alone w g r n request q s h e is drains b =
-    let i = in-group w g r n request q s h e is in
+not_alone w g r n request q s h e is drains b =
+    let i = in_group w g r n request q s h e is in
     let from = i.from in
     let before = b.before in
-    ready-not_alone r n b.number (omega arith) (open-here w g r b.number h b.here) (draining-held w g r n request q s h e is ∙ drains)
+    ready_not_alone r n b.number (omega arith) (open_here w g r b.number h b.here) (draining_held w g r n request q s h e is ∙ drains)
 
 -- What waits for nobody is ready.
-pub ready-held : (w : Window) (g : Groups) (r : Requests) (n : ℕ) (request : Request) (q : Group)
+pub ready_held : (w : Window) (g : Groups) (r : Requests) (n : ℕ) (request : Request) (q : Group)
     → IsSound w g → AreHeld w g r → at w n ≡ Some request → group_at g request.group ≡ Some q
     → q.least ≡ n → ((key number : ℕ) → drain_of (group_at g key) ≡ Some number → q.from ≤ number)
     → (is_some q.drain ≡ true → (m : ℕ) → m < q.from → at w m ≡ None) → is_ready r n ≡ true
-ready-held w g r n request q s h e is least free alone =
-    let i = in-group w g r n request q s h e is in
-    let within = shown-within w g r n request s h e in
+ready_held w g r n request q s h e is least free alone =
+    let i = in_group w g r n request q s h e is in
+    let within = shown_within w g r n request s h e in
     let from = i.from in
     let kept = s.kept request.group q is in
-    ready-yes r q.from q.end n i.shown.group i.from i.to
+    ready_yes r q.from q.end n i.shown.group i.from i.to
     (λ m high low. h.ended m (vacant w m (kept.over m high (omega arith))) (omega arith))
     (λ m low going.
-    let other = open-request w g r m h (omega arith) going in
+    let other = open_request w g r m h (omega arith) going in
     let link = linked _ _ m other.0 s other.1 in
     let shown = h.groups other.0.group link.group link.found in
-    draining-held w g r m other.0 link.group s h other.1 link.found
+    draining_held w g r m other.0 link.group s h other.1 link.found
     ∙ none-drains link.group.drain
     (λ d drains.
-    let member = first_member-inside _ link.group.from link.group.end d (sym shown.drain ∙ drains) in
+    let member = first_member_inside _ link.group.from link.group.end d (sym shown.drain ∙ drains) in
     let high = free other.0.group d (ap drain_of link.found ∙ drains) in
-    groups-apart r link.group.from link.group.end q.from q.end m shown.group i.shown.group link.from link.to low (omega (arith, member.1))))
-    (λ drains m low. h.ended m (alone (sym (draining-held w g r n request q s h e is) ∙ drains) m low) (omega arith))
+    groups_apart r link.group.from link.group.end q.from q.end m shown.group i.shown.group link.from link.to low (omega (arith, member.1))))
+    (λ drains m low. h.ended m (alone (sym (draining_held w g r n request q s h e is) ∙ drains) m low) (omega arith))
   where
     none-drains : (o : Option ℕ) → ((d : ℕ) → o ≡ Some d → ⊥) → is_some o ≡ false
     none-drains None k = refl
@@ -193,66 +193,66 @@ ready-held w g r n request q s h e is least free alone =
 
 -- A number's standing.
 
-pub outstanding-none : (w : Window) (g : Groups) (r : Requests) (n : ℕ) → AreHeld w g r
+pub outstanding_none : (w : Window) (g : Groups) (r : Requests) (n : ℕ) → AreHeld w g r
     → at w n ≡ None → is_outstanding r n ≡ false
-outstanding-none w g r n h e =
+outstanding_none w g r n h e =
     elim (cases_lt n (length r.accepted)) [
       | inl lt ↦ and_right _ _ (ap not (h.ended n e lt))
       | inr le ↦ and_left _ _ (le-ltb n (length r.accepted) le)
     ]
 
-pub outstanding-some : (w : Window) (g : Groups) (r : Requests) (n : ℕ) (q : Request) → IsSound w g
+pub outstanding_some : (w : Window) (g : Groups) (r : Requests) (n : ℕ) (q : Request) → IsSound w g
     → AreHeld w g r → at w n ≡ Some q → is_outstanding r n ≡ true
-outstanding-some w g r n q s h e =
-    and_from _ _ (lt-ltb n (length r.accepted) (shown-within w g r n q s h e)) (ap not (h.shown n q e).unended)
+outstanding_some w g r n q s h e =
+    and_from _ _ (lt-ltb n (length r.accepted) (shown_within w g r n q s h e)) (ap not (h.shown n q e).unended)
 
-pub running-some : (w : Window) (g : Groups) (r : Requests) (n : ℕ) (q : Request) → AreHeld w g r
+pub running_some : (w : Window) (g : Groups) (r : Requests) (n : ℕ) (q : Request) → AreHeld w g r
     → at w n ≡ Some q → is_running r n ≡ q.is_running
-running-some w g r n q h e =
+running_some w g r n q h e =
     let shown = h.shown n q e in
     ap (λ b. has_started r n && not b) shown.unended ∙ and-true (has_started r n) ∙ sym shown.running
 
-pub running-none : (w : Window) (g : Groups) (r : Requests) (n : ℕ) → AreHeld w g r → at w n ≡ None
+pub running_none : (w : Window) (g : Groups) (r : Requests) (n : ℕ) → AreHeld w g r → at w n ≡ None
     → is_running r n ≡ false
-running-none w g r n h e =
+running_none w g r n h e =
     elim (cases_lt n (length r.accepted)) [
       | inl lt ↦ and_right _ _ (ap not (h.ended n e lt))
       | inr le ↦ and_left _ _ (h.untouched n le).started
     ]
 
-pub issuable-some : (w : Window) (g : Groups) (r : Requests) (n : ℕ) (q : Request) → IsSound w g
+pub issuable_some : (w : Window) (g : Groups) (r : Requests) (n : ℕ) (q : Request) → IsSound w g
     → AreHeld w g r → at w n ≡ Some q
     → is_issuable r n ≡ (not q.is_running && (is_doomed r n || is_ready r n))
-issuable-some w g r n q s h e =
-    ap (λ b. (b && not (is_running r n)) && (is_doomed r n || is_ready r n)) (outstanding-some w g r n q s h e)
-    ∙ ap (λ b. not b && (is_doomed r n || is_ready r n)) (running-some w g r n q h e)
+issuable_some w g r n q s h e =
+    ap (λ b. (b && not (is_running r n)) && (is_doomed r n || is_ready r n)) (outstanding_some w g r n q s h e)
+    ∙ ap (λ b. not b && (is_doomed r n || is_ready r n)) (running_some w g r n q h e)
 
-pub doomed-rest : (a b c : Bool) → a ≡ false → c ≡ false → ((a || b) || c) ≡ b
-doomed-rest a b c x y = ap (λ v. (v || b) || c) x ∙ ap (λ v. b || v) y ∙ or-false b
+pub doomed_rest : (a b c : Bool) → a ≡ false → c ≡ false → ((a || b) || c) ≡ b
+doomed_rest a b c x y = ap (λ v. (v || b) || c) x ∙ ap (λ v. b || v) y ∙ or-false b
 
 -- What a cancel may choose.
 
-pub candidate-none : (w : Window) (g : Groups) (r : Requests) (n m : ℕ) → AreHeld w g r
+pub candidate_none : (w : Window) (g : Groups) (r : Requests) (n m : ℕ) → AreHeld w g r
     → at w m ≡ None → is_candidate r n m ≡ false
-candidate-none w g r n m h e =
-    and_left _ _ (and_left _ _ (and_left _ _ (outstanding-none w g r m h e)))
+candidate_none w g r n m h e =
+    and_left _ _ (and_left _ _ (and_left _ _ (outstanding_none w g r m h e)))
 
-pub candidate-self : (r : Requests) (n m : ℕ) → m ≡ n → is_candidate r n m ≡ false
-candidate-self r n m e = and_left _ _ (and_left _ _ (and_right _ _ (ap not (eq-eqb m n e))))
+pub candidate_self : (r : Requests) (n m : ℕ) → m ≡ n → is_candidate r n m ≡ false
+candidate_self r n m e = and_left _ _ (and_left _ _ (and_right _ _ (ap not (eq-eqb m n e))))
 
-pub candidate-other_data : (w : Window) (g : Groups) (r : Requests) (n m : ℕ) (q : Request) (named_data : ℕ)
+pub candidate_other_data : (w : Window) (g : Groups) (r : Requests) (n m : ℕ) (q : Request) (named_data : ℕ)
     → AreHeld w g r → at w m ≡ Some q → named_data ≡ addr_of (entry_of r n)
     → user_data_of q.entry ≢ named_data → is_candidate r n m ≡ false
-candidate-other_data w g r n m q named_data h e named ne =
+candidate_other_data w g r n m q named_data h e named ne =
     and_left _ _
     (and_right _ _
     (ne_eqb (user_data_of (entry_of r m)) (addr_of (entry_of r n)) (λ same. ne (ap user_data_of (h.shown m q e).entry ∙ same ∙ sym named))))
 
-pub candidate-else : (w : Window) (g : Groups) (r : Requests) (n m : ℕ) (q : Request) (named_data : ℕ)
+pub candidate_else : (w : Window) (g : Groups) (r : Requests) (n m : ℕ) (q : Request) (named_data : ℕ)
     → IsSound w g → AreHeld w g r → at w m ≡ Some q → named_data ≡ addr_of (entry_of r n) → m ≢ n
     → user_data_of q.entry ≡ named_data → is_candidate r n m ≡ not (is_doomed r m)
-candidate-else w g r n m q named_data s h e named other same =
-    let first = outstanding-some w g r m q s h e in
+candidate_else w g r n m q named_data s h e named other same =
+    let first = outstanding_some w g r m q s h e in
     let second = ap not (ne_eqb m n other) in
     let third = eq-eqb (user_data_of (entry_of r m)) (addr_of (entry_of r n)) (ap user_data_of (sym (h.shown m q e).entry) ∙ same ∙ named) in
     ap (λ b. b && not (is_doomed r m)) (and_from _ _ (and_from _ _ first second) third)

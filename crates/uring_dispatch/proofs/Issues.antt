@@ -8,7 +8,7 @@ use Rattle.uring_entry.specs.declared.operation.Op.TheVariants.{Cancel}
 use Rattle.uring_entry.specs.Preparation.{is_faulty, is_cancel, is_cancel_all, operation_of}
 use Rattle.uring_entry.specs.Requests.{Requests, entry_of, is_outstanding, is_running, is_doomed, is_ready, doomed_result, cancel_result}
 use Rattle.uring_entry.proofs.Preparations.{asks_cancel}
-use Rattle.uring_entry.proofs.RequestLemmas.{is_doomed-own_fault}
+use Rattle.uring_entry.proofs.RequestLemmas.{is_doomed_own_fault}
 use Rattle.uring_dispatch.specs.declared.answers.Issued.TheVariants.{Run, Ended, NotReady, Running, Unknown}
 use Rattle.uring_dispatch.specs.declared.answers.Finished.TheVariants as finish
 use Rattle.uring_dispatch.specs.declared.answers.Posts.{Posts}
@@ -16,24 +16,24 @@ use Rattle.uring_dispatch.specs.IssueAndFinish.{issued, issued_waiting, finished
 use Rattle.uring_dispatch.specs.Held.{op_of}
 
 -- what a kept operation says of its entry
-pub op-none : (e : Sqe) → None ≡ op_of e → is_faulty e ≡ true
-op-none e is = go (is_faulty e) is
+pub op_none : (e : Sqe) → None ≡ op_of e → is_faulty e ≡ true
+op_none e is = go (is_faulty e) is
   where
     go : (b : Bool) → None ≡ (if b then None else Some (operation_of e)) → b ≡ true
     go true x = refl
     go false x = cc
 
-pub op-some : (e : Sqe) (op : Op) → Some op ≡ op_of e
+pub op_some : (e : Sqe) (op : Op) → Some op ≡ op_of e
     → (is_faulty e ≡ false) × (op ≡ operation_of e)
-op-some e op is = go (is_faulty e) is
+op_some e op is = go (is_faulty e) is
   where
     go : (b : Bool) → Some op ≡ (if b then None else Some (operation_of e)) → (b ≡ false) × (op ≡ operation_of e)
     go true x = cc
     go false x = (refl, cc)
 
-doomed-answer : (r : Requests) (n : ℕ) → is_doomed r n ≡ true
+doomed_answer : (r : Requests) (n : ℕ) → is_doomed r n ≡ true
     → issued_waiting r n ≡ Ended (doomed_result r n)
-doomed-answer r n doomed =
+doomed_answer r n doomed =
     ap
     (λ b.
     if b then Ended (doomed_result r n) else
@@ -41,21 +41,21 @@ doomed-answer r n doomed =
     if is_cancel (entry_of r n) then Ended (cancel_result r n) else Run (operation_of (entry_of r n)))
     doomed
 
-pub issued-faulty : (r : Requests) (n : ℕ) → n < length r.accepted → is_faulty (entry_of r n) ≡ true
+pub issued_faulty : (r : Requests) (n : ℕ) → n < length r.accepted → is_faulty (entry_of r n) ≡ true
     → Ended (negsuc 21) ≡ issued_waiting r n
-issued-faulty r n lt faulty =
-    sym (doomed-answer r n (is_doomed-own_fault r n lt faulty) ∙ ap (λ b. Ended (if b then negsuc 21 else negsuc 124)) faulty)
+issued_faulty r n lt faulty =
+    sym (doomed_answer r n (is_doomed_own_fault r n lt faulty) ∙ ap (λ b. Ended (if b then negsuc 21 else negsuc 124)) faulty)
 
-pub issued-doomed : (r : Requests) (n : ℕ) → is_doomed r n ≡ true → is_faulty (entry_of r n) ≡ false
+pub issued_doomed : (r : Requests) (n : ℕ) → is_doomed r n ≡ true → is_faulty (entry_of r n) ≡ false
     → Ended (negsuc 124) ≡ issued_waiting r n
-issued-doomed r n doomed right =
-    sym (doomed-answer r n doomed ∙ ap (λ b. Ended (if b then negsuc 21 else negsuc 124)) right)
+issued_doomed r n doomed right =
+    sym (doomed_answer r n doomed ∙ ap (λ b. Ended (if b then negsuc 21 else negsuc 124)) right)
 
 -- what is neither doomed nor held back
-issued-ready : (r : Requests) (n : ℕ) → is_doomed r n ≡ false → is_ready r n ≡ true
+issued_ready : (r : Requests) (n : ℕ) → is_doomed r n ≡ false → is_ready r n ≡ true
     → issued_waiting r n
     ≡ (if is_cancel (entry_of r n) then Ended (cancel_result r n) else Run (operation_of (entry_of r n)))
-issued-ready r n free ready =
+issued_ready r n free ready =
     ap
     (λ b.
     if b then Ended (doomed_result r n) else
@@ -66,9 +66,9 @@ issued-ready r n free ready =
     (λ b. if not b then NotReady else if is_cancel (entry_of r n) then Ended (cancel_result r n) else Run (operation_of (entry_of r n)))
     ready
 
-pub issued-not_ready : (r : Requests) (n : ℕ) → is_doomed r n ≡ false → is_ready r n ≡ false
+pub issued_not_ready : (r : Requests) (n : ℕ) → is_doomed r n ≡ false → is_ready r n ≡ false
     → NotReady ≡ issued_waiting r n
-issued-not_ready r n free waits =
+issued_not_ready r n free waits =
     sym
     (ap
     (λ b.
@@ -80,67 +80,67 @@ issued-not_ready r n free waits =
     (λ b. if not b then NotReady else if is_cancel (entry_of r n) then Ended (cancel_result r n) else Run (operation_of (entry_of r n)))
     waits)
 
-pub issued-cancel : (r : Requests) (n : ℕ) (res : ℤ) → is_doomed r n ≡ false → is_ready r n ≡ true
+pub issued_cancel : (r : Requests) (n : ℕ) (res : ℤ) → is_doomed r n ≡ false → is_ready r n ≡ true
     → is_cancel (entry_of r n) ≡ true → res ≡ cancel_result r n → Ended res ≡ issued_waiting r n
-issued-cancel r n res free ready cancel is =
+issued_cancel r n res free ready cancel is =
     ap Ended is
-    ∙ sym (issued-ready r n free ready ∙ ap (λ b. if b then Ended (cancel_result r n) else Run (operation_of (entry_of r n))) cancel)
+    ∙ sym (issued_ready r n free ready ∙ ap (λ b. if b then Ended (cancel_result r n) else Run (operation_of (entry_of r n))) cancel)
 
-pub issued-run : (r : Requests) (n : ℕ) (op : Op) → is_doomed r n ≡ false → is_ready r n ≡ true
+pub issued_run : (r : Requests) (n : ℕ) (op : Op) → is_doomed r n ≡ false → is_ready r n ≡ true
     → op ≡ operation_of (entry_of r n) → ((t : ℕ) (all : Bool) → op ≡ Cancel t all → ⊥)
     → Run op ≡ issued_waiting r n
-issued-run r n op free ready does other =
+issued_run r n op free ready does other =
     elim (cases_Bool (is_cancel (entry_of r n))) [
       | inl cancel ↦ absurd (other (addr_of (entry_of r n)) (is_cancel_all (entry_of r n)) (does ∙ asks_cancel (entry_of r n) cancel))
       | inr other_code ↦
           ap Run does
           ∙ sym
-          (issued-ready r n free ready
+          (issued_ready r n free ready
           ∙ ap (λ b. if b then Ended (cancel_result r n) else Run (operation_of (entry_of r n))) other_code)
     ]
 
 -- The order of the tests.
 
-pub issued-gone : (r : Requests) (n : ℕ) → is_outstanding r n ≡ false → Unknown ≡ issued r n
-issued-gone r n a =
+pub issued_gone : (r : Requests) (n : ℕ) → is_outstanding r n ≡ false → Unknown ≡ issued r n
+issued_gone r n a =
     sym (ap (λ x. if not x then Unknown else if is_running r n then Running else issued_waiting r n) a)
 
-pub issued-runs : (r : Requests) (n : ℕ) → is_outstanding r n ≡ true → is_running r n ≡ true
+pub issued_runs : (r : Requests) (n : ℕ) → is_outstanding r n ≡ true → is_running r n ≡ true
     → Running ≡ issued r n
-issued-runs r n a b =
+issued_runs r n a b =
     sym
     (ap (λ x. if not x then Unknown else if is_running r n then Running else issued_waiting r n) a
     ∙ ap (λ x. if x then Running else issued_waiting r n) b)
 
-pub issued-else : (r : Requests) (n : ℕ) → is_outstanding r n ≡ true → is_running r n ≡ false
+pub issued_else : (r : Requests) (n : ℕ) → is_outstanding r n ≡ true → is_running r n ≡ false
     → issued_waiting r n ≡ issued r n
-issued-else r n a b =
+issued_else r n a b =
     sym
     (ap (λ x. if not x then Unknown else if is_running r n then Running else issued_waiting r n) a
     ∙ ap (λ x. if x then Running else issued_waiting r n) b)
 
 -- What an end posts.
 
-pub posted-none : (r : Requests) (n : ℕ) (res : ℤ) → is_running r n ≡ false
+pub posted_none : (r : Requests) (n : ℕ) (res : ℤ) → is_running r n ≡ false
     → None ≡ posted_by r n res
-posted-none r n res e = sym (ap (λ b. if b then Some (posts_of (entry_of r n) res) else None) e)
+posted_none r n res e = sym (ap (λ b. if b then Some (posts_of (entry_of r n) res) else None) e)
 
-pub posted-some : (r : Requests) (n : ℕ) (res : ℤ) → is_running r n ≡ true
+pub posted_some : (r : Requests) (n : ℕ) (res : ℤ) → is_running r n ≡ true
     → Some (posts_of (entry_of r n) res) ≡ posted_by r n res
-posted-some r n res e = sym (ap (λ b. if b then Some (posts_of (entry_of r n) res) else None) e)
+posted_some r n res e = sym (ap (λ b. if b then Some (posts_of (entry_of r n) res) else None) e)
 
 -- a finish is answered by whether the request was running
-pub finished-none : (r : Requests) (n : ℕ) (res : ℤ) → None ≡ posted_by r n res
+pub finished_none : (r : Requests) (n : ℕ) (res : ℤ) → None ≡ posted_by r n res
     → finish.NotRunning ≡ finished r n
-finished-none r n res e = go (is_running r n) e
+finished_none r n res e = go (is_running r n) e
   where
     go : (b : Bool) → None ≡ (if b then Some (posts_of (entry_of r n) res) else None) → finish.NotRunning ≡ (if b then finish.Ended else finish.NotRunning)
     go true x = cc
     go false x = refl
 
-pub finished-some : (r : Requests) (n : ℕ) (res : ℤ) (posted : Posts)
+pub finished_some : (r : Requests) (n : ℕ) (res : ℤ) (posted : Posts)
     → Some posted ≡ posted_by r n res → finish.Ended ≡ finished r n
-finished-some r n res posted e = go (is_running r n) e
+finished_some r n res posted e = go (is_running r n) e
   where
     go : (b : Bool) → Some posted ≡ (if b then Some (posts_of (entry_of r n) res) else None) → finish.Ended ≡ (if b then finish.Ended else finish.NotRunning)
     go true x = refl

@@ -4,7 +4,7 @@ use Rattle.std.specs.Prelude.{if◌then◌else◌, MatchOption, IsOk, OnOk}
 use Rattle.std.proofs.lemmas.Bool.{false≢true}
 use Rattle.uring_entry.specs.Preparation.{operation_of}
 use Rattle.uring_entry.specs.Requests.{Requests, no_request, entry_of, is_outstanding, is_running, least_of, operation_running, entry_outstanding}
-use Rattle.uring_entry.proofs.BelowLemmas.{least_below-none, least_below-some, is_some_value}
+use Rattle.uring_entry.proofs.BelowLemmas.{least_below_none, least_below_some, is_some_value}
 use Rattle.uring_dispatch.specs.declared.request.Request.{Request}
 use Rattle.uring_dispatch.specs.Window.{Window, at, end_of, IsFirst}
 use Rattle.uring_dispatch.specs.Groups.{Groups, group_at, IsBeyond}
@@ -20,68 +20,68 @@ use Rattle.uring_dispatch.specs.declared.outstanding.Outstanding.{Outstanding}
 use Rattle.uring_dispatch.specs.declared.answers.Issued.{Issued}
 use Rattle.uring_dispatch.specs.declared.answers.Issued.TheVariants.{Run, Ended, NotReady, Running, Unknown}
 use Rattle.uring_dispatch.specs.declared.answers.Posts.{Posts}
-use Rattle.uring_dispatch.proofs.Alike.{held-alike, alike-room, alike-back}
-use Rattle.uring_dispatch.proofs.HeldLemmas.{some_none, shown-within, outstanding-none, outstanding-some, running-some}
+use Rattle.uring_dispatch.proofs.Alike.{held_alike, alike_room, alike_back}
+use Rattle.uring_dispatch.proofs.HeldLemmas.{some_none, shown_within, outstanding_none, outstanding_some, running_some}
 
-pub shows-held : (w : Window) (g : Groups) (r : Requests) (room : ℕ) (between : Bool)
+pub shows_held : (w : Window) (g : Groups) (r : Requests) (room : ℕ) (between : Bool)
     → AreHeld w g r → ShowsRequests (dispatch_of w g room between) r
 unfolding StandsFor
-shows-held w g r room between h = record {
+shows_held w g r room between h = record {
   accepted = sym h.count;
   outstanding = h.outstanding;
   running = h.running;
-  held = held-alike w (record w { room = 0 }) g (record g { room = 0 }) r (alike-room w g 0 0) h;
+  held = held_alike w (record w { room = 0 }) g (record g { room = 0 }) r (alike_room w g 0 0) h;
 }
 
-held-shows : (w : Window) (g : Groups) (r : Requests) (room : ℕ) (between : Bool)
+held_shows : (w : Window) (g : Groups) (r : Requests) (room : ℕ) (between : Bool)
     → ShowsRequests (dispatch_of w g room between) r → AreHeld w g r
 unfolding StandsFor
-held-shows w g r room between s =
-    held-alike (record w { room = 0 }) w (record g { room = 0 }) g r (alike-back w g 0 0) s.held
+held_shows w g r room between s =
+    held_alike (record w { room = 0 }) w (record g { room = 0 }) g r (alike_back w g 0 0) s.held
 
 -- what is held, where the value was opened
-pub held-from : (d : Dispatch) (w : Window) (g : Groups) (room : ℕ) (between : Bool) (r : Requests)
+pub held_from : (d : Dispatch) (w : Window) (g : Groups) (room : ℕ) (between : Bool) (r : Requests)
     → dispatch_of w g room between ≡ d → ShowsRequests d r → AreHeld w g r
-held-from d w g room between r e s =
-    held-shows w g r room between (let P : Dispatch → Type 0 = λ x. ShowsRequests x r in subst P (sym e) s)
+held_from d w g room between r e s =
+    held_shows w g r room between (let P : Dispatch → Type 0 = λ x. ShowsRequests x r in subst P (sym e) s)
 
 -- What the queries answer.
 
-pub least-held : (w : Window) (g : Groups) (r : Requests) (o : Option ℕ) → IsSound w g
+pub least_held : (w : Window) (g : Groups) (r : Requests) (o : Option ℕ) → IsSound w g
     → AreHeld w g r → MatchOption o ((n : ℕ) → at w n ≡ None) (IsFirst w) → o ≡ least_of r
-least-held w g r None s h m = sym (least_below-none (is_outstanding r) (length r.accepted) (λ k lt. outstanding-none w g r k h (m k)))
-least-held w g r (Some n) s h m =
+least_held w g r None s h m = sym (least_below_none (is_outstanding r) (length r.accepted) (λ k lt. outstanding_none w g r k h (m k)))
+least_held w g r (Some n) s h m =
     let q = is_some_value (at w n) m.here in
     sym
-    (least_below-some (is_outstanding r) (length r.accepted) n (shown-within w g r n q.0 s h q.1) (outstanding-some w g r n q.0 s h q.1)
-    (λ k lt. outstanding-none w g r k h (m.before k lt)))
+    (least_below_some (is_outstanding r) (length r.accepted) n (shown_within w g r n q.0 s h q.1) (outstanding_some w g r n q.0 s h q.1)
+    (λ k lt. outstanding_none w g r k h (m.before k lt)))
 
-pub entry-none : (w : Window) (g : Groups) (r : Requests) (n : ℕ) → AreHeld w g r → at w n ≡ None
+pub entry_none : (w : Window) (g : Groups) (r : Requests) (n : ℕ) → AreHeld w g r → at w n ≡ None
     → None ≡ entry_outstanding r n
-entry-none w g r n h e =
-    sym (ap (λ b. if b then Some (entry_of r n) else None) (outstanding-none w g r n h e))
+entry_none w g r n h e =
+    sym (ap (λ b. if b then Some (entry_of r n) else None) (outstanding_none w g r n h e))
 
-pub entry-some : (w : Window) (g : Groups) (r : Requests) (n : ℕ) (q : Request) → IsSound w g
+pub entry_some : (w : Window) (g : Groups) (r : Requests) (n : ℕ) (q : Request) → IsSound w g
     → AreHeld w g r → at w n ≡ Some q → Some q.entry ≡ entry_outstanding r n
-entry-some w g r n q s h e =
+entry_some w g r n q s h e =
     ap Some (h.shown n q e).entry
-    ∙ sym (ap (λ b. if b then Some (entry_of r n) else None) (outstanding-some w g r n q s h e))
+    ∙ sym (ap (λ b. if b then Some (entry_of r n) else None) (outstanding_some w g r n q s h e))
 
-pub operation-none : (r : Requests) (n : ℕ) → is_running r n ≡ false → None ≡ operation_running r n
-operation-none r n e = sym (ap (λ b. if b then Some (operation_of (entry_of r n)) else None) e)
+pub operation_none : (r : Requests) (n : ℕ) → is_running r n ≡ false → None ≡ operation_running r n
+operation_none r n e = sym (ap (λ b. if b then Some (operation_of (entry_of r n)) else None) e)
 
-pub operation-some : (w : Window) (g : Groups) (r : Requests) (n : ℕ) (q : Request) → AreHeld w g r
+pub operation_some : (w : Window) (g : Groups) (r : Requests) (n : ℕ) (q : Request) → AreHeld w g r
     → at w n ≡ Some q → q.is_running ≡ true → q.op ≡ operation_running r n
-operation-some w g r n q h e runs =
+operation_some w g r n q h e runs =
     let shown = h.shown n q e in
     shown.op ∙ ap (λ b. if b then None else Some (operation_of (entry_of r n))) (shown.sound runs)
-    ∙ sym (ap (λ b. if b then Some (operation_of (entry_of r n)) else None) (running-some w g r n q h e ∙ runs))
+    ∙ sym (ap (λ b. if b then Some (operation_of (entry_of r n)) else None) (running_some w g r n q h e ∙ runs))
 
 -- nothing is held at first
-pub empty-held : (w : Window) (g : Groups) → ((n : ℕ) → at w n ≡ None) → end_of w ≡ 0
+pub empty_held : (w : Window) (g : Groups) → ((n : ℕ) → at w n ≡ None) → end_of w ≡ 0
     → w.outstanding ≡ 0 → w.running ≡ 0 → ((key : ℕ) → group_at g key ≡ None)
     → AreHeld w g no_request
-empty-held w g none end outstanding running groups = record {
+empty_held w g none end outstanding running groups = record {
   count = sym end;
   outstanding = outstanding;
   running = running;
@@ -92,9 +92,9 @@ empty-held w g none end outstanding running groups = record {
   untouched = λ n le. record { started = refl; ended = refl; cancelled = refl; cut = refl };
 }
 
-pub empty-sound : (w : Window) (g : Groups) → ((n : ℕ) → at w n ≡ None) → end_of w ≡ 0
+pub empty_sound : (w : Window) (g : Groups) → ((n : ℕ) → at w n ≡ None) → end_of w ≡ 0
     → ((key : ℕ) → group_at g key ≡ None) → IsBeyond g.barriers 0 → IsSound w g
-empty-sound w g none end groups beyond = record {
+empty_sound w g none end groups beyond = record {
   linked = λ n q e. some_none q _ (none n) e;
   members = λ key q n request found from to e. some_none request _ (none n) e;
   kept = λ key q e. some_none q _ (groups key) e;
@@ -105,22 +105,22 @@ empty-sound w g none end groups beyond = record {
 -- Room.
 
 -- an issue and an end accept nothing
-pub unchanged-end-issue : (answer : Issued) (old new : Dispatch) → IssueCounts answer old new
+pub unchanged_end_issue : (answer : Issued) (old new : Dispatch) → IssueCounts answer old new
     → new.accepted ≡ old.accepted
-unchanged-end-issue (Run op) old new c = c.accepted
-unchanged-end-issue (Ended res) old new c = c.accepted
-unchanged-end-issue NotReady old new c = ap (λ (d : Dispatch). d.accepted) c
-unchanged-end-issue Running old new c = ap (λ (d : Dispatch). d.accepted) c
-unchanged-end-issue Unknown old new c = ap (λ (d : Dispatch). d.accepted) c
+unchanged_end_issue (Run op) old new c = c.accepted
+unchanged_end_issue (Ended res) old new c = c.accepted
+unchanged_end_issue NotReady old new c = ap (λ (d : Dispatch). d.accepted) c
+unchanged_end_issue Running old new c = ap (λ (d : Dispatch). d.accepted) c
+unchanged_end_issue Unknown old new c = ap (λ (d : Dispatch). d.accepted) c
 
-pub unchanged-end : (posted : Option Posts) (old new : Dispatch) → EndCounts posted old new
+pub unchanged_end : (posted : Option Posts) (old new : Dispatch) → EndCounts posted old new
     → new.accepted ≡ old.accepted
-unchanged-end (Some posted) old new c = c.accepted
-unchanged-end None old new c = ap (λ (d : Dispatch). d.accepted) c
+unchanged_end (Some posted) old new c = c.accepted
+unchanged_end None old new c = ap (λ (d : Dispatch). d.accepted) c
 
-pub room-stays : (old new : Outstanding) (room : ℕ) → Stays old new
+pub room_stays : (old new : Outstanding) (room : ℕ) → Stays old new
     → end_of new.grouped.window ≡ end_of old.grouped.window → HasRoom old room → HasRoom new room
-room-stays old new room s end r = record {
+room_stays old new room s end r = record {
   window = omega (arith, s.window, r.window);
   groups = omega (arith, s.groups, r.groups);
   heads = omega (arith, end, s.memory.heads, r.heads);
@@ -128,8 +128,8 @@ room-stays old new room s end r = record {
   places = omega (arith, end, r.places, s.places);
 }
 
-pub room-fewer : (d : Outstanding) (room fewer : ℕ) → fewer ≤ room → HasRoom d room → HasRoom d fewer
-room-fewer d room fewer le r = record {
+pub room_fewer : (d : Outstanding) (room fewer : ℕ) → fewer ≤ room → HasRoom d room → HasRoom d fewer
+room_fewer d room fewer le r = record {
   window = omega (arith, r.window);
   groups = omega (arith, r.groups);
   heads = omega (arith, r.heads);
@@ -138,27 +138,27 @@ room-fewer d room fewer le r = record {
 }
 
 -- room was asked for, and not refused
-pub reserved-room : {E : Type 0} (d : Outstanding) (x : Result (Unit {0}) E) (w : Window) (s : Waiting) (count : ℕ)
+pub reserved_room : {E : Type 0} (d : Outstanding) (x : Result (Unit {0}) E) (w : Window) (s : Waiting) (count : ℕ)
     → d.grouped.window.room ≡ count → d.grouped.groups.room ≡ count
     → end_of d.grouped.window ≡ end_of w → end_of w ≤ stop_of s.heads → end_of w ≤ stop_of s.doomed
     → stop_of s.heads + count ≤ d.waiting.heads.limit
     → stop_of s.doomed + count ≤ d.waiting.doomed.limit
     → OnOk x (HasPlaces d.by_user_data (end_of d.grouped.window + count)) → OnOk x (HasRoom d count)
-reserved-room d (Ok u) w s count window groups end a b heads doomed places =
+reserved_room d (Ok u) w s count window groups end a b heads doomed places =
     record { window = omega (arith, window); groups = omega (arith, groups); heads = omega (arith, end, a, heads); doomed = omega (arith, end, b, doomed); places = places }
-reserved-room d (Err u) w s count window groups end a b heads doomed places = places
+reserved_room d (Err u) w s count window groups end a b heads doomed places = places
 
 -- the dispatcher shows no more than before, if only the room of its parts differs
-pub same-view : (d e : Grouped) (room : ℕ) (between : Bool) → HasSameRecords d e
+pub same_view : (d e : Grouped) (room : ℕ) (between : Bool) → HasSameRecords d e
     → dispatch_of e.window e.groups room between ≡ dispatch_of d.window d.groups room between
-same-view d e room between s =
+same_view d e room between s =
     ap (λ (w : Window). dispatch_of w e.groups room between) s.window
     ∙ ap (λ (g : Groups). dispatch_of d.window g room between) s.groups
 
-pub counts-records : (d e : Grouped) (old : Dispatch) (room more : ℕ) (between : Bool)
+pub counts_records : (d e : Grouped) (old : Dispatch) (room more : ℕ) (between : Bool)
     → dispatch_of d.window d.groups room between ≡ old → HasSameRecords d e → room ≤ more
     → IsSameCount old (dispatch_of e.window e.groups more between)
-counts-records d e old room more between view s le =
+counts_records d e old room more between view s le =
     let P : Dispatch → Type 0 = λ x. IsSameCount x (dispatch_of e.window e.groups more between) in
     subst P view
     (record {
@@ -168,9 +168,9 @@ counts-records d e old room more between view s le =
       room = le;
     })
 
-pub counts-same : (w v : Window) (g h : Groups) (old : Dispatch) (room : ℕ) (between after : Bool)
+pub counts_same : (w v : Window) (g h : Groups) (old : Dispatch) (room : ℕ) (between after : Bool)
     → dispatch_of w g room between ≡ old → v ≡ w → IsSameCount old (dispatch_of v h room after)
-counts-same w v g h old room between after view same =
+counts_same w v g h old room between after view same =
     let P : Dispatch → Type 0 = λ x. IsSameCount x (dispatch_of v h room after) in
     subst P view
     (record {
@@ -180,10 +180,10 @@ counts-same w v g h old room between after view same =
       room = omega arith;
     })
 
-pub on-ok : {E : Type 0} (x : Result (Unit {0}) E) (P : Type 0) → is_err x ≡ false → OnOk x P → P
-on-ok (Ok u) P e h = h
-on-ok (Err u) P e h = cc
+pub on_ok : {E : Type 0} (x : Result (Unit {0}) E) (P : Type 0) → is_err x ≡ false → OnOk x P → P
+on_ok (Ok u) P e h = h
+on_ok (Err u) P e h = cc
 
-pub ok-not_err : {E : Type 0} (x : Result (Unit {0}) E) → IsOk x → is_err x ≡ true → ⊥
-ok-not_err (Ok u) ok e = cc
-ok-not_err (Err u) ok e = absurd (false≢true ok)
+pub ok_not_err : {E : Type 0} (x : Result (Unit {0}) E) → IsOk x → is_err x ≡ true → ⊥
+ok_not_err (Ok u) ok e = cc
+ok_not_err (Err u) ok e = absurd (false≢true ok)

@@ -5,128 +5,128 @@ use Rattle.std.proofs.lemmas.Bool.{cases_lt, cases_eq, both_ways, false≢true, 
 use Rattle.std.proofs.lemmas.Option.{same_Some}
 use Rattle.uring_entry.specs.Groups.{is_before, earlier_of}
 use Rattle.uring_number_set.specs.NumberSet.{NumberSet, Covers, Puts, HasGrown, HasMoved}
-use Rattle.uring_number_set.proofs.BlockLemmas.{holds-same}
+use Rattle.uring_number_set.proofs.BlockLemmas.{holds_same}
 use Rattle.uring_dispatch.specs.declared.request.Request.{Request}
 use Rattle.uring_dispatch.specs.declared.group.Group.{Group}
 use Rattle.uring_dispatch.specs.declared.waiting.Waiting.{Waiting}
 use Rattle.uring_dispatch.specs.Window.{Window, at, end_of, Changes, started}
 use Rattle.uring_dispatch.specs.Groups.{Groups, group_at}
 use Rattle.uring_dispatch.specs.Held.{IsSound, IsNext}
-use Rattle.uring_dispatch.proofs.WindowFront.{at-past}
+use Rattle.uring_dispatch.proofs.WindowFront.{at_past}
 use Rattle.uring_dispatch.proofs.HeldLemmas.{some_none, vacant, linked}
 use Rattle.uring_dispatch.proofs.EndLemmas.{Ends}
 use Rattle.uring_dispatch.specs.Waiting.{leads, dooms, waits_at_head, waits_doomed, IsListedAt, Reaches, IsListed, CanTell, IsSameReach, GrowsTo, Keeps, StandsAsBefore}
 
 -- Telling anew.
 
-pub same-reach : (s : NumberSet) → IsSameReach s s
-same-reach s = record { start = refl; stop = refl; limit = refl }
+pub same_reach : (s : NumberSet) → IsSameReach s s
+same_reach s = record { start = refl; stop = refl; limit = refl }
 
-reach-both : (s t u : NumberSet) → IsSameReach s t → IsSameReach t u → IsSameReach s u
-reach-both s t u a b = record {
+reach_both : (s t u : NumberSet) → IsSameReach s t → IsSameReach t u → IsSameReach s u
+reach_both s t u a b = record {
   start = b.start ∙ a.start;
   stop = b.stop ∙ a.stop;
   limit = b.limit ∙ a.limit;
 }
 
-pub keeps-none : (w : Window) (g : Groups) (s : Waiting) → Keeps w g s s
-keeps-none w g s = record {
+pub keeps_none : (w : Window) (g : Groups) (s : Waiting) → Keeps w g s s
+keeps_none w g s = record {
   told = λ k e. e;
-  heads = same-reach s.heads;
-  doomed = same-reach s.doomed;
+  heads = same_reach s.heads;
+  doomed = same_reach s.doomed;
 }
 
-pub keeps-both : (w : Window) (g : Groups) (s t u : Waiting) → Keeps w g s t → Keeps w g t u
+pub keeps_both : (w : Window) (g : Groups) (s t u : Waiting) → Keeps w g s t → Keeps w g t u
     → Keeps w g s u
-keeps-both w g s t u a b = record {
+keeps_both w g s t u a b = record {
   told = λ k e. b.told k (a.told k e);
-  heads = reach-both s.heads t.heads u.heads a.heads b.heads;
-  doomed = reach-both s.doomed t.doomed u.doomed a.doomed b.doomed;
+  heads = reach_both s.heads t.heads u.heads a.heads b.heads;
+  doomed = reach_both s.doomed t.doomed u.doomed a.doomed b.doomed;
 }
 
-pub listed-same : (w : Window) (g : Groups) (s : Waiting) (n m : ℕ) → n ≡ m → IsListedAt w g s n
+pub listed_same : (w : Window) (g : Groups) (s : Waiting) (n m : ℕ) → n ≡ m → IsListedAt w g s n
     → IsListedAt w g s m
-listed-same w g s n m e l = let P : ℕ → Type 0 = λ j. IsListedAt w g s j in subst P e l
+listed_same w g s n m e l = let P : ℕ → Type 0 = λ j. IsListedAt w g s j in subst P e l
 
-covers-kept : (s t : NumberSet) (n : ℕ) → Covers s n → IsSameReach s t → Covers t n
-covers-kept s t n c k =
+covers_kept : (s t : NumberSet) (n : ℕ) → Covers s n → IsSameReach s t → Covers t n
+covers_kept s t n c k =
     let a = c.from in
     let b = c.to in
     let x = k.start in
     let y = k.stop in
     record { from = omega arith; to = omega arith }
 
-pub tell-kept : (w : Window) (g : Groups) (s t : Waiting) (n : ℕ) → CanTell s n → Keeps w g s t
+pub tell_kept : (w : Window) (g : Groups) (s t : Waiting) (n : ℕ) → CanTell s n → Keeps w g s t
     → CanTell t n
-tell-kept w g s t n c k = record {
-  heads = covers-kept s.heads t.heads n c.heads k.heads;
-  doomed = covers-kept s.doomed t.doomed n c.doomed k.doomed;
+tell_kept w g s t n c k = record {
+  heads = covers_kept s.heads t.heads n c.heads k.heads;
+  doomed = covers_kept s.doomed t.doomed n c.doomed k.doomed;
 }
 
 -- A request that has ended doesn't wait.
 
-pub forgotten-listed : (w : Window) (g : Groups) (s t : Waiting) (n : ℕ) → at w n ≡ None
+pub forgotten_listed : (w : Window) (g : Groups) (s t : Waiting) (n : ℕ) → at w n ≡ None
     → Puts s.heads t.heads n false → Puts s.doomed t.doomed n false → IsListedAt w g t n
-forgotten-listed w g s t n gone a b = record {
+forgotten_listed w g s t n gone a b = record {
   head = a.here ∙ sym (ap (λ o. waits_at_head g o n) gone);
   doomed = b.here ∙ sym (ap (λ o. waits_doomed g o n) gone);
 }
 
-reach-put : (s t : NumberSet) (n : ℕ) (b : Bool) → Puts s t n b → IsSameReach s t
-reach-put s t n b p =
+reach_put : (s t : NumberSet) (n : ℕ) (b : Bool) → Puts s t n b → IsSameReach s t
+reach_put s t n b p =
     let start = p.start in
     let stop = p.stop in
     record { start = omega arith; stop = omega arith; limit = p.limit }
 
 -- nor does one that was started
-pub started-listed : (w : Window) (g : Groups) (s t : Waiting) (n : ℕ) (q : Request)
+pub started_listed : (w : Window) (g : Groups) (s t : Waiting) (n : ℕ) (q : Request)
     → at w n ≡ Some (started q) → Puts s.heads t.heads n false → Puts s.doomed t.doomed n false
     → IsListedAt w g t n
-started-listed w g s t n q runs a b = record {
+started_listed w g s t n q runs a b = record {
   head = a.here ∙ sym (ap (λ o. waits_at_head g o n) runs);
   doomed = b.here ∙ sym (ap (λ o. waits_doomed g o n) runs);
 }
 
-pub forgotten-keeps : (w : Window) (g : Groups) (s t : Waiting) (n : ℕ) → IsListedAt w g t n
+pub forgotten_keeps : (w : Window) (g : Groups) (s t : Waiting) (n : ℕ) → IsListedAt w g t n
     → Puts s.heads t.heads n false → Puts s.doomed t.doomed n false → Keeps w g s t
-forgotten-keeps w g s t n own a b = record {
+forgotten_keeps w g s t n own a b = record {
   told = λ k e.
       elim (cases_eq k n) [
         | inl same ↦ let P : ℕ → Type 0 = λ j. IsListedAt w g t j in subst P (sym same) own
         | inr other ↦ record { head = a.others k other ∙ e.head; doomed = b.others k other ∙ e.doomed }
       ];
-  heads = reach-put s.heads t.heads n false a;
-  doomed = reach-put s.doomed t.doomed n false b;
+  heads = reach_put s.heads t.heads n false a;
+  doomed = reach_put s.doomed t.doomed n false b;
 }
 
 -- What an event leaves as it was.
 
 -- a request that is the same, in the same group
-pub stands-same : (w v : Window) (g : Groups) (k : ℕ) → at v k ≡ at w k → StandsAsBefore w v g g k
-stands-same w v g k e = record {
+pub stands_same : (w v : Window) (g : Groups) (k : ℕ) → at v k ≡ at w k → StandsAsBefore w v g g k
+stands_same w v g k e = record {
   head = ap (λ o. waits_at_head g o k) e;
   doomed = ap (λ o. waits_doomed g o k) e;
 }
 
 -- what is told stays right where the request stands as it did
-pub told-before : (w v : Window) (g h : Groups) (s : Waiting) (k : ℕ) → IsListedAt w g s k
+pub told_before : (w v : Window) (g h : Groups) (s : Waiting) (k : ℕ) → IsListedAt w g s k
     → StandsAsBefore w v g h k → IsListedAt v h s k
-told-before w v g h s k t b = record {
+told_before w v g h s k t b = record {
   head = t.head ∙ sym b.head;
   doomed = t.doomed ∙ sym b.doomed;
 }
 
 -- an end that fails changes who is behind a failure only among those behind it that weren't
-pub before-earlier : (o : Option ℕ) (b : Bool) (n k : ℕ)
+pub before_earlier : (o : Option ℕ) (b : Bool) (n k : ℕ)
     → (b ≡ true → (k < n) ⊎ (is_before o k ≡ true)) → is_before (earlier_of o b n) k ≡ is_before o k
-before-earlier None false n k h = refl
-before-earlier None true n k h =
+before_earlier None false n k h = refl
+before_earlier None true n k h =
     elim (h refl) [
       | inl low ↦ le-ltb n k (omega arith)
       | inr was ↦ absurd (false≢true was)
     ]
-before-earlier (Some m) false n k h = refl
-before-earlier (Some m) true n k h =
+before_earlier (Some m) false n k h = refl
+before_earlier (Some m) true n k h =
     elim (cases_lt n m) [
       | inl earlier ↦
           ap (λ b. is_before (if b then Some n else Some m) k) (lt-ltb n m earlier)
@@ -138,10 +138,10 @@ before-earlier (Some m) true n k h =
     ]
 
 -- the request k of another group, or of none
-pub stands-apart : (w v : Window) (g h : Groups) (k : ℕ) → at v k ≡ at w k
+pub stands_apart : (w v : Window) (g h : Groups) (k : ℕ) → at v k ≡ at w k
     → ((x : Request) → at w k ≡ Some x → group_at h x.group ≡ group_at g x.group)
     → StandsAsBefore w v g h k
-stands-apart w v g h k same others = go (at w k) refl
+stands_apart w v g h k same others = go (at w k) refl
   where
     go : (o : Option Request) → at w k ≡ o → StandsAsBefore w v g h k
     go None e = record {
@@ -154,11 +154,11 @@ stands-apart w v g h k same others = go (at w k) refl
     }
 
 -- the request k of a group that leads and dooms it as before
-pub stands-in : (w v : Window) (g h : Groups) (k : ℕ) (x : Request) (p q : Group) → at v k ≡ at w k
+pub stands_in : (w v : Window) (g h : Groups) (k : ℕ) (x : Request) (p q : Group) → at v k ≡ at w k
     → at w k ≡ Some x → group_at g x.group ≡ Some q → group_at h x.group ≡ Some p
     → leads (Some p) k ≡ leads (Some q) k → dooms (Some p) k ≡ dooms (Some q) k
     → StandsAsBefore w v g h k
-stands-in w v g h k x p q same e was now leads_on dooms_on = record {
+stands_in w v g h k x p q same e was now leads_on dooms_on = record {
   head =
       ap (λ o. waits_at_head h o k) (same ∙ e) ∙ ap (λ o. not x.is_running && leads o k) now ∙ ap (λ b. not x.is_running && b) leads_on
       ∙ sym (ap (λ o. waits_at_head g o k) e ∙ ap (λ o. not x.is_running && leads o k) was);
@@ -171,13 +171,13 @@ stands-in w v g h k x p q same e was now leads_on dooms_on = record {
 -- A request ends.
 
 -- the last member of its group
-pub stands-ended_last : (w v : Window) (g h : Groups) (n : ℕ) (request : Request) (q : Group) (least k : ℕ)
+pub stands_ended_last : (w v : Window) (g h : Groups) (n : ℕ) (request : Request) (q : Group) (least k : ℕ)
     → IsSound w g → Ends w v g h n request q None → IsNext v q.least q.end least → least ≡ q.end
     → k ≢ n → StandsAsBefore w v g h k
-stands-ended_last w v g h n request q least k s e next all ne =
+stands_ended_last w v g h n request q least k s e next all ne =
     let kept = s.kept request.group q e.group in
     let same = e.changes.others k ne in
-    stands-apart w v g h k same
+    stands_apart w v g h k same
     (λ x is.
     e.exchange.others x.group
     (λ here.
@@ -191,23 +191,23 @@ stands-ended_last w v g h n request q least k s e next all ne =
     ]))
 
 -- another member of its group is outstanding
-pub stands-ended_more : (w v : Window) (g h : Groups) (n : ℕ) (request : Request) (q p : Group) (least k : ℕ) (breaks : Bool)
+pub stands_ended_more : (w v : Window) (g h : Groups) (n : ℕ) (request : Request) (q p : Group) (least k : ℕ) (breaks : Bool)
     → IsSound w g → Ends w v g h n request q (Some p) → IsNext v q.least q.end least
     → p.least ≡ least → p.fault ≡ q.fault → p.broken ≡ earlier_of q.broken breaks n
     → (breaks ≡ true → k < q.end → (k < n) ⊎ (is_before q.broken k ≡ true)) → k ≢ n → k ≢ least
     → StandsAsBefore w v g h k
-stands-ended_more w v g h n request q p least k breaks s e next is_least fault broken behind ne_n ne_least =
+stands_ended_more w v g h n request q p least k breaks s e next is_least fault broken behind ne_n ne_least =
     go (at w k) refl
   where
     same : at v k ≡ at w k
     same = e.changes.others k ne_n
 
     go : (o : Option Request) → at w k ≡ o → StandsAsBefore w v g h k
-    go None is = stands-apart w v g h k same (λ x there. some_none x _ is there)
+    go None is = stands_apart w v g h k same (λ x there. some_none x _ is there)
     go (Some x) is =
         elim (cases_eq x.group request.group) [
           | inr apart ↦
-              stands-apart w v g h k same
+              stands_apart w v g h k same
               (λ y there. let one : x ≡ y = same_Some _ _ (sym is ∙ there) in
               let P : Request → Type 0 = λ z. group_at h z.group ≡ group_at g z.group in subst P one (e.exchange.others x.group apart))
           | inl here ↦
@@ -223,53 +223,53 @@ stands-ended_more w v g h n request q p least k breaks s e next is_least fault b
                 | inr high ↦ let up = next.from_on in absurd (ne_least (omega arith))
               ]
               in
-              stands-in w v g h k x p q same is was now
+              stands_in w v g h k x p q same is was now
               (ne_eqb p.least k (λ z. ne_least (sym z ∙ is_least)) ∙ sym (ne_eqb q.least k led))
               (ap (λ f. is_some f || is_before p.broken k) fault
               ∙ ap (λ b. is_some q.fault || is_before b k) broken
-              ∙ ap (λ b. is_some q.fault || b) (before-earlier q.broken breaks n k (λ t. behind t to)))
+              ∙ ap (λ b. is_some q.fault || b) (before_earlier q.broken breaks n k (λ t. behind t to)))
         ]
 
 -- What is covered.
 
-pub within-end : (w : Window) (n : ℕ) → is_some (at w n) ≡ true → n < end_of w
-within-end w n there =
+pub within_end : (w : Window) (n : ℕ) → is_some (at w n) ≡ true → n < end_of w
+within_end w n there =
     elim (cases_lt n (end_of w)) [
       | inl low ↦ low
-      | inr past ↦ absurd (both_ways _ (ap is_some (at-past w n past)) there)
+      | inr past ↦ absurd (both_ways _ (ap is_some (at_past w n past)) there)
     ]
 
-covers-outstanding : (w : Window) (s : NumberSet) (n : ℕ) → Reaches w s → is_some (at w n) ≡ true
+covers_outstanding : (w : Window) (s : NumberSet) (n : ℕ) → Reaches w s → is_some (at w n) ≡ true
     → Covers s n
-covers-outstanding w s n r there =
+covers_outstanding w s n r there =
     let low = r.low n there in
-    let within = within-end w n there in
+    let within = within_end w n there in
     let stop = r.stop in
     record { from = low; to = omega arith }
 
 -- what can be told of an outstanding request
-pub tell-outstanding : (w : Window) (g : Groups) (s : Waiting) (n : ℕ) → IsListed w g s
+pub tell_outstanding : (w : Window) (g : Groups) (s : Waiting) (n : ℕ) → IsListed w g s
     → is_some (at w n) ≡ true → CanTell s n
-tell-outstanding w g s n l there =
-    record { heads = covers-outstanding w s.heads n l.heads there; doomed = covers-outstanding w s.doomed n l.doomed there }
+tell_outstanding w g s n l there =
+    record { heads = covers_outstanding w s.heads n l.heads there; doomed = covers_outstanding w s.doomed n l.doomed there }
 
-covers-behind : (w : Window) (s : NumberSet) (n k : ℕ) → Reaches w s → is_some (at w n) ≡ true
+covers_behind : (w : Window) (s : NumberSet) (n k : ℕ) → Reaches w s → is_some (at w n) ≡ true
     → n ≤ k → k < end_of w → Covers s k
-covers-behind w s n k r there from to =
+covers_behind w s n k r there from to =
     let low = r.low n there in
     let stop = r.stop in
     record { from = omega arith; to = omega arith }
 
 -- and of one behind it
-pub tell-behind : (w : Window) (g : Groups) (s : Waiting) (n k : ℕ) → IsListed w g s
+pub tell_behind : (w : Window) (g : Groups) (s : Waiting) (n k : ℕ) → IsListed w g s
     → is_some (at w n) ≡ true → n ≤ k → k < end_of w → CanTell s k
-tell-behind w g s n k l there from to =
-    record { heads = covers-behind w s.heads n k l.heads there from to; doomed = covers-behind w s.doomed n k l.doomed there from to }
+tell_behind w g s n k l there from to =
+    record { heads = covers_behind w s.heads n k l.heads there from to; doomed = covers_behind w s.doomed n k l.doomed there from to }
 
 -- fewer requests are outstanding
-pub reaches-fewer : (w v : Window) (s t : NumberSet) → Reaches w s → end_of v ≡ end_of w
+pub reaches_fewer : (w v : Window) (s t : NumberSet) → Reaches w s → end_of v ≡ end_of w
     → ((k : ℕ) → is_some (at v k) ≡ true → is_some (at w k) ≡ true) → IsSameReach s t → Reaches v t
-reaches-fewer w v s t r end fewer same =
+reaches_fewer w v s t r end fewer same =
     let start = r.start in
     let stop = r.stop in
     let a = same.start in
@@ -278,8 +278,8 @@ reaches-fewer w v s t r end fewer same =
     record { start = omega arith; stop = omega arith; few = omega arith; low = λ k there. let low = r.low k (fewer k there) in omega arith }
 
 -- a set covers a number more, and is then told of numbers that it covers
-pub grows-told : (s t u : NumberSet) (n : ℕ) → HasGrown s t n → IsSameReach t u → GrowsTo s u n
-grows-told s t u n g r =
+pub grows_told : (s t u : NumberSet) (n : ℕ) → HasGrown s t n → IsSameReach t u → GrowsTo s u n
+grows_told s t u n g r =
     let start = g.start in
     let limit = g.same.limit in
     let longer = g.longer in
@@ -296,9 +296,9 @@ grows-told s t u n g r =
     }
 
 -- what was let go at the front isn't needed
-pub reaches-moved : (w : Window) (s t : NumberSet) (first : ℕ) → Reaches w s → HasMoved s t first
+pub reaches_moved : (w : Window) (s t : NumberSet) (first : ℕ) → Reaches w s → HasMoved s t first
     → first ≤ end_of w → ((k : ℕ) → k < first → at w k ≡ None) → Reaches w t
-reaches-moved w s t first r m within before =
+reaches_moved w s t first r m within before =
     let stop = r.stop in
     let same = m.stop in
     let few = r.few in
@@ -311,21 +311,21 @@ reaches-moved w s t first r m within before =
           (elim (cases_lt k first) [ inl low ↦ absurd (both_ways _ (ap is_some (before k low)) there) | inr high ↦ high ]);
     }
 
-pub told-moved : (w : Window) (g : Groups) (s t : Waiting) (k a b : ℕ) → IsListedAt w g s k
+pub told_moved : (w : Window) (g : Groups) (s t : Waiting) (k a b : ℕ) → IsListedAt w g s k
     → HasMoved s.heads t.heads a → HasMoved s.doomed t.doomed b → IsListedAt w g t k
-told-moved w g s t k a b l x y = record {
-  head = holds-same s.heads t.heads x.same.same k ∙ l.head;
-  doomed = holds-same s.doomed t.doomed y.same.same k ∙ l.doomed;
+told_moved w g s t k a b l x y = record {
+  head = holds_same s.heads t.heads x.same.same k ∙ l.head;
+  doomed = holds_same s.doomed t.doomed y.same.same k ∙ l.doomed;
 }
 
 -- A request ended, and all whose standing may have changed were told of anew.
-pub end-listed : (w v : Window) (g h : Groups) (s t u : Waiting) (n head stop first : ℕ)
+pub end_listed : (w v : Window) (g h : Groups) (s t u : Waiting) (n head stop first : ℕ)
     → IsListed w g s → Changes w v n None → end_of v ≡ end_of w
     → ((k : ℕ) → k ≢ n → k ≢ head → (k < n) ⊎ (stop ≤ k) → StandsAsBefore w v g h k) → Keeps v h s t
     → IsListedAt v h t n → IsListedAt v h t head → ((k : ℕ) → n ≤ k → k < stop → IsListedAt v h t k)
     → HasMoved t.heads u.heads first → HasMoved t.doomed u.doomed first → first ≤ end_of v
     → ((k : ℕ) → k < first → at v k ≡ None) → IsListed v h u
-end-listed w v g h s t u n head stop first l c end others keeps own at_head between x y within before =
+end_listed w v g h s t u n head stop first l c end others keeps own at_head between x y within before =
     let fewer : (k : ℕ) → is_some (at v k) ≡ true → is_some (at w k) ≡ true =
     λ k there.
     elim (cases_eq k n) [
@@ -334,16 +334,16 @@ end-listed w v g h s t u n head stop first l c end others keeps own at_head betw
     ]
     in
     record {
-      told = λ k. told-moved v h t u k first first (one k) x y;
-      heads = reaches-moved v t.heads u.heads first (reaches-fewer w v s.heads t.heads l.heads end fewer keeps.heads) x within before;
-      doomed = reaches-moved v t.doomed u.doomed first (reaches-fewer w v s.doomed t.doomed l.doomed end fewer keeps.doomed) y within before;
+      told = λ k. told_moved v h t u k first first (one k) x y;
+      heads = reaches_moved v t.heads u.heads first (reaches_fewer w v s.heads t.heads l.heads end fewer keeps.heads) x within before;
+      doomed = reaches_moved v t.doomed u.doomed first (reaches_fewer w v s.doomed t.doomed l.doomed end fewer keeps.doomed) y within before;
     }
   where
     P : ℕ → Type 0
     P j = IsListedAt v h t j
 
     stays : (k : ℕ) → k ≢ n → k ≢ head → (k < n) ⊎ (stop ≤ k) → IsListedAt v h t k
-    stays k a b z = keeps.told k (told-before w v g h s k (l.told k) (others k a b z))
+    stays k a b z = keeps.told k (told_before w v g h s k (l.told k) (others k a b z))
 
     one : (k : ℕ) → IsListedAt v h t k
     one k =
@@ -365,10 +365,10 @@ end-listed w v g h s t u n head stop first l c end others keeps own at_head betw
         ]
 
 -- A request was written, and it was told of anew.
-pub write-listed : (w v : Window) (g : Groups) (s t : Waiting) (n : ℕ) (q : Request)
+pub write_listed : (w v : Window) (g : Groups) (s t : Waiting) (n : ℕ) (q : Request)
     → IsListed w g s → is_some (at w n) ≡ true → Changes w v n (Some q) → end_of v ≡ end_of w
     → Keeps v g s t → IsListedAt v g t n → IsListed v g t
-write-listed w v g s t n q l there c end keeps own =
+write_listed w v g s t n q l there c end keeps own =
     let as_many : (k : ℕ) → is_some (at v k) ≡ true → is_some (at w k) ≡ true =
     λ k some.
     elim (cases_eq k n) [
@@ -380,16 +380,16 @@ write-listed w v g s t n q l there c end keeps own =
       told = λ k.
           elim (cases_eq k n) [
             | inl same ↦ let P : ℕ → Type 0 = λ j. IsListedAt v g t j in subst P (sym same) own
-            | inr other ↦ keeps.told k (told-before w v g g s k (l.told k) (stands-same w v g k (c.others k other)))
+            | inr other ↦ keeps.told k (told_before w v g g s k (l.told k) (stands_same w v g k (c.others k other)))
           ];
-      heads = reaches-fewer w v s.heads t.heads l.heads end as_many keeps.heads;
-      doomed = reaches-fewer w v s.doomed t.doomed l.doomed end as_many keeps.doomed;
+      heads = reaches_fewer w v s.heads t.heads l.heads end as_many keeps.heads;
+      doomed = reaches_fewer w v s.doomed t.doomed l.doomed end as_many keeps.doomed;
     }
 
 -- and the groups stayed as they were
-pub restarted-listed : (w v : Window) (g h : Groups) (s t : Waiting) (n : ℕ) (q : Request)
+pub restarted_listed : (w v : Window) (g h : Groups) (s t : Waiting) (n : ℕ) (q : Request)
     → IsListed w g s → is_some (at w n) ≡ true → Changes w v n (Some q) → end_of v ≡ end_of w → h ≡ g
     → Keeps v h s t → IsListedAt v h t n → IsListed v h t
-restarted-listed w v g h s t n q l there c end same keeps own =
+restarted_listed w v g h s t n q l there c end same keeps own =
     let P : Groups → Type 0 = λ x. IsListed w x s in
-    write-listed w v h s t n q (subst P (sym same) l) there c end keeps own
+    write_listed w v h s t n q (subst P (sym same) l) there c end keeps own

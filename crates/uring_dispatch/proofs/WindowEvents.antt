@@ -6,17 +6,17 @@ use Rattle.std.proofs.lemmas.Option.{same_Some}
 use Rattle.uring_dispatch.specs.declared.request.Request.{Request}
 use Rattle.uring_entry.specs.Below.{count_below}
 use Rattle.uring_dispatch.specs.Window.{Window, key_at, found_by, at, end_of, runs, one_if, IsWindow, Changes}
-use Rattle.uring_dispatch.proofs.Counting.{count_below-same, count_below-changed}
-use Rattle.uring_dispatch.proofs.WindowLemmas.{key_at-within, key_at-push_here, key_at-push_other, key_at-set_here, key_at-set_other, at-keyed, at-key}
+use Rattle.uring_dispatch.proofs.Counting.{count_below_same, count_below_changed}
+use Rattle.uring_dispatch.proofs.WindowLemmas.{key_at_within, key_at_push_here, key_at_push_other, key_at_set_here, key_at_set_other, at_keyed, at_key}
 use Rattle.uring_dispatch.proofs.HeldLemmas.{some_none}
 
 -- What the changes of the window keep.
 
-found-other : (was now : List (Option Request)) (key : ℕ) (o : Option ℕ)
+found_other : (was now : List (Option Request)) (key : ℕ) (o : Option ℕ)
     → ((k : ℕ) → k ≢ key → get_or now k None ≡ get_or was k None) → ((k : ℕ) → o ≡ Some k → k ≢ key)
     → found_by now o ≡ found_by was o
-found-other was now key None h ne = refl
-found-other was now key (Some k) h ne = h k (ne k refl)
+found_other was now key None h ne = refl
+found_other was now key (Some k) h ne = h k (ne k refl)
 
 -- what a request of a new key leaves as it was
 unused : (w : Window) (key n k : ℕ) → IsWindow w → get_or w.requests key None ≡ None
@@ -24,61 +24,61 @@ unused : (w : Window) (key n k : ℕ) → IsWindow w → get_or w.requests key N
 unused w key n k i vacant e same =
     both_ways _ (ap is_some (ap (λ j. get_or w.requests j None) same ∙ vacant)) (i.present n k e)
 
-pub push-changes : (w : Window) (requests : List (Option Request)) (key outstanding room : ℕ) (q : Request)
+pub push_changes : (w : Window) (requests : List (Option Request)) (key outstanding room : ℕ) (q : Request)
     → IsWindow w → get_or w.requests key None ≡ None → get_or requests key None ≡ Some q
     → ((k : ℕ) → k ≢ key → get_or requests k None ≡ get_or w.requests k None)
     → Changes w (record { first = w.first; keys = w.keys ++ Some key ∷ []; requests = requests; outstanding = outstanding; running = w.running; room = room }) (end_of w) (Some q)
-push-changes w requests key outstanding room q i vacant here others =
+push_changes w requests key outstanding room q i vacant here others =
     let v : Window = record { first = w.first; keys = w.keys ++ Some key ∷ []; requests = requests; outstanding = outstanding; running = w.running; room = room } in
     record {
-      here = at-keyed v (end_of w) (Some key) (key_at-push_here w.first w.keys (Some key)) ∙ here;
+      here = at_keyed v (end_of w) (Some key) (key_at_push_here w.first w.keys (Some key)) ∙ here;
       others = λ k ne.
-          at-keyed v k (key_at w.first w.keys k) (key_at-push_other w.first w.keys (Some key) k ne)
-          ∙ found-other w.requests requests key (key_at w.first w.keys k) others (λ j e. unused w key k j i vacant e)
-          ∙ sym (at-key w k);
+          at_keyed v k (key_at w.first w.keys k) (key_at_push_other w.first w.keys (Some key) k ne)
+          ∙ found_other w.requests requests key (key_at w.first w.keys k) others (λ j e. unused w key k j i vacant e)
+          ∙ sym (at_key w k);
     }
 
-push-cases : (w : Window) (key n k : ℕ) → key_at w.first (w.keys ++ Some key ∷ []) n ≡ Some k
+push_cases : (w : Window) (key n k : ℕ) → key_at w.first (w.keys ++ Some key ∷ []) n ≡ Some k
     → ((n ≡ end_of w) × (k ≡ key)) ⊎ (key_at w.first w.keys n ≡ Some k)
-push-cases w key n k e =
+push_cases w key n k e =
     elim (cases_eq n (end_of w)) [
       | inl same ↦
-          inl (same, same_Some k key (sym e ∙ ap (key_at w.first (w.keys ++ Some key ∷ [])) same ∙ key_at-push_here w.first w.keys (Some key)))
-      | inr other ↦ inr (sym (key_at-push_other w.first w.keys (Some key) n other) ∙ e)
+          inl (same, same_Some k key (sym e ∙ ap (key_at w.first (w.keys ++ Some key ∷ [])) same ∙ key_at_push_here w.first w.keys (Some key)))
+      | inr other ↦ inr (sym (key_at_push_other w.first w.keys (Some key) n other) ∙ e)
     ]
 
-pub push-window : (w : Window) (requests : List (Option Request)) (key outstanding room : ℕ) (q : Request)
+pub push_window : (w : Window) (requests : List (Option Request)) (key outstanding room : ℕ) (q : Request)
     → IsWindow w → get_or w.requests key None ≡ None → get_or requests key None ≡ Some q
     → ((k : ℕ) → k ≢ key → get_or requests k None ≡ get_or w.requests k None) → q.is_running ≡ false
     → room + 1 ≡ w.room
     → IsWindow (record { first = w.first; keys = w.keys ++ Some key ∷ []; requests = requests; outstanding = outstanding; running = w.running; room = room })
-push-window w requests key outstanding room q i vacant here others waits less =
+push_window w requests key outstanding room q i vacant here others waits less =
     let v : Window = record { first = w.first; keys = w.keys ++ Some key ∷ []; requests = requests; outstanding = outstanding; running = w.running; room = room } in
-    let changes = push-changes w requests key outstanding room q i vacant here others in
+    let changes = push_changes w requests key outstanding room q i vacant here others in
     let longer : length (w.keys ++ Some key ∷ []) ≡ length w.keys + 1 = length-append w.keys (Some key ∷ []) in
     let end : end_of v ≡ suc (end_of w) = omega arith in
     record {
       present = λ n k e.
-          elim (push-cases w key n k e) [
+          elim (push_cases w key n k e) [
             | inl new ↦ ap (λ j. is_some (get_or requests j None)) new.1 ∙ ap is_some here
             | inr old ↦ ap is_some (others k (unused w key n k i vacant old)) ∙ i.present n k old
           ];
       distinct = λ m n k a b.
-          elim (push-cases w key m k a) [
+          elim (push_cases w key m k a) [
             | inl new ↦
-                elim (push-cases w key n k b) [
+                elim (push_cases w key n k b) [
                   | inl again ↦ new.0 ∙ sym again.0
                   | inr old ↦ absurd (unused w key n k i vacant old new.1)
                 ]
             | inr was ↦
-                elim (push-cases w key n k b) [
+                elim (push_cases w key n k b) [
                   | inl new ↦ absurd (unused w key m k i vacant was new.1)
                   | inr old ↦ i.distinct m n k was old
                 ]
           ];
       counted =
           let before : count_below (λ n. runs (at v n)) (end_of w) ≡ count_below (λ n. runs (at w n)) (end_of w) =
-          count_below-same (λ n. runs (at v n)) (λ n. runs (at w n)) (end_of w) (λ k lt. ap runs (changes.others k (λ e. absurd (omega (arith, e)))))
+          count_below_same (λ n. runs (at v n)) (λ n. runs (at w n)) (end_of w) (λ k lt. ap runs (changes.others k (λ e. absurd (omega (arith, e)))))
           in
           let last : one_if (runs (at v (end_of w))) ≡ 0 = ap (λ o. one_if (runs o)) changes.here ∙ ap one_if waits in
           let whole : count_below (λ n. runs (at v n)) (end_of v) ≡ count_below (λ n. runs (at v n)) (suc (end_of w)) = ap (count_below (λ n. runs (at v n))) end in
@@ -92,26 +92,26 @@ other_key : (w : Window) (n k key : ℕ) → IsWindow w → key_at w.first w.key
     → (j : ℕ) → key_at w.first w.keys k ≡ Some j → j ≢ key
 other_key w n k key i e ne j is same = ne (i.distinct k n key (is ∙ ap Some same) e)
 
-pub write-changes : (w : Window) (requests : List (Option Request)) (n key outstanding running : ℕ) (q : Request)
+pub write_changes : (w : Window) (requests : List (Option Request)) (n key outstanding running : ℕ) (q : Request)
     → IsWindow w → key_at w.first w.keys n ≡ Some key → get_or requests key None ≡ Some q
     → ((k : ℕ) → k ≢ key → get_or requests k None ≡ get_or w.requests k None)
     → Changes w (record w { requests = requests; outstanding = outstanding; running = running }) n (Some q)
-write-changes w requests n key outstanding running q i e here others =
+write_changes w requests n key outstanding running q i e here others =
     let v : Window = record w { requests = requests; outstanding = outstanding; running = running } in
     record {
-      here = at-keyed v n (Some key) e ∙ here;
+      here = at_keyed v n (Some key) e ∙ here;
       others = λ k ne.
-          at-key v k ∙ found-other w.requests requests key (key_at w.first w.keys k) others (other_key w n k key i e ne) ∙ sym (at-key w k);
+          at_key v k ∙ found_other w.requests requests key (key_at w.first w.keys k) others (other_key w n k key i e ne) ∙ sym (at_key w k);
     }
 
-pub write-window : (w : Window) (requests : List (Option Request)) (n key outstanding running : ℕ) (q : Request)
+pub write_window : (w : Window) (requests : List (Option Request)) (n key outstanding running : ℕ) (q : Request)
     → IsWindow w → key_at w.first w.keys n ≡ Some key → get_or requests key None ≡ Some q
     → ((k : ℕ) → k ≢ key → get_or requests k None ≡ get_or w.requests k None)
     → running + one_if (runs (at w n)) ≡ w.running + one_if q.is_running
     → IsWindow (record w { requests = requests; outstanding = outstanding; running = running })
-write-window w requests n key outstanding running q i e here others count =
+write_window w requests n key outstanding running q i e here others count =
     let v : Window = record w { requests = requests; outstanding = outstanding; running = running } in
-    let changes = write-changes w requests n key outstanding running q i e here others in
+    let changes = write_changes w requests n key outstanding running q i e here others in
     record {
       present = λ m k is.
           elim (cases_eq k key) [
@@ -120,9 +120,9 @@ write-window w requests n key outstanding running q i e here others count =
           ];
       distinct = i.distinct;
       counted =
-          let inside = key_at-within w.first w.keys n key e in
+          let inside = key_at_within w.first w.keys n key e in
           let change : count_below (λ m. runs (at v m)) (end_of w) + one_if (runs (at w n)) ≡ count_below (λ m. runs (at w m)) (end_of w) + one_if (runs (at v n)) =
-          count_below-changed (λ m. runs (at w m)) (λ m. runs (at v m)) (end_of w) n inside.1 (λ k ne. ap runs (changes.others k ne))
+          count_below_changed (λ m. runs (at w m)) (λ m. runs (at v m)) (end_of w) n inside.1 (λ k ne. ap runs (changes.others k ne))
           in
           let now : one_if (runs (at v n)) ≡ one_if q.is_running = ap (λ o. one_if (runs o)) changes.here in
           let was = i.counted in
@@ -131,53 +131,53 @@ write-window w requests n key outstanding running q i e here others count =
     }
 
 -- the request of a number ends
-pub end-changes : (w : Window) (requests : List (Option Request)) (n key outstanding running : ℕ)
+pub end_changes : (w : Window) (requests : List (Option Request)) (n key outstanding running : ℕ)
     → IsWindow w → key_at w.first w.keys n ≡ Some key
     → ((k : ℕ) → k ≢ key → get_or requests k None ≡ get_or w.requests k None)
     → Changes w (record w { keys = set w.keys (n - w.first) None; requests = requests; outstanding = outstanding; running = running }) n None
-end-changes w requests n key outstanding running i e others =
+end_changes w requests n key outstanding running i e others =
     let v : Window = record w { keys = set w.keys (n - w.first) None; requests = requests; outstanding = outstanding; running = running } in
-    let inside = key_at-within w.first w.keys n key e in
+    let inside = key_at_within w.first w.keys n key e in
     record {
-      here = at-keyed v n None (key_at-set_here w.first w.keys None n inside.0 inside.1);
+      here = at_keyed v n None (key_at_set_here w.first w.keys None n inside.0 inside.1);
       others = λ k ne.
-          at-keyed v k (key_at w.first w.keys k) (key_at-set_other w.first w.keys None n k inside.0 ne)
-          ∙ found-other w.requests requests key (key_at w.first w.keys k) others (other_key w n k key i e ne)
-          ∙ sym (at-key w k);
+          at_keyed v k (key_at w.first w.keys k) (key_at_set_other w.first w.keys None n k inside.0 ne)
+          ∙ found_other w.requests requests key (key_at w.first w.keys k) others (other_key w n k key i e ne)
+          ∙ sym (at_key w k);
     }
 
-end-cases : (w : Window) (n k key : ℕ) → w.first ≤ n → n < end_of w
+end_cases : (w : Window) (n k key : ℕ) → w.first ≤ n → n < end_of w
     → key_at w.first (set w.keys (n - w.first) None) k ≡ Some key
     → (k ≢ n) × (key_at w.first w.keys k ≡ Some key)
-end-cases w n k key le lt e =
+end_cases w n k key le lt e =
     elim (cases_eq k n) [
       | inl same ↦
-          some_none key _ (ap (key_at w.first (set w.keys (n - w.first) None)) same ∙ key_at-set_here w.first w.keys None n le lt) e
-      | inr other ↦ (other, sym (key_at-set_other w.first w.keys None n k le other) ∙ e)
+          some_none key _ (ap (key_at w.first (set w.keys (n - w.first) None)) same ∙ key_at_set_here w.first w.keys None n le lt) e
+      | inr other ↦ (other, sym (key_at_set_other w.first w.keys None n k le other) ∙ e)
     ]
 
-pub end-window : (w : Window) (requests : List (Option Request)) (n key outstanding running : ℕ)
+pub end_window : (w : Window) (requests : List (Option Request)) (n key outstanding running : ℕ)
     → IsWindow w → key_at w.first w.keys n ≡ Some key
     → ((k : ℕ) → k ≢ key → get_or requests k None ≡ get_or w.requests k None) → (q : Request)
     → get_or w.requests key None ≡ Some q → running + one_if q.is_running ≡ w.running
     → IsWindow (record w { keys = set w.keys (n - w.first) None; requests = requests; outstanding = outstanding; running = running })
-end-window w requests n key outstanding running i e others q is count =
+end_window w requests n key outstanding running i e others q is count =
     let v : Window = record w { keys = set w.keys (n - w.first) None; requests = requests; outstanding = outstanding; running = running } in
-    let changes = end-changes w requests n key outstanding running i e others in
-    let inside = key_at-within w.first w.keys n key e in
+    let changes = end_changes w requests n key outstanding running i e others in
+    let inside = key_at_within w.first w.keys n key e in
     let long : length (set w.keys (n - w.first) None) ≡ length w.keys = length-set w.keys (n - w.first) None in
     let end : end_of v ≡ end_of w = omega arith in
     record {
       present = λ m k is.
-          let old = end-cases w n m k inside.0 inside.1 is in
+          let old = end_cases w n m k inside.0 inside.1 is in
           ap is_some (others k (other_key w n m key i e old.0 k old.1)) ∙ i.present m k old.1;
       distinct = λ a b k x y.
-          i.distinct a b k (end-cases w n a k inside.0 inside.1 x).1 (end-cases w n b k inside.0 inside.1 y).1;
+          i.distinct a b k (end_cases w n a k inside.0 inside.1 x).1 (end_cases w n b k inside.0 inside.1 y).1;
       counted =
           let change : count_below (λ m. runs (at v m)) (end_of w) + one_if (runs (at w n)) ≡ count_below (λ m. runs (at w m)) (end_of w) + one_if (runs (at v n)) =
-          count_below-changed (λ m. runs (at w m)) (λ m. runs (at v m)) (end_of w) n inside.1 (λ k ne. ap runs (changes.others k ne))
+          count_below_changed (λ m. runs (at w m)) (λ m. runs (at v m)) (end_of w) n inside.1 (λ k ne. ap runs (changes.others k ne))
           in
-          let ran : one_if (runs (at w n)) ≡ one_if q.is_running = ap (λ o. one_if (runs o)) (at-keyed w n (Some key) e ∙ is) in
+          let ran : one_if (runs (at w n)) ≡ one_if q.is_running = ap (λ o. one_if (runs o)) (at_keyed w n (Some key) e ∙ is) in
           let now : one_if (runs (at v n)) ≡ 0 = ap (λ o. one_if (runs o)) changes.here in
           let whole : count_below (λ m. runs (at v m)) (end_of v) ≡ count_below (λ m. runs (at v m)) (end_of w) = ap (count_below (λ m. runs (at v m))) end in
           let was = i.counted in
@@ -186,25 +186,25 @@ end-window w requests n key outstanding running i e others q is count =
     }
 
 -- the front is trimmed
-pub trim-window : (w : Window) (first : ℕ) (keys : List (Option ℕ))
+pub trim_window : (w : Window) (first : ℕ) (keys : List (Option ℕ))
     → ((n : ℕ) → key_at first keys n ≡ key_at w.first w.keys n) → first + length keys ≡ end_of w
     → IsWindow w → IsWindow (record w { first = first; keys = keys })
-trim-window w first keys same end i =
+trim_window w first keys same end i =
     let v : Window = record w { first = first; keys = keys } in
     record {
       present = λ n k e. i.present n k (sym (same n) ∙ e);
       distinct = λ m n k a b. i.distinct m n k (sym (same m) ∙ a) (sym (same n) ∙ b);
       counted =
           i.counted
-          ∙ count_below-same (λ n. runs (at w n)) (λ n. runs (at v n)) (end_of w) (λ k lt. ap runs (at-key w k ∙ ap (found_by w.requests) (sym (same k)) ∙ sym (at-key v k)))
+          ∙ count_below_same (λ n. runs (at w n)) (λ n. runs (at v n)) (end_of w) (λ k lt. ap runs (at_key w k ∙ ap (found_by w.requests) (sym (same k)) ∙ sym (at_key v k)))
           ∙ ap (count_below (λ n. runs (at v n))) (sym end);
       fits = omega (arith, i.fits);
     }
 
-pub trim-changes : (u w : Window) (first : ℕ) (keys : List (Option ℕ)) (n : ℕ)
+pub trim_changes : (u w : Window) (first : ℕ) (keys : List (Option ℕ)) (n : ℕ)
     → ((k : ℕ) → key_at first keys k ≡ key_at w.first w.keys k) → Changes u w n None
     → Changes u (record w { first = first; keys = keys }) n None
-trim-changes u w first keys n same c =
+trim_changes u w first keys n same c =
     let v : Window = record w { first = first; keys = keys } in
-    let kept : (k : ℕ) → at v k ≡ at w k = λ k. at-key v k ∙ ap (found_by w.requests) (same k) ∙ sym (at-key w k) in
+    let kept : (k : ℕ) → at v k ≡ at w k = λ k. at_key v k ∙ ap (found_by w.requests) (same k) ∙ sym (at_key w k) in
     record { here = kept n ∙ c.here; others = λ k ne. kept k ∙ c.others k ne }

@@ -5,56 +5,56 @@ use Rattle.uring_entry.proofs.BelowLemmas.{is_some_value}
 use Rattle.uring_dispatch.specs.declared.request.Request.{Request}
 use Rattle.uring_dispatch.specs.Window.{Window, key_at, found_by, at, end_of, runs, one_if, IsWindow, IsTrimmed, IsFirst, HasBefore, started, chosen}
 use Rattle.std.specs.Prelude.{IfSome}
-use Rattle.uring_dispatch.proofs.Counting.{count_below-some, count_below-within}
-use Rattle.uring_dispatch.proofs.WindowLemmas.{key_at-low, key_at-high, key_at-past, key_at-within, at-keyed}
-use Rattle.uring_dispatch.proofs.WindowEvents.{write-window}
+use Rattle.uring_dispatch.proofs.Counting.{count_below_some, count_below_within}
+use Rattle.uring_dispatch.proofs.WindowLemmas.{key_at_low, key_at_high, key_at_past, key_at_within, at_keyed}
+use Rattle.uring_dispatch.proofs.WindowEvents.{write_window}
 use Rattle.uring_dispatch.proofs.HeldLemmas.{some_none}
 
 -- The front.
 
-pub trimmed-push : (keys : List (Option ℕ)) (key : ℕ) → IsTrimmed keys
+pub trimmed_push : (keys : List (Option ℕ)) (key : ℕ) → IsTrimmed keys
     → IsTrimmed (keys ++ Some key ∷ [])
-trimmed-push [] key t = λ lt. refl
-trimmed-push (k ∷ keys) key t = λ lt. t (omega arith)
+trimmed_push [] key t = λ lt. refl
+trimmed_push (k ∷ keys) key t = λ lt. t (omega arith)
 
-pub at-empty : (w : Window) (n : ℕ) → length w.keys ≡ 0 → at w n ≡ None
-at-empty w n e =
-    at-keyed w n None
+pub at_empty : (w : Window) (n : ℕ) → length w.keys ≡ 0 → at w n ≡ None
+at_empty w n e =
+    at_keyed w n None
     (elim (cases_lt n w.first) [
-      | inl low ↦ key_at-low w.first w.keys n low
-      | inr high ↦ key_at-past w.first w.keys n (omega arith)
+      | inl low ↦ key_at_low w.first w.keys n low
+      | inr high ↦ key_at_past w.first w.keys n (omega arith)
     ])
 
-found-some : (requests : List (Option Request)) (o : Option ℕ) → is_some o ≡ true
+found_some : (requests : List (Option Request)) (o : Option ℕ) → is_some o ≡ true
     → ((k : ℕ) → o ≡ Some k → is_some (get_or requests k None) ≡ true)
     → is_some (found_by requests o) ≡ true
-found-some requests None e h = absurd (false≢true e)
-found-some requests (Some k) e h = h k refl
+found_some requests None e h = absurd (false≢true e)
+found_some requests (Some k) e h = h k refl
 
-pub first-outstanding : (w : Window) → IsWindow w → IsTrimmed w.keys → 0 < length w.keys
+pub first_outstanding : (w : Window) → IsWindow w → IsTrimmed w.keys → 0 < length w.keys
     → IsFirst w w.first
-first-outstanding w i t lt =
+first_outstanding w i t lt =
     let zeroth : w.first - w.first ≡ 0 = omega arith in
-    let key = key_at-high w.first w.keys w.first (omega arith) ∙ ap (λ j. get_or w.keys j None) zeroth in
+    let key = key_at_high w.first w.keys w.first (omega arith) ∙ ap (λ j. get_or w.keys j None) zeroth in
     record {
       here =
-          ap is_some (at-keyed w w.first _ key)
-          ∙ found-some w.requests (get_or w.keys 0 None) (t lt) (λ k e. i.present w.first k (key ∙ e));
-      before = λ k low. at-keyed w k None (key_at-low w.first w.keys k low);
+          ap is_some (at_keyed w w.first _ key)
+          ∙ found_some w.requests (get_or w.keys 0 None) (t lt) (λ k e. i.present w.first k (key ∙ e));
+      before = λ k low. at_keyed w k None (key_at_low w.first w.keys k low);
     }
 
-pub empty-window : IsWindow (record { first = 0; keys = []; requests = []; outstanding = 0; running = 0; room = 0 })
-empty-window = record {
-  present = λ n k e. some_none k _ (key_at-past 0 [] n (omega arith)) e;
-  distinct = λ m n k a b. some_none k _ (key_at-past 0 [] n (omega arith)) b;
+pub empty_window : IsWindow (record { first = 0; keys = []; requests = []; outstanding = 0; running = 0; room = 0 })
+empty_window = record {
+  present = λ n k e. some_none k _ (key_at_past 0 [] n (omega arith)) e;
+  distinct = λ m n k a b. some_none k _ (key_at_past 0 [] n (omega arith)) b;
   counted = refl;
   fits = omega arith;
 }
 
-pub room-window : (w : Window) (room : ℕ) → IsWindow w → end_of w + room < 2 ^ 63
+pub room_window : (w : Window) (room : ℕ) → IsWindow w → end_of w + room < 2 ^ 63
     → IsWindow (record w { room = room })
 unfolding at
-room-window w room i lt = record {
+room_window w room i lt = record {
   present = i.present;
   distinct = i.distinct;
   counted = i.counted;
@@ -63,78 +63,78 @@ room-window w room i lt = record {
 
 -- a number whose request is there has a key
 pub keyless : (w : Window) (n : ℕ) → key_at w.first w.keys n ≡ None → is_some (at w n) ≡ true → ⊥
-keyless w n e there = both_ways _ (ap is_some (at-keyed w n None e)) there
+keyless w n e there = both_ways _ (ap is_some (at_keyed w n None e)) there
 
 pub by_key : (w : Window) (n key : ℕ) → key_at w.first w.keys n ≡ Some key
     → at w n ≡ get_or w.requests key None
-by_key w n key e = at-keyed w n (Some key) e
+by_key w n key e = at_keyed w n (Some key) e
 
 -- a key that was found has a request
-pub found-key : (w : Window) (n : ℕ) (o : Option ℕ) → IsWindow w → key_at w.first w.keys n ≡ o
+pub found_key : (w : Window) (n : ℕ) (o : Option ℕ) → IsWindow w → key_at w.first w.keys n ≡ o
     → IfSome o (λ key. is_some (found_by w.requests (Some key)) ≡ true)
-found-key w n None i e = tt
-found-key w n (Some key) i e = i.present n key e
+found_key w n None i e = tt
+found_key w n (Some key) i e = i.present n key e
 
-pub running-fits : (w : Window) → IsWindow w → w.running + 1 < 2 ^ 64
-running-fits w i =
-    let few = count_below-within (λ n. runs (at w n)) (end_of w) in omega (arith, i.counted, i.fits)
+pub running_fits : (w : Window) → IsWindow w → w.running + 1 < 2 ^ 64
+running_fits w i =
+    let few = count_below_within (λ n. runs (at w n)) (end_of w) in omega (arith, i.counted, i.fits)
 
 -- request n was started, or chosen
-pub start-window : (w : Window) (requests : List (Option Request)) (n key outstanding : ℕ)
+pub start_window : (w : Window) (requests : List (Option Request)) (n key outstanding : ℕ)
     → IsWindow w → key_at w.first w.keys n ≡ Some key → is_some (at w n) ≡ true
     → runs (at w n) ≡ false
     → ((q : Request) → get_or w.requests key None ≡ Some q → get_or requests key None ≡ Some (started q))
     → ((k : ℕ) → k ≢ key → get_or requests k None ≡ get_or w.requests k None)
     → IsWindow (record w { requests = requests; outstanding = outstanding; running = w.running + 1 })
-start-window w requests n key outstanding i e there waits here others =
+start_window w requests n key outstanding i e there waits here others =
     let found = is_some_value (at w n) there in
     let one : one_if (runs (at w n)) ≡ 0 = ap one_if waits in
-    write-window w requests n key outstanding (w.running + 1) (started found.0) i e (here found.0 (sym (by_key w n key e) ∙ found.1)) others (omega arith)
+    write_window w requests n key outstanding (w.running + 1) (started found.0) i e (here found.0 (sym (by_key w n key e) ∙ found.1)) others (omega arith)
 
-pub choose-window : (w : Window) (requests : List (Option Request)) (n key outstanding : ℕ)
+pub choose_window : (w : Window) (requests : List (Option Request)) (n key outstanding : ℕ)
     → IsWindow w → key_at w.first w.keys n ≡ Some key → is_some (at w n) ≡ true
     → ((q : Request) → get_or w.requests key None ≡ Some q → get_or requests key None ≡ Some (chosen q))
     → ((k : ℕ) → k ≢ key → get_or requests k None ≡ get_or w.requests k None)
     → IsWindow (record w { requests = requests; outstanding = outstanding })
-choose-window w requests n key outstanding i e there here others =
+choose_window w requests n key outstanding i e there here others =
     let found = is_some_value (at w n) there in
-    write-window w requests n key outstanding w.running (chosen found.0) i e (here found.0 (sym (by_key w n key e) ∙ found.1)) others
+    write_window w requests n key outstanding w.running (chosen found.0) i e (here found.0 (sym (by_key w n key e) ∙ found.1)) others
     (ap (λ o. w.running + one_if (runs o)) found.1)
 
 -- who runs is counted
-pub runs-counted : (w : Window) (n key : ℕ) → IsWindow w → key_at w.first w.keys n ≡ Some key
+pub runs_counted : (w : Window) (n key : ℕ) → IsWindow w → key_at w.first w.keys n ≡ Some key
     → one_if (runs (at w n)) ≤ w.running
-runs-counted w n key i e =
-    let inside = key_at-within w.first w.keys n key e in
+runs_counted w n key i e =
+    let inside = key_at_within w.first w.keys n key e in
     let was = i.counted in
     elim (cases_Bool (runs (at w n))) [
-      | inl going ↦ let some = count_below-some (λ m. runs (at w m)) (end_of w) n inside.1 going in let one : one_if (runs (at w n)) ≡ 1 = ap one_if going in omega arith
+      | inl going ↦ let some = count_below_some (λ m. runs (at w m)) (end_of w) n inside.1 going in let one : one_if (runs (at w n)) ≡ 1 = ap one_if going in omega arith
       | inr still ↦ let none : one_if (runs (at w n)) ≡ 0 = ap one_if still in omega arith
     ]
 
-pub ended-counted : (w : Window) (n key : ℕ) (q : Request) → IsWindow w
+pub ended_counted : (w : Window) (n key : ℕ) (q : Request) → IsWindow w
     → key_at w.first w.keys n ≡ Some key → get_or w.requests key None ≡ Some q
     → one_if q.is_running ≤ w.running
-ended-counted w n key q i e is =
-    let counted = runs-counted w n key i e in
+ended_counted w n key q i e is =
+    let counted = runs_counted w n key i e in
     let same : one_if (runs (at w n)) ≡ one_if q.is_running = ap (λ o. one_if (runs o)) (by_key w n key e ∙ is) in
     omega arith
 
 -- past the end there is nothing
-pub at-past : (w : Window) (n : ℕ) → end_of w ≤ n → at w n ≡ None
-at-past w n le = at-keyed w n None (key_at-past w.first w.keys n le)
+pub at_past : (w : Window) (n : ℕ) → end_of w ≤ n → at w n ≡ None
+at_past w n le = at_keyed w n None (key_at_past w.first w.keys n le)
 
-pub at-room : (w : Window) (room n : ℕ) → at (record w { room = room }) n ≡ at w n
+pub at_room : (w : Window) (room n : ℕ) → at (record w { room = room }) n ≡ at w n
 unfolding at
-at-room w room n = refl
+at_room w room n = refl
 
-pub before-some : (w : Window) (n : ℕ) → IsWindow w → IsTrimmed w.keys → 0 < length w.keys
+pub before_some : (w : Window) (n : ℕ) → IsWindow w → IsTrimmed w.keys → 0 < length w.keys
     → w.first < n → HasBefore w n
-before-some w n i t lt low = record {
+before_some w n i t lt low = record {
   number = w.first;
-  here = (first-outstanding w i t lt).here;
+  here = (first_outstanding w i t lt).here;
   before = low;
 }
 
-pub before-none : (w : Window) (n : ℕ) → n ≤ w.first → (m : ℕ) → m < n → at w m ≡ None
-before-none w n le m lt = at-keyed w m None (key_at-low w.first w.keys m (omega arith))
+pub before_none : (w : Window) (n : ℕ) → n ≤ w.first → (m : ℕ) → m < n → at w m ≡ None
+before_none w n le m lt = at_keyed w m None (key_at_low w.first w.keys m (omega arith))

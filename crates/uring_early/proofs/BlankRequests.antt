@@ -8,7 +8,7 @@ use Rattle.uring_entry.specs.Below.{all_below}
 use Rattle.uring_entry.specs.Preparation.{is_cancel, is_cancel_all}
 use Rattle.uring_entry.specs.Success.{is_success}
 use Rattle.uring_entry.specs.Requests.{Requests, Ending, entry_of, is_outstanding, is_running, is_doomed, is_behind_failure, is_in_faulty_group, is_cancelled, some_member, is_joined, is_ready, is_issuable, is_candidate, is_target, is_soft, holds_back, has_ended, has_failed, waits_for, target_of, targets_of, result_for, count_result, cancel_result, doomed_result, chosen_by, next_of, no_bytes}
-use Rattle.uring_entry.proofs.BelowLemmas.{some_below-same, least_below-same}
+use Rattle.uring_entry.proofs.BelowLemmas.{some_below_same, least_below_same}
 use Rattle.uring_core.specs.World.{World}
 use Rattle.uring_core.specs.StepAnswers.{issue_answer}
 use Rattle.uring_core.specs.declared.answer.Answer.TheVariants as answer
@@ -44,7 +44,7 @@ module _ (r : Requests) where
   behind_same : (n : ℕ) → is_behind_failure q n ≡ is_behind_failure r n
   unfolding is_behind_failure is_joined
   behind_same n =
-      some_below-same (λ m. is_joined q m n && is_soft (entry_of r m) && has_failed q m) (λ m. is_joined r m n && is_soft (entry_of r m) && has_failed r m) n
+      some_below_same (λ m. is_joined q m n && is_soft (entry_of r m) && has_failed q m) (λ m. is_joined r m n && is_soft (entry_of r m) && has_failed r m) n
       (λ k lt. ap (λ b. is_joined r k n && is_soft (entry_of r k) && b) (failed_same k))
 
   doomed_same : (n : ℕ) → is_doomed q n ≡ is_doomed r n
@@ -55,7 +55,7 @@ module _ (r : Requests) where
   unfolding is_ready some_member is_joined
   ready_same n =
       ap not
-      (some_below-same (holds_back q n) (holds_back r n) n
+      (some_below_same (holds_back q n) (holds_back r n) n
       (λ k lt. ap (λ b. not b && waits_for r n k) (ended_same k)))
 
   candidate_same : (n m : ℕ) → is_candidate q n m ≡ is_candidate r n m
@@ -67,7 +67,7 @@ module _ (r : Requests) where
 
   one_same : (n : ℕ) → target_of q n ≡ target_of r n
   unfolding target_of
-  one_same n = least_below-same (is_candidate q n) (is_candidate r n) (length r.accepted) (λ k lt. candidate_same n k)
+  one_same n = least_below_same (is_candidate q n) (is_candidate r n) (length r.accepted) (λ k lt. candidate_same n k)
 
   all_below_same : (n m : ℕ) → all_below (is_target q n) m ≡ all_below (is_target r n) m
   all_below_same n zero = refl
@@ -97,7 +97,7 @@ module _ (r : Requests) where
       ∙ ap₂ (λ x y. is_outstanding r n && not (is_running r n) && (x || y)) (doomed_same n) (ready_same n)
 
   pub next_same : next_of q ≡ next_of r
-  next_same = least_below-same (is_issuable q) (is_issuable r) (length r.accepted) (λ k lt. issuable_same k)
+  next_same = least_below_same (is_issuable q) (is_issuable r) (length r.accepted) (λ k lt. issuable_same k)
 
   issue_by : (n : ℕ) → (if not (is_outstanding q n) then answer.Unknown else if is_running q n then answer.Running else if is_doomed q n then answer.Ended (doomed_result q n) no_bytes else if not (is_ready q n) then answer.NotReady else if is_cancel (entry_of q n) then answer.Ended (cancel_result q n) no_bytes else answer.Run)
       ≡ (if not (is_outstanding r n) then answer.Unknown else if is_running r n then answer.Running else if is_doomed r n then answer.Ended (doomed_result r n) no_bytes else if not (is_ready r n) then answer.NotReady else if is_cancel (entry_of r n) then answer.Ended (cancel_result r n) no_bytes else answer.Run)

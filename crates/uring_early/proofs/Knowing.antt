@@ -4,7 +4,7 @@ use Rattle.std.proofs.Math.Seq.{drop-cons}
 use Rattle.std.proofs.lemmas.List.{take-append-drop}
 use Rattle.uring_core.specs.StepAnswers.{CalledForApart}
 use Rattle.uring_core.specs.Histories.{Event, History, world, history_of, IsLawfulApart}
-use Rattle.uring_core.proofs.Following.{history_of-cons}
+use Rattle.uring_core.proofs.Following.{history_of_cons}
 use Rattle.uring_entry.specs.Setup.{Setup}
 use Rattle.uring_timelines.specs.declared.mark.Mark.{Mark}
 use Rattle.uring_early.specs.Bare.{IssueMeets, IssuesMeet, bytes_at, bytes_reaped, bytes_told, known_by, known_mark, known_marks}
@@ -28,7 +28,7 @@ known_snoc : (g : Setup) (told : List (List ℕ)) (events : List Event) (before 
     → known_marks g told before (events ++ e ∷ []) ≡ known_marks g told before events ++ one_more g told e (history_of events ++ before) ∷ []
 known_snoc g told [] before e = refl
 known_snoc g told (x ∷ events) before e =
-    ap (λ (ms : List Mark). one_more g told x before ∷ ms) (known_snoc g told events (x ∷ before) e ∙ ap (λ (h : History). known_marks g told (x ∷ before) events ++ one_more g told e h ∷ []) (sym (history_of-cons x events before)))
+    ap (λ (ms : List Mark). one_more g told x before ∷ ms) (known_snoc g told events (x ∷ before) e ∙ ap (λ (h : History). known_marks g told (x ∷ before) events ++ one_more g told e h ∷ []) (sym (history_of_cons x events before)))
 
 pub known_more : (g : Setup) (told : List (List ℕ)) (events : List Event) (e : Event)
     → known_marks g told [] (events ++ e ∷ []) ≡ known_marks g told [] events ++ known_mark (known_by g told (history_of events) e) (world g (e ∷ history_of events)).requests e ∷ []
@@ -39,7 +39,7 @@ issues_snoc : (g : Setup) (told : List (List ℕ)) (events : List Event) (before
     → IssueMeets (known_by g told (history_of events ++ before) e) e → IssuesMeet g told before (events ++ e ∷ [])
 issues_snoc g told [] before e all meets = (meets, tt)
 issues_snoc g told (x ∷ events) before e all meets =
-    (all.0, issues_snoc g told events (x ∷ before) e all.1 (subst (λ (h : History). IssueMeets (known_by g told h e) e) (history_of-cons x events before) meets))
+    (all.0, issues_snoc g told events (x ∷ before) e all.1 (subst (λ (h : History). IssueMeets (known_by g told h e) e) (history_of_cons x events before) meets))
 
 pub issues_more : (g : Setup) (told : List (List ℕ)) (events : List Event) (e : Event) → IssuesMeet g told [] events
     → IssueMeets (known_by g told (history_of events) e) e → IssuesMeet g told [] (events ++ e ∷ [])
@@ -50,7 +50,7 @@ issues_at : (g : Setup) (told : List (List ℕ)) (events later : List Event) (be
     → IssuesMeet g told before (events ++ e ∷ later) → IssueMeets (known_by g told (history_of events ++ before) e) e
 issues_at g told [] later before e all = all.0
 issues_at g told (x ∷ events) later before e all =
-    subst (λ (h : History). IssueMeets (known_by g told h e) e) (sym (history_of-cons x events before)) (issues_at g told events later (x ∷ before) e all.1)
+    subst (λ (h : History). IssueMeets (known_by g told h e) e) (sym (history_of_cons x events before)) (issues_at g told events later (x ∷ before) e all.1)
 
 issue_at : (g : Setup) (told : List (List ℕ)) (events : List Event) (k : ℕ) (e : Event) → k < length events → e ≡ get_or events k e
     → IssuesMeet g told [] events → IssueMeets (known_by g told (history_of (take k events)) e) e

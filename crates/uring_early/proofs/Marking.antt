@@ -6,7 +6,7 @@ use Rattle.uring_core.specs.StepAnswers.{CalledForApart}
 use Rattle.uring_laws.proofs.Growth.{lawful_before}
 use Rattle.uring_entry.specs.Setup.{Setup}
 use Rattle.uring_core.specs.Histories.{Event, History, world, history_of, IsLawfulApart}
-use Rattle.uring_core.proofs.Following.{history_of-append, history_of-cons}
+use Rattle.uring_core.proofs.Following.{history_of_append, history_of_cons}
 use Rattle.uring_timelines.specs.declared.mark.Mark.{Mark}
 use Rattle.uring_early.specs.Marks.{mark_by, marks_behind}
 
@@ -14,7 +14,7 @@ marks_snoc : (g : Setup) (events : List Event) (before : History) (e : Event)
     → marks_behind g before (events ++ e ∷ []) ≡ marks_behind g before events ++ mark_by (world g (e ∷ history_of events ++ before)).requests e ∷ []
 marks_snoc g [] before e = refl
 marks_snoc g (x ∷ events) before e =
-    ap (λ (ms : List Mark). mark_by (world g (x ∷ before)).requests x ∷ ms) (marks_snoc g events (x ∷ before) e ∙ ap (λ (h : History). marks_behind g (x ∷ before) events ++ mark_by (world g (e ∷ h)).requests e ∷ []) (sym (history_of-cons x events before)))
+    ap (λ (ms : List Mark). mark_by (world g (x ∷ before)).requests x ∷ ms) (marks_snoc g events (x ∷ before) e ∙ ap (λ (h : History). marks_behind g (x ∷ before) events ++ mark_by (world g (e ∷ h)).requests e ∷ []) (sym (history_of_cons x events before)))
 
 pub marks_more : (g : Setup) (events : List Event) (e : Event)
     → marks_behind g [] (events ++ e ∷ []) ≡ marks_behind g [] events ++ mark_by (world g (e ∷ history_of events)).requests e ∷ []
@@ -37,8 +37,8 @@ wrong_from g o events k e low is same wrong lawful =
     let split : events ≡ take k events ++ (e ∷ drop (suc k) events) = sym (take-append-drop k events) ∙ ap (λ (ys : List Event). take k events ++ ys) rest in
     let turned : history_of events ≡ history_of (drop (suc k) events) ++ e ∷ history_of (take k events) =
     sym (append-nil (history_of events)) ∙ ap (λ (ys : List Event). history_of ys ++ []) split
-    ∙ history_of-append (take k events) (e ∷ drop (suc k) events) []
-    ∙ history_of-cons e (drop (suc k) events) (history_of (take k events) ++ [])
+    ∙ history_of_append (take k events) (e ∷ drop (suc k) events) []
+    ∙ history_of_cons e (drop (suc k) events) (history_of (take k events) ++ [])
     ∙ ap (λ (h : History). history_of (drop (suc k) events) ++ e ∷ h) (append-nil (history_of (take k events))) in
     let here : IsLawfulApart g (e ∷ history_of (take k events)) = lawful_before g (history_of (drop (suc k) events)) (e ∷ history_of (take k events)) (subst (IsLawfulApart g) turned lawful) in
     wrong (subst (λ (s : Setup). CalledForApart s (world s (history_of (take k events))) e.0 e.1) (sym same) here.0)

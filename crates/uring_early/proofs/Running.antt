@@ -4,7 +4,7 @@ use Rattle.std.proofs.lemmas.Bool.{and_parts, eq-eqb, eqb-true}
 use Rattle.uring_entry.specs.Preparation.{operation_of}
 use Rattle.uring_entry.specs.Requests.{Ending, Requests, entry_of, has_ended, has_started, is_outstanding, is_running, no_bytes, chosen_by, cancel_result, doomed_result, with_cancelled, with_started, with_ended}
 use Rattle.uring_entry.specs.Setup.{Setup}
-use Rattle.uring_entry.proofs.RequestLemmas.{list_any-push}
+use Rattle.uring_entry.proofs.RequestLemmas.{list_any_push}
 use Rattle.uring_core.specs.World.{World, happens, taking_of, taking_entry_of, ending_of}
 use Rattle.uring_core.specs.declared.step.Step.{Step}
 use Rattle.uring_core.specs.declared.step.Step.TheVariants as step
@@ -46,13 +46,13 @@ ended_run true false k = refl
 start_runs : (r : Requests) (m n : ℕ) → has_ended r m ≡ false
     → is_running (with_started r m) n ≡ (is_running r n || (m == n))
 start_runs r m n unended =
-    ap (λ (b : Bool). b && not (has_ended r n)) (list_any-push (λ k. k == n) r.started m)
+    ap (λ (b : Bool). b && not (has_ended r n)) (list_any_push (λ k. k == n) r.started m)
     ∙ started_more (has_started r n) (m == n) (has_ended r n) (λ same. ap (has_ended r) (sym (eqb-true m n same)) ∙ unended)
 
 end_is : (r : Requests) (m n : ℕ) (res : ℤ) (bytes : List ℕ)
     → is_running (with_ended r m res bytes) n ≡ (has_started r n && not (has_ended r n || (m == n)))
 end_is r m n res bytes =
-    ap (λ (b : Bool). has_started r n && not b) (list_any-push (λ (e : Ending). e.number == n) r.ended (record { number = m; res = res; bytes = bytes }))
+    ap (λ (b : Bool). has_started r n && not b) (list_any_push (λ (e : Ending). e.number == n) r.ended (record { number = m; res = res; bytes = bytes }))
 
 end_idle : (r : Requests) (m n : ℕ) (res : ℤ) (bytes : List ℕ) → is_running r m ≡ false
     → is_running (with_ended r m res bytes) n ≡ is_running r n

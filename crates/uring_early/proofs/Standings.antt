@@ -10,7 +10,7 @@ use Rattle.uring_entry.specs.declared.operation.Op.{Op}
 use Rattle.uring_entry.specs.declared.operation.Outcome.{Outcome}
 use Rattle.uring_files.specs.Contents.{FileContents, empty_files}
 use Rattle.uring_files.specs.Operations.{IsOutcome, after}
-use Rattle.uring_files.proofs.DoneLemmas.{left-snoc}
+use Rattle.uring_files.proofs.DoneLemmas.{left_snoc}
 use Rattle.uring_core.specs.Histories.{History, world, IsLawfulApart}
 use Rattle.uring_core.specs.declared.step.Step.{Step}
 use Rattle.uring_core.specs.declared.step.Step.TheVariants as step
@@ -19,7 +19,7 @@ use Rattle.uring_core.specs.declared.answer.Answer.TheVariants as answer
 use Rattle.uring_core.specs.StepAnswers.{CalledForApart, FinishesApart}
 use Rattle.uring_core.specs.World.{World, happens, taking_of, taking_entry_of, ending_of}
 use Rattle.uring_core.proofs.Changes.{Change, IsSilent, change_of, refuses, takes, drops, closes, runs}
-use Rattle.uring_entry.proofs.RequestLemmas.{list_any-push}
+use Rattle.uring_entry.proofs.RequestLemmas.{list_any_push}
 use Rattle.uring_core.proofs.Sound.{sound_of}
 use Rattle.uring_laws.proofs.Growth.{event_grows}
 use Rattle.uring_effects.specs.Effects.{Makes, Takes, Timeline, made_in, requests_in, operation_at, effects_in, files_at, effect_of, TakesEffect, EndsAsTaken, IsTimely}
@@ -128,7 +128,7 @@ starts_stay g w s a n (drops call place opened left at invalid) started =
 starts_stay g w s a n (closes accepted missed head call opened all told) started =
     subst (λ o. has_started (ending_of w o).requests n ≡ true) (sym opened) started
 starts_stay g w s a n (runs m outstanding idle spared ready no_cancel) started =
-    list_any-push (λ k. k == n) w.requests.started m ∙ ap (λ (b : Bool). b || (m == n)) started
+    list_any_push (λ k. k == n) w.requests.started m ∙ ap (λ (b : Bool). b || (m == n)) started
 starts_stay g w s a n _ started = started
 
 started_kept : (g : Setup) (s : Step) (a : Answer) (h : History) (n : ℕ) → IsLawfulApart g ((s, a) ∷ h)
@@ -334,7 +334,7 @@ stands_takes g t st n o stands ran = record {
       ap (λ (x : Op). map plain (after st.files x o.res)) (ap op_of (stands.running n) ∙ op_one (is_running (requests_in g t) n) n (operation_at g t n) (effect_of t n) ran)
       ∙ ap (λ (fs : List FileContents). map plain (after fs (operation_at g t n) o.res)) stands.files
       ∙ after_plain (files_at g t) (operation_at g t n) o.res
-      ∙ ap (map plain) (sym (left-snoc (empty_files g.files) (effects_in g t) (record { number = n; op = operation_at g t n; outcome = o })));
+      ∙ ap (map plain) (sym (left_snoc (empty_files g.files) (effects_in g t) (record { number = n; op = operation_at g t n; outcome = o })));
   running = λ k.
       look_taken st.running n k o ∙ ap (λ (x : Option Running). option_map (λ r. taking n o r) x) (stands.running k)
       ∙ taken_one (is_running (requests_in g t) k) k n (operation_at g t k) o (effect_of t k);

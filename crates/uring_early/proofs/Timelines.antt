@@ -15,7 +15,7 @@ use Rattle.uring_core.specs.declared.step.Step.{Step}
 use Rattle.uring_core.specs.declared.step.Step.TheVariants as step
 use Rattle.uring_core.specs.declared.answer.Answer.{Answer}
 use Rattle.uring_core.specs.declared.answer.Answer.TheVariants as answer
-use Rattle.uring_core.proofs.Following.{history_of-cons}
+use Rattle.uring_core.proofs.Following.{history_of_cons}
 use Rattle.uring_core.proofs.Running.{running_asks}
 use Rattle.uring_effects.specs.Effects.{Makes, Takes, Timeline, made_in, requests_in, operation_at, files_at, effect_of, TakesEffect, EndsAsTaken, IsTimely, IsLawfulEarly, is_end_of, ends_in_effect, EndsLast, EffectsWait}
 use Rattle.uring_effects.specs.Laws.{IsLawfulLate}
@@ -39,7 +39,7 @@ onto before (e ∷ later) = onto (e ∷ before) later
 
 pub onto_is : (later : List Event) (before : History) → onto before later ≡ history_of later ++ before
 onto_is [] before = refl
-onto_is (e ∷ later) before = onto_is later (e ∷ before) ∙ sym (history_of-cons e later before)
+onto_is (e ∷ later) before = onto_is later (e ∷ before) ∙ sym (history_of_cons e later before)
 
 pub lawful_below : (g : Setup) (later : List Event) (before : History) → IsLawfulApart g (onto before later)
     → IsLawfulApart g before
@@ -223,7 +223,7 @@ back : (g : Setup) (t : Timeline) (later : List Event) → IsTimely g t → IsLa
     → Goes (at_first g.files) (marks_behind g [] (reverse (made_in t) ++ later))
 back g [] later timely lawful waits next so goes = goes
 back g (Makes (s, a) ∷ t) later timely lawful waits next so goes =
-    subst (λ (l : List Event). Goes (at_first g.files) (marks_behind g [] l)) (sym (history_of-cons (s, a) (made_in t) later))
+    subst (λ (l : List Event). Goes (at_first g.files) (marks_behind g [] l)) (sym (history_of_cons (s, a) (made_in t) later))
     (back g t ((s, a) ∷ later) timely.1 lawful.1 waits.1 (next_by g (s, a) t later timely.1 waits.0) (ends_before g s a t later timely.0 so) (goes_pass (standing_of g t) (mark_by (requests_in g (Makes (s, a) ∷ t)) (s, a)) (marks_behind g ((s, a) ∷ made_in t) later) (passes_so g t (standing_of g t) s a (stands_of g t timely.1 lawful.1) lawful.0 timely.0) goes))
 back g (Takes n o ∷ t) later timely lawful waits next so goes =
     back g t later timely.1 lawful waits (next_before t later next) (ends_before_effect g n o t later timely.0.first so) (goes_take (standing_of g t) (marks_behind g (made_in t) later) n o (may_take g t (standing_of g t) later n o (stands_of g t timely.1 lawful) lawful timely.0 next (so n o (ap (λ (b : Bool). if b then Some o else effect_of t n) (eq-eqb n n refl)))) goes)

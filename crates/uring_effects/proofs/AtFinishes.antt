@@ -7,7 +7,7 @@ use Rattle.uring_entry.specs.Setup.{Setup}
 use Rattle.uring_entry.specs.Preparation.{operation_of}
 use Rattle.uring_entry.specs.Requests.{Ending, Requests, entry_of, has_ended, is_running}
 use Rattle.uring_entry.specs.declared.operation.Outcome.{Outcome}
-use Rattle.uring_entry.proofs.RequestLemmas.{list_any-push}
+use Rattle.uring_entry.proofs.RequestLemmas.{list_any_push}
 use Rattle.uring_files.specs.Contents.{FileContents}
 use Rattle.uring_files.specs.Done.{Done, files_left}
 use Rattle.uring_files.specs.Operations.{IsOutcome}
@@ -64,12 +64,12 @@ is_of n e = e.number == n
 left_false : (n : ℕ) (xs : List Ending) (x : Option Ending) → list_any (is_of n) (with_told xs x) ≡ false
     → list_any (is_of n) xs ≡ false
 left_false n xs None e = e
-left_false n xs (Some x) e = (or_parts _ _ (sym (list_any-push (is_of n) xs x) ∙ e)).0
+left_false n xs (Some x) e = (or_parts _ _ (sym (list_any_push (is_of n) xs x) ∙ e)).0
 
 last_false : (n : ℕ) (xs : List Ending) (x : Ending) → list_any (is_of n) (xs ++ x ∷ []) ≡ false
     → (x.number == n) ≡ false
 last_false n xs x e =
-    (or_parts _ _ (sym (list_any-push (is_of n) xs x) ∙ e)).1
+    (or_parts _ _ (sym (list_any_push (is_of n) xs x) ∙ e)).1
 
 not_taken : (n : ℕ) (e : Event) (t : Timeline) (before : History)
     → list_any (is_of n) (with_told (told end_told_by before) (end_told_by e)) ≡ false

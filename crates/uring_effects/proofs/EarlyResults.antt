@@ -7,7 +7,7 @@ use Rattle.uring_entry.specs.Preparation.{fault_of, is_faulty}
 use Rattle.uring_entry.specs.Requests.{Requests, entry_of, has_started}
 use Rattle.uring_entry.specs.Setup.{Setup}
 use Rattle.uring_entry.specs.declared.operation.Outcome.{Outcome}
-use Rattle.uring_entry.proofs.RequestLemmas.{is_doomed-own_fault}
+use Rattle.uring_entry.proofs.RequestLemmas.{is_doomed_own_fault}
 use Rattle.uring_results.specs.Results.{may_end}
 use Rattle.uring_core.specs.Histories.{Event, History, IsLawfulApart}
 use Rattle.uring_core.specs.declared.step.Step.TheVariants as step
@@ -32,7 +32,7 @@ taken_allowed g before n o lawful takes =
     let r : Requests = requests_in g before in
     let i : IsSoundRequests r = (sound_of g (made_in before) lawful).requests in
     let started : has_started r n ≡ true = (and_parts _ _ takes.runs).0 in
-    let right : is_faulty (entry_of r n) ≡ false = false_from_ne_true _ (λ faulty. both_ways _ (i.started_free n started).spared (is_doomed-own_fault r n (i.started_accepted n started) faulty)) in
+    let right : is_faulty (entry_of r n) ≡ false = false_from_ne_true _ (λ faulty. both_ways _ (i.started_free n started).spared (is_doomed_own_fault r n (i.started_accepted n started) faulty)) in
     record {
       accepted = i.started_accepted n started;
       may = outcome_allowed (files_at g before) (entry_of r n) o (not_some (fault_of (entry_of r n)) right) (no_cancel g (made_in before) lawful n started) (running_asks g (made_in before) n lawful takes.runs) takes.gives;

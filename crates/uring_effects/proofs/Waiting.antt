@@ -6,7 +6,7 @@ use Rattle.uring_entry.specs.Requests.{Ending, Requests, entry_of, has_ended, is
 use Rattle.uring_entry.specs.Setup.{Setup}
 use Rattle.uring_entry.specs.declared.operation.Op.{Op}
 use Rattle.uring_entry.specs.declared.operation.Outcome.{Outcome}
-use Rattle.uring_entry.proofs.RequestLemmas.{list_any-push}
+use Rattle.uring_entry.proofs.RequestLemmas.{list_any_push}
 use Rattle.uring_files.specs.Contents.{empty_files}
 use Rattle.uring_files.specs.Done.{Done, files_left}
 use Rattle.uring_files.specs.Operations.{IsOutcome}
@@ -32,14 +32,14 @@ both_so false b e f = absurd cc
 start_runs : (r : Requests) (m n : ℕ) → is_running r n ≡ true → is_running (with_started r m) n ≡ true
 start_runs r m n running =
     let parts = and_parts _ _ running in
-    both_so _ _ (list_any-push (λ k. k == n) r.started m ∙ ap (λ (b : Bool). b || (m == n)) parts.0) parts.1
+    both_so _ _ (list_any_push (λ k. k == n) r.started m ∙ ap (λ (b : Bool). b || (m == n)) parts.0) parts.1
 
 -- another ends
 end_runs : (r : Requests) (m n : ℕ) (res : ℤ) (bytes : List ℕ) → (m == n) ≡ false
     → is_running r n ≡ true → is_running (with_ended r m res bytes) n ≡ true
 end_runs r m n res bytes other running =
     let parts = and_parts _ _ running in
-    both_so _ _ parts.0 (ap not (list_any-push (λ (e : Ending). e.number == n) r.ended (record { number = m; res = res; bytes = bytes }) ∙ ap (λ (b : Bool). has_ended r n || b) other ∙ or_false (has_ended r n)) ∙ parts.1)
+    both_so _ _ parts.0 (ap not (list_any_push (λ (e : Ending). e.number == n) r.ended (record { number = m; res = res; bytes = bytes }) ∙ ap (λ (b : Bool). has_ended r n || b) other ∙ or_false (has_ended r n)) ∙ parts.1)
   where
     or_false : (b : Bool) → (b || false) ≡ b
     or_false true = refl

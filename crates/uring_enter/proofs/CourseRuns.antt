@@ -5,7 +5,7 @@ use Rattle.uring_enter.specs.declared.act.Fact.{Fact}
 use Rattle.uring_enter.specs.declared.act.Fact.TheVariants.{Started, Dropped, Cancelled, Tried, Waits, WentOn, Done, Notified, Ended}
 use Rattle.uring_enter.specs.declared.act.Act.{Act}
 use Rattle.uring_enter.specs.declared.act.Act.TheVariants.{Nothing, CarryOut, End}
-use Rattle.uring_enter.specs.Replies.{error}
+use Rattle.uring_entry.specs.Errors.{error}
 use Rattle.uring_enter.specs.Courses.{has_started, has_ended, is_cancelled, is_tried, result, end_by, may_go_on, act_by, is_carrying_out, is_ending, is_known, can_be, fits, is_run}
 use Rattle.uring_enter.specs.CourseLaws.{CarriesOutWhatRuns, CarriesOutOnce, tries, returns, TriesOnce, EndsForGood, EndsWithItsResult}
 use Rattle.uring_enter.proofs.Running.{both_left, both_right}

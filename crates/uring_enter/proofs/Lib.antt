@@ -12,5 +12,3 @@ mod CourseRuns
 mod PostingRuns
 mod ChainRuns
 mod WayRuns
-mod TableRuns
-mod TableLaws

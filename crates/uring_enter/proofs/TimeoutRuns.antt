@@ -8,7 +8,7 @@ use Rattle.uring_enter.specs.declared.timeout.Start.{Start}
 use Rattle.uring_enter.specs.declared.timeout.Timeout.{Timeout}
 use Rattle.uring_enter.specs.Timeouts.{Event, later, time, started, running, is_other, with_expiry, ends_before, has_counted, is_over, AreApart}
 use Rattle.uring_enter.specs.Timeouts.{Started, Posted, Changed, Stopped, Clock, Slept, Passed, Ended}
-use Rattle.uring_enter.specs.Replies.{error}
+use Rattle.uring_entry.specs.Errors.{error}
 use Rattle.uring_enter.specs.TimeLaws.{IsRun, NeverGoesBack, WasGiven, EndsInTime, starts, EndsOnce, EndsAlone, RunsApart, is_virtual, PassesNoneOver}
 
 pub never_goes_back : NeverGoesBack

@@ -4,7 +4,7 @@ use Rattle.uring_enter.specs.declared.cancel.Sought.{Sought}
 use Rattle.uring_enter.specs.declared.cancel.Outstanding.{Outstanding}
 use Rattle.uring_enter.specs.declared.cancel.Cancel.{Cancel}
 use Rattle.uring_enter.specs.declared.search.Search.{Search}
-use Rattle.uring_enter.specs.Replies.{error}
+use Rattle.uring_entry.specs.Errors.{error}
 
 -- whether a cancel is of all that it finds
 abbrev pub is_of_all : Sought → Bool

@@ -7,9 +7,8 @@ use Rattle.uring_enter.specs.declared.copying.Copying.{Copying}
 use Rattle.uring_enter.specs.declared.copying.Copying.TheVariants.{Copies, Ends}
 use Rattle.uring_enter.specs.Chains.{has_its_place}
 use Rattle.uring_enter.specs.Clocks.{has_some}
-use Rattle.uring_enter.specs.Forms.{is_below}
+use Rattle.uring_entry.specs.Errors.{error, is_below}
 use Rattle.uring_enter.specs.Pieces.{piece_of, fault_of, selection_fault}
-use Rattle.uring_enter.specs.Replies.{error}
 
 -- IOSQE_IO_LINK is 4 and IO_HARDLINK 8; IORING_OP_LINK_TIMEOUT is 15
 abbrev pub link_of : Submission → Entry

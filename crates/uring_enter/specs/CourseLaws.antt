@@ -3,7 +3,7 @@ use Rattle.std.specs.Prelude.{◌≡◌, ℕ, ℤ, ◌+◌, ◌≤◌, true, fal
 use Rattle.uring_enter.specs.declared.act.Fact.{Fact}
 use Rattle.uring_enter.specs.declared.act.Fact.TheVariants.{Tried, Waits, WentOn, Done}
 use Rattle.uring_enter.specs.declared.act.Act.TheVariants.{Nothing, CarryOut, End}
-use Rattle.uring_enter.specs.Replies.{error}
+use Rattle.uring_entry.specs.Errors.{error}
 use Rattle.uring_enter.specs.Courses.{has_started, has_ended, is_cancelled, result, act, fits, is_run}
 
 -- an operation is to be carried out only if the core let its request start, which hasn't ended, and which no cancel has found

@@ -5,7 +5,7 @@ use Rattle.uring_enter.specs.declared.act.Fact.TheVariants.{Started, Dropped, Ca
 use Rattle.uring_enter.specs.declared.act.Act.{Act}
 use Rattle.uring_enter.specs.declared.act.Act.TheVariants.{Nothing, CarryOut, End}
 use Rattle.uring_enter.specs.declared.course.Course.{Course}
-use Rattle.uring_enter.specs.Replies.{error}
+use Rattle.uring_entry.specs.Errors.{error}
 
 -- the core let it start
 abbrev pub has_started : List Fact → Bool

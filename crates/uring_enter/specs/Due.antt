@@ -8,7 +8,8 @@ use Rattle.uring_enter.specs.declared.command.Command.TheVariants.{Hear, Submit,
 use Rattle.uring_enter.specs.declared.reply.Sight.{Sight}
 use Rattle.uring_enter.specs.declared.reply.Reply.{Reply}
 use Rattle.uring_enter.specs.declared.reply.Reply.TheVariants.{Heard, WrongHead, Taken, NotTaken, WentOn, Chosen, Stuck, Woken, TimedOut, Interrupted, Endless, Failed, Passed}
-use Rattle.uring_enter.specs.Replies.{error, submission, is_none, waits, looks, is_enough}
+use Rattle.uring_entry.specs.Errors.{error}
+use Rattle.uring_enter.specs.Replies.{submission, is_none, waits, looks, is_enough}
 
 abbrev pub is_lazy : Policy → Bool
 is_lazy Lazy = true

@@ -9,7 +9,7 @@ use Rattle.uring_enter.specs.declared.form.Form.{Form}
 use Rattle.uring_enter.specs.declared.form.Form.TheVariants as form
 use Rattle.uring_enter.specs.Clocks.{has_some, are_timeout_flags}
 use Rattle.uring_enter.specs.SocketForms.{is_send, is_receive, is_receive_message, is_send_zero_copy, is_send_message_zero_copy, is_connect, is_accept}
-use Rattle.uring_enter.specs.Replies.{error}
+use Rattle.uring_entry.specs.Errors.{error, is_below}
 
 -- the operations that are served, each with the rule of its fields; the numbers are those of <linux/io_uring.h>
 abbrev pub rule_of : ℕ → Option Rule
@@ -196,10 +196,6 @@ is_malformed e = has_some e.flags 128 || not (e.personality == 0) || breaks (rul
 -- a cancel by user data, on whose success nothing rests: no link (4, 8) and no skipped success (64)
 abbrev pub is_plain_cancel : Submission → Bool
 is_plain_cancel e = e.opcode == 14 && e.op_flags == 0 && not (has_some e.flags 76)
-
-abbrev pub is_below : ℤ → Bool
-is_below (pos _) = false
-is_below (negsuc _) = true
 
 -- the first of these faults that it has: what a strict ring says, -13 (EACCES) of a restriction, -95 (EOPNOTSUPP) of a buffer that can't be selected, -22 (EINVAL) of its form. Else it is a cancel of the core's, or a token of it. Our own rule
 abbrev pub form_of : Submission → ℤ → Bool → Form

@@ -1,6 +1,6 @@
 -- Glue: the time of a ring, and rows of timeouts, that have come so far.
 use Rattle.std.specs.Prelude.{◌≡◌, ℕ, ◌≤◌, length, take, ℤ, pos, nat_le, min, List, Option, Some, None, if◌then◌else◌}
-use Rattle.uring_enter.specs.Replies.{error}
+use Rattle.uring_entry.specs.Errors.{error}
 use Rattle.uring_enter.specs.declared.timeout.Timeout.{Timeout}
 use Rattle.uring_enter.specs.declared.times.Times.{Times}
 use Rattle.uring_enter.specs.Timeouts.{Event, time, slept_until, posted, expired, running, ends_before, is_reached_by}

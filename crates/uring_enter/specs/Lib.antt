@@ -28,7 +28,3 @@ pub mod Ways
 pub mod Drainings
 pub mod Updates
 pub mod SettingUp
-pub mod Restricting
-pub mod Tables
-pub mod Registering
-pub mod TableLaws

@@ -3,7 +3,7 @@ use Rattle.std.specs.Prelude.{ℤ, pos, negsuc, Bool, false, not, ◌&&◌, ◌|
 use Rattle.std.specs.Ordering.{int_eq}
 use Rattle.uring_enter.specs.declared.outcome.Success.{Success}
 use Rattle.uring_enter.specs.declared.outcome.EndedEarly.{EndedEarly}
-use Rattle.uring_enter.specs.Replies.{error}
+use Rattle.uring_entry.specs.Errors.{error}
 use Rattle.uring_enter.specs.Timeouts.{linked_outcome}
 
 -- a transfer has moved all that it was asked to, and nothing was cut: a short one breaks a link

@@ -6,8 +6,7 @@ use Rattle.uring_enter.specs.declared.piece.What.{What}
 use Rattle.uring_enter.specs.declared.piece.What.TheVariants.{Buffer, Vectors, Path, SecondPath, How, Time, Value, Message, Address}
 use Rattle.uring_enter.specs.declared.piece.Piece.{Piece}
 use Rattle.uring_enter.specs.Clocks.{has_some}
-use Rattle.uring_enter.specs.Forms.{is_below}
-use Rattle.uring_enter.specs.Replies.{error}
+use Rattle.uring_entry.specs.Errors.{error, is_below}
 
 abbrev pub stands : What → ℕ → ℕ → Option Piece
 stands what from size = Some (record { what = what; from = from; size = size })

@@ -1,13 +1,10 @@
 -- What was replied in a call so far, the newest first, and what it tells.
 use Rattle.std.specs.Prelude.{ℕ, ℤ, pos, negsuc, ◌-ℤ◌, Bool, false, not, ◌&&◌, ◌||◌, ◌==◌, nat_le, nat_lt, min, List, [], ◌∷◌}
+use Rattle.uring_entry.specs.Errors.{error}
 use Rattle.uring_enter.specs.declared.asked.Asked.{Asked}
 use Rattle.uring_enter.specs.declared.reply.Sight.{Sight}
 use Rattle.uring_enter.specs.declared.reply.Reply.{Reply}
 use Rattle.uring_enter.specs.declared.reply.Reply.TheVariants.{Taken, NotTaken}
-
--- the negative of an error number
-abbrev pub error : ℕ → ℤ
-error number = pos 0 -ℤ pos number
 
 -- what the submission came to: how many entries were taken, or the error for which none was. io_uring_enter(2), RETURN VALUE
 abbrev pub submission : List Reply → ℤ

@@ -3,8 +3,7 @@ use Rattle.std.specs.Prelude.{◌≡◌, ℕ, ℤ, pos, ◌+◌, Bool, true, fal
 use Rattle.uring_entry.specs.Setup.{Setup, IsSetupFor}
 use Rattle.uring_enter.specs.declared.asked_ring.AskedRing.{AskedRing}
 use Rattle.uring_enter.specs.Clocks.{has_some}
-use Rattle.uring_enter.specs.Forms.{is_below}
-use Rattle.uring_enter.specs.Replies.{error}
+use Rattle.uring_entry.specs.Errors.{error, is_below}
 
 -- IORING_SETUP_SQPOLL is 2: no COOP_TASKRUN (256), TASKRUN_FLAG (512) or DEFER_TASKRUN (8192) beside it. TASKRUN_FLAG wants one of the other two, and DEFER_TASKRUN SINGLE_ISSUER (4096)
 abbrev pub has_lone_flags : ℕ → Bool

@@ -2,7 +2,7 @@
 use Rattle.std.specs.Prelude.{◌≡◌, ℕ, ℤ, pos, negsuc, ◌+◌, ◌*◌, ◌-◌, ◌^◌, Bool, true, false, not, ◌&&◌, ◌||◌, ◌==◌, nat_lt, nat_le, ◌≤◌, ◌⊎◌, min, max, MatchOption, Option, Some, None, List, [], ◌∷◌, ◌++◌, map, filter, Contains, if◌then◌else◌}
 use Rattle.uring_enter.specs.declared.timeout.Start.{Start}
 use Rattle.uring_enter.specs.declared.timeout.Timeout.{Timeout}
-use Rattle.uring_enter.specs.Replies.{error}
+use Rattle.uring_entry.specs.Errors.{error}
 
 -- what happens to the timeouts of a ring
 pub data Event : Type 0 where

@@ -1,7 +1,8 @@
 //! One call: what it keeps, and what it does next.
 
 ghost use Rattle.std.specs.Prelude.{◌≡◌, ◌↔◌, ℤ, pos, List, [], ◌∷◌, true, false, Ok, IsErr, IfOk, OnErr};
-ghost use Rattle.uring_enter.specs.Replies.{error, waits, looks, is_enough};
+ghost use Rattle.uring_entry.specs.Errors.{error};
+ghost use Rattle.uring_enter.specs.Replies.{waits, looks, is_enough};
 ghost use Rattle.uring_enter.specs.Due.{due, is_reply_to, is_lazy, unless_ready, go_by, ended, waiting, looking, leaving, going, stuck, hearing};
 ghost use Rattle.uring_enter.specs.After.{IsAfter, Keeps, before_of};
 

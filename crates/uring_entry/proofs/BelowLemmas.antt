@@ -6,87 +6,87 @@ use Rattle.std.proofs.lemmas.List.Folds.{list_any-append}
 use Rattle.std.proofs.lemmas.Option.{same_Some, none-some}
 use Rattle.uring_entry.specs.Below.{some_below, least_below, all_below, found_or}
 
-pub some_below-none : (p : ℕ → Bool) (n : ℕ) → ((k : ℕ) → k < n → p k ≡ false)
+pub some_below_none : (p : ℕ → Bool) (n : ℕ) → ((k : ℕ) → k < n → p k ≡ false)
     → some_below p n ≡ false
-some_below-none p zero h = refl
-some_below-none p (suc n) h =
-    or_from _ _ (some_below-none p n (λ k lt. h k (omega arith))) (h n (omega arith))
+some_below_none p zero h = refl
+some_below_none p (suc n) h =
+    or_from _ _ (some_below_none p n (λ k lt. h k (omega arith))) (h n (omega arith))
 
-pub some_below-some : (p : ℕ → Bool) (n k : ℕ) → k < n → p k ≡ true → some_below p n ≡ true
-some_below-some p zero k lt e = absurd (omega arith)
-some_below-some p (suc n) k lt e =
+pub some_below_some : (p : ℕ → Bool) (n k : ℕ) → k < n → p k ≡ true → some_below p n ≡ true
+some_below_some p zero k lt e = absurd (omega arith)
+some_below_some p (suc n) k lt e =
     elim (cases_lt k n) [
-      | inl low ↦ or_left _ _ (some_below-some p n k low e)
+      | inl low ↦ or_left _ _ (some_below_some p n k low e)
       | inr high ↦ or_right _ _ (let same : k ≡ n = omega arith in ap p (sym same) ∙ e)
     ]
 
-pub some_below-out : (p : ℕ → Bool) (n : ℕ) → some_below p n ≡ false → (k : ℕ) → k < n → p k ≡ false
-some_below-out p n e k lt =
+pub some_below_out : (p : ℕ → Bool) (n : ℕ) → some_below p n ≡ false → (k : ℕ) → k < n → p k ≡ false
+some_below_out p n e k lt =
     elim (cases_Bool (p k)) [
-      | inl holds ↦ absurd (both_ways _ e (some_below-some p n k lt holds))
+      | inl holds ↦ absurd (both_ways _ e (some_below_some p n k lt holds))
       | inr fails ↦ fails
     ]
 
-pub some_below-in : (p : ℕ → Bool) (n : ℕ) → some_below p n ≡ true
+pub some_below_in : (p : ℕ → Bool) (n : ℕ) → some_below p n ≡ true
     → (k : ℕ) × (k < n) × (p k ≡ true)
-some_below-in p zero e = absurd (both_ways false refl e)
-some_below-in p (suc n) e =
+some_below_in p zero e = absurd (both_ways false refl e)
+some_below_in p (suc n) e =
     elim (or_cases _ _ e) [
-      | inl below ↦ let found = some_below-in p n below in (found.0, omega (arith, found.1), found.2)
+      | inl below ↦ let found = some_below_in p n below in (found.0, omega (arith, found.1), found.2)
       | inr here ↦ (n, omega arith, here)
     ]
 
 -- two tests that agree below the bound
-pub some_below-same : (p q : ℕ → Bool) (n : ℕ) → ((k : ℕ) → k < n → p k ≡ q k)
+pub some_below_same : (p q : ℕ → Bool) (n : ℕ) → ((k : ℕ) → k < n → p k ≡ q k)
     → some_below p n ≡ some_below q n
-some_below-same p q zero h = refl
-some_below-same p q (suc n) h =
-    ap (λ b. b || p n) (some_below-same p q n (λ k lt. h k (omega arith))) ∙ ap (λ b. some_below q n || b) (h n (omega arith))
+some_below_same p q zero h = refl
+some_below_same p q (suc n) h =
+    ap (λ b. b || p n) (some_below_same p q n (λ k lt. h k (omega arith))) ∙ ap (λ b. some_below q n || b) (h n (omega arith))
 
-pub some_below-raised : (p : ℕ → Bool) (n m : ℕ) → n ≤ m → some_below p n ≡ true
+pub some_below_raised : (p : ℕ → Bool) (n m : ℕ) → n ≤ m → some_below p n ≡ true
     → some_below p m ≡ true
-some_below-raised p n zero le e = let same : n ≡ 0 = omega arith in ap (some_below p) (sym same) ∙ e
-some_below-raised p n (suc m) le e =
+some_below_raised p n zero le e = let same : n ≡ 0 = omega arith in ap (some_below p) (sym same) ∙ e
+some_below_raised p n (suc m) le e =
     elim (cases_lt n (suc m)) [
-      | inl low ↦ or_left _ _ (some_below-raised p n m (omega arith) e)
+      | inl low ↦ or_left _ _ (some_below_raised p n m (omega arith) e)
       | inr high ↦ let same : n ≡ suc m = omega arith in ap (some_below p) (sym same) ∙ e
     ]
 
 -- a bound that goes further, over numbers at which the test fails
-pub some_below-between : (p : ℕ → Bool) (n m : ℕ) → n ≤ m → ((k : ℕ) → n ≤ k → k < m → p k ≡ false)
+pub some_below_between : (p : ℕ → Bool) (n m : ℕ) → n ≤ m → ((k : ℕ) → n ≤ k → k < m → p k ≡ false)
     → some_below p m ≡ some_below p n
-some_below-between p n m le h =
+some_below_between p n m le h =
     elim (cases_Bool (some_below p n)) [
-      | inl e ↦ some_below-raised p n m le e ∙ sym e
+      | inl e ↦ some_below_raised p n m le e ∙ sym e
       | inr e ↦
-          some_below-none p m
-          (λ k lt. elim (cases_lt k n) [ inl low ↦ some_below-out p n e k low | inr high ↦ h k high lt ])
+          some_below_none p m
+          (λ k lt. elim (cases_lt k n) [ inl low ↦ some_below_out p n e k low | inr high ↦ h k high lt ])
           ∙ sym e
     ]
 
-pub least_below-none : (p : ℕ → Bool) (n : ℕ) → ((k : ℕ) → k < n → p k ≡ false)
+pub least_below_none : (p : ℕ → Bool) (n : ℕ) → ((k : ℕ) → k < n → p k ≡ false)
     → least_below p n ≡ None
-least_below-none p zero h = refl
-least_below-none p (suc n) h =
-    ap (λ o. found_or o (p n) n) (least_below-none p n (λ k lt. h k (omega arith))) ∙ ap (λ b. found_or None b n) (h n (omega arith))
+least_below_none p zero h = refl
+least_below_none p (suc n) h =
+    ap (λ o. found_or o (p n) n) (least_below_none p n (λ k lt. h k (omega arith))) ∙ ap (λ b. found_or None b n) (h n (omega arith))
 
-pub least_below-some : (p : ℕ → Bool) (n k : ℕ) → k < n → p k ≡ true
+pub least_below_some : (p : ℕ → Bool) (n k : ℕ) → k < n → p k ≡ true
     → ((j : ℕ) → j < k → p j ≡ false) → least_below p n ≡ Some k
-least_below-some p zero k lt e before = absurd (omega arith)
-least_below-some p (suc n) k lt e before =
+least_below_some p zero k lt e before = absurd (omega arith)
+least_below_some p (suc n) k lt e before =
     elim (cases_lt k n) [
-      | inl low ↦ ap (λ o. found_or o (p n) n) (least_below-some p n k low e before)
+      | inl low ↦ ap (λ o. found_or o (p n) n) (least_below_some p n k low e before)
       | inr high ↦
           let same : k ≡ n = omega arith in
-          ap (λ o. found_or o (p n) n) (least_below-none p n (λ j lt2. before j (omega arith)))
+          ap (λ o. found_or o (p n) n) (least_below_none p n (λ j lt2. before j (omega arith)))
           ∙ ap (λ b. found_or None b n) (ap p (sym same) ∙ e) ∙ ap Some (sym same)
     ]
 
-pub least_below-same : (p q : ℕ → Bool) (n : ℕ) → ((k : ℕ) → k < n → p k ≡ q k)
+pub least_below_same : (p q : ℕ → Bool) (n : ℕ) → ((k : ℕ) → k < n → p k ≡ q k)
     → least_below p n ≡ least_below q n
-least_below-same p q zero h = refl
-least_below-same p q (suc n) h =
-    ap (λ o. found_or o (p n) n) (least_below-same p q n (λ k lt. h k (omega arith)))
+least_below_same p q zero h = refl
+least_below_same p q (suc n) h =
+    ap (λ o. found_or o (p n) n) (least_below_same p q n (λ k lt. h k (omega arith)))
     ∙ ap (λ b. found_or (least_below q n) b n) (h n (omega arith))
 
 -- what the least number is
@@ -100,28 +100,28 @@ pub is_some_value : {X : Type 0} (o : Option X) → is_some o ≡ true → (q : 
 is_some_value None e = absurd (both_ways false refl e)
 is_some_value (Some q) e = (q, refl)
 
-is_some-found : (o : Option ℕ) (b : Bool) (n : ℕ) → is_some (found_or o b n) ≡ (is_some o || b)
-is_some-found (Some m) b n = refl
-is_some-found None true n = refl
-is_some-found None false n = refl
+is_some_found : (o : Option ℕ) (b : Bool) (n : ℕ) → is_some (found_or o b n) ≡ (is_some o || b)
+is_some_found (Some m) b n = refl
+is_some_found None true n = refl
+is_some_found None false n = refl
 
 -- there is a least number where there is some
-pub is_some-least_below : (p : ℕ → Bool) (n : ℕ) → is_some (least_below p n) ≡ some_below p n
-is_some-least_below p zero = refl
-is_some-least_below p (suc n) =
-    is_some-found (least_below p n) (p n) n ∙ ap (λ b. b || p n) (is_some-least_below p n)
+pub is_some_least_below : (p : ℕ → Bool) (n : ℕ) → is_some (least_below p n) ≡ some_below p n
+is_some_least_below p zero = refl
+is_some_least_below p (suc n) =
+    is_some_found (least_below p n) (p n) n ∙ ap (λ b. b || p n) (is_some_least_below p n)
 
-pub least_below-out : (p : ℕ → Bool) (n : ℕ) → least_below p n ≡ None → (k : ℕ) → k < n
+pub least_below_out : (p : ℕ → Bool) (n : ℕ) → least_below p n ≡ None → (k : ℕ) → k < n
     → p k ≡ false
-least_below-out p n e = some_below-out p n (sym (is_some-least_below p n) ∙ ap is_some e)
+least_below_out p n e = some_below_out p n (sym (is_some_least_below p n) ∙ ap is_some e)
 
-pub least_below-tells : (p : ℕ → Bool) (n k : ℕ) → least_below p n ≡ Some k → IsLeast p n k
-least_below-tells p zero k e = cc
-least_below-tells p (suc n) k e =
+pub least_below_tells : (p : ℕ → Bool) (n k : ℕ) → least_below p n ≡ Some k → IsLeast p n k
+least_below_tells p zero k e = cc
+least_below_tells p (suc n) k e =
     elim (least_below p n) as (λ o. least_below p n ≡ o → found_or o (p n) n ≡ Some k → IsLeast p (suc n) k) [
       | Some m ↦ λ was is.
           let same : m ≡ k = cc in
-          let least = least_below-tells p n k (was ∙ ap Some same) in
+          let least = least_below_tells p n k (was ∙ ap Some same) in
           record { below = omega (arith, least.below); holds = least.holds; before = least.before }
       | None ↦ λ was is.
           elim (cases_Bool (p n)) [
@@ -130,7 +130,7 @@ least_below-tells p (suc n) k e =
                 record {
                   below = omega arith;
                   holds = ap p (sym same) ∙ holds;
-                  before = λ j lt. least_below-out p n was j (omega arith);
+                  before = λ j lt. least_below_out p n was j (omega arith);
                 }
             | inr fails ↦ absurd (none-some k (ap (λ b. found_or None b n) (sym fails) ∙ is))
           ]
@@ -147,35 +147,35 @@ here_if true n m e =
       | inr none ↦ absurd (both_ways false refl none)
     ]
 
-pub all_below-in : (p : ℕ → Bool) (n m : ℕ) → list_any (λ k. k == m) (all_below p n) ≡ true
+pub all_below_in : (p : ℕ → Bool) (n m : ℕ) → list_any (λ k. k == m) (all_below p n) ≡ true
     → (m < n) × (p m ≡ true)
-all_below-in p zero m e = absurd (both_ways false refl e)
-all_below-in p (suc n) m e =
+all_below_in p zero m e = absurd (both_ways false refl e)
+all_below_in p (suc n) m e =
     elim (or_cases _ _ (sym (list_any-append (λ k. k == m) (all_below p n) (cond (p n) (n ∷ []) [])) ∙ e)) [
-      | inl below ↦ let found = all_below-in p n m below in (omega (arith, found.0), found.1)
+      | inl below ↦ let found = all_below_in p n m below in (omega (arith, found.0), found.1)
       | inr here ↦ let is = here_if (p n) n m here in (omega (arith, is.0), ap p (sym is.0) ∙ is.1)
     ]
 
-pub all_below-there : (p : ℕ → Bool) (n m : ℕ) → m < n → p m ≡ true
+pub all_below_there : (p : ℕ → Bool) (n m : ℕ) → m < n → p m ≡ true
     → list_any (λ k. k == m) (all_below p n) ≡ true
-all_below-there p zero m lt e = absurd (omega arith)
-all_below-there p (suc n) m lt e =
+all_below_there p zero m lt e = absurd (omega arith)
+all_below_there p (suc n) m lt e =
     list_any-append (λ k. k == m) (all_below p n) (cond (p n) (n ∷ []) [])
     ∙ elim (cases_lt m n) [
-      | inl low ↦ or_left _ _ (all_below-there p n m low e)
+      | inl low ↦ or_left _ _ (all_below_there p n m low e)
       | inr high ↦
           let same : n ≡ m = omega arith in
           or_right _ _ (ap (λ b. list_any (λ k. k == m) (cond b (n ∷ []) [])) (ap p same ∙ e) ∙ or_left _ _ (eq-eqb n m same))
     ]
 
-pub all_below-none : (p : ℕ → Bool) (n : ℕ) → ((k : ℕ) → k < n → p k ≡ false) → all_below p n ≡ []
-all_below-none p zero h = refl
-all_below-none p (suc n) h =
-    ap (λ xs. xs ++ cond (p n) (n ∷ []) []) (all_below-none p n (λ k lt. h k (omega arith)))
+pub all_below_none : (p : ℕ → Bool) (n : ℕ) → ((k : ℕ) → k < n → p k ≡ false) → all_below p n ≡ []
+all_below_none p zero h = refl
+all_below_none p (suc n) h =
+    ap (λ xs. xs ++ cond (p n) (n ∷ []) []) (all_below_none p n (λ k lt. h k (omega arith)))
     ∙ ap (λ b. cond b (n ∷ []) []) (h n (omega arith))
 
 -- one at or past the bound isn't
-pub all_below-past : (p : ℕ → Bool) (n m : ℕ) → n ≤ m
+pub all_below_past : (p : ℕ → Bool) (n m : ℕ) → n ≤ m
     → list_any (λ k. k == m) (all_below p n) ≡ false
-all_below-past p n m le =
-    false_from_ne_true _ (λ there. let lt = (all_below-in p n m there).0 in omega (arith, le))
+all_below_past p n m le =
+    false_from_ne_true _ (λ there. let lt = (all_below_in p n m there).0 in omega (arith, le))

@@ -4,8 +4,8 @@ use Rattle.std.specs.List.{list_any}
 use Rattle.std.proofs.lemmas.Bool.{and_parts, and_from, or_cases}
 use Rattle.uring_entry.specs.Layout.{Sqe}
 use Rattle.uring_entry.specs.Requests.{Requests, entry_of, has_failed, is_last, is_linked, is_soft, is_joined, some_member, is_in_faulty_group, is_draining, is_behind_failure, is_cancelled, is_doomed, is_candidate, target_of, with_accepted, with_started, with_ended}
-use Rattle.uring_entry.proofs.BelowLemmas.{some_below-some, some_below-in, least_below-tells, IsLeast}
-use Rattle.uring_entry.proofs.RequestLemmas.{entry_of-accepted_other}
+use Rattle.uring_entry.proofs.BelowLemmas.{some_below_some, some_below_in, least_below_tells, IsLeast}
+use Rattle.uring_entry.proofs.RequestLemmas.{entry_of_accepted_other}
 
 -- What an answer of the definitions tells.
 
@@ -16,60 +16,60 @@ pub record IsFailureBefore (r : Requests) (n m : ℕ) : Type 0 where
   pub soft : is_soft (entry_of r m) ≡ true
   pub failed : has_failed r m ≡ true
 
-pub is_behind_failure-from : (r : Requests) (n m : ℕ) → IsFailureBefore r n m
+pub is_behind_failure_from : (r : Requests) (n m : ℕ) → IsFailureBefore r n m
     → is_behind_failure r n ≡ true
 unfolding is_behind_failure
-is_behind_failure-from r n m f =
-    some_below-some (λ k. (is_joined r k n && is_soft (entry_of r k)) && has_failed r k) n m f.before
+is_behind_failure_from r n m f =
+    some_below_some (λ k. (is_joined r k n && is_soft (entry_of r k)) && has_failed r k) n m f.before
     (and_from _ _ (and_from _ _ f.joined f.soft) f.failed)
 
-pub is_behind_failure-tells : (r : Requests) (n : ℕ) → is_behind_failure r n ≡ true
+pub is_behind_failure_tells : (r : Requests) (n : ℕ) → is_behind_failure r n ≡ true
     → (m : ℕ) × IsFailureBefore r n m
 unfolding is_behind_failure
-is_behind_failure-tells r n e =
-    let found = some_below-in (λ k. (is_joined r k n && is_soft (entry_of r k)) && has_failed r k) n e in
+is_behind_failure_tells r n e =
+    let found = some_below_in (λ k. (is_joined r k n && is_soft (entry_of r k)) && has_failed r k) n e in
     let parts = and_parts _ _ found.2 in
     let link = and_parts _ _ parts.0 in
     (found.0, record { before = found.1; joined = link.0; soft = link.1; failed = parts.1 })
 
-pub is_doomed-tells : (r : Requests) (n : ℕ) → is_doomed r n ≡ true
+pub is_doomed_tells : (r : Requests) (n : ℕ) → is_doomed r n ≡ true
     → (is_in_faulty_group r n ≡ true) ⊎ ((is_behind_failure r n ≡ true) ⊎ (is_cancelled r n ≡ true))
 unfolding is_doomed
-is_doomed-tells r n e =
+is_doomed_tells r n e =
     elim (or_cases _ _ e) [
       | inl group ↦ elim (or_cases _ _ group) [ inl faulty ↦ inl faulty | inr behind ↦ inr (inl behind) ]
       | inr cancelled ↦ inr (inr cancelled)
     ]
 
-pub target_of-tells : (r : Requests) (n m : ℕ) → target_of r n ≡ Some m
+pub target_of_tells : (r : Requests) (n m : ℕ) → target_of r n ≡ Some m
     → IsLeast (is_candidate r n) (length r.accepted) m
 unfolding target_of
-target_of-tells r n m e = least_below-tells (is_candidate r n) (length r.accepted) m e
+target_of_tells r n m e = least_below_tells (is_candidate r n) (length r.accepted) m e
 
 -- A start changes only who is running; an end, only who has ended and failed.
 
-pub is_joined-started : (r : Requests) (n j k : ℕ)
+pub is_joined_started : (r : Requests) (n j k : ℕ)
     → is_joined (with_started r n) j k ≡ is_joined r j k
 unfolding is_joined
-is_joined-started r n j k = refl
+is_joined_started r n j k = refl
 
-pub is_joined-ended : (r : Requests) (n : ℕ) (res : ℤ) (bytes : List ℕ) (j k : ℕ)
+pub is_joined_ended : (r : Requests) (n : ℕ) (res : ℤ) (bytes : List ℕ) (j k : ℕ)
     → is_joined (with_ended r n res bytes) j k ≡ is_joined r j k
 unfolding is_joined
-is_joined-ended r n res bytes j k = refl
+is_joined_ended r n res bytes j k = refl
 
-pub is_draining-started : (r : Requests) (n k : ℕ)
+pub is_draining_started : (r : Requests) (n k : ℕ)
     → is_draining (with_started r n) k ≡ is_draining r k
 unfolding some_member is_joined
-is_draining-started r n k = refl
+is_draining_started r n k = refl
 
-pub is_doomed-started : (r : Requests) (n k : ℕ) → is_doomed (with_started r n) k ≡ is_doomed r k
+pub is_doomed_started : (r : Requests) (n k : ℕ) → is_doomed (with_started r n) k ≡ is_doomed r k
 unfolding is_doomed is_behind_failure some_member is_joined
-is_doomed-started r n k = refl
+is_doomed_started r n k = refl
 
 -- An entry that is accepted changes nothing among the earlier requests.
 
-pub is_last-accepted : (r : Requests) (entry : Sqe) (k : ℕ) → k < length r.accepted
+pub is_last_accepted : (r : Requests) (entry : Sqe) (k : ℕ) → k < length r.accepted
     → is_last (with_accepted r entry) k ≡ is_last r k
-is_last-accepted r entry k lt =
-    ap (λ e. not (is_linked e) || list_any (λ cut. cut == k + 1) r.cuts) (entry_of-accepted_other r entry k (λ e. absurd (omega arith)))
+is_last_accepted r entry k lt =
+    ap (λ e. not (is_linked e) || list_any (λ cut. cut == k + 1) r.cuts) (entry_of_accepted_other r entry k (λ e. absurd (omega arith)))

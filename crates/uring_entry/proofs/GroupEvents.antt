@@ -7,27 +7,27 @@ use Rattle.uring_entry.specs.Below.{least_below, found_or}
 use Rattle.uring_entry.specs.Requests.{Requests, entry_of, has_ended, has_failed, is_last, is_linked, is_soft, with_accepted, with_cut, with_ended}
 use Rattle.uring_entry.specs.Success.{is_success}
 use Rattle.uring_entry.specs.Groups.{IsGroup, first_member, first_broken, earlier_of}
-use Rattle.uring_entry.proofs.BelowLemmas.{least_below-none, least_below-some, least_below-same, least_below-out, least_below-tells}
-use Rattle.uring_entry.proofs.RequestLemmas.{entry_of-accepted_at, entry_of-accepted_other, has_failed-accepted, has_failed-unended, has_failed-same, has_failed-other, added-other, added-same}
-use Rattle.uring_entry.proofs.EventLemmas.{is_last-accepted}
+use Rattle.uring_entry.proofs.BelowLemmas.{least_below_none, least_below_some, least_below_same, least_below_out, least_below_tells}
+use Rattle.uring_entry.proofs.RequestLemmas.{entry_of_accepted_at, entry_of_accepted_other, has_failed_accepted, has_failed_unended, has_failed_same, has_failed_other, added_other, added_same}
+use Rattle.uring_entry.proofs.EventLemmas.{is_last_accepted}
 
-pub first_member-same : (p q : ℕ → Bool) (from end : ℕ) → ((m : ℕ) → m < end → p m ≡ q m)
+pub first_member_same : (p q : ℕ → Bool) (from end : ℕ) → ((m : ℕ) → m < end → p m ≡ q m)
     → first_member p from end ≡ first_member q from end
 unfolding first_member
-first_member-same p q from end h = least_below-same (λ m. leb from m && p m) (λ m. leb from m && q m) end (λ m lt. ap (λ b. leb from m && b) (h m lt))
+first_member_same p q from end h = least_below_same (λ m. leb from m && p m) (λ m. leb from m && q m) end (λ m lt. ap (λ b. leb from m && b) (h m lt))
 
 -- one member more
-pub first_member-more : (p : ℕ → Bool) (from end : ℕ) → from ≤ end
+pub first_member_more : (p : ℕ → Bool) (from end : ℕ) → from ≤ end
     → first_member p from (end + 1) ≡ found_or (first_member p from end) (p end) end
 unfolding first_member
-first_member-more p from end le =
+first_member_more p from end le =
     ap (least_below (λ m. leb from m && p m)) (add-one end)
     ∙ ap (λ b. found_or (least_below (λ m. leb from m && p m) end) (b && p end) end) (le-leb from end le)
 
-pub first_member-none : (p : ℕ → Bool) (from : ℕ) → first_member p from from ≡ None
+pub first_member_none : (p : ℕ → Bool) (from : ℕ) → first_member p from from ≡ None
 unfolding first_member
-first_member-none p from =
-    least_below-none (λ m. leb from m && p m) from (λ k lt. and_left _ _ (lt-leb from k lt))
+first_member_none p from =
+    least_below_none (λ m. leb from m && p m) from (λ k lt. and_left _ _ (lt-leb from k lt))
 
 -- An entry is accepted.
 
@@ -36,141 +36,141 @@ longer : (r : Requests) (entry : Sqe)
 longer r entry = length-append r.accepted (entry ∷ [])
 
 -- behind a group that was closed
-pub group-accepted : (r : Requests) (entry : Sqe) (from end : ℕ) → IsGroup r from end
+pub group_accepted : (r : Requests) (entry : Sqe) (from end : ℕ) → IsGroup r from end
     → ((k : ℕ) → suc k ≡ end → is_last r k ≡ true) → IsGroup (with_accepted r entry) from end
-group-accepted r entry from end g closed =
+group_accepted r entry from end g closed =
     let more = longer r entry in
     let some = g.some in
     let within = g.accepted in
     record {
       some = some;
       accepted = omega arith;
-      begins = λ k e. is_last-accepted r entry k (omega arith) ∙ g.begins k e;
-      joined = λ k high lt. is_last-accepted r entry k (omega arith) ∙ g.joined k high lt;
-      ends = λ k e lt. is_last-accepted r entry k (omega arith) ∙ closed k e;
+      begins = λ k e. is_last_accepted r entry k (omega arith) ∙ g.begins k e;
+      joined = λ k high lt. is_last_accepted r entry k (omega arith) ∙ g.joined k high lt;
+      ends = λ k e lt. is_last_accepted r entry k (omega arith) ∙ closed k e;
     }
 
 -- into the group that is open
-pub group-joined : (r : Requests) (entry : Sqe) (from : ℕ) → IsGroup r from (length r.accepted)
+pub group_joined : (r : Requests) (entry : Sqe) (from : ℕ) → IsGroup r from (length r.accepted)
     → ((k : ℕ) → suc k ≡ length r.accepted → is_last r k ≡ false)
     → IsGroup (with_accepted r entry) from (length r.accepted + 1)
-group-joined r entry from g joins =
+group_joined r entry from g joins =
     let more = longer r entry in
     let some = g.some in
     record {
       some = omega arith;
       accepted = omega arith;
-      begins = λ k e. is_last-accepted r entry k (omega arith) ∙ g.begins k e;
+      begins = λ k e. is_last_accepted r entry k (omega arith) ∙ g.begins k e;
       joined = λ k high lt.
-          is_last-accepted r entry k (omega arith)
+          is_last_accepted r entry k (omega arith)
           ∙ elim (cases_lt (suc k) (length r.accepted)) [ inl low ↦ g.joined k high low | inr top ↦ joins k (omega arith) ];
       ends = λ k e lt. absurd (omega arith);
     }
 
 -- into a new group
-pub group-new : (r : Requests) (entry : Sqe)
+pub group_new : (r : Requests) (entry : Sqe)
     → ((k : ℕ) → suc k ≡ length r.accepted → is_last r k ≡ true)
     → IsGroup (with_accepted r entry) (length r.accepted) (length r.accepted + 1)
-group-new r entry closed =
+group_new r entry closed =
     let more = longer r entry in
     record {
       some = omega arith;
       accepted = omega arith;
-      begins = λ k e. is_last-accepted r entry k (omega arith) ∙ closed k e;
+      begins = λ k e. is_last_accepted r entry k (omega arith) ∙ closed k e;
       joined = λ k high lt. absurd (omega arith);
       ends = λ k e lt. absurd (omega arith);
     }
 
-pub entry-same : (r : Requests) (entry : Sqe) (p : Sqe → Bool) (m : ℕ) → m < length r.accepted
+pub entry_same : (r : Requests) (entry : Sqe) (p : Sqe → Bool) (m : ℕ) → m < length r.accepted
     → p (entry_of (with_accepted r entry) m) ≡ p (entry_of r m)
-entry-same r entry p m lt = ap p (entry_of-accepted_other r entry m (λ e. absurd (omega arith)))
+entry_same r entry p m lt = ap p (entry_of_accepted_other r entry m (λ e. absurd (omega arith)))
 
-pub first_entry-accepted : (r : Requests) (entry : Sqe) (p : Sqe → Bool) (from end : ℕ)
+pub first_entry_accepted : (r : Requests) (entry : Sqe) (p : Sqe → Bool) (from end : ℕ)
     → end ≤ length r.accepted
     → first_member (λ m. p (entry_of (with_accepted r entry) m)) from end
     ≡ first_member (λ m. p (entry_of r m)) from end
-first_entry-accepted r entry p from end le =
-    first_member-same _ _ from end (λ m lt. entry-same r entry p m (omega arith))
+first_entry_accepted r entry p from end le =
+    first_member_same _ _ from end (λ m lt. entry_same r entry p m (omega arith))
 
-pub first_entry-more : (r : Requests) (entry : Sqe) (p : Sqe → Bool) (from : ℕ)
+pub first_entry_more : (r : Requests) (entry : Sqe) (p : Sqe → Bool) (from : ℕ)
     → from ≤ length r.accepted
     → first_member (λ m. p (entry_of (with_accepted r entry) m)) from (length r.accepted + 1)
     ≡ found_or (first_member (λ m. p (entry_of r m)) from (length r.accepted)) (p entry) (length r.accepted)
-first_entry-more r entry p from le =
-    first_member-more (λ m. p (entry_of (with_accepted r entry) m)) from (length r.accepted) le
-    ∙ ap (λ o. found_or o (p (entry_of (with_accepted r entry) (length r.accepted))) (length r.accepted)) (first_entry-accepted r entry p from (length r.accepted) (omega arith))
-    ∙ ap (λ e. found_or (first_member (λ m. p (entry_of r m)) from (length r.accepted)) (p e) (length r.accepted)) (entry_of-accepted_at r entry)
+first_entry_more r entry p from le =
+    first_member_more (λ m. p (entry_of (with_accepted r entry) m)) from (length r.accepted) le
+    ∙ ap (λ o. found_or o (p (entry_of (with_accepted r entry) (length r.accepted))) (length r.accepted)) (first_entry_accepted r entry p from (length r.accepted) (omega arith))
+    ∙ ap (λ e. found_or (first_member (λ m. p (entry_of r m)) from (length r.accepted)) (p e) (length r.accepted)) (entry_of_accepted_at r entry)
 
-broke-accepted : (r : Requests) (entry : Sqe) (m : ℕ) → has_ended r (length r.accepted) ≡ false
+broke_accepted : (r : Requests) (entry : Sqe) (m : ℕ) → has_ended r (length r.accepted) ≡ false
     → m < length r.accepted
     → (is_soft (entry_of (with_accepted r entry) m) && has_failed (with_accepted r entry) m)
     ≡ (is_soft (entry_of r m) && has_failed r m)
-broke-accepted r entry m none lt =
-    ap (λ b. b && has_failed (with_accepted r entry) m) (entry-same r entry is_soft m lt)
-    ∙ ap (λ b. is_soft (entry_of r m) && b) (has_failed-accepted r entry m none)
+broke_accepted r entry m none lt =
+    ap (λ b. b && has_failed (with_accepted r entry) m) (entry_same r entry is_soft m lt)
+    ∙ ap (λ b. is_soft (entry_of r m) && b) (has_failed_accepted r entry m none)
 
-pub first_broken-accepted : (r : Requests) (entry : Sqe) (from end : ℕ)
+pub first_broken_accepted : (r : Requests) (entry : Sqe) (from end : ℕ)
     → has_ended r (length r.accepted) ≡ false
     → end ≤ length r.accepted
     → first_broken (with_accepted r entry) from end ≡ first_broken r from end
-first_broken-accepted r entry from end none le =
-    first_member-same _ _ from end (λ m lt. broke-accepted r entry m none (omega arith))
+first_broken_accepted r entry from end none le =
+    first_member_same _ _ from end (λ m lt. broke_accepted r entry m none (omega arith))
 
-found_or-false : (o : Option ℕ) (n : ℕ) → found_or o false n ≡ o
-found_or-false None n = refl
-found_or-false (Some m) n = refl
+found_or_false : (o : Option ℕ) (n : ℕ) → found_or o false n ≡ o
+found_or_false None n = refl
+found_or_false (Some m) n = refl
 
-pub first_broken-more : (r : Requests) (entry : Sqe) (from : ℕ)
+pub first_broken_more : (r : Requests) (entry : Sqe) (from : ℕ)
     → has_ended r (length r.accepted) ≡ false
     → from ≤ length r.accepted
     → first_broken (with_accepted r entry) from (length r.accepted + 1)
     ≡ first_broken r from (length r.accepted)
-first_broken-more r entry from none le =
-    first_member-more (λ m. is_soft (entry_of (with_accepted r entry) m) && has_failed (with_accepted r entry) m) from (length r.accepted) le
-    ∙ ap (λ o. found_or o (is_soft (entry_of (with_accepted r entry) (length r.accepted)) && has_failed (with_accepted r entry) (length r.accepted)) (length r.accepted)) (first_broken-accepted r entry from (length r.accepted) none (omega arith))
-    ∙ ap (λ b. found_or (first_broken r from (length r.accepted)) b (length r.accepted)) (and_right _ _ (has_failed-unended (with_accepted r entry) (length r.accepted) none))
-    ∙ found_or-false _ _
+first_broken_more r entry from none le =
+    first_member_more (λ m. is_soft (entry_of (with_accepted r entry) m) && has_failed (with_accepted r entry) m) from (length r.accepted) le
+    ∙ ap (λ o. found_or o (is_soft (entry_of (with_accepted r entry) (length r.accepted)) && has_failed (with_accepted r entry) (length r.accepted)) (length r.accepted)) (first_broken_accepted r entry from (length r.accepted) none (omega arith))
+    ∙ ap (λ b. found_or (first_broken r from (length r.accepted)) b (length r.accepted)) (and_right _ _ (has_failed_unended (with_accepted r entry) (length r.accepted) none))
+    ∙ found_or_false _ _
 
 -- A call closes.
 
-pub is_last-cut : (r : Requests) (k : ℕ) → suc k ≢ length r.accepted
+pub is_last_cut : (r : Requests) (k : ℕ) → suc k ≢ length r.accepted
     → is_last (with_cut r) k ≡ is_last r k
-is_last-cut r k ne = ap (λ b. not (is_linked (entry_of r k)) || b) (added-other (λ cut. cut == k + 1) r.cuts (length r.accepted) (ne_eqb _ _ (λ e. ne (omega (arith, e)))))
+is_last_cut r k ne = ap (λ b. not (is_linked (entry_of r k)) || b) (added_other (λ cut. cut == k + 1) r.cuts (length r.accepted) (ne_eqb _ _ (λ e. ne (omega (arith, e)))))
 
-pub is_last-cut_last : (r : Requests) (k : ℕ) → suc k ≡ length r.accepted
+pub is_last_cut_last : (r : Requests) (k : ℕ) → suc k ≡ length r.accepted
     → is_last (with_cut r) k ≡ true
-is_last-cut_last r k e = or_right _ _ (added-same (λ cut. cut == k + 1) r.cuts (length r.accepted) (eq-eqb _ _ (omega arith)))
+is_last_cut_last r k e = or_right _ _ (added_same (λ cut. cut == k + 1) r.cuts (length r.accepted) (eq-eqb _ _ (omega arith)))
 
-is_last-kept : (r : Requests) (k : ℕ) → is_last r k ≡ true → is_last (with_cut r) k ≡ true
-is_last-kept r k was =
+is_last_kept : (r : Requests) (k : ℕ) → is_last r k ≡ true → is_last (with_cut r) k ≡ true
+is_last_kept r k was =
     elim (cases_eq (suc k) (length r.accepted)) [
-      | inl last ↦ is_last-cut_last r k last
-      | inr other ↦ is_last-cut r k other ∙ was
+      | inl last ↦ is_last_cut_last r k last
+      | inr other ↦ is_last_cut r k other ∙ was
     ]
 
-pub group-cut : (r : Requests) (from end : ℕ) → IsGroup r from end → IsGroup (with_cut r) from end
-group-cut r from end g =
+pub group_cut : (r : Requests) (from end : ℕ) → IsGroup r from end → IsGroup (with_cut r) from end
+group_cut r from end g =
     let within = g.accepted in
     record {
       some = g.some;
       accepted = within;
-      begins = λ k e. is_last-kept r k (g.begins k e);
-      joined = λ k high lt. is_last-cut r k (λ e. absurd (omega arith)) ∙ g.joined k high lt;
-      ends = λ k e lt. is_last-kept r k (g.ends k e lt);
+      begins = λ k e. is_last_kept r k (g.begins k e);
+      joined = λ k high lt. is_last_cut r k (λ e. absurd (omega arith)) ∙ g.joined k high lt;
+      ends = λ k e lt. is_last_kept r k (g.ends k e lt);
     }
 
 -- A request ends.
 
 -- the test changes at one number
-pub first_member-changed : (p q : ℕ → Bool) (from end n : ℕ) → from ≤ n → n < end → p n ≡ false
+pub first_member_changed : (p q : ℕ → Bool) (from end n : ℕ) → from ≤ n → n < end → p n ≡ false
     → ((m : ℕ) → m ≢ n → q m ≡ p m)
     → first_member q from end ≡ earlier_of (first_member p from end) (q n) n
 unfolding first_member
-first_member-changed p q from end n le lt was others =
+first_member_changed p q from end n le lt was others =
     elim (cases_Bool (q n)) [
       | inl holds ↦ here (least_below (λ m. leb from m && p m) end) refl holds ∙ ap (λ b. earlier_of (least_below (λ m. leb from m && p m) end) b n) (sym holds)
       | inr fails ↦
-          least_below-same (λ m. leb from m && q m) (λ m. leb from m && p m) end
+          least_below_same (λ m. leb from m && q m) (λ m. leb from m && p m) end
           (λ m inside. ap (λ b. leb from m && b) (elim (cases_eq m n) [ inl same ↦ ap q same ∙ fails ∙ sym was ∙ ap p (sym same) | inr other ↦ others m other ]))
           ∙ sym (kept (least_below (λ m. leb from m && p m) end))
           ∙ ap (λ b. earlier_of (least_below (λ m. leb from m && p m) end) b n) (sym fails)
@@ -188,49 +188,49 @@ first_member-changed p q from end n le lt was others =
 
     here : (o : Option ℕ) → least_below (λ m. leb from m && p m) end ≡ o → q n ≡ true → least_below (λ m. leb from m && q m) end ≡ earlier_of o true n
     here None e holds =
-        least_below-some (λ m. leb from m && q m) end n lt (at_n holds)
-        (λ j low. at_other j (λ s. absurd (omega arith)) ∙ least_below-out (λ m. leb from m && p m) end e j (omega arith))
+        least_below_some (λ m. leb from m && q m) end n lt (at_n holds)
+        (λ j low. at_other j (λ s. absurd (omega arith)) ∙ least_below_out (λ m. leb from m && p m) end e j (omega arith))
     here (Some k) e holds =
-        let least = least_below-tells (λ m. leb from m && p m) end k e in
+        let least = least_below_tells (λ m. leb from m && p m) end k e in
         elim (cases_lt n k) [
           | inl low ↦
-              least_below-some (λ m. leb from m && q m) end n lt (at_n holds)
+              least_below_some (λ m. leb from m && q m) end n lt (at_n holds)
               (λ j under. at_other j (λ s. absurd (omega arith)) ∙ least.before j (omega arith))
               ∙ ap (λ b. if b then Some n else Some k) (sym (lt-ltb n k low))
           | inr high ↦
               let apart : k ≢ n = λ s. both_ways _ (ap (λ m. leb from m && p m) s ∙ and_right _ _ was) least.holds in
-              least_below-some (λ m. leb from m && q m) end k least.below (at_other k apart ∙ least.holds)
+              least_below_some (λ m. leb from m && q m) end k least.below (at_other k apart ∙ least.holds)
               (λ j under. at_other j (λ s. absurd (omega arith)) ∙ least.before j under)
               ∙ ap (λ b. if b then Some n else Some k) (sym (le-ltb n k high))
         ]
 
-pub first_broken-ended : (r : Requests) (n : ℕ) (res : ℤ) (bytes : List ℕ) (from end : ℕ) → from ≤ n
+pub first_broken_ended : (r : Requests) (n : ℕ) (res : ℤ) (bytes : List ℕ) (from end : ℕ) → from ≤ n
     → n < end
     → has_ended r n ≡ false
     → first_broken (with_ended r n res bytes) from end
     ≡ earlier_of (first_broken r from end) (is_soft (entry_of r n) && not (is_success (entry_of r n) res)) n
-first_broken-ended r n res bytes from end le lt none =
-    first_member-changed (λ m. is_soft (entry_of r m) && has_failed r m) (λ m. is_soft (entry_of r m) && has_failed (with_ended r n res bytes) m) from end n le lt
-    (and_right _ _ (has_failed-unended r n none))
-    (λ m ne. ap (λ b. is_soft (entry_of r m) && b) (has_failed-other r n res bytes m ne))
-    ∙ ap (λ b. earlier_of (first_broken r from end) (is_soft (entry_of r n) && b) n) (has_failed-same r n res bytes none)
+first_broken_ended r n res bytes from end le lt none =
+    first_member_changed (λ m. is_soft (entry_of r m) && has_failed r m) (λ m. is_soft (entry_of r m) && has_failed (with_ended r n res bytes) m) from end n le lt
+    (and_right _ _ (has_failed_unended r n none))
+    (λ m ne. ap (λ b. is_soft (entry_of r m) && b) (has_failed_other r n res bytes m ne))
+    ∙ ap (λ b. earlier_of (first_broken r from end) (is_soft (entry_of r n) && b) n) (has_failed_same r n res bytes none)
 
-pub first_broken-elsewhere : (r : Requests) (n : ℕ) (res : ℤ) (bytes : List ℕ) (from end : ℕ)
+pub first_broken_elsewhere : (r : Requests) (n : ℕ) (res : ℤ) (bytes : List ℕ) (from end : ℕ)
     → ((m : ℕ) → from ≤ m → m < end → m ≢ n)
     → first_broken (with_ended r n res bytes) from end ≡ first_broken r from end
 unfolding first_member
-first_broken-elsewhere r n res bytes from end apart =
-    least_below-same _ _ end
+first_broken_elsewhere r n res bytes from end apart =
+    least_below_same _ _ end
     (λ m lt.
     elim (cases_lt m from) [
       | inl low ↦ and_left _ _ (lt-leb from m low) ∙ sym (and_left _ _ (lt-leb from m low))
-      | inr high ↦ ap (λ b. leb from m && (is_soft (entry_of r m) && b)) (has_failed-other r n res bytes m (apart m high lt))
+      | inr high ↦ ap (λ b. leb from m && (is_soft (entry_of r m) && b)) (has_failed_other r n res bytes m (apart m high lt))
     ])
 
-pub group-ended : (r : Requests) (n : ℕ) (res : ℤ) (bytes : List ℕ) (from end : ℕ)
+pub group_ended : (r : Requests) (n : ℕ) (res : ℤ) (bytes : List ℕ) (from end : ℕ)
     → IsGroup r from end
     → IsGroup (with_ended r n res bytes) from end
-group-ended r n res bytes from end g = record {
+group_ended r n res bytes from end g = record {
   some = g.some;
   accepted = g.accepted;
   begins = g.begins;

@@ -7,129 +7,129 @@ use Rattle.uring_entry.specs.Below.{some_below, least_below}
 use Rattle.uring_entry.specs.Requests.{Requests, entry_of, has_ended, has_failed, is_soft, is_drain, is_joined, is_in_group, some_member, is_in_faulty_group, is_draining, is_behind_failure, is_cancelled, is_doomed, is_ready, holds_back}
 use Rattle.uring_entry.specs.Preparation.{is_faulty}
 use Rattle.uring_entry.specs.Groups.{IsGroup, first_member, is_before, first_fault, first_drain, first_broken}
-use Rattle.uring_entry.proofs.BelowLemmas.{some_below-none, some_below-some, some_below-same, some_below-between, least_below-out, least_below-tells, is_some-least_below, some_below-in}
-use Rattle.uring_entry.proofs.RequestLemmas.{is_joined-yes, is_joined-no, is_ready-yes, is_ready-no}
+use Rattle.uring_entry.proofs.BelowLemmas.{some_below_none, some_below_some, some_below_same, some_below_between, least_below_out, least_below_tells, is_some_least_below, some_below_in}
+use Rattle.uring_entry.proofs.RequestLemmas.{is_joined_yes, is_joined_no, is_ready_yes, is_ready_no}
 
 -- Who is a member.
 
-joined-before : (r : Requests) (from end m n : ℕ) → IsGroup r from end → m < from → from ≤ n
+joined_before : (r : Requests) (from end m n : ℕ) → IsGroup r from end → m < from → from ≤ n
     → is_joined r m n ≡ false
-joined-before r zero end m n g low le = absurd (omega arith)
-joined-before r (suc k) end m n g low le =
-    is_joined-no r m n k (omega arith) (omega arith) (g.begins k refl)
+joined_before r zero end m n g low le = absurd (omega arith)
+joined_before r (suc k) end m n g low le =
+    is_joined_no r m n k (omega arith) (omega arith) (g.begins k refl)
 
 -- an earlier request is in a member's group if it isn't before the first member
-pub joined-member : (r : Requests) (from end m n : ℕ) → IsGroup r from end → from ≤ n → n < end
+pub joined_member : (r : Requests) (from end m n : ℕ) → IsGroup r from end → from ≤ n → n < end
     → m ≤ n → is_joined r m n ≡ leb from m
-joined-member r from end m n g high lt le =
+joined_member r from end m n g high lt le =
     elim (cases_lt m from) [
-      | inl low ↦ joined-before r from end m n g low high ∙ sym (lt-leb from m low)
-      | inr up ↦ is_joined-yes r m n (λ k a b. g.joined k (omega arith) (omega arith)) ∙ sym (le-leb from m up)
+      | inl low ↦ joined_before r from end m n g low high ∙ sym (lt-leb from m low)
+      | inr up ↦ is_joined_yes r m n (λ k a b. g.joined k (omega arith) (omega arith)) ∙ sym (le-leb from m up)
     ]
 
-joined-past : (r : Requests) (from end n m : ℕ) → IsGroup r from end → n < end → end ≤ m
+joined_past : (r : Requests) (from end n m : ℕ) → IsGroup r from end → n < end → end ≤ m
     → m < length r.accepted → is_joined r n m ≡ false
-joined-past r from zero n m g lt past within = absurd (omega arith)
-joined-past r from (suc k) n m g lt past within =
-    is_joined-no r n m k (omega arith) (omega arith) (g.ends k refl (omega arith))
+joined_past r from zero n m g lt past within = absurd (omega arith)
+joined_past r from (suc k) n m g lt past within =
+    is_joined_no r n m k (omega arith) (omega arith) (g.ends k refl (omega arith))
 
-in_group-behind : (r : Requests) (from end n m : ℕ) → IsGroup r from end → from ≤ n → n < end
+in_group_behind : (r : Requests) (from end n m : ℕ) → IsGroup r from end → from ≤ n → n < end
     → m < length r.accepted → n < m
     → is_in_group r m n ≡ (leb from m && ltb m end)
-in_group-behind r from end n m g high lt within behind =
+in_group_behind r from end n m g high lt within behind =
     let low : min m n ≡ n = omega arith in
     let top : max m n ≡ m = omega arith in
     ap (λ a. is_joined r a (max m n)) low ∙ ap (is_joined r n) top
     ∙ elim (cases_lt m end) [
       | inl inside ↦
-          is_joined-yes r n m (λ k up under. g.joined k (omega arith) (omega arith))
+          is_joined_yes r n m (λ k up under. g.joined k (omega arith) (omega arith))
           ∙ sym (and_from _ _ (le-leb from m (omega arith)) (lt-ltb m end inside))
-      | inr past ↦ joined-past r from end n m g lt past within ∙ sym (and_right _ _ (le-ltb m end past))
+      | inr past ↦ joined_past r from end n m g lt past within ∙ sym (and_right _ _ (le-ltb m end past))
     ]
 
-pub in_group-member : (r : Requests) (from end n m : ℕ) → IsGroup r from end → from ≤ n → n < end
+pub in_group_member : (r : Requests) (from end n m : ℕ) → IsGroup r from end → from ≤ n → n < end
     → m < length r.accepted
     → is_in_group r m n ≡ (leb from m && ltb m end)
-in_group-member r from end n m g high lt within =
+in_group_member r from end n m g high lt within =
     elim (cases_lt n m) [
-      | inl behind ↦ in_group-behind r from end n m g high lt within behind
+      | inl behind ↦ in_group_behind r from end n m g high lt within behind
       | inr before ↦
           let low : min m n ≡ m = omega arith in
           let top : max m n ≡ n = omega arith in
-          ap (λ a. is_joined r a (max m n)) low ∙ ap (is_joined r m) top ∙ joined-member r from end m n g high lt before
+          ap (λ a. is_joined r a (max m n)) low ∙ ap (is_joined r m) top ∙ joined_member r from end m n g high lt before
           ∙ sym (and-true (leb from m)) ∙ ap (λ b. leb from m && b) (sym (lt-ltb m end (omega arith)))
     ]
 
 -- Whether some member has a property.
 
-pub some_member-is : (r : Requests) (p : Sqe → Bool) (from end n : ℕ) → IsGroup r from end
+pub some_member_is : (r : Requests) (p : Sqe → Bool) (from end n : ℕ) → IsGroup r from end
     → from ≤ n → n < end
     → some_member r p n ≡ is_some (first_member (λ m. p (entry_of r m)) from end)
 unfolding some_member first_member
-some_member-is r p from end n g high lt =
-    some_below-between (λ m. is_in_group r m n && p (entry_of r m)) end (length r.accepted) g.accepted
-    (λ m past within. and_left _ _ (in_group-member r from end n m g high lt within ∙ and_right _ _ (le-ltb m end past)))
-    ∙ some_below-same (λ m. is_in_group r m n && p (entry_of r m)) (λ m. leb from m && p (entry_of r m)) end
+some_member_is r p from end n g high lt =
+    some_below_between (λ m. is_in_group r m n && p (entry_of r m)) end (length r.accepted) g.accepted
+    (λ m past within. and_left _ _ (in_group_member r from end n m g high lt within ∙ and_right _ _ (le-ltb m end past)))
+    ∙ some_below_same (λ m. is_in_group r m n && p (entry_of r m)) (λ m. leb from m && p (entry_of r m)) end
     (λ m inside.
     let f = g.accepted in
     ap (λ b. b && p (entry_of r m))
-    (in_group-member r from end n m g high lt (omega arith) ∙ ap (λ b. leb from m && b) (lt-ltb m end inside) ∙ and-true (leb from m)))
-    ∙ sym (is_some-least_below (λ m. leb from m && p (entry_of r m)) end)
+    (in_group_member r from end n m g high lt (omega arith) ∙ ap (λ b. leb from m && b) (lt-ltb m end inside) ∙ and-true (leb from m)))
+    ∙ sym (is_some_least_below (λ m. leb from m && p (entry_of r m)) end)
 
-pub draining-is : (r : Requests) (from end n : ℕ) → IsGroup r from end → from ≤ n → n < end
+pub draining_is : (r : Requests) (from end n : ℕ) → IsGroup r from end → from ≤ n → n < end
     → is_draining r n ≡ is_some (first_drain r from end)
-draining-is r from end n g high lt = some_member-is r is_drain from end n g high lt
+draining_is r from end n g high lt = some_member_is r is_drain from end n g high lt
 
-pub faulty-is : (r : Requests) (from end n : ℕ) → IsGroup r from end → from ≤ n → n < end
+pub faulty_is : (r : Requests) (from end n : ℕ) → IsGroup r from end → from ≤ n → n < end
     → is_in_faulty_group r n ≡ is_some (first_fault r from end)
-faulty-is r from end n g high lt = some_member-is r is_faulty from end n g high lt
+faulty_is r from end n g high lt = some_member_is r is_faulty from end n g high lt
 
 -- a search below a smaller bound, from the least below a larger one
-pub some_below-least : (p : ℕ → Bool) (end n : ℕ) → n ≤ end
+pub some_below_least : (p : ℕ → Bool) (end n : ℕ) → n ≤ end
     → some_below p n ≡ is_before (least_below p end) n
-some_below-least p end n le = go (least_below p end) refl
+some_below_least p end n le = go (least_below p end) refl
   where
     go : (o : Option ℕ) → least_below p end ≡ o → some_below p n ≡ is_before o n
-    go None e = some_below-none p n (λ k lt. least_below-out p end e k (omega arith))
+    go None e = some_below_none p n (λ k lt. least_below_out p end e k (omega arith))
     go (Some k) e =
-        let least = least_below-tells p end k e in
+        let least = least_below_tells p end k e in
         elim (cases_lt k n) [
-          | inl low ↦ some_below-some p n k low least.holds ∙ sym (lt-ltb k n low)
-          | inr high ↦ some_below-none p n (λ j lt. least.before j (omega arith)) ∙ sym (le-ltb k n high)
+          | inl low ↦ some_below_some p n k low least.holds ∙ sym (lt-ltb k n low)
+          | inr high ↦ some_below_none p n (λ j lt. least.before j (omega arith)) ∙ sym (le-ltb k n high)
         ]
 
-pub behind-is : (r : Requests) (from end n : ℕ) → IsGroup r from end → from ≤ n → n < end
+pub behind_is : (r : Requests) (from end n : ℕ) → IsGroup r from end → from ≤ n → n < end
     → is_behind_failure r n ≡ is_before (first_broken r from end) n
 unfolding is_behind_failure first_member
-behind-is r from end n g high lt =
-    some_below-same _ (λ m. leb from m && (is_soft (entry_of r m) && has_failed r m)) n
+behind_is r from end n g high lt =
+    some_below_same _ (λ m. leb from m && (is_soft (entry_of r m) && has_failed r m)) n
     (λ m low.
     and_assoc (is_joined r m n) _ _
-    ∙ ap (λ b. b && (is_soft (entry_of r m) && has_failed r m)) (joined-member r from end m n g high lt (omega arith)))
-    ∙ some_below-least (λ m. leb from m && (is_soft (entry_of r m) && has_failed r m)) end n (omega arith)
+    ∙ ap (λ b. b && (is_soft (entry_of r m) && has_failed r m)) (joined_member r from end m n g high lt (omega arith)))
+    ∙ some_below_least (λ m. leb from m && (is_soft (entry_of r m) && has_failed r m)) end n (omega arith)
 
 -- Whether a request is doomed depends on its group and its own cancellation.
-pub doomed-is : (r : Requests) (from end n : ℕ) → IsGroup r from end → from ≤ n → n < end
+pub doomed_is : (r : Requests) (from end n : ℕ) → IsGroup r from end → from ≤ n → n < end
     → is_doomed r n
     ≡ ((is_some (first_fault r from end) || is_before (first_broken r from end) n) || is_cancelled r n)
 unfolding is_doomed
-doomed-is r from end n g high lt =
-    ap (λ b. (b || is_behind_failure r n) || is_cancelled r n) (faulty-is r from end n g high lt)
-    ∙ ap (λ b. (is_some (first_fault r from end) || b) || is_cancelled r n) (behind-is r from end n g high lt)
+doomed_is r from end n g high lt =
+    ap (λ b. (b || is_behind_failure r n) || is_cancelled r n) (faulty_is r from end n g high lt)
+    ∙ ap (λ b. (is_some (first_fault r from end) || b) || is_cancelled r n) (behind_is r from end n g high lt)
 
 -- Whether a request is ready depends on requests that haven't ended.
 
-waits-not : (r : Requests) (n m : ℕ) → is_joined r m n ≡ false → is_draining r m ≡ false
+waits_not : (r : Requests) (n m : ℕ) → is_joined r m n ≡ false → is_draining r m ≡ false
     → is_draining r n ≡ false
     → holds_back r n m ≡ false
-waits-not r n m a b c = and_right _ _ (or_from _ _ (or_from _ _ a b) c)
+waits_not r n m a b c = and_right _ _ (or_from _ _ (or_from _ _ a b) c)
 
-pub ready-yes : (r : Requests) (from end n : ℕ) → IsGroup r from end → from ≤ n → n < end
+pub ready_yes : (r : Requests) (from end n : ℕ) → IsGroup r from end → from ≤ n → n < end
     → ((m : ℕ) → from ≤ m → m < n → has_ended r m ≡ true)
     → ((m : ℕ) → m < from → has_ended r m ≡ false → is_draining r m ≡ false)
     → (is_draining r n ≡ true → (m : ℕ) → m < from → has_ended r m ≡ true) → is_ready r n ≡ true
-ready-yes r from end n g high lt members drains alone =
-    is_ready-yes r n
+ready_yes r from end n g high lt members drains alone =
+    is_ready_yes r n
     (λ m low.
     elim (cases_Bool (has_ended r m)) [
       | inl over ↦ and_left _ _ (ap not over)
@@ -137,7 +137,7 @@ ready-yes r from end n g high lt members drains alone =
           elim (cases_lt m from) [
             | inr inside ↦ absurd (both_ways _ going (members m inside low))
             | inl before ↦
-                waits-not r n m (joined-before r from end m n g before high) (drains m before going)
+                waits_not r n m (joined_before r from end m n g before high) (drains m before going)
                 (elim (cases_Bool (is_draining r n)) [
                   | inl draining ↦ absurd (both_ways _ going (alone draining m before))
                   | inr free ↦ free
@@ -145,30 +145,30 @@ ready-yes r from end n g high lt members drains alone =
           ]
     ])
 
-pub ready-not_member : (r : Requests) (from end n m : ℕ) → IsGroup r from end → n < end → from ≤ m
+pub ready_not_member : (r : Requests) (from end n m : ℕ) → IsGroup r from end → n < end → from ≤ m
     → m < n → has_ended r m ≡ false
     → is_ready r n ≡ false
-ready-not_member r from end n m g lt inside low going =
-    is_ready-no r n m low
-    (and_from _ _ (ap not going) (or_left _ _ (or_left _ _ (joined-member r from end m n g (omega arith) lt (omega arith) ∙ le-leb from m inside))))
+ready_not_member r from end n m g lt inside low going =
+    is_ready_no r n m low
+    (and_from _ _ (ap not going) (or_left _ _ (or_left _ _ (joined_member r from end m n g (omega arith) lt (omega arith) ∙ le-leb from m inside))))
 
-pub ready-not_alone : (r : Requests) (n m : ℕ) → m < n → has_ended r m ≡ false
+pub ready_not_alone : (r : Requests) (n m : ℕ) → m < n → has_ended r m ≡ false
     → is_draining r n ≡ true → is_ready r n ≡ false
-ready-not_alone r n m low going drains =
-    is_ready-no r n m low (and_from _ _ (ap not going) (or_right _ _ drains))
+ready_not_alone r n m low going drains =
+    is_ready_no r n m low (and_from _ _ (ap not going) (or_right _ _ drains))
 
-pub ready-not_behind : (r : Requests) (n m : ℕ) → m < n → has_ended r m ≡ false
+pub ready_not_behind : (r : Requests) (n m : ℕ) → m < n → has_ended r m ≡ false
     → is_draining r m ≡ true → is_ready r n ≡ false
-ready-not_behind r n m low going drains =
-    is_ready-no r n m low (and_from _ _ (ap not going) (or_left _ _ (or_right _ _ drains)))
+ready_not_behind r n m low going drains =
+    is_ready_no r n m low (and_from _ _ (ap not going) (or_left _ _ (or_right _ _ drains)))
 
 -- If the least member of a group that hasn't ended isn't ready, no later request is: what holds it back drains, or the group does, and either holds back all that is later.
-pub ready-not_later : (r : Requests) (from end n k : ℕ) → IsGroup r from end → from ≤ n → n < end
+pub ready_not_later : (r : Requests) (from end n k : ℕ) → IsGroup r from end → from ≤ n → n < end
     → ((m : ℕ) → from ≤ m → m < n → has_ended r m ≡ true) → has_ended r n ≡ false
     → is_ready r n ≡ false → n < k → is_ready r k ≡ false
 unfolding is_ready
-ready-not_later r from end n k g high lt members going waits behind =
-    let found = some_below-in (holds_back r n) n (not-false _ waits) in
+ready_not_later r from end n k g high lt members going waits behind =
+    let found = some_below_in (holds_back r n) n (not-false _ waits) in
     let m : ℕ = found.0 in
     let parts = and_parts (not (has_ended r m)) _ found.2 in
     let open_yet : has_ended r m ≡ false = not-true _ parts.0 in
@@ -176,29 +176,29 @@ ready-not_later r from end n k g high lt members going waits behind =
     let before : m < k = omega (arith, low, behind) in
     let at_most : m ≤ n = omega (arith, low) in
     elim (or_cases (is_joined r m n || is_draining r m) (is_draining r n) parts.1) [
-      | inr draining ↦ ready-not_behind r k n behind going draining
+      | inr draining ↦ ready_not_behind r k n behind going draining
       | inl rest ↦
           elim (or_cases (is_joined r m n) (is_draining r m) rest) [
-            | inr draining ↦ ready-not_behind r k m before open_yet draining
+            | inr draining ↦ ready_not_behind r k m before open_yet draining
             | inl joined ↦
-                let inside = leb-true from m (sym (joined-member r from end m n g high lt at_most) ∙ joined) in
+                let inside = leb-true from m (sym (joined_member r from end m n g high lt at_most) ∙ joined) in
                 absurd (both_ways _ open_yet (members m inside low))
           ]
     ]
 
 -- Two groups of which one begins before the other ends are one: a member of an earlier group lies before the later group.
-pub groups-apart : (r : Requests) (from end first last m : ℕ) → IsGroup r from end
+pub groups_apart : (r : Requests) (from end first last m : ℕ) → IsGroup r from end
     → IsGroup r first last → from ≤ m → m < end
     → m < first → first < end → ⊥
-groups-apart r from end zero last m g h high lt low inside = omega arith
-groups-apart r from end (suc k) last m g h high lt low inside =
+groups_apart r from end zero last m g h high lt low inside = omega arith
+groups_apart r from end (suc k) last m g h high lt low inside =
     both_ways _ (g.joined k (omega arith) (omega arith)) (h.begins k refl)
 
 -- a least member that was found is a member
-pub first_member-inside : (p : ℕ → Bool) (from end k : ℕ) → first_member p from end ≡ Some k
+pub first_member_inside : (p : ℕ → Bool) (from end k : ℕ) → first_member p from end ≡ Some k
     → (from ≤ k) × (k < end) × (p k ≡ true)
 unfolding first_member
-first_member-inside p from end k e =
-    let least = least_below-tells (λ m. leb from m && p m) end k e in
+first_member_inside p from end k e =
+    let least = least_below_tells (λ m. leb from m && p m) end k e in
     let parts = and_parts (leb from k) (p k) least.holds in
     (leb-true from k parts.0, least.below, parts.1)

@@ -14,104 +14,104 @@ use Rattle.uring_entry.specs.declared.opcode.TheConstants.{READ, WRITE}
 use Rattle.uring_entry.specs.Success.{is_success}
 use Rattle.uring_entry.specs.Requests.{Requests, entry_of, has_started, has_ended, has_failed, is_running, is_outstanding, is_last, is_joined, is_in_group, some_member, is_in_faulty_group, is_behind_failure, is_cancelled, is_doomed, is_ready, holds_back, is_issuable, is_candidate, target_of, is_target, targets_of, least_of, with_accepted, with_started, with_ended}
 use Rattle.uring_entry.specs.Preparation.{is_faulty, is_cancel, is_cancel_all, is_transfer}
-use Rattle.uring_entry.proofs.BelowLemmas.{some_below-none, some_below-some, least_below-none, least_below-some, least_below-tells, IsLeast, all_below-in, all_below-there}
+use Rattle.uring_entry.proofs.BelowLemmas.{some_below_none, some_below_some, least_below_none, least_below_some, least_below_tells, IsLeast, all_below_in, all_below_there}
 
 -- Groups.
 
-pub is_joined-yes : (r : Requests) (m n : ℕ) → ((k : ℕ) → m ≤ k → k < n → is_last r k ≡ false)
+pub is_joined_yes : (r : Requests) (m n : ℕ) → ((k : ℕ) → m ≤ k → k < n → is_last r k ≡ false)
     → is_joined r m n ≡ true
 unfolding is_joined
-is_joined-yes r m n h =
+is_joined_yes r m n h =
     ap not
-    (some_below-none (λ k. leb m k && is_last r k) n
+    (some_below_none (λ k. leb m k && is_last r k) n
     (λ k lt. elim (cases_lt k m) [ inl low ↦ and_left _ _ (lt-leb m k low) | inr high ↦ and_right _ _ (h k high lt) ]))
 
-pub is_joined-no : (r : Requests) (m n k : ℕ) → m ≤ k → k < n → is_last r k ≡ true
+pub is_joined_no : (r : Requests) (m n k : ℕ) → m ≤ k → k < n → is_last r k ≡ true
     → is_joined r m n ≡ false
 unfolding is_joined
-is_joined-no r m n k le lt e =
-    ap not (some_below-some (λ j. leb m j && is_last r j) n k lt (and_from _ _ (le-leb m k le) e))
+is_joined_no r m n k le lt e =
+    ap not (some_below_some (λ j. leb m j && is_last r j) n k lt (and_from _ _ (le-leb m k le) e))
 
-pub is_joined-inside : (r : Requests) (m n k : ℕ) → is_joined r m n ≡ true → m ≤ k → k < n
+pub is_joined_inside : (r : Requests) (m n k : ℕ) → is_joined r m n ≡ true → m ≤ k → k < n
     → is_last r k ≡ false
-is_joined-inside r m n k joined le lt =
+is_joined_inside r m n k joined le lt =
     elim (cases_Bool (is_last r k)) [
-      | inl last ↦ absurd (both_ways _ (is_joined-no r m n k le lt last) joined)
+      | inl last ↦ absurd (both_ways _ (is_joined_no r m n k le lt last) joined)
       | inr inside ↦ inside
     ]
 
 -- Who is doomed.
 
-pub is_doomed-faulty : (r : Requests) (n : ℕ) → is_in_faulty_group r n ≡ true → is_doomed r n ≡ true
+pub is_doomed_faulty : (r : Requests) (n : ℕ) → is_in_faulty_group r n ≡ true → is_doomed r n ≡ true
 unfolding is_doomed
-is_doomed-faulty r n e = or_left _ _ (or_left _ _ e)
+is_doomed_faulty r n e = or_left _ _ (or_left _ _ e)
 
-pub is_doomed-behind : (r : Requests) (n : ℕ) → is_behind_failure r n ≡ true → is_doomed r n ≡ true
+pub is_doomed_behind : (r : Requests) (n : ℕ) → is_behind_failure r n ≡ true → is_doomed r n ≡ true
 unfolding is_doomed
-is_doomed-behind r n e = or_left _ _ (or_right _ _ e)
+is_doomed_behind r n e = or_left _ _ (or_right _ _ e)
 
-pub is_doomed-cancelled : (r : Requests) (n : ℕ) → is_cancelled r n ≡ true → is_doomed r n ≡ true
+pub is_doomed_cancelled : (r : Requests) (n : ℕ) → is_cancelled r n ≡ true → is_doomed r n ≡ true
 unfolding is_doomed
-is_doomed-cancelled r n e = or_right _ _ e
+is_doomed_cancelled r n e = or_right _ _ e
 
 -- a request is in its own group
 pub is_in_own_group : (r : Requests) (n : ℕ) → is_in_group r n n ≡ true
 is_in_own_group r n =
     let low : min n n ≡ n = omega arith in
     let high : max n n ≡ n = omega arith in
-    ap (λ m. is_joined r m (max n n)) low ∙ ap (is_joined r n) high ∙ is_joined-yes r n n (λ k le lt. absurd (omega arith))
+    ap (λ m. is_joined r m (max n n)) low ∙ ap (is_joined r n) high ∙ is_joined_yes r n n (λ k le lt. absurd (omega arith))
 
-pub some_member-own : (r : Requests) (p : Sqe → Bool) (n : ℕ) → n < length r.accepted
+pub some_member_own : (r : Requests) (p : Sqe → Bool) (n : ℕ) → n < length r.accepted
     → p (entry_of r n) ≡ true → some_member r p n ≡ true
 unfolding some_member
-some_member-own r p n lt e = some_below-some (λ m. is_in_group r m n && p (entry_of r m)) (length r.accepted) n lt (and_from _ _ (is_in_own_group r n) e)
+some_member_own r p n lt e = some_below_some (λ m. is_in_group r m n && p (entry_of r m)) (length r.accepted) n lt (and_from _ _ (is_in_own_group r n) e)
 
 -- a request's own fault dooms it
-pub is_doomed-own_fault : (r : Requests) (n : ℕ) → n < length r.accepted
+pub is_doomed_own_fault : (r : Requests) (n : ℕ) → n < length r.accepted
     → is_faulty (entry_of r n) ≡ true → is_doomed r n ≡ true
-is_doomed-own_fault r n lt e = is_doomed-faulty r n (some_member-own r is_faulty n lt e)
+is_doomed_own_fault r n lt e = is_doomed_faulty r n (some_member_own r is_faulty n lt e)
 
 -- Who may start.
 
-pub is_ready-yes : (r : Requests) (n : ℕ) → ((m : ℕ) → m < n → holds_back r n m ≡ false)
+pub is_ready_yes : (r : Requests) (n : ℕ) → ((m : ℕ) → m < n → holds_back r n m ≡ false)
     → is_ready r n ≡ true
 unfolding is_ready
-is_ready-yes r n h = ap not (some_below-none (holds_back r n) n h)
+is_ready_yes r n h = ap not (some_below_none (holds_back r n) n h)
 
-pub is_ready-no : (r : Requests) (n m : ℕ) → m < n → holds_back r n m ≡ true → is_ready r n ≡ false
+pub is_ready_no : (r : Requests) (n m : ℕ) → m < n → holds_back r n m ≡ true → is_ready r n ≡ false
 unfolding is_ready
-is_ready-no r n m lt e = ap not (some_below-some (holds_back r n) n m lt e)
+is_ready_no r n m lt e = ap not (some_below_some (holds_back r n) n m lt e)
 
-pub is_ready-inside : (r : Requests) (n m : ℕ) → is_ready r n ≡ true → m < n
+pub is_ready_inside : (r : Requests) (n m : ℕ) → is_ready r n ≡ true → m < n
     → holds_back r n m ≡ false
-is_ready-inside r n m ready lt =
+is_ready_inside r n m ready lt =
     elim (cases_Bool (holds_back r n m)) [
-      | inl back ↦ absurd (both_ways _ (is_ready-no r n m lt back) ready)
+      | inl back ↦ absurd (both_ways _ (is_ready_no r n m lt back) ready)
       | inr free ↦ free
     ]
 
 -- What a cancel chooses.
 
-pub target_of-none : (r : Requests) (n : ℕ)
+pub target_of_none : (r : Requests) (n : ℕ)
     → ((m : ℕ) → m < length r.accepted → is_candidate r n m ≡ false) → target_of r n ≡ None
 unfolding target_of
-target_of-none r n h = least_below-none (is_candidate r n) (length r.accepted) h
+target_of_none r n h = least_below_none (is_candidate r n) (length r.accepted) h
 
-pub target_of-some : (r : Requests) (n m : ℕ) → m < length r.accepted → is_candidate r n m ≡ true
+pub target_of_some : (r : Requests) (n m : ℕ) → m < length r.accepted → is_candidate r n m ≡ true
     → ((k : ℕ) → k < m → is_candidate r n k ≡ false) → target_of r n ≡ Some m
 unfolding target_of
-target_of-some r n m lt e before =
-    least_below-some (is_candidate r n) (length r.accepted) m lt e before
+target_of_some r n m lt e before =
+    least_below_some (is_candidate r n) (length r.accepted) m lt e before
 
-pub target-in : (r : Requests) (n m : ℕ) → list_any (λ k. k == m) (targets_of r n) ≡ true
+pub target_in : (r : Requests) (n m : ℕ) → list_any (λ k. k == m) (targets_of r n) ≡ true
     → is_target r n m ≡ true
 unfolding targets_of
-target-in r n m e = (all_below-in (is_target r n) (length r.accepted) m e).1
+target_in r n m e = (all_below_in (is_target r n) (length r.accepted) m e).1
 
-pub target-there : (r : Requests) (n m : ℕ) → m < length r.accepted → is_target r n m ≡ true
+pub target_there : (r : Requests) (n m : ℕ) → m < length r.accepted → is_target r n m ≡ true
     → list_any (λ k. k == m) (targets_of r n) ≡ true
 unfolding targets_of
-target-there r n m lt e = all_below-there (is_target r n) (length r.accepted) m lt e
+target_there r n m lt e = all_below_there (is_target r n) (length r.accepted) m lt e
 
 -- When a cancel succeeded.
 
@@ -134,20 +134,20 @@ never_success e below = by_all (is_cancel_all e) where
   by_all false = refl
 
 -- what is before the least outstanding request has ended
-ended-before : (r : Requests) (n m : ℕ) → IsLeast (is_outstanding r) (length r.accepted) n → m < n
+ended_before : (r : Requests) (n m : ℕ) → IsLeast (is_outstanding r) (length r.accepted) n → m < n
     → has_ended r m ≡ true
-ended-before r n m least lt =
+ended_before r n m least lt =
     elim (and_cases _ _ (least.before m lt)) [
       | inl out ↦ absurd (both_ways _ out (lt-ltb m (length r.accepted) (omega (arith, least.below))))
       | inr over ↦ not-false _ over
     ]
 
 -- the least outstanding request is running, or can be issued
-pub least_of-goes_on : (r : Requests) (n : ℕ) → least_of r ≡ Some n
+pub least_of_goes_on : (r : Requests) (n : ℕ) → least_of r ≡ Some n
     → (is_running r n || is_issuable r n) ≡ true
-least_of-goes_on r n e =
-    let least = least_below-tells (is_outstanding r) (length r.accepted) n e in
-    let ready = is_ready-yes r n (λ m lt. and_left _ _ (ap not (ended-before r n m least lt))) in
+least_of_goes_on r n e =
+    let least = least_below_tells (is_outstanding r) (length r.accepted) n e in
+    let ready = is_ready_yes r n (λ m lt. and_left _ _ (ap not (ended_before r n m least lt))) in
     elim (cases_Bool (is_running r n)) [
       | inl running ↦ or_left _ _ running
       | inr still ↦
@@ -157,97 +157,97 @@ least_of-goes_on r n e =
 
 -- What each event changes.
 
-pub list_any-push : {X : Type 0} (p : X → Bool) (xs : List X) (x : X)
+pub list_any_push : {X : Type 0} (p : X → Bool) (xs : List X) (x : X)
     → list_any p (xs ++ x ∷ []) ≡ (list_any p xs || p x)
-list_any-push p xs x = list_any-append p xs (x ∷ []) ∙ ap (λ b. list_any p xs || b) (or-false (p x))
+list_any_push p xs x = list_any-append p xs (x ∷ []) ∙ ap (λ b. list_any p xs || b) (or-false (p x))
 
 -- an element is added at the end that the test at k passes, or that it doesn't
-pub added-same : {X : Type 0} (p : X → Bool) (xs : List X) (x : X) → p x ≡ true
+pub added_same : {X : Type 0} (p : X → Bool) (xs : List X) (x : X) → p x ≡ true
     → list_any p (xs ++ x ∷ []) ≡ true
-added-same p xs x e = list_any-push p xs x ∙ or_right _ _ e
+added_same p xs x e = list_any_push p xs x ∙ or_right _ _ e
 
-pub added-other : {X : Type 0} (p : X → Bool) (xs : List X) (x : X) → p x ≡ false
+pub added_other : {X : Type 0} (p : X → Bool) (xs : List X) (x : X) → p x ≡ false
     → list_any p (xs ++ x ∷ []) ≡ list_any p xs
-added-other p xs x e = list_any-push p xs x ∙ ap (λ b. list_any p xs || b) e ∙ or-false _
+added_other p xs x e = list_any_push p xs x ∙ ap (λ b. list_any p xs || b) e ∙ or-false _
 
-pub has_ended-same : (r : Requests) (n : ℕ) (res : ℤ) (bytes : List ℕ)
+pub has_ended_same : (r : Requests) (n : ℕ) (res : ℤ) (bytes : List ℕ)
     → has_ended (with_ended r n res bytes) n ≡ true
-has_ended-same r n res bytes = added-same (λ e. e.number == n) r.ended _ (eq-eqb n n refl)
+has_ended_same r n res bytes = added_same (λ e. e.number == n) r.ended _ (eq-eqb n n refl)
 
-pub has_ended-other : (r : Requests) (n : ℕ) (res : ℤ) (bytes : List ℕ) (k : ℕ) → k ≢ n
+pub has_ended_other : (r : Requests) (n : ℕ) (res : ℤ) (bytes : List ℕ) (k : ℕ) → k ≢ n
     → has_ended (with_ended r n res bytes) k ≡ has_ended r k
-has_ended-other r n res bytes k ne =
-    added-other (λ e. e.number == k) r.ended _ (ne_eqb n k (λ e. ne (sym e)))
+has_ended_other r n res bytes k ne =
+    added_other (λ e. e.number == k) r.ended _ (ne_eqb n k (λ e. ne (sym e)))
 
-pub is_running-ended_same : (r : Requests) (n : ℕ) (res : ℤ) (bytes : List ℕ)
+pub is_running_ended_same : (r : Requests) (n : ℕ) (res : ℤ) (bytes : List ℕ)
     → is_running (with_ended r n res bytes) n ≡ false
-is_running-ended_same r n res bytes = and_right _ _ (ap not (has_ended-same r n res bytes))
+is_running_ended_same r n res bytes = and_right _ _ (ap not (has_ended_same r n res bytes))
 
-pub is_running-ended_other : (r : Requests) (n : ℕ) (res : ℤ) (bytes : List ℕ) (k : ℕ) → k ≢ n
+pub is_running_ended_other : (r : Requests) (n : ℕ) (res : ℤ) (bytes : List ℕ) (k : ℕ) → k ≢ n
     → is_running (with_ended r n res bytes) k ≡ is_running r k
-is_running-ended_other r n res bytes k ne =
-    ap (λ b. has_started r k && not b) (has_ended-other r n res bytes k ne)
+is_running_ended_other r n res bytes k ne =
+    ap (λ b. has_started r k && not b) (has_ended_other r n res bytes k ne)
 
-pub is_running-started_same : (r : Requests) (n : ℕ) → has_ended r n ≡ false
+pub is_running_started_same : (r : Requests) (n : ℕ) → has_ended r n ≡ false
     → is_running (with_started r n) n ≡ true
-is_running-started_same r n e =
-    and_from _ _ (added-same (λ m. m == n) r.started n (eq-eqb n n refl)) (ap not e)
+is_running_started_same r n e =
+    and_from _ _ (added_same (λ m. m == n) r.started n (eq-eqb n n refl)) (ap not e)
 
-pub is_running-started_other : (r : Requests) (n k : ℕ) → k ≢ n
+pub is_running_started_other : (r : Requests) (n k : ℕ) → k ≢ n
     → is_running (with_started r n) k ≡ is_running r k
-is_running-started_other r n k ne =
-    ap (λ b. b && not (has_ended r k)) (added-other (λ m. m == k) r.started n (ne_eqb n k (λ e. ne (sym e))))
+is_running_started_other r n k ne =
+    ap (λ b. b && not (has_ended r k)) (added_other (λ m. m == k) r.started n (ne_eqb n k (λ e. ne (sym e))))
 
-list_any-both : {X : Type 0} (p q : X → Bool) (xs : List X) → list_any p xs ≡ false
+list_any_both : {X : Type 0} (p q : X → Bool) (xs : List X) → list_any p xs ≡ false
     → list_any (λ x. p x && q x) xs ≡ false
-list_any-both p q [] e = refl
-list_any-both p q (x ∷ xs) e =
+list_any_both p q [] e = refl
+list_any_both p q (x ∷ xs) e =
     let parts = or_parts (p x) (list_any p xs) e in
-    or_from _ _ (and_left _ _ parts.0) (list_any-both p q xs parts.1)
+    or_from _ _ (and_left _ _ parts.0) (list_any_both p q xs parts.1)
 
-pub has_failed-unended : (r : Requests) (k : ℕ) → has_ended r k ≡ false → has_failed r k ≡ false
-has_failed-unended r k e =
-    list_any-both (λ x. x.number == k) (λ x. not (is_success (entry_of r k) x.res)) r.ended e
+pub has_failed_unended : (r : Requests) (k : ℕ) → has_ended r k ≡ false → has_failed r k ≡ false
+has_failed_unended r k e =
+    list_any_both (λ x. x.number == k) (λ x. not (is_success (entry_of r k) x.res)) r.ended e
 
-pub has_failed-same : (r : Requests) (n : ℕ) (res : ℤ) (bytes : List ℕ) → has_ended r n ≡ false
+pub has_failed_same : (r : Requests) (n : ℕ) (res : ℤ) (bytes : List ℕ) → has_ended r n ≡ false
     → has_failed (with_ended r n res bytes) n ≡ not (is_success (entry_of r n) res)
-has_failed-same r n res bytes e =
-    list_any-push (λ x. (x.number == n) && not (is_success (entry_of r n) x.res)) r.ended _
-    ∙ ap (λ b. b || ((n == n) && not (is_success (entry_of r n) res))) (has_failed-unended r n e)
+has_failed_same r n res bytes e =
+    list_any_push (λ x. (x.number == n) && not (is_success (entry_of r n) x.res)) r.ended _
+    ∙ ap (λ b. b || ((n == n) && not (is_success (entry_of r n) res))) (has_failed_unended r n e)
     ∙ ap (λ b. b && not (is_success (entry_of r n) res)) (eq-eqb n n refl)
 
-pub has_failed-other : (r : Requests) (n : ℕ) (res : ℤ) (bytes : List ℕ) (k : ℕ) → k ≢ n
+pub has_failed_other : (r : Requests) (n : ℕ) (res : ℤ) (bytes : List ℕ) (k : ℕ) → k ≢ n
     → has_failed (with_ended r n res bytes) k ≡ has_failed r k
-has_failed-other r n res bytes k ne =
-    added-other (λ x. (x.number == k) && not (is_success (entry_of r k) x.res)) r.ended _
+has_failed_other r n res bytes k ne =
+    added_other (λ x. (x.number == k) && not (is_success (entry_of r k) x.res)) r.ended _
     (and_left _ _ (ne_eqb n k (λ e. ne (sym e))))
 
 -- an element added at the end stands there alone
-pub get_or-push_other : {X : Type 0} (xs : List X) (x : X) (k : ℕ) (d : X) → k ≢ length xs
+pub get_or_push_other : {X : Type 0} (xs : List X) (x : X) (k : ℕ) (d : X) → k ≢ length xs
     → get_or (xs ++ x ∷ []) k d ≡ get_or xs k d
-get_or-push_other xs x k d ne =
+get_or_push_other xs x k d ne =
     elim (cases_lt k (length xs)) [
       | inl low ↦ get_or-append xs (x ∷ []) d k low
       | inr high ↦
           get_or_past (xs ++ x ∷ []) k d (omega (arith, length-append xs (x ∷ []))) ∙ sym (get_or_past xs k d high)
     ]
 
-pub entry_of-accepted_at : (r : Requests) (entry : Sqe)
+pub entry_of_accepted_at : (r : Requests) (entry : Sqe)
     → entry_of (with_accepted r entry) (length r.accepted) ≡ entry
-entry_of-accepted_at r entry = get_or-append_seam r.accepted entry [] zero_entry
+entry_of_accepted_at r entry = get_or-append_seam r.accepted entry [] zero_entry
 
-pub entry_of-accepted_other : (r : Requests) (entry : Sqe) (k : ℕ) → k ≢ length r.accepted
+pub entry_of_accepted_other : (r : Requests) (entry : Sqe) (k : ℕ) → k ≢ length r.accepted
     → entry_of (with_accepted r entry) k ≡ entry_of r k
-entry_of-accepted_other r entry k ne = get_or-push_other r.accepted entry k zero_entry ne
+entry_of_accepted_other r entry k ne = get_or_push_other r.accepted entry k zero_entry ne
 
-pub has_failed-accepted : (r : Requests) (entry : Sqe) (k : ℕ)
+pub has_failed_accepted : (r : Requests) (entry : Sqe) (k : ℕ)
     → has_ended r (length r.accepted) ≡ false
     → has_failed (with_accepted r entry) k ≡ has_failed r k
-has_failed-accepted r entry k none =
+has_failed_accepted r entry k none =
     elim (cases_eq k (length r.accepted)) [
       | inl same ↦
           let unended = ap (has_ended r) same ∙ none in
-          has_failed-unended (with_accepted r entry) k unended ∙ sym (has_failed-unended r k unended)
+          has_failed_unended (with_accepted r entry) k unended ∙ sym (has_failed_unended r k unended)
       | inr other ↦
-          ap (λ e. list_any (λ x. (x.number == k) && not (is_success e x.res)) r.ended) (entry_of-accepted_other r entry k other)
+          ap (λ e. list_any (λ x. (x.number == k) && not (is_success e x.res)) r.ended) (entry_of_accepted_other r entry k other)
     ]

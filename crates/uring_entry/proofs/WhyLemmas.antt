@@ -10,60 +10,60 @@ use Rattle.uring_entry.specs.Groups.{IsGroup, first_member, is_before, first_fau
 use Rattle.uring_entry.specs.Why.{is_faulty_member, is_failure_before, faulty_member_of, failed_member_of, doom_of, holder_of, since_of, waiting_for, why_of}
 use Rattle.uring_entry.specs.declared.why.Why.{Why}
 use Rattle.uring_entry.specs.declared.why.Why.TheVariants.{NeverAccepted, HasEnded, Runs, IsDoomed, Waits, MayStart}
-use Rattle.uring_entry.proofs.BelowLemmas.{least_below-none, least_below-some, least_below-same, least_below-out, least_below-tells}
-use Rattle.uring_entry.proofs.GroupLemmas.{in_group-member, joined-member}
+use Rattle.uring_entry.proofs.BelowLemmas.{least_below_none, least_below_some, least_below_same, least_below_out, least_below_tells}
+use Rattle.uring_entry.proofs.GroupLemmas.{in_group_member, joined_member}
 
 -- What dooms it.
 
 -- a bound that goes further, over numbers at which the test fails
-least_below-between : (p : ℕ → Bool) (n m : ℕ) → n ≤ m → ((k : ℕ) → n ≤ k → k < m → p k ≡ false)
+least_below_between : (p : ℕ → Bool) (n m : ℕ) → n ≤ m → ((k : ℕ) → n ≤ k → k < m → p k ≡ false)
     → least_below p m ≡ least_below p n
-least_below-between p n m le h = go (least_below p n) refl
+least_below_between p n m le h = go (least_below p n) refl
   where
     go : (o : Option ℕ) → least_below p n ≡ o → least_below p m ≡ o
-    go None e = least_below-none p m (λ k lt. elim (cases_lt k n) [ inl low ↦ least_below-out p n e k low | inr high ↦ h k high lt ])
+    go None e = least_below_none p m (λ k lt. elim (cases_lt k n) [ inl low ↦ least_below_out p n e k low | inr high ↦ h k high lt ])
     go (Some k) e =
-        let least = least_below-tells p n k e in
-        least_below-some p m k (omega (arith, least.below)) least.holds least.before
+        let least = least_below_tells p n k e in
+        least_below_some p m k (omega (arith, least.below)) least.holds least.before
 
 -- the least member with a fault
-pub faulty_member-is : (r : Requests) (from end n : ℕ) → IsGroup r from end → from ≤ n → n < end
+pub faulty_member_is : (r : Requests) (from end n : ℕ) → IsGroup r from end → from ≤ n → n < end
     → faulty_member_of r n ≡ first_fault r from end
 unfolding first_member
-faulty_member-is r from end n g high lt =
-    least_below-between (is_faulty_member r n) end (length r.accepted) g.accepted
-    (λ m past within. and_left _ _ (in_group-member r from end n m g high lt within ∙ and_right _ _ (le-ltb m end past)))
-    ∙ least_below-same (is_faulty_member r n) (λ m. leb from m && is_faulty (entry_of r m)) end
+faulty_member_is r from end n g high lt =
+    least_below_between (is_faulty_member r n) end (length r.accepted) g.accepted
+    (λ m past within. and_left _ _ (in_group_member r from end n m g high lt within ∙ and_right _ _ (le-ltb m end past)))
+    ∙ least_below_same (is_faulty_member r n) (λ m. leb from m && is_faulty (entry_of r m)) end
     (λ m inside.
     let f = g.accepted in
     ap (λ b. b && is_faulty (entry_of r m))
-    (in_group-member r from end n m g high lt (omega arith) ∙ ap (λ b. leb from m && b) (lt-ltb m end inside) ∙ and-true (leb from m)))
+    (in_group_member r from end n m g high lt (omega arith) ∙ ap (λ b. leb from m && b) (lt-ltb m end inside) ∙ and-true (leb from m)))
 
-failure-is : (r : Requests) (from end n m : ℕ) → IsGroup r from end → from ≤ n → n < end → m < n
+failure_is : (r : Requests) (from end n m : ℕ) → IsGroup r from end → from ≤ n → n < end → m < n
     → is_failure_before r n m ≡ (leb from m && (is_soft (entry_of r m) && has_failed r m))
-failure-is r from end n m g high lt low =
+failure_is r from end n m g high lt low =
     and_assoc (is_joined r m n) _ _
-    ∙ ap (λ b. b && (is_soft (entry_of r m) && has_failed r m)) (joined-member r from end m n g high lt (omega arith))
+    ∙ ap (λ b. b && (is_soft (entry_of r m) && has_failed r m)) (joined_member r from end m n g high lt (omega arith))
 
 -- the least earlier one that failed, if it is before n
-pub failed_member-before : (r : Requests) (from end n m : ℕ) → IsGroup r from end → from ≤ n
+pub failed_member_before : (r : Requests) (from end n m : ℕ) → IsGroup r from end → from ≤ n
     → n < end → first_broken r from end ≡ Some m → m < n → failed_member_of r n ≡ Some m
 unfolding first_member
-failed_member-before r from end n m g high lt e low =
-    let least = least_below-tells (λ k. leb from k && (is_soft (entry_of r k) && has_failed r k)) end m e in
-    least_below-some (is_failure_before r n) n m low (failure-is r from end n m g high lt low ∙ least.holds)
-    (λ j under. failure-is r from end n j g high lt (omega arith) ∙ least.before j under)
+failed_member_before r from end n m g high lt e low =
+    let least = least_below_tells (λ k. leb from k && (is_soft (entry_of r k) && has_failed r k)) end m e in
+    least_below_some (is_failure_before r n) n m low (failure_is r from end n m g high lt low ∙ least.holds)
+    (λ j under. failure_is r from end n j g high lt (omega arith) ∙ least.before j under)
 
-pub failed_member-none : (r : Requests) (from end n : ℕ) → IsGroup r from end → from ≤ n → n < end
+pub failed_member_none : (r : Requests) (from end n : ℕ) → IsGroup r from end → from ≤ n → n < end
     → is_before (first_broken r from end) n ≡ false → failed_member_of r n ≡ None
 unfolding first_member
-failed_member-none r from end n g high lt e =
-    least_below-none (is_failure_before r n) n (λ j under. failure-is r from end n j g high lt under ∙ none (first_broken r from end) refl e j under)
+failed_member_none r from end n g high lt e =
+    least_below_none (is_failure_before r n) n (λ j under. failure_is r from end n j g high lt under ∙ none (first_broken r from end) refl e j under)
   where
     none : (o : Option ℕ) → first_broken r from end ≡ o → is_before o n ≡ false → (j : ℕ) → j < n → (leb from j && (is_soft (entry_of r j) && has_failed r j)) ≡ false
-    none None was out j under = least_below-out (λ k. leb from k && (is_soft (entry_of r k) && has_failed r k)) end was j (omega arith)
+    none None was out j under = least_below_out (λ k. leb from k && (is_soft (entry_of r k) && has_failed r k)) end was j (omega arith)
     none (Some m) was out j under =
-        let least = least_below-tells (λ k. leb from k && (is_soft (entry_of r k) && has_failed r k)) end m was in
+        let least = least_below_tells (λ k. leb from k && (is_soft (entry_of r k) && has_failed r k)) end m was in
         elim (cases_lt m n) [
           | inl low ↦ absurd (both_ways _ out (lt-ltb m n low))
           | inr past ↦ least.before j (omega arith)
@@ -87,10 +87,10 @@ IsTold r n (Waits m since) =
     StillWaits r n × (is_doomed r n ≡ false) × (holder_of r n ≡ Some m) × (since ≡ since_of r n m)
 IsTold r n MayStart = StillWaits r n × (is_doomed r n ≡ false) × (holder_of r n ≡ None)
 
-waiting-told : (r : Requests) (n : ℕ) (o : Option ℕ) → StillWaits r n → is_doomed r n ≡ false
+waiting_told : (r : Requests) (n : ℕ) (o : Option ℕ) → StillWaits r n → is_doomed r n ≡ false
     → holder_of r n ≡ o → IsTold r n (waiting_for r n o)
-waiting-told r n (Some m) s free e = (s, free, e, refl)
-waiting-told r n None s free e = (s, free, e)
+waiting_told r n (Some m) s free e = (s, free, e, refl)
+waiting_told r n None s free e = (s, free, e)
 
 -- the tests that are left, with what the next one gives
 abbrev from_doomed : Requests → ℕ → Bool → Why
@@ -105,47 +105,47 @@ from_ended r n ended = if ended then HasEnded else from_running r n (is_running 
 abbrev from_given : Requests → ℕ → Bool → Why
 from_given r n given = if not given then NeverAccepted else from_ended r n (has_ended r n)
 
-told-doomed : (r : Requests) (n : ℕ) (b : Bool) → StillWaits r n → is_doomed r n ≡ b
+told_doomed : (r : Requests) (n : ℕ) (b : Bool) → StillWaits r n → is_doomed r n ≡ b
     → IsTold r n (from_doomed r n b)
-told-doomed r n true s e = (s, e, refl)
-told-doomed r n false s e = waiting-told r n (holder_of r n) s e refl
+told_doomed r n true s e = (s, e, refl)
+told_doomed r n false s e = waiting_told r n (holder_of r n) s e refl
 
-told-running : (r : Requests) (n : ℕ) (b : Bool) → n < length r.accepted → has_ended r n ≡ false
+told_running : (r : Requests) (n : ℕ) (b : Bool) → n < length r.accepted → has_ended r n ≡ false
     → is_running r n ≡ b → IsTold r n (from_running r n b)
-told-running r n true lt going e = (lt, going, e)
-told-running r n false lt going e =
-    told-doomed r n (is_doomed r n) (record { given = lt; unended = going; unstarted = e }) refl
+told_running r n true lt going e = (lt, going, e)
+told_running r n false lt going e =
+    told_doomed r n (is_doomed r n) (record { given = lt; unended = going; unstarted = e }) refl
 
-told-ended : (r : Requests) (n : ℕ) (b : Bool) → n < length r.accepted → has_ended r n ≡ b
+told_ended : (r : Requests) (n : ℕ) (b : Bool) → n < length r.accepted → has_ended r n ≡ b
     → IsTold r n (from_ended r n b)
-told-ended r n true lt e = (lt, e)
-told-ended r n false lt e = told-running r n (is_running r n) lt e refl
+told_ended r n true lt e = (lt, e)
+told_ended r n false lt e = told_running r n (is_running r n) lt e refl
 
-told-given : (r : Requests) (n : ℕ) (b : Bool) → ltb n (length r.accepted) ≡ b
+told_given : (r : Requests) (n : ℕ) (b : Bool) → ltb n (length r.accepted) ≡ b
     → IsTold r n (from_given r n b)
-told-given r n true e = told-ended r n (has_ended r n) (ltb-true n (length r.accepted) e) refl
-told-given r n false e =
+told_given r n true e = told_ended r n (has_ended r n) (ltb-true n (length r.accepted) e) refl
+told_given r n false e =
     elim (cases_lt n (length r.accepted)) [
       | inl lt ↦ absurd (both_ways _ e (lt-ltb n (length r.accepted) lt))
       | inr le ↦ le
     ]
 
 pub told : (r : Requests) (n : ℕ) → IsTold r n (why_of r n)
-told r n = told-given r n (ltb n (length r.accepted)) refl
+told r n = told_given r n (ltb n (length r.accepted)) refl
 
-pub told-as : (r : Requests) (n : ℕ) (why : Why) → why_of r n ≡ why → IsTold r n why
-told-as r n why e = subst (IsTold r n) e (told r n)
+pub told_as : (r : Requests) (n : ℕ) (why : Why) → why_of r n ≡ why → IsTold r n why
+told_as r n why e = subst (IsTold r n) e (told r n)
 
 -- What is told, by what is so.
 
-why-still : (r : Requests) (n : ℕ) → StillWaits r n → why_of r n ≡ from_doomed r n (is_doomed r n)
-why-still r n s =
+why_still : (r : Requests) (n : ℕ) → StillWaits r n → why_of r n ≡ from_doomed r n (is_doomed r n)
+why_still r n s =
     ap (from_given r n) (lt-ltb n (length r.accepted) s.given) ∙ ap (from_ended r n) s.unended ∙ ap (from_running r n) s.unstarted
 
-pub why-doomed : (r : Requests) (n : ℕ) → StillWaits r n → is_doomed r n ≡ true
+pub why_doomed : (r : Requests) (n : ℕ) → StillWaits r n → is_doomed r n ≡ true
     → why_of r n ≡ IsDoomed (doom_of r n)
-why-doomed r n s doomed = why-still r n s ∙ ap (from_doomed r n) doomed
+why_doomed r n s doomed = why_still r n s ∙ ap (from_doomed r n) doomed
 
-pub why-waiting : (r : Requests) (n : ℕ) → StillWaits r n → is_doomed r n ≡ false
+pub why_waiting : (r : Requests) (n : ℕ) → StillWaits r n → is_doomed r n ≡ false
     → why_of r n ≡ waiting_for r n (holder_of r n)
-why-waiting r n s free = why-still r n s ∙ ap (from_doomed r n) free
+why_waiting r n s free = why_still r n s ∙ ap (from_doomed r n) free

@@ -1,5 +1,6 @@
 pub mod Setup
 pub mod Flags
+pub mod Errors
 pub mod Numbers
 pub mod Layout
 pub mod Preparation

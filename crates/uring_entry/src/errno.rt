@@ -15,6 +15,9 @@ pub const EINVAL: i32 = 22;
 /// The write would pass the largest size of a file. write(2); the size is our own rule.
 pub const EFBIG: i32 = 27;
 
+/// The entry asks to drain in a ring that has used skipped success, by the rules of Linux 6.18. docs/PROTOCOL.md, Drains.
+pub const EOPNOTSUPP: i32 = 95;
+
 /// The request that a cancel chose is running. io_uring_enter(2), IORING_OP_ASYNC_CANCEL.
 pub const EALREADY: i32 = 114;
 

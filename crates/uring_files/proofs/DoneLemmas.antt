@@ -5,20 +5,20 @@ use Rattle.uring_files.specs.Contents.{FileContents}
 use Rattle.uring_files.specs.Done.{Done, files_left, AreDone}
 use Rattle.uring_files.specs.Operations.{after, IsOutcome}
 
-pub left-snoc : (files : List FileContents) (done : List Done) (d : Done)
+pub left_snoc : (files : List FileContents) (done : List Done) (d : Done)
     → files_left files (done ++ d ∷ []) ≡ after (files_left files done) d.op d.outcome.res
-left-snoc files [] d = refl
-left-snoc files (first ∷ later) d = left-snoc (after files first.op first.outcome.res) later d
+left_snoc files [] d = refl
+left_snoc files (first ∷ later) d = left_snoc (after files first.op first.outcome.res) later d
 
-pub done-snoc : (files : List FileContents) (done : List Done) (d : Done) → AreDone files done
+pub done_snoc : (files : List FileContents) (done : List Done) (d : Done) → AreDone files done
     → IsOutcome (files_left files done) d.op d.outcome → AreDone files (done ++ d ∷ [])
-done-snoc files [] d all last = (last, tt)
-done-snoc files (first ∷ later) d all last =
-    (all.0, done-snoc (after files first.op first.outcome.res) later d all.1 last)
+done_snoc files [] d all last = (last, tt)
+done_snoc files (first ∷ later) d all last =
+    (all.0, done_snoc (after files first.op first.outcome.res) later d all.1 last)
 
 -- all but the last, and the last
-pub done-unsnoc : (files : List FileContents) (done : List Done) (d : Done)
+pub done_unsnoc : (files : List FileContents) (done : List Done) (d : Done)
     → AreDone files (done ++ d ∷ [])
     → AreDone files done × IsOutcome (files_left files done) d.op d.outcome
-done-unsnoc files [] d all = (tt, all.0)
-done-unsnoc files (first ∷ later) d all = let rest = done-unsnoc (after files first.op first.outcome.res) later d all.1 in ((all.0, rest.0), rest.1)
+done_unsnoc files [] d all = (tt, all.0)
+done_unsnoc files (first ∷ later) d all = let rest = done_unsnoc (after files first.op first.outcome.res) later d all.1 in ((all.0, rest.0), rest.1)

@@ -9,7 +9,7 @@ use Rattle.std.specs.declared.alloc.Global.{Global}
 use Rattle.uring_entry.specs.Setup.{Setup}
 use Rattle.uring_entry.specs.Requests.{outstanding_in}
 use Rattle.uring_core.specs.Histories.{Event, History, world, history_of, IsLawfulApart}
-use Rattle.uring_core.proofs.Following.{history_of-snoc}
+use Rattle.uring_core.proofs.Following.{history_of_snoc}
 use Rattle.uring_fill.specs.Filling.{seen_in, completions_in, IsFilling, IsPart}
 use Rattle.uring_fill.specs.Found.{HasNone, HasFate, IsFound, filled_by}
 use Rattle.uring_fill.specs.declared.search.Fate.{Fate}
@@ -93,7 +93,7 @@ path_taken g seen path todo after events reached place far_place part longer not
     | inl old ↦ s.parts p (Contains-append_left todo (path ∷ []) p old) lawful
     | inr new ↦
         let m : IsMapped (λ x. path ++ x ∷ []) longer.next p = mapped_by (λ x. path ++ x ∷ []) longer.next p new in
-        let here : history_of p ≡ m.of ∷ history_of path = ap history_of (sym m.is) ∙ history_of-snoc path m.of in
+        let here : history_of p ≡ m.of ∷ history_of path = ap history_of (sym m.is) ∙ history_of_snoc path m.of in
         subst (IsPart g seen) (sym here) (longer.right m.of m.there (subst (IsLawfulApart g) here lawful))
   ];
   reach = reach;
@@ -105,7 +105,7 @@ path_taken g seen path todo after events reached place far_place part longer not
         | inr next ↦ inr (record {
           path = path ++ next.event ∷ [];
           there = subst (λ ps. Contains ps (path ++ next.event ∷ [])) (sym longer.is) (Contains-append_right todo (map (λ x. path ++ x ∷ []) longer.next) (path ++ next.event ∷ []) (there_mapped (λ x. path ++ x ∷ []) longer.next next.event next.there));
-          on = subst (GoesOn g seen whole far) (sym (history_of-snoc path next.event)) next.on;
+          on = subst (GoesOn g seen whole far) (sym (history_of_snoc path next.event)) next.on;
         })
       ]
 

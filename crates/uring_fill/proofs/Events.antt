@@ -13,7 +13,7 @@ use Rattle.uring_entry.specs.Requests.{Requests, Ending, entry_of, is_outstandin
 use Rattle.uring_entry.specs.Completions.{Completions, with_posted, with_flushed, put_by_flush, completion_for}
 use Rattle.uring_entry.proofs.RequestLemmas.{one_success}
 use Rattle.uring_entry.specs.Below.{count_below}
-use Rattle.uring_dispatch.proofs.Counting.{length-all_below, count_below-within}
+use Rattle.uring_dispatch.proofs.Counting.{length_all_below, count_below_within}
 use Rattle.uring_core.specs.Core.{Core}
 use Rattle.uring_core.specs.World.{World}
 use Rattle.uring_core.specs.StepAnswers.{CalledForApart}
@@ -182,8 +182,8 @@ quiet_success false success e = absurd cc
 few_targets : (r : Requests) (n : ℕ) → length (targets_of r n) ≤ length r.accepted
 unfolding targets_of
 few_targets r n =
-    let same : length (targets_of r n) ≡ count_below (is_target r n) (length r.accepted) = length-all_below (is_target r n) (length r.accepted) in
-    let few = count_below-within (is_target r n) (length r.accepted) in
+    let same : length (targets_of r n) ≡ count_below (is_target r n) (length r.accepted) = length_all_below (is_target r n) (length r.accepted) in
+    let few = count_below_within (is_target r n) (length r.accepted) in
     omega (arith, same, few)
 
 quiet_cancel : (r : Requests) (n : ℕ) (res : ℤ) (all : Bool) → is_cancel (entry_of r n) ≡ true

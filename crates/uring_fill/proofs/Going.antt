@@ -13,7 +13,7 @@ use Rattle.uring_core.specs.Histories.{Event, History, world, history_of, IsLawf
 use Rattle.uring_core.specs.declared.step.Step.{Step}
 use Rattle.uring_core.specs.declared.answer.Answer.{Answer}
 use Rattle.uring_core.proofs.CompletionMoves.{CompletionMove, stays, ends, completion_move}
-use Rattle.uring_core.proofs.Following.{history_of-cons}
+use Rattle.uring_core.proofs.Following.{history_of_cons}
 use Rattle.uring_fill.specs.Filling.{is_hidden, seen_in, completions_in, GivesAllowed, GiveAllowed, Begins, IsPart}
 use Rattle.uring_fill.specs.Parts.{onto, IsWhole, GoesOn, IsIdle, AreAllNext}
 use Rattle.uring_fill.proofs.Begun.{begins_itself, begins_more, begins_on}
@@ -165,4 +165,4 @@ goes_by g seen whole far (x ∷ later) h next here all p so_far is_whole =
 -- what stands behind the beginning, as a list
 pub onto_is : (later : List Event) (h : History) → onto h later ≡ history_of later ++ h
 onto_is [] h = refl
-onto_is (e ∷ later) h = onto_is later (e ∷ h) ∙ sym (history_of-cons e later h)
+onto_is (e ∷ later) h = onto_is later (e ∷ h) ∙ sym (history_of_cons e later h)

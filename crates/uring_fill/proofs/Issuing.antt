@@ -3,7 +3,7 @@ use Rattle.std.proofs.Common.{◌≡◌, ℕ, ◌<◌, ◌≤◌, Bool, true, fa
 use Rattle.std.specs.Prelude.{nat_le, nat_lt}
 use Rattle.std.proofs.lemmas.Bool.{and_parts, ltb-true, leb-true, le-leb, false_from_ne_true}
 use Rattle.uring_entry.specs.Requests.{Requests, is_issuable, is_outstanding, is_running, is_doomed, is_ready, has_ended}
-use Rattle.uring_entry.proofs.BelowLemmas.{least_below-some}
+use Rattle.uring_entry.proofs.BelowLemmas.{least_below_some}
 use Rattle.uring_dispatch.specs.Issuable.{issuable_from}
 
 pub both_so : (a b : Bool) → a ≡ true → b ≡ true → (a && b) ≡ true
@@ -31,7 +31,7 @@ below_not n j low = false_from_ne_true (nat_le n j) (λ e. let le : n ≤ j = le
 -- and is the least from its number on that can be
 pub issuable_first : (r : Requests) (n : ℕ) → is_issuable r n ≡ true → issuable_from r n ≡ Some n
 issuable_first r n can =
-    least_below-some (λ k. nat_le n k && is_issuable r k) (length r.accepted) n (issuable_accepted r n can)
+    least_below_some (λ k. nat_le n k && is_issuable r k) (length r.accepted) n (issuable_accepted r n can)
     (both_so (nat_le n n) (is_issuable r n) (le_itself n) can)
     (λ j low. ap (λ b. b && is_issuable r j) (below_not n j low)) where
       le_itself : (k : ℕ) → nat_le k k ≡ true

@@ -12,7 +12,7 @@ use Rattle.uring_core.specs.Events.{reaped_by}
 use Rattle.uring_fill.specs.Filling.{completions_in}
 use Rattle.uring_core.specs.StepAnswers.{CalledForApart}
 use Rattle.uring_core.specs.Histories.{Event, History, world, history_of, IsLawfulApart}
-use Rattle.uring_core.proofs.Following.{history_of-snoc}
+use Rattle.uring_core.proofs.Following.{history_of_snoc}
 use Rattle.uring_fill.specs.Parts.{onto}
 use Rattle.uring_fill.proofs.Going.{lawful_onto, onto_is}
 
@@ -24,7 +24,7 @@ at_most_one false = omega arith
 pub taken_next : (events : List Event) (k : ℕ) (e : Event) → k < length events → e ≡ get_or events k e
     → history_of (take (k + 1) events) ≡ e ∷ history_of (take k events)
 taken_next events k e low is =
-    ap history_of (take_more events k e low ∙ ap (λ y. take k events ++ y ∷ []) (sym is)) ∙ history_of-snoc (take k events) e
+    ap history_of (take_more events k e low ∙ ap (λ y. take k events ++ y ∷ []) (sym is)) ∙ history_of_snoc (take k events) e
 
 onto_append : (earlier later : List Event) (h : History)
     → onto h (earlier ++ later) ≡ onto (onto h earlier) later

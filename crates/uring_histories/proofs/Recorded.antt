@@ -17,7 +17,7 @@ use Rattle.uring_core.specs.declared.step.Step.{Step}
 use Rattle.uring_core.specs.declared.step.Step.TheVariants as step
 use Rattle.uring_core.specs.declared.answer.Answer.{Answer}
 use Rattle.uring_core.specs.declared.answer.Answer.TheVariants as answer
-use Rattle.uring_core.proofs.Following.{history_of-snoc}
+use Rattle.uring_core.proofs.Following.{history_of_snoc}
 use Rattle.uring_laws.specs.Standing.{item_steps}
 use Rattle.uring_laws.proofs.WholeLaws.{lawful_apart}
 use Rattle.uring_machine.specs.Machine.{Fits, IsUnrefused}
@@ -64,7 +64,7 @@ made_one g old new h s a line r spelt plain some setup fits called text =
       after = (s, a) ∷ h;
       recorded = record {
         exchanges = record { line = line; event = Some (s, a) } ∷ r.exchanges;
-        events = history_of-snoc (events_of r.exchanges) (s, a) ∙ ap (λ (k : History). (s, a) ∷ k) r.events;
+        events = history_of_snoc (events_of r.exchanges) (s, a) ∙ ap (λ (k : History). (s, a) ∷ k) r.events;
         setup = setup ∙ r.setup;
         fits = now;
         refuses_none = (unrefused_of g (world g h) s a here plain some, r.refuses_none);

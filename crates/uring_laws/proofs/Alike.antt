@@ -13,7 +13,7 @@ use Rattle.uring_entry.specs.Preparation.{is_cancel, is_cancel_all, operation_of
 use Rattle.uring_entry.specs.Success.{is_success}
 use Rattle.uring_entry.specs.Submission.{Call}
 use Rattle.uring_entry.specs.Requests.{Requests, Ending, entry_of, is_outstanding, is_running, is_doomed, is_behind_failure, is_in_faulty_group, some_member, is_joined, is_ready, is_issuable, is_candidate, is_target, is_soft, holds_back, has_failed, waits_for, target_of, targets_of, result_for, count_result, cancel_result, doomed_result, chosen_by, next_of, no_bytes}
-use Rattle.uring_entry.proofs.BelowLemmas.{some_below-same, least_below-same}
+use Rattle.uring_entry.proofs.BelowLemmas.{some_below_same, least_below_same}
 use Rattle.uring_files.specs.Contents.{empty_files}
 use Rattle.uring_files.specs.Operations.{after}
 use Rattle.uring_core.specs.World.{World, happens, taking_of, taking_entry_of, ending_of}
@@ -58,7 +58,7 @@ behind_same : (r : Requests) (s c : List ℕ) (e : List Ending) → AreSame r s 
     → is_behind_failure (listed r s c e) n ≡ is_behind_failure r n
 unfolding is_behind_failure is_joined
 behind_same r s c e a n =
-    some_below-same (λ m. is_joined (listed r s c e) m n && is_soft (entry_of r m) && has_failed (listed r s c e) m) (λ m. is_joined r m n && is_soft (entry_of r m) && has_failed r m) n
+    some_below_same (λ m. is_joined (listed r s c e) m n && is_soft (entry_of r m) && has_failed (listed r s c e) m) (λ m. is_joined r m n && is_soft (entry_of r m) && has_failed r m) n
     (λ k lt. ap (λ b. is_joined r k n && is_soft (entry_of r k) && b) (failed_same r s c e a k))
 
 doomed_same : (r : Requests) (s c : List ℕ) (e : List Ending) → AreSame r s c e → (n : ℕ)
@@ -72,7 +72,7 @@ ready_same : (r : Requests) (s c : List ℕ) (e : List Ending) → AreSame r s c
 unfolding is_ready some_member is_joined
 ready_same r s c e a n =
     ap not
-    (some_below-same (holds_back (listed r s c e) n) (holds_back r n) n
+    (some_below_same (holds_back (listed r s c e) n) (holds_back r n) n
     (λ k lt. ap (λ b. not b && waits_for r n k) (sym (a.ended (λ x. x.number == k)))))
 
 candidate_same : (r : Requests) (s c : List ℕ) (e : List Ending) → AreSame r s c e → (n m : ℕ)
@@ -88,17 +88,17 @@ target_same r s c e a n m =
 one_same : (r : Requests) (s c : List ℕ) (e : List Ending) → AreSame r s c e → (n : ℕ)
     → target_of (listed r s c e) n ≡ target_of r n
 unfolding target_of
-one_same r s c e a n = least_below-same (is_candidate (listed r s c e) n) (is_candidate r n) (length r.accepted) (λ k lt. candidate_same r s c e a n k)
+one_same r s c e a n = least_below_same (is_candidate (listed r s c e) n) (is_candidate r n) (length r.accepted) (λ k lt. candidate_same r s c e a n k)
 
-all_below-same : (p q : ℕ → Bool) (n : ℕ) → ((k : ℕ) → p k ≡ q k) → all_below p n ≡ all_below q n
-all_below-same p q zero h = refl
-all_below-same p q (suc n) h =
-    ap₂ (λ xs b. xs ++ (if b then n ∷ [] else [])) (all_below-same p q n h) (h n)
+all_below_same : (p q : ℕ → Bool) (n : ℕ) → ((k : ℕ) → p k ≡ q k) → all_below p n ≡ all_below q n
+all_below_same p q zero h = refl
+all_below_same p q (suc n) h =
+    ap₂ (λ xs b. xs ++ (if b then n ∷ [] else [])) (all_below_same p q n h) (h n)
 
 all_same : (r : Requests) (s c : List ℕ) (e : List Ending) → AreSame r s c e → (n : ℕ)
     → targets_of (listed r s c e) n ≡ targets_of r n
 unfolding targets_of
-all_same r s c e a n = all_below-same (is_target (listed r s c e) n) (is_target r n) (length r.accepted) (λ k. target_same r s c e a n k)
+all_same r s c e a n = all_below_same (is_target (listed r s c e) n) (is_target r n) (length r.accepted) (λ k. target_same r s c e a n k)
 
 found_same : (r : Requests) (s c : List ℕ) (e : List Ending) → AreSame r s c e → (o : Option ℕ)
     → result_for (listed r s c e) o ≡ result_for r o
@@ -124,7 +124,7 @@ issuable_same r s c e a n =
 
 next_same : (r : Requests) (s c : List ℕ) (e : List Ending) → AreSame r s c e
     → next_of (listed r s c e) ≡ next_of r
-next_same r s c e a = least_below-same (is_issuable (listed r s c e)) (is_issuable r) (length r.accepted) (λ k lt. issuable_same r s c e a k)
+next_same r s c e a = least_below_same (is_issuable (listed r s c e)) (is_issuable r) (length r.accepted) (λ k lt. issuable_same r s c e a k)
 
 -- Answers.
 

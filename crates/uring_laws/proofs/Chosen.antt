@@ -21,7 +21,7 @@ use Rattle.uring_core.specs.declared.answer.Answer.TheVariants as answer
 use Rattle.uring_core.proofs.Moves.{Move, ends_doomed, ends_cancel, move_of}
 use Rattle.uring_core.proofs.RequestEnds.{doomed_fails, chose, any_both}
 use Rattle.uring_core.proofs.SoundRequests.{outstanding_tells}
-use Rattle.uring_entry.proofs.RequestLemmas.{one_success, all_success, target-there}
+use Rattle.uring_entry.proofs.RequestLemmas.{one_success, all_success, target_there}
 use Rattle.uring_laws.proofs.Growth.{event_grows}
 
 -- where a request is newly chosen, the event is the end of a cancel
@@ -99,7 +99,7 @@ dooms_now r n res m (inr c) =
     let within = (outstanding_tells r m (and_parts _ _ (and_parts _ _ (and_parts _ _ (and_parts _ _ c.target).0).0).0).0).0 in
     dooms_with r n res m (and_parts _ _ c.all).0
     (all_success (entry_of r n) res c.all ∙ ap (int_le (pos 0)) c.result ∙ le-leb 0 c.count (omega arith))
-    (ap (λ b. list_any (λ k. k == m) (cond b (targets_of r n) (option_to_list (target_of r n)))) c.all ∙ target-there r n m within c.target)
+    (ap (λ b. list_any (λ k. k == m) (cond b (targets_of r n) (option_to_list (target_of r n)))) c.all ∙ target_there r n m within c.target)
 
 stays_chosen : (g : Setup) (after before : History) (n : ℕ) (res : ℤ) (m : ℕ) (bytes : List ℕ)
     → IsLawfulApart g (after ++ (step.Issue n, answer.Ended res bytes) ∷ before)

@@ -6,8 +6,8 @@ use Rattle.uring_entry.specs.Preparation.{operation_of}
 use Rattle.uring_entry.specs.Success.{is_success, posts_completion}
 use Rattle.uring_entry.specs.Requests.{Requests, entry_of, has_ended, is_outstanding, is_running, is_doomed, some_member, is_joined, doomed_result, no_bytes, with_ended}
 use Rattle.uring_entry.specs.declared.operation.Outcome.{Outcome}
-use Rattle.uring_entry.proofs.EventLemmas.{is_doomed-tells, is_behind_failure-tells, is_behind_failure-from}
-use Rattle.uring_entry.proofs.RequestLemmas.{has_ended-same, is_running-ended_other, is_doomed-faulty, is_doomed-behind, is_doomed-cancelled}
+use Rattle.uring_entry.proofs.EventLemmas.{is_doomed_tells, is_behind_failure_tells, is_behind_failure_from}
+use Rattle.uring_entry.proofs.RequestLemmas.{has_ended_same, is_running_ended_other, is_doomed_faulty, is_doomed_behind, is_doomed_cancelled}
 use Rattle.uring_files.specs.Contents.{empty_files}
 use Rattle.uring_files.specs.Operations.{after, IsOutcome}
 use Rattle.uring_core.specs.World.{World, happens}
@@ -63,14 +63,14 @@ doom r n = record { res = doomed_result r n; bytes = no_bytes }
 stays_doomed : (r : Requests) (m : ℕ) (res : ℤ) (bytes : List ℕ) (n : ℕ) → is_doomed r n ≡ true
     → is_doomed (with_ended r m res bytes) n ≡ true
 unfolding some_member is_joined
-stays_doomed r m res bytes n doomed = elim (is_doomed-tells r n doomed) [
-  | inl faulty ↦ is_doomed-faulty (with_ended r m res bytes) n faulty
+stays_doomed r m res bytes n doomed = elim (is_doomed_tells r n doomed) [
+  | inl faulty ↦ is_doomed_faulty (with_ended r m res bytes) n faulty
   | inr rest ↦
       elim rest [
         | inl behind ↦
-            let f = is_behind_failure-tells r n behind in
-            is_doomed-behind (with_ended r m res bytes) n (is_behind_failure-from (with_ended r m res bytes) n f.0 (record { before = f.1.before; joined = f.1.joined; soft = f.1.soft; failed = any_kept (λ e. (e.number == f.0) && not (is_success (entry_of r f.0) e.res)) r.ended _ f.1.failed }))
-        | inr cancelled ↦ is_doomed-cancelled (with_ended r m res bytes) n cancelled
+            let f = is_behind_failure_tells r n behind in
+            is_doomed_behind (with_ended r m res bytes) n (is_behind_failure_from (with_ended r m res bytes) n f.0 (record { before = f.1.before; joined = f.1.joined; soft = f.1.soft; failed = any_kept (λ e. (e.number == f.0) && not (is_success (entry_of r f.0) e.res)) r.ended _ f.1.failed }))
+        | inr cancelled ↦ is_doomed_cancelled (with_ended r m res bytes) n cancelled
       ]
 ]
 
@@ -79,7 +79,7 @@ to_end_behind : (g : Setup) (w : World) (m n : ℕ) (s : Step) (a : Answer) (x :
     → IsEnd g w m x.res x.bytes s a → IsToEnd w.requests n → IsToEnd (happens g w s a).requests n
 to_end_behind g w m n s a x differ end c = record {
   outstanding = ap (λ (u : World). is_outstanding u.requests n) end.makes ∙ (outstanding_end w.requests m x.res x.bytes n differ ∙ c.outstanding);
-  idle = ap (λ (u : World). is_running u.requests n) end.makes ∙ (is_running-ended_other w.requests m x.res x.bytes n differ ∙ c.idle);
+  idle = ap (λ (u : World). is_running u.requests n) end.makes ∙ (is_running_ended_other w.requests m x.res x.bytes n differ ∙ c.idle);
   doomed = ap (λ (u : World). is_doomed u.requests n) end.makes ∙ stays_doomed w.requests m x.res x.bytes n c.doomed;
 }
 
@@ -88,7 +88,7 @@ to_end_before : (g : Setup) (w : World) (m n : ℕ) (s : Step) (a : Answer) (x :
     → IsToEnd (happens g w s a).requests n → IsToEnd w.requests n
 to_end_before g w m n s a x differ end doomed c = record {
   outstanding = sym (ap (λ (u : World). is_outstanding u.requests n) end.makes ∙ outstanding_end w.requests m x.res x.bytes n differ) ∙ c.outstanding;
-  idle = sym (ap (λ (u : World). is_running u.requests n) end.makes ∙ is_running-ended_other w.requests m x.res x.bytes n differ) ∙ c.idle;
+  idle = sym (ap (λ (u : World). is_running u.requests n) end.makes ∙ is_running_ended_other w.requests m x.res x.bytes n differ) ∙ c.idle;
   doomed = doomed;
 }
 
@@ -108,7 +108,7 @@ doom_is_end_behind g w m n s a x end c =
 another : (g : Setup) (w : World) (m n : ℕ) (s : Step) (a : Answer) (x : Outcome)
     → IsEnd g w m x.res x.bytes s a → has_ended (happens g w s a).requests n ≡ false → n ≢ m
 another g w m n s a x end still same =
-    both_ways (has_ended (happens g w s a).requests n) still (ap (λ (u : World). has_ended u.requests n) end.makes ∙ subst (λ k. has_ended (with_ended w.requests m x.res x.bytes) k ≡ true) (sym same) (has_ended-same w.requests m x.res x.bytes))
+    both_ways (has_ended (happens g w s a).requests n) still (ap (λ (u : World). has_ended u.requests n) end.makes ∙ subst (λ k. has_ended (with_ended w.requests m x.res x.bytes) k ≡ true) (sym same) (has_ended_same w.requests m x.res x.bytes))
 
 -- A finish beside a doomed end, which changes no file.
 
@@ -121,7 +121,7 @@ finish_behind g h m n s a x y differ no_finish end lawful running outcome =
     let w : World = world g h in
     let v : World = world g ((s, a) ∷ h) in
     let apart : IsLawfulApart g ((s, a) ∷ h) = lawful_apart g ((s, a) ∷ h) (end.called, lawful) in
-    finish_is_end g v m x.res x.bytes (ap (λ (u : World). is_running u.requests m) end.makes ∙ (is_running-ended_other w.requests n y.res y.bytes m differ ∙ running))
+    finish_is_end g v m x.res x.bytes (ap (λ (u : World). is_running u.requests m) end.makes ∙ (is_running_ended_other w.requests n y.res y.bytes m differ ∙ running))
     (subst (λ op. IsOutcome (files_of g v) op x) (sym (ap (λ (u : World). operation_of (entry_of u.requests m)) end.makes)) (subst (λ fs. IsOutcome fs (operation_of (entry_of w.requests m)) x) (sym (files_kept g s a h apart no_finish)) outcome))
 
 other_way : {P Q : Type 0} → P ⊎ Q → Q ⊎ P
@@ -231,7 +231,7 @@ doomed_then_finish g h m n y c posts lawful =
     let one : IsEnd g w m (doomed_result r m) no_bytes (step.Issue m) a = doom_is_end g w m c in
     let two = tells_end (files_of g v) v.requests n (is_running v.requests n) y.res y.bytes lawful.0 in
     let differ : n ≢ m = another g w m n (step.Issue m) a (doom r m) one (not_over v.requests n two.0) in
-    let ran : is_running r n ≡ true = sym (is_running-ended_other r m (doomed_result r m) no_bytes n differ) ∙ (sym (ap (λ (u : World). is_running u.requests n) one.makes) ∙ two.0) in
+    let ran : is_running r n ≡ true = sym (is_running_ended_other r m (doomed_result r m) no_bytes n differ) ∙ (sym (ap (λ (u : World). is_running u.requests n) one.makes) ∙ two.0) in
     let entry : operation_of (entry_of v.requests n) ≡ operation_of (entry_of r n) = ap (λ (u : World). operation_of (entry_of u.requests n)) one.makes in
     let files : files_of g v ≡ files_of g w = files_kept g (step.Issue m) a h (lawful_apart g (doomed_end_of r m ∷ h) lawful.1) tt in
     let outcome : IsOutcome (files_of g w) (operation_of (entry_of r n)) y = subst (λ fs. IsOutcome fs (operation_of (entry_of r n)) y) files (subst (λ op. IsOutcome (files_of g v) op y) entry two.1) in

@@ -11,7 +11,7 @@ use Rattle.uring_core.specs.StepAnswers.{FinishesApart}
 use Rattle.uring_core.specs.CalledFor.{CalledFor, IsLawful, EndsOn, files_of}
 use Rattle.uring_laws.specs.Direct.{with_told}
 use Rattle.uring_files.specs.Done.{Done, files_left, AreDone}
-use Rattle.uring_files.proofs.DoneLemmas.{left-snoc, done-snoc, done-unsnoc}
+use Rattle.uring_files.proofs.DoneLemmas.{left_snoc, done_snoc, done_unsnoc}
 use Rattle.uring_laws.specs.Finishes.{done_by, done_in, first_files, LawfulByOperations, FilesByOperations, PlacesJoin, FilesByPlace}
 use Rattle.uring_core.specs.Histories.{History, world, IsLawfulApart}
 use Rattle.uring_core.specs.declared.step.Step.{Step}
@@ -55,7 +55,7 @@ left_then : (g : Setup) (s : Step) (a : Answer) (h : History) → Kind g h s a �
 left_then g s a h (carries_out n res bytes running) same =
     let r : Requests = (world g h).requests in
     files_ended r n res bytes (first_files g) ∙ ap (λ files. after files (operation_of (entry_of r n)) res) same
-    ∙ sym (left-snoc (first_files g) (done_in g h) (record { number = n; op = operation_of (entry_of r n); outcome = record { res = res; bytes = bytes } }))
+    ∙ sym (left_snoc (first_files g) (done_in g h) (record { number = n; op = operation_of (entry_of r n); outcome = record { res = res; bytes = bytes } }))
 left_then g s a h (idles _ _ none called kept) same =
     kept ∙ same ∙ ap (λ o. files_left (first_files g) (with_told (done_in g h) o)) (sym none)
 
@@ -64,7 +64,7 @@ done_then : (g : Setup) (s : Step) (a : Answer) (h : History) → Kind g h s a �
     → AreDone (first_files g) (done_in g ((s, a) ∷ h))
 done_then g s a h (carries_out n res bytes running) same called done =
     let r : Requests = (world g h).requests in
-    done-snoc (first_files g) (done_in g h) _ done
+    done_snoc (first_files g) (done_in g h) _ done
     (subst (λ files. IsOutcome files (operation_of (entry_of r n)) (record { res = res; bytes = bytes })) same (subst (λ b. EndsOn (files_of g (world g h)) r n b (answer.Ended res bytes)) running called))
 done_then g s a h (idles _ _ none called kept) same _ done =
     subst (λ o. AreDone (first_files g) (with_told (done_in g h) o)) (sym none) done
@@ -75,7 +75,7 @@ done_before : (g : Setup) (s : Step) (a : Answer) (h : History) → Kind g h s a
 done_before g s a h (carries_out n res bytes running) same done =
     let r : Requests = (world g h).requests in
     let d : Done = record { number = n; op = operation_of (entry_of r n); outcome = record { res = res; bytes = bytes } } in
-    let parts = done-unsnoc (first_files g) (done_in g h) d done in
+    let parts = done_unsnoc (first_files g) (done_in g h) d done in
     (parts.0, subst (λ b. EndsOn (files_of g (world g h)) r n b (answer.Ended res bytes)) (sym running) (subst (λ files. IsOutcome files d.op d.outcome) (sym same) parts.1))
 done_before g s a h (idles _ _ none called kept) same done =
     (subst (λ o. AreDone (first_files g) (with_told (done_in g h) o)) none done, called)

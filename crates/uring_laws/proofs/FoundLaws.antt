@@ -8,48 +8,48 @@ use Rattle.uring_entry.specs.Layout.{addr_of}
 use Rattle.uring_entry.specs.Preparation.{is_faulty, is_cancel, is_cancel_all, operation_of}
 use Rattle.uring_entry.specs.Requests.{Requests, entry_of, is_outstanding, is_running, is_candidate, target_of, targets_of, cancel_result, count_result, result_for}
 use Rattle.uring_entry.proofs.Preparations.{asks_cancel, cancel_asked}
-use Rattle.uring_entry.proofs.BelowLemmas.{least_below-none, least_below-some, least_below-out, least_below-tells}
+use Rattle.uring_entry.proofs.BelowLemmas.{least_below_none, least_below_some, least_below_out, least_below_tells}
 use Rattle.uring_dispatch.specs.Cancels.{found_as, found_for, found_by}
 use Rattle.uring_dispatch.specs.declared.answers.Found.{Found}
 use Rattle.uring_dispatch.specs.declared.answers.Found.TheVariants.{Nobody, Running, Chosen}
 use Rattle.uring_laws.specs.Reasons.{IsLeastOf, IsFound, Finds, ends_with}
 
-target-none : (r : Requests) (n : ℕ) → target_of r n ≡ None → (m : ℕ) → m < length r.accepted
+target_none : (r : Requests) (n : ℕ) → target_of r n ≡ None → (m : ℕ) → m < length r.accepted
     → is_candidate r n m ≡ false
 unfolding target_of
-target-none r n e m lt = least_below-out (is_candidate r n) (length r.accepted) e m lt
+target_none r n e m lt = least_below_out (is_candidate r n) (length r.accepted) e m lt
 
-target-some : (r : Requests) (n m : ℕ) → target_of r n ≡ Some m
+target_some : (r : Requests) (n m : ℕ) → target_of r n ≡ Some m
     → IsLeastOf (is_candidate r n) (length r.accepted) m
 unfolding target_of
-target-some r n m e =
-    let least = least_below-tells (is_candidate r n) (length r.accepted) m e in
+target_some r n m e =
+    let least = least_below_tells (is_candidate r n) (length r.accepted) m e in
     record { below = least.below; holds = least.holds; least = least.before }
 
 -- what is found, and what the cancel ends with
-found-as : (r : Requests) (n : ℕ) (o : Option ℕ) → target_of r n ≡ o
+found_as : (r : Requests) (n : ℕ) (o : Option ℕ) → target_of r n ≡ o
     → IsFound r n (found_as r o) × (result_for r o ≡ ends_with (found_as r o))
-found-as r n None e = (target-none r n e, refl)
-found-as r n (Some m) e = go (is_running r m) refl
+found_as r n None e = (target_none r n e, refl)
+found_as r n (Some m) e = go (is_running r m) refl
   where
     go : (b : Bool) → is_running r m ≡ b → IsFound r n (if b then Running m else Chosen m) × ((if b then neg_ℤ EALREADY else pos 0) ≡ ends_with (if b then Running m else Chosen m))
-    go true runs = ((target-some r n m e, runs), refl)
-    go false still = ((target-some r n m e, still), refl)
+    go true runs = ((target_some r n m e, runs), refl)
+    go false still = ((target_some r n m e, still), refl)
 
-found-one : (r : Requests) (n : ℕ) (f : Found) → is_cancel_all (entry_of r n) ≡ false
+found_one : (r : Requests) (n : ℕ) (f : Found) → is_cancel_all (entry_of r n) ≡ false
     → found_as r (target_of r n) ≡ f → IsFound r n f × (cancel_result r n ≡ ends_with f)
-found-one r n f one is =
-    let so = found-as r n (target_of r n) refl in
+found_one r n f one is =
+    let so = found_as r n (target_of r n) refl in
     subst (λ x. IsFound r n x × (cancel_result r n ≡ ends_with x)) is
     (so.0, ap (λ b. if b then count_result (length (targets_of r n)) else result_for r (target_of r n)) one ∙ so.1)
 
-pub found-said : (r : Requests) (n : ℕ) (f : Found) → found_by r n ≡ Some f → Finds r n f
-found-said r n f e = by_standing (is_outstanding r n) (is_faulty (entry_of r n)) refl refl e
+pub found_said : (r : Requests) (n : ℕ) (f : Found) → found_by r n ≡ Some f → Finds r n f
+found_said r n f e = by_standing (is_outstanding r n) (is_faulty (entry_of r n)) refl refl e
   where
     by_operation : is_outstanding r n ≡ true → is_faulty (entry_of r n) ≡ false → (op : Op) → operation_of (entry_of r n) ≡ op → found_for r n (Some op) ≡ Some f → Finds r n f
     by_operation given right (Cancel t false) does is =
         let asks = cancel_asked (entry_of r n) t false does in
-        let so = found-one r n f (sym asks.1) (let same : found_as r (target_of r n) ≡ f = cc in same) in
+        let so = found_one r n f (sym asks.1) (let same : found_as r (target_of r n) ≡ f = cc in same) in
         record { outstanding = given; right = right; cancels = asks.0; one = sym asks.1; found = so.0; result = so.1 }
     by_operation given right _ does is = cc
 
@@ -59,21 +59,21 @@ found-said r n f e = by_standing (is_outstanding r n) (is_faulty (entry_of r n))
 
 -- what is found is told
 
-found-is : (r : Requests) (n : ℕ) (f : Found) → IsFound r n f → found_as r (target_of r n) ≡ f
+found_is : (r : Requests) (n : ℕ) (f : Found) → IsFound r n f → found_as r (target_of r n) ≡ f
 unfolding target_of
-found-is r n Nobody none =
-    ap (found_as r) (least_below-none (is_candidate r n) (length r.accepted) none)
-found-is r n (Running m) x =
-    ap (found_as r) (least_below-some (is_candidate r n) (length r.accepted) m x.0.below x.0.holds x.0.least)
+found_is r n Nobody none =
+    ap (found_as r) (least_below_none (is_candidate r n) (length r.accepted) none)
+found_is r n (Running m) x =
+    ap (found_as r) (least_below_some (is_candidate r n) (length r.accepted) m x.0.below x.0.holds x.0.least)
     ∙ ap (λ b. if b then Running m else Chosen m) x.1
-found-is r n (Chosen m) x =
-    ap (found_as r) (least_below-some (is_candidate r n) (length r.accepted) m x.0.below x.0.holds x.0.least)
+found_is r n (Chosen m) x =
+    ap (found_as r) (least_below_some (is_candidate r n) (length r.accepted) m x.0.below x.0.holds x.0.least)
     ∙ ap (λ b. if b then Running m else Chosen m) x.1
 
-pub said-found : (r : Requests) (n : ℕ) (f : Found) → Finds r n f → found_by r n ≡ Some f
-said-found r n f h =
+pub said_found : (r : Requests) (n : ℕ) (f : Found) → Finds r n f → found_by r n ≡ Some f
+said_found r n f h =
     let e = entry_of r n in
     ap (λ b. found_for r n (if b && not (is_faulty e) then Some (operation_of e) else None)) h.outstanding
     ∙ ap (λ c. found_for r n (if true && not c then Some (operation_of e) else None)) h.right
     ∙ ap (λ o. found_for r n (Some o)) (asks_cancel e h.cancels ∙ ap (Cancel (addr_of e)) h.one)
-    ∙ ap Some (found-is r n f h.found)
+    ∙ ap Some (found_is r n f h.found)

@@ -10,7 +10,7 @@ use Rattle.uring_core.specs.declared.step.Step.{Step}
 use Rattle.uring_core.specs.declared.answer.Answer.{Answer}
 use Rattle.uring_core.proofs.Moves.{Move, stays, accepts, starts, ends_doomed, ends_cancel, ends_run, move_of}
 use Rattle.uring_core.proofs.RequestEnds.{IsChoice, ended_as, end_doom, end_join, choice_of, no_choice}
-use Rattle.uring_entry.proofs.EventLemmas.{is_doomed-started, is_joined-started, is_draining-started}
+use Rattle.uring_entry.proofs.EventLemmas.{is_doomed_started, is_joined_started, is_draining_started}
 use Rattle.uring_core.proofs.Groups.{longer, entry_kept, join_kept, member_kept, doom_kept}
 use Rattle.uring_core.proofs.Sound.{sound_of}
 use Rattle.std.specs.List.{list_any}
@@ -52,10 +52,10 @@ start_grows : (r : Requests) (n : ℕ) → Grows r (with_started r n)
 start_grows r n = record {
   longer_then = omega arith;
   same_entry = λ m lt. refl;
-  same_group = λ k m lt. is_joined-started r n k m;
-  same_drain = λ m lt. is_draining-started r n m;
+  same_group = λ k m lt. is_joined_started r n k m;
+  same_drain = λ m lt. is_draining_started r n m;
   stays_cancelled = λ m e. e;
-  stays_doomed = λ m lt e. is_doomed-started r n m ∙ e;
+  stays_doomed = λ m lt e. is_doomed_started r n m ∙ e;
 }
 
 end_drain : (r : Requests) (n : ℕ) (res : ℤ) (bytes cancelled : List ℕ) (m : ℕ)

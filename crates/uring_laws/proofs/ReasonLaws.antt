@@ -12,9 +12,9 @@ use Rattle.uring_entry.specs.declared.why.Why.TheVariants.{NeverAccepted, HasEnd
 use Rattle.uring_entry.specs.declared.why.Doom.{Doom}
 use Rattle.uring_entry.specs.declared.why.Since.{Since}
 use Rattle.uring_entry.specs.declared.why.Since.TheVariants.{SameGroup, ItDrains, OwnDrains}
-use Rattle.uring_entry.proofs.BelowLemmas.{IsLeast, least_below-out, least_below-tells, is_some-least_below, least_below-none}
-use Rattle.uring_entry.proofs.RequestLemmas.{is_joined-yes, is_joined-inside, is_ready-yes, is_ready-inside}
-use Rattle.uring_entry.proofs.WhyLemmas.{StillWaits, IsTold, told, told-as, why-waiting}
+use Rattle.uring_entry.proofs.BelowLemmas.{IsLeast, least_below_out, least_below_tells, is_some_least_below, least_below_none}
+use Rattle.uring_entry.proofs.RequestLemmas.{is_joined_yes, is_joined_inside, is_ready_yes, is_ready_inside}
+use Rattle.uring_entry.proofs.WhyLemmas.{StillWaits, IsTold, told, told_as, why_waiting}
 use Rattle.uring_entry.specs.Preparation.{is_cancel}
 use Rattle.uring_core.specs.World.{World}
 use Rattle.uring_core.specs.StepAnswers.{issue_answer}
@@ -24,114 +24,114 @@ use Rattle.uring_laws.specs.Reasons.{answer_told, can_be_issued, IsUnstarted, Ca
 
 -- Standing.
 
-unstarted-told : (r : Requests) (n : ℕ) → StillWaits r n → IsUnstarted r n
-unstarted-told r n s = record {
+unstarted_told : (r : Requests) (n : ℕ) → StillWaits r n → IsUnstarted r n
+unstarted_told r n s = record {
   outstanding = and_from _ _ (lt-ltb n (length r.accepted) s.given) (ap not s.unended);
   still = s.unstarted;
 }
 
-told-unstarted : (r : Requests) (n : ℕ) → IsUnstarted r n → StillWaits r n
-told-unstarted r n u =
+told_unstarted : (r : Requests) (n : ℕ) → IsUnstarted r n → StillWaits r n
+told_unstarted r n u =
     let parts = and_parts _ _ u.outstanding in
     record { given = ltb-true n (length r.accepted) parts.0; unended = not-true _ parts.1; unstarted = u.still }
 
 -- whom nothing holds back is ready, and the other way round
-ready-none : (r : Requests) (n : ℕ) → holder_of r n ≡ None → is_ready r n ≡ true
-ready-none r n e = is_ready-yes r n (λ m low. least_below-out (holds_back r n) n e m low)
+ready_none : (r : Requests) (n : ℕ) → holder_of r n ≡ None → is_ready r n ≡ true
+ready_none r n e = is_ready_yes r n (λ m low. least_below_out (holds_back r n) n e m low)
 
-none-ready : (r : Requests) (n : ℕ) → is_ready r n ≡ true → holder_of r n ≡ None
-none-ready r n ready =
-    least_below-none (holds_back r n) n (λ m low. is_ready-inside r n m ready low)
+none_ready : (r : Requests) (n : ℕ) → is_ready r n ≡ true → holder_of r n ≡ None
+none_ready r n ready =
+    least_below_none (holds_back r n) n (λ m low. is_ready_inside r n m ready low)
 
-ready-some : (r : Requests) (n m : ℕ) → holder_of r n ≡ Some m → is_ready r n ≡ false
-ready-some r n m e =
-    false_from_ne_true _ (λ ready. let f : None ≡ Some m = sym (none-ready r n ready) ∙ e in cc)
+ready_some : (r : Requests) (n m : ℕ) → holder_of r n ≡ Some m → is_ready r n ≡ false
+ready_some r n m e =
+    false_from_ne_true _ (λ ready. let f : None ≡ Some m = sym (none_ready r n ready) ∙ e in cc)
 
 -- Who was never accepted, has ended or runs.
 
-unaccepted-is : (r : Requests) (n : ℕ) (why : Why) → IsTold r n why → length r.accepted ≤ n
+unaccepted_is : (r : Requests) (n : ℕ) (why : Why) → IsTold r n why → length r.accepted ≤ n
     → why ≡ NeverAccepted
-unaccepted-is r n NeverAccepted t le = refl
-unaccepted-is r n HasEnded t le = absurd (omega (arith, t.0))
-unaccepted-is r n Runs t le = absurd (omega (arith, t.0))
-unaccepted-is r n (IsDoomed doom) t le = absurd (omega (arith, t.0.given))
-unaccepted-is r n (Waits m since) t le = absurd (omega (arith, t.0.given))
-unaccepted-is r n MayStart t le = absurd (omega (arith, t.0.given))
+unaccepted_is r n NeverAccepted t le = refl
+unaccepted_is r n HasEnded t le = absurd (omega (arith, t.0))
+unaccepted_is r n Runs t le = absurd (omega (arith, t.0))
+unaccepted_is r n (IsDoomed doom) t le = absurd (omega (arith, t.0.given))
+unaccepted_is r n (Waits m since) t le = absurd (omega (arith, t.0.given))
+unaccepted_is r n MayStart t le = absurd (omega (arith, t.0.given))
 
-ended-is : (r : Requests) (n : ℕ) (why : Why) → IsTold r n why → n < length r.accepted
+ended_is : (r : Requests) (n : ℕ) (why : Why) → IsTold r n why → n < length r.accepted
     → has_ended r n ≡ true → why ≡ HasEnded
-ended-is r n NeverAccepted t given ended = absurd (omega (arith, t))
-ended-is r n HasEnded t given ended = refl
-ended-is r n Runs t given ended = absurd (both_ways _ t.1 ended)
-ended-is r n (IsDoomed doom) t given ended = absurd (both_ways _ t.0.unended ended)
-ended-is r n (Waits m since) t given ended = absurd (both_ways _ t.0.unended ended)
-ended-is r n MayStart t given ended = absurd (both_ways _ t.0.unended ended)
+ended_is r n NeverAccepted t given ended = absurd (omega (arith, t))
+ended_is r n HasEnded t given ended = refl
+ended_is r n Runs t given ended = absurd (both_ways _ t.1 ended)
+ended_is r n (IsDoomed doom) t given ended = absurd (both_ways _ t.0.unended ended)
+ended_is r n (Waits m since) t given ended = absurd (both_ways _ t.0.unended ended)
+ended_is r n MayStart t given ended = absurd (both_ways _ t.0.unended ended)
 
-runs-is : (r : Requests) (n : ℕ) (why : Why) → IsTold r n why → n < length r.accepted
+runs_is : (r : Requests) (n : ℕ) (why : Why) → IsTold r n why → n < length r.accepted
     → has_ended r n ≡ false → is_running r n ≡ true → why ≡ Runs
-runs-is r n NeverAccepted t given unended runs = absurd (omega (arith, t))
-runs-is r n HasEnded t given unended runs = absurd (both_ways _ unended t.1)
-runs-is r n Runs t given unended runs = refl
-runs-is r n (IsDoomed doom) t given unended runs = absurd (both_ways _ t.0.unstarted runs)
-runs-is r n (Waits m since) t given unended runs = absurd (both_ways _ t.0.unstarted runs)
-runs-is r n MayStart t given unended runs = absurd (both_ways _ t.0.unstarted runs)
+runs_is r n NeverAccepted t given unended runs = absurd (omega (arith, t))
+runs_is r n HasEnded t given unended runs = absurd (both_ways _ unended t.1)
+runs_is r n Runs t given unended runs = refl
+runs_is r n (IsDoomed doom) t given unended runs = absurd (both_ways _ t.0.unstarted runs)
+runs_is r n (Waits m since) t given unended runs = absurd (both_ways _ t.0.unstarted runs)
+runs_is r n MayStart t given unended runs = absurd (both_ways _ t.0.unstarted runs)
 
-pub unaccepted-said : (r : Requests) (n : ℕ)
+pub unaccepted_said : (r : Requests) (n : ℕ)
     → (why_of r n ≡ NeverAccepted) ↔ (length r.accepted ≤ n)
-unaccepted-said r n =
-    ((λ e. told-as r n NeverAccepted e), (λ le. unaccepted-is r n (why_of r n) (told r n) le))
+unaccepted_said r n =
+    ((λ e. told_as r n NeverAccepted e), (λ le. unaccepted_is r n (why_of r n) (told r n) le))
 
-pub ended-said : (r : Requests) (n : ℕ)
+pub ended_said : (r : Requests) (n : ℕ)
     → (why_of r n ≡ HasEnded) ↔ ((n < length r.accepted) × (has_ended r n ≡ true))
-ended-said r n =
-    ((λ e. told-as r n HasEnded e), (λ h. ended-is r n (why_of r n) (told r n) h.0 h.1))
+ended_said r n =
+    ((λ e. told_as r n HasEnded e), (λ h. ended_is r n (why_of r n) (told r n) h.0 h.1))
 
-pub runs-said : (r : Requests) (n : ℕ)
+pub runs_said : (r : Requests) (n : ℕ)
     → (why_of r n ≡ Runs) ↔ ((is_outstanding r n ≡ true) × (is_running r n ≡ true))
-runs-said r n = (
-  (λ e. let t = told-as r n Runs e in (and_from _ _ (lt-ltb n (length r.accepted) t.0) (ap not t.1), t.2)),
-  (λ h. let parts = and_parts _ _ h.0 in runs-is r n (why_of r n) (told r n) (ltb-true n (length r.accepted) parts.0) (not-true _ parts.1) h.1),
+runs_said r n = (
+  (λ e. let t = told_as r n Runs e in (and_from _ _ (lt-ltb n (length r.accepted) t.0) (ap not t.1), t.2)),
+  (λ h. let parts = and_parts _ _ h.0 in runs_is r n (why_of r n) (told r n) (ltb-true n (length r.accepted) parts.0) (not-true _ parts.1) h.1),
 )
 
 -- What can be issued.
 
-issuable-doomed : (r : Requests) (n : ℕ) → StillWaits r n → is_doomed r n ≡ true
+issuable_doomed : (r : Requests) (n : ℕ) → StillWaits r n → is_doomed r n ≡ true
     → is_issuable r n ≡ true
-issuable-doomed r n s doomed =
-    let u = unstarted-told r n s in
+issuable_doomed r n s doomed =
+    let u = unstarted_told r n s in
     and_from _ _ (and_from _ _ u.outstanding (ap not u.still)) (or_left _ _ doomed)
 
-issuable-free : (r : Requests) (n : ℕ) → StillWaits r n → holder_of r n ≡ None
+issuable_free : (r : Requests) (n : ℕ) → StillWaits r n → holder_of r n ≡ None
     → is_issuable r n ≡ true
-issuable-free r n s e =
-    let u = unstarted-told r n s in
-    and_from _ _ (and_from _ _ u.outstanding (ap not u.still)) (or_right _ _ (ready-none r n e))
+issuable_free r n s e =
+    let u = unstarted_told r n s in
+    and_from _ _ (and_from _ _ u.outstanding (ap not u.still)) (or_right _ _ (ready_none r n e))
 
-issuable-told : (r : Requests) (n : ℕ) (why : Why) → IsTold r n why
+issuable_told : (r : Requests) (n : ℕ) (why : Why) → IsTold r n why
     → is_issuable r n ≡ can_be_issued why
-issuable-told r n NeverAccepted le =
+issuable_told r n NeverAccepted le =
     and_left _ _ (and_left _ _ (and_left _ _ (le-ltb n (length r.accepted) le)))
-issuable-told r n HasEnded t = and_left _ _ (and_left _ _ (and_right _ _ (ap not t.1)))
-issuable-told r n Runs t = and_left _ _ (and_right _ _ (ap not t.2))
-issuable-told r n (IsDoomed doom) t = issuable-doomed r n t.0 t.1
-issuable-told r n (Waits m since) t = and_right _ _ (or_from _ _ t.1 (ready-some r n m t.2))
-issuable-told r n MayStart t = issuable-free r n t.0 t.2
+issuable_told r n HasEnded t = and_left _ _ (and_left _ _ (and_right _ _ (ap not t.1)))
+issuable_told r n Runs t = and_left _ _ (and_right _ _ (ap not t.2))
+issuable_told r n (IsDoomed doom) t = issuable_doomed r n t.0 t.1
+issuable_told r n (Waits m since) t = and_right _ _ (or_from _ _ t.1 (ready_some r n m t.2))
+issuable_told r n MayStart t = issuable_free r n t.0 t.2
 
-pub issuable-said : (r : Requests) (n : ℕ) → is_issuable r n ≡ can_be_issued (why_of r n)
-issuable-said r n = issuable-told r n (why_of r n) (told r n)
+pub issuable_said : (r : Requests) (n : ℕ) → is_issuable r n ≡ can_be_issued (why_of r n)
+issuable_said r n = issuable_told r n (why_of r n) (told r n)
 
-pub may_start-said : (r : Requests) (n : ℕ) → why_of r n ≡ MayStart → CanStart r n
-may_start-said r n e =
-    let t = told-as r n MayStart e in
-    record { unstarted = unstarted-told r n t.0; free = t.1; ready = ready-none r n t.2 }
+pub may_start_said : (r : Requests) (n : ℕ) → why_of r n ≡ MayStart → CanStart r n
+may_start_said r n e =
+    let t = told_as r n MayStart e in
+    record { unstarted = unstarted_told r n t.0; free = t.1; ready = ready_none r n t.2 }
 
-pub said-may_start : (r : Requests) (n : ℕ) → CanStart r n → why_of r n ≡ MayStart
-said-may_start r n c = why-waiting r n (told-unstarted r n c.unstarted) c.free ∙ ap (waiting_for r n) (none-ready r n c.ready)
+pub said_may_start : (r : Requests) (n : ℕ) → CanStart r n → why_of r n ≡ MayStart
+said_may_start r n c = why_waiting r n (told_unstarted r n c.unstarted) c.free ∙ ap (waiting_for r n) (none_ready r n c.ready)
 
 -- What it waits for.
 
-since-said : (r : Requests) (n m : ℕ) → waits_for r n m ≡ true → IsSince r n m (since_of r n m)
-since-said r n m waits =
+since_said : (r : Requests) (n m : ℕ) → waits_for r n m ≡ true → IsSince r n m (since_of r n m)
+since_said r n m waits =
     go (is_joined r m n) (is_draining r m) (is_draining r n) refl refl refl waits
   where
     go : (a b d : Bool) → is_joined r m n ≡ a → is_draining r m ≡ b → is_draining r n ≡ d → ((a || b) || d) ≡ true → IsSince r n m (if a then SameGroup else if b then ItDrains else OwnDrains)
@@ -140,64 +140,64 @@ since-said r n m waits =
     go false false true x y z w = (x, y, z)
     go false false false x y z w = cc
 
-pub waits-said : (r : Requests) (n m : ℕ) (since : Since) → why_of r n ≡ Waits m since
+pub waits_said : (r : Requests) (n m : ℕ) (since : Since) → why_of r n ≡ Waits m since
     → IsWaiting r n m since
-waits-said r n m since e =
-    let t = told-as r n (Waits m since) e in
-    let least = least_below-tells (holds_back r n) n m t.2 in
+waits_said r n m since e =
+    let t = told_as r n (Waits m since) e in
+    let least = least_below_tells (holds_back r n) n m t.2 in
     let parts = and_parts (not (has_ended r m)) (waits_for r n m) least.holds in
     record {
-      unstarted = unstarted-told r n t.0;
+      unstarted = unstarted_told r n t.0;
       free = t.1;
       before = least.below;
       holds = least.holds;
       least = least.before;
-      reason = subst (IsSince r n m) (sym t.3) (since-said r n m parts.1);
+      reason = subst (IsSince r n m) (sym t.3) (since_said r n m parts.1);
     }
 
 -- What dooms it.
 
-least-of : (p : ℕ → Bool) (bound m : ℕ) → least_below p bound ≡ Some m → IsLeastOf p bound m
-least-of p bound m e = let least = least_below-tells p bound m e in record {
+least_of : (p : ℕ → Bool) (bound m : ℕ) → least_below p bound ≡ Some m → IsLeastOf p bound m
+least_of p bound m e = let least = least_below_tells p bound m e in record {
   below = least.below;
   holds = least.holds;
   least = least.before;
 }
 
-no-faulty : (r : Requests) (n : ℕ) → faulty_member_of r n ≡ None → is_in_faulty_group r n ≡ false
+no_faulty : (r : Requests) (n : ℕ) → faulty_member_of r n ≡ None → is_in_faulty_group r n ≡ false
 unfolding some_member
-no-faulty r n e =
-    sym (is_some-least_below (is_faulty_member r n) (length r.accepted)) ∙ ap is_some e
+no_faulty r n e =
+    sym (is_some_least_below (is_faulty_member r n) (length r.accepted)) ∙ ap is_some e
 
-no-failed : (r : Requests) (n : ℕ) → failed_member_of r n ≡ None → is_behind_failure r n ≡ false
+no_failed : (r : Requests) (n : ℕ) → failed_member_of r n ≡ None → is_behind_failure r n ≡ false
 unfolding is_behind_failure
-no-failed r n e = sym (is_some-least_below (is_failure_before r n) n) ∙ ap is_some e
+no_failed r n e = sym (is_some_least_below (is_failure_before r n) n) ∙ ap is_some e
 
-doomed-else : (r : Requests) (n : ℕ) → is_in_faulty_group r n ≡ false
+doomed_else : (r : Requests) (n : ℕ) → is_in_faulty_group r n ≡ false
     → is_behind_failure r n ≡ false → is_doomed r n ≡ true → is_cancelled r n ≡ true
 unfolding is_doomed
-doomed-else r n a b doomed =
+doomed_else r n a b doomed =
     go (is_in_faulty_group r n) (is_behind_failure r n) (is_cancelled r n) a b doomed
   where
     go : (x y z : Bool) → x ≡ false → y ≡ false → ((x || y) || z) ≡ true → z ≡ true
     go x y true p q w = refl
     go x y false p q w = absurd (both_ways _ (or_from _ _ (or_from _ _ p q) refl) w)
 
-doom-is : (r : Requests) (n : ℕ) → is_doomed r n ≡ true → IsDoomOf r n (doom_of r n)
-doom-is r n doomed =
+doom_is : (r : Requests) (n : ℕ) → is_doomed r n ≡ true → IsDoomOf r n (doom_of r n)
+doom_is r n doomed =
     go (fault_of (entry_of r n)) (faulty_member_of r n) (failed_member_of r n) refl refl refl
   where
     go : (a : Option Fault) (b d : Option ℕ) → fault_of (entry_of r n) ≡ a → faulty_member_of r n ≡ b → failed_member_of r n ≡ d → IsDoomOf r n (first_doom a b d)
     go (Some fault) b d x y z = x
-    go None (Some m) d x y z = (ap is_some x, least-of (is_faulty_member r n) (length r.accepted) m y)
-    go None None (Some m) x y z = (no-faulty r n y, least-of (is_failure_before r n) n m z)
-    go None None None x y z = (no-faulty r n y, no-failed r n z, doomed-else r n (no-faulty r n y) (no-failed r n z) doomed)
+    go None (Some m) d x y z = (ap is_some x, least_of (is_faulty_member r n) (length r.accepted) m y)
+    go None None (Some m) x y z = (no_faulty r n y, least_of (is_failure_before r n) n m z)
+    go None None None x y z = (no_faulty r n y, no_failed r n z, doomed_else r n (no_faulty r n y) (no_failed r n z) doomed)
 
-pub doom-said : (r : Requests) (n : ℕ) (doom : Doom) → why_of r n ≡ IsDoomed doom
+pub doom_said : (r : Requests) (n : ℕ) (doom : Doom) → why_of r n ≡ IsDoomed doom
     → IsUnstarted r n × (is_doomed r n ≡ true) × IsDoomOf r n doom
-doom-said r n doom e =
-    let t = told-as r n (IsDoomed doom) e in
-    (unstarted-told r n t.0, t.1, subst (IsDoomOf r n) (sym t.2) (doom-is r n t.1))
+doom_said r n doom e =
+    let t = told_as r n (IsDoomed doom) e in
+    (unstarted_told r n t.0, t.1, subst (IsDoomOf r n) (sym t.2) (doom_is r n t.1))
 
 -- Two steps.
 
@@ -212,32 +212,32 @@ stands r m given going =
       | inr still ↦
           let s : StillWaits r m = record { given = given; unended = going; unstarted = still } in
           elim (cases_Bool (is_doomed r m)) [
-            | inl doomed ↦ goes_on (inr (issuable-doomed r m s doomed))
+            | inl doomed ↦ goes_on (inr (issuable_doomed r m s doomed))
             | inr free ↦ behind s free (holder_of r m) refl
           ]
     ]
   where
     behind : StillWaits r m → is_doomed r m ≡ false → (o : Option ℕ) → holder_of r m ≡ o → Stands r m
-    behind s free None e = goes_on (inr (issuable-free r m s e))
+    behind s free None e = goes_on (inr (issuable_free r m s e))
     behind s free (Some k) e =
-        waits_on k (since_of r m k) (why-waiting r m s free ∙ ap (waiting_for r m) e) (least_below-tells (holds_back r m) m k e)
+        waits_on k (since_of r m k) (why_waiting r m s free ∙ ap (waiting_for r m) e) (least_below_tells (holds_back r m) m k e)
 
 -- whoever holds another back hasn't ended
-holder-going : (r : Requests) (n m : ℕ) → holds_back r n m ≡ true → has_ended r m ≡ false
-holder-going r n m holds =
+holder_going : (r : Requests) (n m : ℕ) → holds_back r n m ≡ true → has_ended r m ≡ false
+holder_going r n m holds =
     let parts = and_parts (not (has_ended r m)) (waits_for r n m) holds in not-true _ parts.0
 
-free-parts : (r : Requests) (n m : ℕ) → has_ended r m ≡ false → holds_back r n m ≡ false
+free_parts : (r : Requests) (n m : ℕ) → has_ended r m ≡ false → holds_back r n m ≡ false
     → (is_joined r m n ≡ false) × (is_draining r m ≡ false) × (is_draining r n ≡ false)
-free-parts r n m going free =
+free_parts r n m going free =
     let waits : waits_for r n m ≡ false = ap (λ b. not b && waits_for r n m) (sym going) ∙ free in
     let outer = or_parts _ _ waits in
     let inner = or_parts _ _ outer.0 in
     (inner.0, inner.1, outer.1)
 
-held-joined : (r : Requests) (n m : ℕ) → holds_back r n m ≡ true → is_draining r m ≡ false
+held_joined : (r : Requests) (n m : ℕ) → holds_back r n m ≡ true → is_draining r m ≡ false
     → is_draining r n ≡ false → is_joined r m n ≡ true
-held-joined r n m holds a b =
+held_joined r n m holds a b =
     let parts = and_parts (not (has_ended r m)) (waits_for r n m) holds in
     go (is_joined r m n) (is_draining r m) (is_draining r n) a b parts.1
   where
@@ -246,32 +246,32 @@ held-joined r n m holds a b =
     go false y z p q w = absurd (both_ways _ (or_from _ _ p q) w)
 
 -- The least that holds one back, the least that holds that one back, and again the least: three in a row there never are.
-three-none : (r : Requests) (n m k j : ℕ) → IsLeast (holds_back r n) n m
+three_none : (r : Requests) (n m k j : ℕ) → IsLeast (holds_back r n) n m
     → IsLeast (holds_back r m) m k → IsLeast (holds_back r k) k j → ⊥
-three-none r n m k j a b d =
-    let first = free-parts r n k (holder-going r m k b.holds) (a.before k b.below) in
-    let second = free-parts r m j (holder-going r k j d.holds) (b.before j d.below) in
-    let upper = held-joined r n m a.holds second.2 first.2 in
-    let lower = held-joined r m k b.holds first.1 second.2 in
+three_none r n m k j a b d =
+    let first = free_parts r n k (holder_going r m k b.holds) (a.before k b.below) in
+    let second = free_parts r m j (holder_going r k j d.holds) (b.before j d.below) in
+    let upper = held_joined r n m a.holds second.2 first.2 in
+    let lower = held_joined r m k b.holds first.1 second.2 in
     both_ways _ first.0
-    (is_joined-yes r k n
-    (λ i le lt. elim (cases_lt i m) [ inl low ↦ is_joined-inside r k m i lower le low | inr high ↦ is_joined-inside r m n i upper high lt ]))
+    (is_joined_yes r k n
+    (λ i le lt. elim (cases_lt i m) [ inl low ↦ is_joined_inside r k m i lower le low | inr high ↦ is_joined_inside r m n i upper high lt ]))
 
-pub two-steps : (r : Requests) (n m : ℕ) (since : Since) → why_of r n ≡ Waits m since
+pub two_steps : (r : Requests) (n m : ℕ) (since : Since) → why_of r n ≡ Waits m since
     → GoesOn r m ⊎ ((k : ℕ) × (other : Since) × (why_of r m ≡ Waits k other) × GoesOn r k)
-two-steps r n m since e =
-    let t = told-as r n (Waits m since) e in
+two_steps r n m since e =
+    let t = told_as r n (Waits m since) e in
     let s = t.0 in
     let given = s.given in
-    let a = least_below-tells (holds_back r n) n m t.2 in
+    let a = least_below_tells (holds_back r n) n m t.2 in
     let low = a.below in
-    elim (stands r m (omega arith) (holder-going r n m a.holds)) [
+    elim (stands r m (omega arith) (holder_going r n m a.holds)) [
       | goes_on g ↦ inl g
       | waits_on k other is b ↦
           let under = b.below in
-          elim (stands r k (omega arith) (holder-going r m k b.holds)) [
+          elim (stands r k (omega arith) (holder_going r m k b.holds)) [
             | goes_on g ↦ inr (k, other, is, g)
-            | waits_on j more was d ↦ absurd (three-none r n m k j a b d)
+            | waits_on j more was d ↦ absurd (three_none r n m k j a b d)
           ]
     ]
 
@@ -295,31 +295,31 @@ abbrev by_outstanding : World → ℕ → Bool → Answer
 by_outstanding w n outstanding =
     if not outstanding then answer.Unknown else by_running w n (is_running w.requests n)
 
-unknown-answer : (w : World) (n : ℕ) → is_outstanding w.requests n ≡ false
+unknown_answer : (w : World) (n : ℕ) → is_outstanding w.requests n ≡ false
     → issue_answer w n ≡ answer.Unknown
-unknown-answer w n e = ap (by_outstanding w n) e
+unknown_answer w n e = ap (by_outstanding w n) e
 
-unstarted-answer : (w : World) (n : ℕ) → StillWaits w.requests n
+unstarted_answer : (w : World) (n : ℕ) → StillWaits w.requests n
     → issue_answer w n ≡ by_doomed w n (is_doomed w.requests n)
-unstarted-answer w n s = let u = unstarted-told w.requests n s in ap (by_outstanding w n) u.outstanding ∙ ap (by_running w n) u.still
+unstarted_answer w n s = let u = unstarted_told w.requests n s in ap (by_outstanding w n) u.outstanding ∙ ap (by_running w n) u.still
 
-ready-answer : (w : World) (n : ℕ) (ready : Bool) → StillWaits w.requests n
+ready_answer : (w : World) (n : ℕ) (ready : Bool) → StillWaits w.requests n
     → is_doomed w.requests n ≡ false → is_ready w.requests n ≡ ready
     → issue_answer w n ≡ by_ready w n ready
-ready-answer w n ready s free e =
-    unstarted-answer w n s ∙ ap (by_doomed w n) free ∙ ap (by_ready w n) e
+ready_answer w n ready s free e =
+    unstarted_answer w n s ∙ ap (by_doomed w n) free ∙ ap (by_ready w n) e
 
-agrees-told : (w : World) (n : ℕ) (why : Why) → IsTold w.requests n why
+agrees_told : (w : World) (n : ℕ) (why : Why) → IsTold w.requests n why
     → issue_answer w n ≡ answer_told w.requests n why
-agrees-told w n NeverAccepted le =
-    unknown-answer w n (and_left _ _ (le-ltb n (length w.requests.accepted) le))
-agrees-told w n HasEnded t = unknown-answer w n (and_right _ _ (ap not t.1))
-agrees-told w n Runs t =
+agrees_told w n NeverAccepted le =
+    unknown_answer w n (and_left _ _ (le-ltb n (length w.requests.accepted) le))
+agrees_told w n HasEnded t = unknown_answer w n (and_right _ _ (ap not t.1))
+agrees_told w n Runs t =
     ap (by_outstanding w n) (and_from _ _ (lt-ltb n (length w.requests.accepted) t.0) (ap not t.1)) ∙ ap (by_running w n) t.2
-agrees-told w n (IsDoomed doom) t = unstarted-answer w n t.0 ∙ ap (by_doomed w n) t.1
-agrees-told w n (Waits m since) t = ready-answer w n false t.0 t.1 (ready-some w.requests n m t.2)
-agrees-told w n MayStart t = ready-answer w n true t.0 t.1 (ready-none w.requests n t.2)
+agrees_told w n (IsDoomed doom) t = unstarted_answer w n t.0 ∙ ap (by_doomed w n) t.1
+agrees_told w n (Waits m since) t = ready_answer w n false t.0 t.1 (ready_some w.requests n m t.2)
+agrees_told w n MayStart t = ready_answer w n true t.0 t.1 (ready_none w.requests n t.2)
 
-pub answer-agrees : (w : World) (n : ℕ)
+pub answer_agrees : (w : World) (n : ℕ)
     → issue_answer w n ≡ answer_told w.requests n (why_of w.requests n)
-answer-agrees w n = agrees-told w n (why_of w.requests n) (told w.requests n)
+answer_agrees w n = agrees_told w n (why_of w.requests n) (told w.requests n)

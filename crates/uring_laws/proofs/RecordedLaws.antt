@@ -20,7 +20,7 @@ use Rattle.uring_core.specs.declared.step.Step.TheVariants as step
 use Rattle.uring_core.specs.declared.answer.Answer.{Answer}
 use Rattle.uring_core.specs.declared.answer.Answer.TheVariants as answer
 use Rattle.uring_core.proofs.SameAnswers.{decided}
-use Rattle.uring_core.proofs.Following.{history_of-snoc}
+use Rattle.uring_core.proofs.Following.{history_of_snoc}
 use Rattle.uring_laws.proofs.Growth as apart
 use Rattle.uring_laws.proofs.WholeLaws.{lawful_before}
 
@@ -94,7 +94,7 @@ parted events place e is_there =
     let more : take (place + 1) events ≡ take place events ++ e ∷ [] = take_more events place e within ∙ ap (λ x. take place events ++ x ∷ []) at in
     let whole : history_of events ≡ history_of (drop (place + 1) events) ++ history_of (take (place + 1) events) =
     ap history_of (sym (take-append-drop (place + 1) events)) ∙ reverse-append (take (place + 1) events) (drop (place + 1) events) in
-    (history_of (drop (place + 1) events), whole ∙ ap (λ k. history_of (drop (place + 1) events) ++ k) (ap history_of more ∙ history_of-snoc (take place events) e))
+    (history_of (drop (place + 1) events), whole ∙ ap (λ k. history_of (drop (place + 1) events) ++ k) (ap history_of more ∙ history_of_snoc (take place events) e))
 
 pub wrong_unlawful : (g : Setup) → WrongIsUnlawful g
 wrong_unlawful g events place wanted first lawful =

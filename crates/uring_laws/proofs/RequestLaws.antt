@@ -5,8 +5,8 @@ use Rattle.std.specs.List.{list_any}
 use Rattle.std.proofs.lemmas.Bool.{and_parts, and_cases, ltb-true, lt-ltb, both_ways, or_cases, not-false, false_from_ne_true, true_from_ne_false}
 use Rattle.uring_entry.specs.Setup.{Setup}
 use Rattle.uring_entry.specs.Requests.{Requests, has_ended, is_outstanding, least_of, next_of, is_issuable}
-use Rattle.uring_entry.proofs.BelowLemmas.{least_below-out, least_below-some, least_below-tells}
-use Rattle.uring_entry.proofs.RequestLemmas.{least_of-goes_on}
+use Rattle.uring_entry.proofs.BelowLemmas.{least_below_out, least_below_some, least_below_tells}
+use Rattle.uring_entry.proofs.RequestLemmas.{least_of_goes_on}
 use Rattle.uring_laws.specs.Laws.{LeastCanGoOn, EachEndsOnce}
 use Rattle.uring_core.proofs.Issuable.{issue_goes, issuable_outstanding}
 use Rattle.uring_core.specs.World.{World}
@@ -20,20 +20,20 @@ use Rattle.uring_laws.proofs.ToldRequests.{tells_requests}
 least_is_next : (r : Requests) (m : ℕ) → least_of r ≡ Some m → is_issuable r m ≡ true
     → next_of r ≡ Some m
 least_is_next r m least issuable =
-    let l = least_below-tells (is_outstanding r) (length r.accepted) m least in
-    least_below-some (is_issuable r) (length r.accepted) m l.below issuable
+    let l = least_below_tells (is_outstanding r) (length r.accepted) m least in
+    least_below_some (is_issuable r) (length r.accepted) m l.below issuable
     (λ k lt. false_from_ne_true _ (λ holds. both_ways _ (l.before k lt) (issuable_outstanding r k holds)))
 
 pub least_goes_on : (w : World) (n : ℕ) → is_outstanding w.requests n ≡ true → LeastCanGoOn w
 least_goes_on w n outstanding = by_least (least_of w.requests) refl where
   by_least : (least : Option ℕ) → least_of w.requests ≡ least → LeastCanGoOn w
-  by_least None e = absurd (both_ways _ (least_below-out (is_outstanding w.requests) (length w.requests.accepted) e n (ltb-true _ _ (and_parts _ _ outstanding).0)) outstanding)
+  by_least None e = absurd (both_ways _ (least_below_out (is_outstanding w.requests) (length w.requests.accepted) e n (ltb-true _ _ (and_parts _ _ outstanding).0)) outstanding)
   by_least (Some m) e =
       record {
         least = m;
         is_least = e;
         goes_on =
-            elim (or_cases _ _ (least_of-goes_on w.requests m e)) [
+            elim (or_cases _ _ (least_of_goes_on w.requests m e)) [
               | inl running ↦ inl running
               | inr issuable ↦ inr (least_is_next w.requests m e issuable, issue_goes w m issuable)
             ];

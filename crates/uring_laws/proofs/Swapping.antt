@@ -10,9 +10,9 @@ use Rattle.uring_entry.specs.Success.{is_success, posts_completion}
 use Rattle.uring_entry.specs.Requests.{Requests, entry_of, has_ended, has_failed, is_outstanding, is_running, is_doomed, is_behind_failure, is_in_faulty_group, is_cancelled, some_member, is_joined, is_draining, is_ready, is_soft, waits_for, holds_back, doomed_result, cancel_result, choices_of, no_bytes, with_started, with_ended}
 use Rattle.uring_entry.specs.Completions.{Completions, with_end, with_posted, completion_for}
 use Rattle.uring_entry.specs.declared.operation.Outcome.{Outcome}
-use Rattle.uring_entry.proofs.BelowLemmas.{some_below-same}
-use Rattle.uring_entry.proofs.RequestLemmas.{list_any-push, has_ended-same, has_ended-other, has_failed-other, is_ready-yes, is_ready-inside, is_running-ended_same, is_running-ended_other, is_running-started_same, is_running-started_other}
-use Rattle.uring_entry.proofs.EventLemmas.{is_doomed-started}
+use Rattle.uring_entry.proofs.BelowLemmas.{some_below_same}
+use Rattle.uring_entry.proofs.RequestLemmas.{list_any_push, has_ended_same, has_ended_other, has_failed_other, is_ready_yes, is_ready_inside, is_running_ended_same, is_running_ended_other, is_running_started_same, is_running_started_other}
+use Rattle.uring_entry.proofs.EventLemmas.{is_doomed_started}
 use Rattle.uring_files.specs.Contents.{FileContents, empty_files}
 use Rattle.uring_files.specs.Operations.{after, IsOutcome}
 use Rattle.uring_core.specs.World.{World, happens}
@@ -114,8 +114,8 @@ ready_started r m n = refl
 start_before : (r : Requests) (m n : ℕ) → n ≢ m → CanStart (with_started r m) n → CanStart r n
 start_before r m n differ c = record {
   outstanding = c.outstanding;
-  idle = sym (is_running-started_other r m n differ) ∙ c.idle;
-  spared = sym (is_doomed-started r m n) ∙ c.spared;
+  idle = sym (is_running_started_other r m n differ) ∙ c.idle;
+  spared = sym (is_doomed_started r m n) ∙ c.spared;
   ready = sym (ready_started r m n) ∙ c.ready;
   no_cancel = c.no_cancel;
 }
@@ -123,8 +123,8 @@ start_before r m n differ c = record {
 start_behind : (r : Requests) (m n : ℕ) → n ≢ m → CanStart r n → CanStart (with_started r m) n
 start_behind r m n differ c = record {
   outstanding = c.outstanding;
-  idle = is_running-started_other r m n differ ∙ c.idle;
-  spared = is_doomed-started r m n ∙ c.spared;
+  idle = is_running_started_other r m n differ ∙ c.idle;
+  spared = is_doomed_started r m n ∙ c.spared;
   ready = ready_started r m n ∙ c.ready;
   no_cancel = c.no_cancel;
 }
@@ -133,7 +133,7 @@ start_behind r m n differ c = record {
 waits_not : (r : Requests) (m n : ℕ) → is_ready r n ≡ true → has_ended r m ≡ false → m < n
     → waits_for r n m ≡ false
 waits_not r m n ready still low =
-    sym (ap (λ b. not b && waits_for r n m) still) ∙ is_ready-inside r n m ready low
+    sym (ap (λ b. not b && waits_for r n m) still) ∙ is_ready_inside r n m ready low
 
 -- and is in no group behind it
 joined_not : (r : Requests) (m n : ℕ) → is_ready r n ≡ true → has_ended r m ≡ false → m < n
@@ -146,13 +146,13 @@ behind_end : (r : Requests) (m : ℕ) (res : ℤ) (bytes : List ℕ) (n : ℕ)
     → is_behind_failure (with_ended r m res bytes) n ≡ is_behind_failure r n
 unfolding is_behind_failure is_joined
 behind_end r m res bytes n apart =
-    some_below-same (λ k. is_joined (with_ended r m res bytes) k n && is_soft (entry_of r k) && has_failed (with_ended r m res bytes) k) (λ k. is_joined r k n && is_soft (entry_of r k) && has_failed r k) n by_number where
+    some_below_same (λ k. is_joined (with_ended r m res bytes) k n && is_soft (entry_of r k) && has_failed (with_ended r m res bytes) k) (λ k. is_joined r k n && is_soft (entry_of r k) && has_failed r k) n by_number where
       by_number : (k : ℕ) → k < n → (is_joined r k n && is_soft (entry_of r k) && has_failed (with_ended r m res bytes) k) ≡ (is_joined r k n && is_soft (entry_of r k) && has_failed r k)
       by_number k low = elim (cases_eq k m) [
         | inl same ↦
             let none : is_joined r k n ≡ false = subst (λ j. j < n → is_joined r j n ≡ false) (sym same) apart low in
             and_left _ _ (and_left _ _ none) ∙ sym (and_left _ _ (and_left _ _ none))
-        | inr differ ↦ ap (λ b. is_joined r k n && is_soft (entry_of r k) && b) (has_failed-other r m res bytes k differ)
+        | inr differ ↦ ap (λ b. is_joined r k n && is_soft (entry_of r k) && b) (has_failed_other r m res bytes k differ)
       ]
 
 doomed_end : (r : Requests) (m : ℕ) (res : ℤ) (bytes : List ℕ) (n : ℕ)
@@ -169,9 +169,9 @@ waits_end r m res bytes j k = refl
 
 ready_end : (r : Requests) (m : ℕ) (res : ℤ) (bytes : List ℕ) (n : ℕ) → is_ready r n ≡ true
     → is_ready (with_ended r m res bytes) n ≡ true
-ready_end r m res bytes n ready = is_ready-yes (with_ended r m res bytes) n free where
+ready_end r m res bytes n ready = is_ready_yes (with_ended r m res bytes) n free where
   free : (k : ℕ) → k < n → holds_back (with_ended r m res bytes) n k ≡ false
-  free k low = elim (and_cases (not (has_ended r k)) (waits_for r n k) (is_ready-inside r n k ready low)) [
+  free k low = elim (and_cases (not (has_ended r k)) (waits_for r n k) (is_ready_inside r n k ready low)) [
     | inl over ↦ and_left _ _ (ap not (any_kept (λ e. e.number == k) r.ended _ (not-false _ over)))
     | inr none ↦ and_right _ _ (waits_end r m res bytes n k ∙ none)
   ]
@@ -179,14 +179,14 @@ ready_end r m res bytes n ready = is_ready-yes (with_ended r m res bytes) n free
 pub outstanding_end : (r : Requests) (m : ℕ) (res : ℤ) (bytes : List ℕ) (n : ℕ) → n ≢ m
     → is_outstanding (with_ended r m res bytes) n ≡ is_outstanding r n
 outstanding_end r m res bytes n differ =
-    ap (λ b. nat_lt n (length r.accepted) && not b) (has_ended-other r m res bytes n differ)
+    ap (λ b. nat_lt n (length r.accepted) && not b) (has_ended_other r m res bytes n differ)
 
 -- a request that can start can do so behind the end of another, and could before it if it was ready
 start_past : (r : Requests) (m : ℕ) (res : ℤ) (bytes : List ℕ) (n : ℕ) → n ≢ m
     → has_ended r m ≡ false → CanStart r n → CanStart (with_ended r m res bytes) n
 start_past r m res bytes n differ still c = record {
   outstanding = outstanding_end r m res bytes n differ ∙ c.outstanding;
-  idle = is_running-ended_other r m res bytes n differ ∙ c.idle;
+  idle = is_running_ended_other r m res bytes n differ ∙ c.idle;
   spared = doomed_end r m res bytes n (joined_not r m n c.ready still) ∙ c.spared;
   ready = ready_end r m res bytes n c.ready;
   no_cancel = c.no_cancel;
@@ -197,7 +197,7 @@ start_ahead : (r : Requests) (m : ℕ) (res : ℤ) (bytes : List ℕ) (n : ℕ) 
     → CanStart r n
 start_ahead r m res bytes n differ still ready c = record {
   outstanding = sym (outstanding_end r m res bytes n differ) ∙ c.outstanding;
-  idle = sym (is_running-ended_other r m res bytes n differ) ∙ c.idle;
+  idle = sym (is_running_ended_other r m res bytes n differ) ∙ c.idle;
   spared = sym (doomed_end r m res bytes n (joined_not r m n ready still)) ∙ c.spared;
   ready = ready;
   no_cancel = c.no_cancel;
@@ -215,7 +215,7 @@ other_than : (r : Requests) (m : ℕ) (res : ℤ) (bytes : List ℕ) (n : ℕ)
     → CanStart (with_ended r m res bytes) n → n ≢ m
 other_than r m res bytes n c same =
     both_ways (has_ended (with_ended r m res bytes) n) (not_ended (with_ended r m res bytes) n c.outstanding)
-    (subst (λ k. has_ended (with_ended r m res bytes) k ≡ true) (sym same) (has_ended-same r m res bytes))
+    (subst (λ k. has_ended (with_ended r m res bytes) k ≡ true) (sym same) (has_ended_same r m res bytes))
 
 -- Worlds.
 
@@ -240,9 +240,9 @@ either_order false false z = sym (none z) where
 pub two_pushed : {X : Type 0} (p : X → Bool) (xs : List X) (x y : X)
     → list_any p ((xs ++ x ∷ []) ++ y ∷ []) ≡ list_any p ((xs ++ y ∷ []) ++ x ∷ [])
 two_pushed p xs x y =
-    list_any-push p (xs ++ x ∷ []) y ∙ ap (λ b. b || p y) (list_any-push p xs x)
+    list_any_push p (xs ++ x ∷ []) y ∙ ap (λ b. b || p y) (list_any_push p xs x)
     ∙ either_order (list_any p xs) (p x) (p y)
-    ∙ sym (list_any-push p (xs ++ y ∷ []) x ∙ ap (λ b. b || p x) (list_any-push p xs y))
+    ∙ sym (list_any_push p (xs ++ y ∷ []) x ∙ ap (λ b. b || p x) (list_any_push p xs y))
 
 -- Two starts.
 
@@ -252,7 +252,7 @@ starts_change g h m n lawful =
     let r : Requests = w.requests in
     let one : CanStart r m = can_start w m lawful.1.0 in
     let two : CanStart (with_started r m) n = can_start (world g (start_of m ∷ h)) n lawful.0 in
-    let differ : n ≢ m = λ same. both_ways (is_running (with_started r m) n) two.idle (subst (λ k. is_running (with_started r m) k ≡ true) (sym same) (is_running-started_same r m (not_ended r m one.outstanding))) in
+    let differ : n ≢ m = λ same. both_ways (is_running (with_started r m) n) two.idle (subst (λ k. is_running (with_started r m) k ≡ true) (sym same) (is_running_started_same r m (not_ended r m one.outstanding))) in
     let two_first : IsLawful g (start_of n ∷ h) = (start_called w n (start_before r m n differ two), lawful.1.1) in
     let both : IsLawful g (start_of m ∷ start_of n ∷ h) = (start_called (world g (start_of n ∷ h)) m (start_behind r n m (λ e. differ (sym e)) one), two_first) in
     record {
@@ -343,7 +343,7 @@ finish_orders g h m n res bytes differ running outcome can lawful =
     let first : IsLawful g (start_of n ∷ h) = (start_called w n can, lawful) in
     let files : files_of g (world g (start_of n ∷ h)) ≡ files_of g w = files_kept g (step.Issue n) answer.Run h (lawful_apart g (start_of n ∷ h) first) tt in
     both_orders g h m n (step.Finish m) (answer.Ended res bytes) res bytes (finish_is_end g w m res bytes running outcome)
-    (finish_is_end g (world g (start_of n ∷ h)) m res bytes (is_running-started_other w.requests n m differ ∙ running) (subst (λ fs. IsOutcome fs (operation_of (entry_of w.requests m)) (record { res = res; bytes = bytes })) (sym files) outcome))
+    (finish_is_end g (world g (start_of n ∷ h)) m res bytes (is_running_started_other w.requests n m differ ∙ running) (subst (λ fs. IsOutcome fs (operation_of (entry_of w.requests m)) (record { res = res; bytes = bytes })) (sym files) outcome))
     can (start_past w.requests m res bytes n (λ e. differ (sym e)) (not_over w.requests m running) can) lawful
 
 doom_orders : (g : Setup) (h : History) (m n : ℕ) → m ≢ n → IsToEnd (world g h).requests m
@@ -353,7 +353,7 @@ doom_orders g h m n differ end can lawful =
     let w : World = world g h in
     let r : Requests = w.requests in
     both_orders g h m n (step.Issue m) (answer.Ended (doomed_result r m) no_bytes) (doomed_result r m) no_bytes (doom_is_end g w m end)
-    (doom_is_end g (world g (start_of n ∷ h)) m (record { outstanding = end.outstanding; idle = is_running-started_other r n m differ ∙ end.idle; doomed = is_doomed-started r n m ∙ end.doomed }))
+    (doom_is_end g (world g (start_of n ∷ h)) m (record { outstanding = end.outstanding; idle = is_running_started_other r n m differ ∙ end.idle; doomed = is_doomed_started r n m ∙ end.doomed }))
     can (start_past r m (doomed_result r m) no_bytes n (λ e. differ (sym e)) (not_ended r m end.outstanding) can) lawful
 
 -- a doomed request that ends as it is issued
@@ -375,7 +375,7 @@ finish_later g h m n res bytes differ lawful =
     let v : World = world g (start_of n ∷ h) in
     let end = tells_end (files_of g v) v.requests m (is_running v.requests m) res bytes lawful.0 in
     let files : files_of g v ≡ files_of g w = files_kept g (step.Issue n) answer.Run h (lawful_apart g (start_of n ∷ h) lawful.1) tt in
-    (finish_orders g h m n res bytes differ (sym (is_running-started_other w.requests n m differ) ∙ end.0) (subst (λ fs. IsOutcome fs (operation_of (entry_of w.requests m)) (record { res = res; bytes = bytes })) files end.1) (can_start w n lawful.1.0) lawful.1.1).later
+    (finish_orders g h m n res bytes differ (sym (is_running_started_other w.requests n m differ) ∙ end.0) (subst (λ fs. IsOutcome fs (operation_of (entry_of w.requests m)) (record { res = res; bytes = bytes })) files end.1) (can_start w n lawful.1.0) lawful.1.1).later
 
 doom_later : (g : Setup) (h : History) (m n : ℕ) (res : ℤ) (bytes : List ℕ) → m ≢ n
     → is_doomed (world g h).requests m ≡ true
@@ -384,8 +384,8 @@ doom_later : (g : Setup) (h : History) (m n : ℕ) (res : ℤ) (bytes : List ℕ
 doom_later g h m n res bytes differ doomed lawful =
     let w : World = world g h in
     let r : Requests = w.requests in
-    let told = tells_to_end (world g (start_of n ∷ h)) m res bytes (is_doomed-started r n m ∙ doomed) lawful.0 in
-    let end : IsToEnd r m = record { outstanding = told.0.outstanding; idle = sym (is_running-started_other r n m differ) ∙ told.0.idle; doomed = doomed } in
+    let told = tells_to_end (world g (start_of n ∷ h)) m res bytes (is_doomed_started r n m ∙ doomed) lawful.0 in
+    let end : IsToEnd r m = record { outstanding = told.0.outstanding; idle = sym (is_running_started_other r n m differ) ∙ told.0.idle; doomed = doomed } in
     subst (λ a. ChangePlaces g h (start_of n) (step.Issue m, a)) (sym told.1) (doom_orders g h m n differ end (can_start w n lawful.1.0) lawful.1.1).later
 
 pub start_then_end : (g : Setup) → StartThenEnd g
@@ -457,9 +457,9 @@ finishes_change g h m n x y posts apart lawful =
     let fs : List FileContents = empty_files g.files in
     let one = tells_end (files_of g w) r m (is_running r m) x.res x.bytes lawful.1.0 in
     let two = tells_end (files_of g v) v.requests n (is_running v.requests n) y.res y.bytes lawful.0 in
-    let differ : n ≢ m = λ same. both_ways (is_running v.requests n) (subst (λ k. is_running v.requests k ≡ false) (sym same) (is_running-ended_same r m x.res x.bytes)) two.0 in
-    let ran : is_running r n ≡ true = sym (is_running-ended_other r m x.res x.bytes n differ) ∙ two.0 in
-    let runs : is_running u.requests m ≡ true = is_running-ended_other r n y.res y.bytes m (λ e. differ (sym e)) ∙ one.0 in
+    let differ : n ≢ m = λ same. both_ways (is_running v.requests n) (subst (λ k. is_running v.requests k ≡ false) (sym same) (is_running_ended_same r m x.res x.bytes)) two.0 in
+    let ran : is_running r n ≡ true = sym (is_running_ended_other r m x.res x.bytes n differ) ∙ two.0 in
+    let runs : is_running u.requests m ≡ true = is_running_ended_other r n y.res y.bytes m (λ e. differ (sym e)) ∙ one.0 in
     let left_by_n : files_of g u ≡ after (files_of g w) (operation_of (entry_of r n)) y.res = files_ended r n y.res y.bytes fs in
     let left_by_m : files_of g v ≡ after (files_of g w) (operation_of (entry_of r m)) x.res = files_ended r m x.res x.bytes fs in
     let second : IsOutcome (files_of g u) (operation_of (entry_of r m)) x = subst (λ z. IsOutcome z (operation_of (entry_of r m)) x) (sym left_by_n) apart.second in

@@ -8,7 +8,7 @@ use Rattle.uring_entry.specs.Layout.{Sqe}
 use Rattle.uring_entry.specs.Preparation.{is_cancel}
 use Rattle.uring_entry.specs.Submission.{Call}
 use Rattle.uring_entry.specs.Requests.{Requests, has_ended, is_outstanding, is_joined, is_draining, is_drain, is_ready, waits_for, holds_back, with_call, with_started}
-use Rattle.uring_entry.proofs.BelowLemmas.{some_below-same}
+use Rattle.uring_entry.proofs.BelowLemmas.{some_below_same}
 use Rattle.uring_core.specs.World.{World, happens, taking_of, taking_entry_of, ending_of}
 use Rattle.uring_core.specs.CalledFor.{CalledFor, IsLawful}
 use Rattle.uring_core.specs.Histories.{world, IsLawfulApart}
@@ -84,7 +84,7 @@ module _ (r : Requests) (entries : List Sqe) (cut : (length r.accepted ≡ 0) �
 
   ready_kept : is_ready (with_call r entries) n ≡ is_ready r n
   unfolding is_ready
-  ready_kept = ap not (some_below-same (holds_back (with_call r entries) n) (holds_back r n) n (λ k low. ap (λ b. not (has_ended r k) && b) (waits_kept k low)))
+  ready_kept = ap not (some_below_same (holds_back (with_call r entries) n) (holds_back r n) n (λ k low. ap (λ b. not (has_ended r k) && b) (waits_kept k low)))
 
   outstanding_kept : is_outstanding (with_call r entries) n ≡ is_outstanding r n
   outstanding_kept =

@@ -14,7 +14,7 @@ use Rattle.uring_laws.specs.Standing.{Stands, with_items, item_steps, item_answe
 use Rattle.uring_core.specs.declared.step.Step.TheVariants as step
 use Rattle.uring_core.specs.declared.answer.Answer.{Answer}
 use Rattle.uring_core.specs.declared.answer.Answer.TheVariants as answer
-use Rattle.uring_core.proofs.Following.{history_of-cons}
+use Rattle.uring_core.proofs.Following.{history_of_cons}
 use Rattle.uring_laws.proofs.Growth.{lawful_before}
 use Rattle.uring_laws.proofs.Standing.{slot_filled, word_staged, tail_publishes, items_keep, items_published, call_opens}
 
@@ -31,7 +31,7 @@ one_behind : (e : Event) (events : List Event) (before : History) (g : Setup)
     → IsLawfulApart g (history_of (e ∷ events) ++ before)
     → IsLawfulApart g (history_of events ++ e ∷ before)
 one_behind e events before g lawful =
-    subst (IsLawfulApart g) (history_of-cons e events before) lawful
+    subst (IsLawfulApart g) (history_of_cons e events before) lawful
 
 word_goes_in : (g : Setup) (before : History) (words : List ℕ) (slot word : ℕ) (later : List Published) (a : Answer) (answers : List Answer)
     → a ≡ answer.Staged
@@ -41,7 +41,7 @@ word_goes_in g before words slot word later a answers is rest =
     let events : List Event = zip (item_steps (slot + 1) later) answers in
     record {
       none_refused = ap₂ (λ x xs. x ∷ xs) is rest.none_refused;
-      now = ap (λ x. world g (history_of ((step.Index word, x) ∷ events) ++ before)) is ∙ ap (world g) (history_of-cons (step.Index word, answer.Staged) events before) ∙ rest.now;
+      now = ap (λ x. world g (history_of ((step.Index word, x) ∷ events) ++ before)) is ∙ ap (world g) (history_of_cons (step.Index word, answer.Staged) events before) ∙ rest.now;
       staged = rest.staged;
       many = omega (arith, rest.many, length_push words word);
       stands = rest.stands;
@@ -58,7 +58,7 @@ entry_goes_in g before words slot entry later a b answers is also rest =
       now =
           ap (λ x. world g (history_of ((step.Fill slot entry, x) ∷ (step.Index slot, b) ∷ events) ++ before)) is
           ∙ ap (λ x. world g (history_of ((step.Fill slot entry, answer.Filled) ∷ (step.Index slot, x) ∷ events) ++ before)) also
-          ∙ ap (world g) (history_of-cons (step.Fill slot entry, answer.Filled) ((step.Index slot, answer.Staged) ∷ events) before ∙ history_of-cons (step.Index slot, answer.Staged) events ((step.Fill slot entry, answer.Filled) ∷ before))
+          ∙ ap (world g) (history_of_cons (step.Fill slot entry, answer.Filled) ((step.Index slot, answer.Staged) ∷ events) before ∙ history_of_cons (step.Index slot, answer.Staged) events ((step.Fill slot entry, answer.Filled) ∷ before))
           ∙ rest.now;
       staged = rest.staged;
       many = omega (arith, rest.many, length_push words slot);

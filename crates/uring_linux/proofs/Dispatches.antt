@@ -11,15 +11,15 @@ use Rattle.uring_linux.specs.KeptDrains.{KeptDrains, accepted_drains, cut_drains
 use Rattle.uring_linux.specs.LinuxRequests.{LinuxRequests, is_skipping, has_fault, no_request, with_last_entry, with_accepted, with_cut}
 use Rattle.uring_linux.specs.Window.{Window, new_request, end_of, Tells, Shows}
 use Rattle.uring_linux.specs.LinuxDispatch.{dispatch_of, ShowsRequests}
-use Rattle.uring_linux.proofs.WindowEvents.{roomed, pushed-shows, skipped-accepted, tells-new, none-shows}
+use Rattle.uring_linux.proofs.WindowEvents.{roomed, pushed_shows, skipped_accepted, tells_new, none_shows}
 
-pub dispatch-new : (s : Window) (d : KeptDrains) → s ≡ record { first = 0; items = []; room = 0 }
+pub dispatch_new : (s : Window) (d : KeptDrains) → s ≡ record { first = 0; items = []; room = 0 }
     → d ≡ record { drains = no_drains; room = 0 }
     → ShowsRequests (dispatch_of s d false 0 true) no_request
-dispatch-new s d es ed =
+dispatch_new s d es ed =
     subst (λ (x : Window). ShowsRequests (dispatch_of x d false 0 true) no_request) (sym es)
     (subst (λ (y : KeptDrains). ShowsRequests (dispatch_of (record { first = 0; items = []; room = 0 }) y false 0 true) no_request) (sym ed)
-    (record { accepted = refl; held = record { window = none-shows; drains = refl; skipped = refl } }))
+    (record { accepted = refl; held = record { window = none_shows; drains = refl; skipped = refl } }))
 
 -- an entry is taken, as the definitions say
 taken : (q : Request) (d e : Drains) (first second : Bool) (r : Requests) (n : ℕ) → Tells q r n → d ≡ e
@@ -30,17 +30,17 @@ taken q d e first second r n t same is at =
     ∙ ap (λ x. with_entry e (e.from == n) (not x) (is_drain q.entry && not x)) fault
     ∙ ap (λ x. with_entry e (e.from == n) (not (has_fault r n)) (is_drain x && not (has_fault r n))) t.entry
 
-pub dispatch-accepted : (s t : Window) (d k : KeptDrains) (b c : Bool) (room left : ℕ) (between amid : Bool) (e : Sqe) (q : Request) (l : LinuxRequests) (first : Bool)
+pub dispatch_accepted : (s t : Window) (d k : KeptDrains) (b c : Bool) (room left : ℕ) (between amid : Bool) (e : Sqe) (q : Request) (l : LinuxRequests) (first : Bool)
     → ShowsRequests (dispatch_of s d b room between) l → c ≡ (b || is_skipping e) → q ≡ new_request e c
     → t.first ≡ s.first → t.items ≡ s.items ++ q ∷ [] → first ≡ (d.drains.from == end_of s)
     → ((r : Requests) → Shows t r → k.drains ≡ accepted_drains r (is_linked q.entry) (with_request d.drains first q))
     → ShowsRequests (dispatch_of t k c left amid) (with_accepted l e)
-dispatch-accepted s t d k b c room left between amid e q l first h ec eq ef ei is f =
+dispatch_accepted s t d k b c room left between amid e q l first h ec eq ef ei is f =
     let r = l.requests in
     let n = length r.accepted in
-    let skip = ec ∙ skipped-accepted r e b h.held.skipped in
-    let tells = subst (λ x. Tells x (manual.with_accepted r e) n) (sym eq) (tells-new r e c (h.held.window.later n (omega arith)) skip) in
-    let shows = pushed-shows s t q r e ef ei h.held.window tells in
+    let skip = ec ∙ skipped_accepted r e b h.held.skipped in
+    let tells = subst (λ x. Tells x (manual.with_accepted r e) n) (sym eq) (tells_new r e c (h.held.window.later n (omega arith)) skip) in
+    let shows = pushed_shows s t q r e ef ei h.held.window tells in
     let more : length r.accepted + 1 ≡ length (r.accepted ++ e ∷ []) = sym (length-append r.accepted (e ∷ [])) in
     record {
       accepted = shows.count;
@@ -56,12 +56,12 @@ dispatch-accepted s t d k b c room left between amid e q l first h ec eq ef ei i
       };
     }
 
-pub dispatch-cut : (s t : Window) (d k : KeptDrains) (b : Bool) (room left : ℕ) (between amid : Bool) (l : LinuxRequests)
+pub dispatch_cut : (s t : Window) (d k : KeptDrains) (b : Bool) (room left : ℕ) (between amid : Bool) (l : LinuxRequests)
     → ShowsRequests (dispatch_of s d b room between) l
     → ((r : Requests) → Shows s r → Shows t (manual.with_cut r))
     → ((r : Requests) → Shows t r → k.drains ≡ cut_drains r d.drains)
     → ShowsRequests (dispatch_of t k b left amid) (with_cut l)
-dispatch-cut s t d k b room left between amid l h g f =
+dispatch_cut s t d k b room left between amid l h g f =
     let r = l.requests in
     let shows = g r (roomed s.first s.items 0 s.room r h.held.window) in
     record {

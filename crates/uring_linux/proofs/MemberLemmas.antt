@@ -6,59 +6,59 @@ use Rattle.std.proofs.Math.Bool.{and-true}
 use Rattle.uring_entry.specs.Requests.{Requests, has_ended, is_joined, is_in_group}
 use Rattle.uring_entry.specs.Groups.{IsGroup, first_member, is_before, first_broken}
 use Rattle.uring_entry.specs.Why.{failed_member_of}
-use Rattle.uring_entry.proofs.BelowLemmas.{some_below-same, some_below-between, least_below-none, least_below-some, is_some-least_below}
-use Rattle.uring_entry.proofs.GroupLemmas.{joined-member, in_group-member}
-use Rattle.uring_entry.proofs.WhyLemmas.{failed_member-before, failed_member-none}
+use Rattle.uring_entry.proofs.BelowLemmas.{some_below_same, some_below_between, least_below_none, least_below_some, is_some_least_below}
+use Rattle.uring_entry.proofs.GroupLemmas.{joined_member, in_group_member}
+use Rattle.uring_entry.proofs.WhyLemmas.{failed_member_before, failed_member_none}
 use Rattle.uring_linux.specs.LinuxRequests.{has_fault, is_in_faulty_group, is_in_turn, keeps_back, first_of}
 use Rattle.uring_linux.specs.Members.{if_before}
 
-pub turn-is : (r : Requests) (from end n : ℕ) → IsGroup r from end → from ≤ n → n < end
+pub turn_is : (r : Requests) (from end n : ℕ) → IsGroup r from end → from ≤ n → n < end
     → is_in_turn r n ≡ not (is_some (first_member (λ m. not (has_ended r m)) from n))
 unfolding is_in_turn first_member
-turn-is r from end n g high lt =
+turn_is r from end n g high lt =
     ap not
-    (some_below-same (keeps_back r n) (λ m. leb from m && not (has_ended r m)) n
-    (λ m low. ap (λ b. b && not (has_ended r m)) (joined-member r from end m n g high lt (omega arith)))
-    ∙ sym (is_some-least_below (λ m. leb from m && not (has_ended r m)) n))
+    (some_below_same (keeps_back r n) (λ m. leb from m && not (has_ended r m)) n
+    (λ m low. ap (λ b. b && not (has_ended r m)) (joined_member r from end m n g high lt (omega arith)))
+    ∙ sym (is_some_least_below (λ m. leb from m && not (has_ended r m)) n))
 
-pub faulty-is : (r : Requests) (from end n : ℕ) → IsGroup r from end → from ≤ n → n < end
+pub faulty_is : (r : Requests) (from end n : ℕ) → IsGroup r from end → from ≤ n → n < end
     → is_in_faulty_group r n ≡ is_some (first_member (has_fault r) from end)
 unfolding is_in_faulty_group first_member
-faulty-is r from end n g high lt =
-    some_below-between (λ m. is_in_group r m n && has_fault r m) end (length r.accepted) g.accepted
-    (λ m past within. and_left _ _ (in_group-member r from end n m g high lt within ∙ and_right _ _ (le-ltb m end past)))
-    ∙ some_below-same (λ m. is_in_group r m n && has_fault r m) (λ m. leb from m && has_fault r m) end
+faulty_is r from end n g high lt =
+    some_below_between (λ m. is_in_group r m n && has_fault r m) end (length r.accepted) g.accepted
+    (λ m past within. and_left _ _ (in_group_member r from end n m g high lt within ∙ and_right _ _ (le-ltb m end past)))
+    ∙ some_below_same (λ m. is_in_group r m n && has_fault r m) (λ m. leb from m && has_fault r m) end
     (λ m inside.
     let f = g.accepted in
     ap (λ b. b && has_fault r m)
-    (in_group-member r from end n m g high lt (omega arith) ∙ ap (λ b. leb from m && b) (lt-ltb m end inside) ∙ and-true (leb from m)))
-    ∙ sym (is_some-least_below (λ m. leb from m && has_fault r m) end)
+    (in_group_member r from end n m g high lt (omega arith) ∙ ap (λ b. leb from m && b) (lt-ltb m end inside) ∙ and-true (leb from m)))
+    ∙ sym (is_some_least_below (λ m. leb from m && has_fault r m) end)
 
-pub first-is : (r : Requests) (from end n : ℕ) → IsGroup r from end → from ≤ n → n < end
+pub first_is : (r : Requests) (from end n : ℕ) → IsGroup r from end → from ≤ n → n < end
     → first_of r n ≡ if_before (Some from) n
 unfolding first_of
-first-is r from end n g high lt =
+first_is r from end n g high lt =
     elim (cases_lt from n) [
       | inl low ↦
-          least_below-some (λ m. is_joined r m n) n from low (joined-member r from end from n g high lt high ∙ le-leb from from (omega arith))
-          (λ j under. joined-member r from end j n g high lt (omega arith) ∙ lt-leb from j under)
+          least_below_some (λ m. is_joined r m n) n from low (joined_member r from end from n g high lt high ∙ le-leb from from (omega arith))
+          (λ j under. joined_member r from end j n g high lt (omega arith) ∙ lt-leb from j under)
           ∙ ap (λ b. if b then Some from else None) (sym (lt-ltb from n low))
       | inr same ↦
-          least_below-none (λ m. is_joined r m n) n
-          (λ j under. joined-member r from end j n g high lt (omega arith) ∙ lt-leb from j (omega arith))
+          least_below_none (λ m. is_joined r m n) n
+          (λ j under. joined_member r from end j n g high lt (omega arith) ∙ lt-leb from j (omega arith))
           ∙ ap (λ b. if b then Some from else None) (sym (le-ltb from n same))
     ]
 
-pub failed-is : (r : Requests) (from end n : ℕ) → IsGroup r from end → from ≤ n → n < end
+pub failed_is : (r : Requests) (from end n : ℕ) → IsGroup r from end → from ≤ n → n < end
     → failed_member_of r n ≡ if_before (first_broken r from end) n
-failed-is r from end n g high lt = go (first_broken r from end) refl
+failed_is r from end n g high lt = go (first_broken r from end) refl
   where
     go : (o : Option ℕ) → first_broken r from end ≡ o → failed_member_of r n ≡ if_before o n
-    go None e = failed_member-none r from end n g high lt (ap (λ o. is_before o n) e)
+    go None e = failed_member_none r from end n g high lt (ap (λ o. is_before o n) e)
     go (Some m) e =
         elim (cases_lt m n) [
-          | inl low ↦ failed_member-before r from end n m g high lt e low ∙ ap (λ b. if b then Some m else None) (sym (lt-ltb m n low))
+          | inl low ↦ failed_member_before r from end n m g high lt e low ∙ ap (λ b. if b then Some m else None) (sym (lt-ltb m n low))
           | inr past ↦
-              failed_member-none r from end n g high lt (ap (λ o. is_before o n) e ∙ le-ltb m n past)
+              failed_member_none r from end n g high lt (ap (λ o. is_before o n) e ∙ le-ltb m n past)
               ∙ ap (λ b. if b then Some m else None) (sym (le-ltb m n past))
         ]

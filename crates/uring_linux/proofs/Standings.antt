@@ -10,7 +10,7 @@ use Rattle.uring_entry.specs.Groups.{first_member}
 use Rattle.uring_entry.specs.Requests as manual
 use Rattle.uring_entry.specs.Requests.{Requests, entry_of, has_ended, has_started, is_outstanding, is_running, is_in_group, least_of}
 use Rattle.uring_entry.specs.declared.errno.TheConstants.{ENOENT, EALREADY}
-use Rattle.uring_entry.proofs.BelowLemmas.{some_below-some, some_below-same, is_some-least_below, least_below-same}
+use Rattle.uring_entry.proofs.BelowLemmas.{some_below_some, some_below_same, is_some_least_below, least_below_same}
 use Rattle.uring_entry.proofs.RequestLemmas.{is_in_own_group}
 use Rattle.uring_dispatch.specs.declared.answers.Posts.{Posts}
 use Rattle.uring_linux.specs.declared.request.Request.{Request}
@@ -25,16 +25,16 @@ use Rattle.uring_linux.specs.Issues.{issued, issued_ready, ended_with, after_end
 use Rattle.uring_linux.specs.Window.{Window, at, end_of, said, Tells, Shows}
 use Rattle.uring_linux.specs.LinuxDispatch.{dispatch_of, ShowsRequests}
 use Rattle.uring_linux.proofs.WindowLemmas.{not_none}
-use Rattle.uring_linux.proofs.WindowEvents.{at-within, roomed, started-shows, ended-shows}
+use Rattle.uring_linux.proofs.WindowEvents.{at_within, roomed, started_shows, ended_shows}
 
 -- what is kept shows the requests that the dispatcher does
 pub shown : (s : Window) (d : KeptDrains) (b : Bool) (room : ℕ) (between : Bool) (l : LinuxRequests)
     → ShowsRequests (dispatch_of s d b room between) l → Shows s l.requests
 shown s d b room between l h = roomed s.first s.items 0 s.room l.requests h.held.window
 
-pub outside-ended : (s : Window) (r : Requests) (n : ℕ) → Shows s r → None ≡ at s n
+pub outside_ended : (s : Window) (r : Requests) (n : ℕ) → Shows s r → None ≡ at s n
     → is_outstanding r n ≡ false
-outside-ended s r n h none =
+outside_ended s r n h none =
     elim (cases_lt n s.first) [
       | inl low ↦ and_right _ _ (ap not (h.gone n low))
       | inr high ↦
@@ -44,9 +44,9 @@ outside-ended s r n h none =
           ]
     ]
 
-pub outside-idle : (s : Window) (r : Requests) (n : ℕ) → Shows s r → None ≡ at s n
+pub outside_idle : (s : Window) (r : Requests) (n : ℕ) → Shows s r → None ≡ at s n
     → is_running r n ≡ false
-outside-idle s r n h none =
+outside_idle s r n h none =
     elim (cases_lt n s.first) [
       | inl low ↦ and_right _ _ (ap not (h.gone n low))
       | inr high ↦
@@ -56,19 +56,19 @@ outside-idle s r n h none =
           ]
     ]
 
-pub outstanding-ended : (q : Request) (r : Requests) (n : ℕ) → Tells q r n → q.has_ended ≡ true
+pub outstanding_ended : (q : Request) (r : Requests) (n : ℕ) → Tells q r n → q.has_ended ≡ true
     → is_outstanding r n ≡ false
-outstanding-ended q r n t e = and_right _ _ (ap not (sym t.ended ∙ e))
+outstanding_ended q r n t e = and_right _ _ (ap not (sym t.ended ∙ e))
 
-pub outstanding-going : (s : Window) (q : Request) (r : Requests) (n : ℕ) → Shows s r → at s n ≡ Some q
+pub outstanding_going : (s : Window) (q : Request) (r : Requests) (n : ℕ) → Shows s r → at s n ≡ Some q
     → q.has_ended ≡ false → is_outstanding r n ≡ true
-outstanding-going s q r n h here e =
-    let w = at-within s n q here in
+outstanding_going s q r n h here e =
+    let w = at_within s n q here in
     and_from _ _ (lt-ltb n (length r.accepted) (omega (arith, w.high, h.count))) (ap not (sym (h.told n q here).ended ∙ e))
 
-pub running-outstanding : (s : Window) (r : Requests) (n : ℕ) → Shows s r → is_running r n ≡ true
+pub running_outstanding : (s : Window) (r : Requests) (n : ℕ) → Shows s r → is_running r n ≡ true
     → is_outstanding r n ≡ true
-running-outstanding s r n h e =
+running_outstanding s r n h e =
     let parts = and_parts _ _ e in
     elim (cases_lt n (length r.accepted)) [
       | inl low ↦ and_from _ _ (lt-ltb n (length r.accepted) low) parts.1
@@ -85,7 +85,7 @@ healthy r n lt e =
       | inl faulty ↦
           absurd
           (both_ways _ none
-          (some_below-some (λ m. is_in_group r m n && has_fault r m) (length r.accepted) n lt (and_from _ _ (is_in_own_group r n) (or_left _ _ faulty))))
+          (some_below_some (λ m. is_in_group r m n && has_fault r m) (length r.accepted) n lt (and_from _ _ (is_in_own_group r n) (or_left _ _ faulty))))
       | inr fine ↦ fine
     ]
 
@@ -109,9 +109,9 @@ asked l n o run turn doomed deferred a b c d e =
     ∙ ap (λ z. ask o run turn z (is_deferred l n) x y) d
     ∙ ap (λ z. ask o run turn doomed z x y) e
 
-pub ended-outstanding : (l : LinuxRequests) (n : ℕ) (res : ℤ) (p : Posts) → issued l n ≡ Ended res p
+pub ended_outstanding : (l : LinuxRequests) (n : ℕ) (res : ℤ) (p : Posts) → issued l n ≡ Ended res p
     → is_outstanding l.requests n ≡ true
-ended-outstanding l n res p e = go (is_outstanding l.requests n) _ e
+ended_outstanding l n res p e = go (is_outstanding l.requests n) _ e
   where
     go : (o : Bool) (x : Issued) → (if not o then Unknown else x) ≡ Ended res p → o ≡ true
     go true x e = refl
@@ -124,10 +124,10 @@ after_some l n res bytes (Some p) e = refl
 
 -- Cancels.
 
-found-at : (r : Requests) (n m first : ℕ) → is_running r n ≡ false
+found_at : (r : Requests) (n m first : ℕ) → is_running r n ≡ false
     → (m < first → has_ended r m ≡ true)
     → (leb first m && said (Runs (addr_of (entry_of r n))) r m) ≡ is_found r n m
-found-at r n m first idle gone =
+found_at r n m first idle gone =
     elim (cases_lt m first) [
       | inl low ↦ and_left _ _ (lt-leb first m low) ∙ sym (and_left _ _ (and_right _ _ (ap not (gone low))))
       | inr high ↦
@@ -140,45 +140,45 @@ found-at r n m first idle gone =
           ]
     ]
 
-pub found-is : (s : Window) (r : Requests) (n : ℕ) → Shows s r → is_running r n ≡ false
+pub found_is : (s : Window) (r : Requests) (n : ℕ) → Shows s r → is_running r n ≡ false
     → is_some (first_member (said (Runs (addr_of (entry_of r n))) r) s.first (end_of s)) ≡ is_some (found_by r n)
 unfolding first_member found_by
-found-is s r n h idle =
-    is_some-least_below (λ m. leb s.first m && said (Runs (addr_of (entry_of r n))) r m) (end_of s)
-    ∙ some_below-same (λ m. leb s.first m && said (Runs (addr_of (entry_of r n))) r m) (is_found r n) (end_of s)
-    (λ m low. found-at r n m s.first idle (h.gone m))
+found_is s r n h idle =
+    is_some_least_below (λ m. leb s.first m && said (Runs (addr_of (entry_of r n))) r m) (end_of s)
+    ∙ some_below_same (λ m. leb s.first m && said (Runs (addr_of (entry_of r n))) r m) (is_found r n) (end_of s)
+    (λ m low. found_at r n m s.first idle (h.gone m))
     ∙ ap (some_below (is_found r n)) h.count
-    ∙ sym (is_some-least_below (is_found r n) (length r.accepted))
+    ∙ sym (is_some_least_below (is_found r n) (length r.accepted))
 
 -- the same, from what a search answered
-pub found-at_last : (s : Window) (r : Requests) (n : ℕ) (e : Sqe) (u first end : ℕ) (o : Option ℕ) → Shows s r
+pub found_at_last : (s : Window) (r : Requests) (n : ℕ) (e : Sqe) (u first end : ℕ) (o : Option ℕ) → Shows s r
     → is_running r n ≡ false → e ≡ entry_of r n → u ≡ addr_of e → first ≡ s.first → end ≡ end_of s
     → o ≡ first_member (said (Runs u) r) first end → is_some (found_by r n) ≡ is_some o
-found-at_last s r n e u first end o h idle ee eu ef en eo =
+found_at_last s r n e u first end o h idle ee eu ef en eo =
     sym
     (ap is_some eo ∙ ap (λ x. is_some (first_member (said (Runs x) r) first end)) (eu ∙ ap addr_of ee)
     ∙ ap (λ x. is_some (first_member (said (Runs (addr_of (entry_of r n))) r) x end)) ef
     ∙ ap (λ x. is_some (first_member (said (Runs (addr_of (entry_of r n))) r) s.first x)) en
-    ∙ found-is s r n h idle)
+    ∙ found_is s r n h idle)
 
-pub cancelled-one : (r : Requests) (n : ℕ) (b : Bool) → is_cancel_all (entry_of r n) ≡ false
+pub cancelled_one : (r : Requests) (n : ℕ) (b : Bool) → is_cancel_all (entry_of r n) ≡ false
     → is_some (found_by r n) ≡ b
     → cancel_result r n ≡ (if b then neg_ℤ EALREADY else neg_ℤ ENOENT)
-cancelled-one r n b one found =
+cancelled_one r n b one found =
     ap (λ x. if x then pos 0 else (if is_some (found_by r n) then neg_ℤ EALREADY else neg_ℤ ENOENT)) one
     ∙ ap (λ x. if x then neg_ℤ EALREADY else neg_ℤ ENOENT) found
 
 -- Events.
 
-pub dispatch-started : (s t : Window) (d : KeptDrains) (b : Bool) (room left : ℕ) (between amid : Bool) (l : LinuxRequests) (n : ℕ) (q : Request)
+pub dispatch_started : (s t : Window) (d : KeptDrains) (b : Bool) (room left : ℕ) (between amid : Bool) (l : LinuxRequests) (n : ℕ) (q : Request)
     → ShowsRequests (dispatch_of s d b room between) l → at s n ≡ Some q
     → is_outstanding l.requests n ≡ true
     → t ≡ record s { items = set s.items (n - s.first) (record q { is_running = true }) }
     → ShowsRequests (dispatch_of t d b left amid) (with_started l n)
-dispatch-started s t d b room left between amid l n q h here going et =
+dispatch_started s t d b room left between amid l n q h here going et =
     let out = and_parts _ _ going in
     let open_ = not-true _ out.1 in
-    let shows = subst (λ (x : Window). Shows x (manual.with_started l.requests n)) (sym et) (started-shows s q l.requests n (shown s d b room between l h) here open_) in
+    let shows = subst (λ (x : Window). Shows x (manual.with_started l.requests n)) (sym et) (started_shows s q l.requests n (shown s d b room between l h) here open_) in
     record {
       accepted = shows.count;
       held = record {
@@ -188,17 +188,17 @@ dispatch-started s t d b room left between amid l n q h here going et =
       };
     }
 
-pub dispatch-ended : (s t : Window) (d k : KeptDrains) (b : Bool) (room left : ℕ) (between amid : Bool) (l : LinuxRequests) (n : ℕ) (q : Request) (res : ℤ) (bytes : List ℕ) (failed : Bool)
+pub dispatch_ended : (s t : Window) (d k : KeptDrains) (b : Bool) (room left : ℕ) (between amid : Bool) (l : LinuxRequests) (n : ℕ) (q : Request) (res : ℤ) (bytes : List ℕ) (failed : Bool)
     → ShowsRequests (dispatch_of s d b room between) l → at s n ≡ Some q
     → is_outstanding l.requests n ≡ true → failed ≡ not (success.is_success q.entry res)
     → t ≡ record s { items = set s.items (n - s.first) (record q { is_running = false; has_ended = true; has_failed = failed }) }
     → ((r : Requests) → Shows t r → k.drains ≡ record d.drains { deferred = after_going_on r d.drains.deferred })
     → ShowsRequests (dispatch_of t k b left amid) (with_ended l n res bytes)
-dispatch-ended s t d k b room left between amid l n q res bytes failed h here going ef et f =
+dispatch_ended s t d k b room left between amid l n q res bytes failed h here going ef et f =
     let out = and_parts _ _ going in
     let open_ = not-true _ out.1 in
     let r = manual.with_ended l.requests n res bytes in
-    let shows = subst (λ (x : Window). Shows x r) (sym et) (ended-shows s q l.requests n res bytes failed (shown s d b room between l h) here open_ ef) in
+    let shows = subst (λ (x : Window). Shows x r) (sym et) (ended_shows s q l.requests n res bytes failed (shown s d b room between l h) here open_ ef) in
     record {
       accepted = shows.count;
       held = record {
@@ -210,34 +210,34 @@ dispatch-ended s t d k b room left between amid l n q res bytes failed h here go
 
 -- What can be issued.
 
-issuable-asked : (o run turn doomed deferred cancel : Bool) (x y : Issued) → is_refusal x ≡ false → is_refusal y ≡ false
+issuable_asked : (o run turn doomed deferred cancel : Bool) (x y : Issued) → is_refusal x ≡ false → is_refusal y ≡ false
     → (o && (not run && (turn && (doomed || not deferred)))) ≡ not (is_refusal (ask o run turn doomed deferred x y))
-issuable-asked false run turn doomed deferred cancel x y a b = refl
-issuable-asked true true turn doomed deferred cancel x y a b = refl
-issuable-asked true false false doomed deferred cancel x y a b = refl
-issuable-asked true false true true deferred cancel x y a b = sym (ap not a)
-issuable-asked true false true false true cancel x y a b = refl
-issuable-asked true false true false false cancel x y a b = sym (ap not b)
+issuable_asked false run turn doomed deferred cancel x y a b = refl
+issuable_asked true true turn doomed deferred cancel x y a b = refl
+issuable_asked true false false doomed deferred cancel x y a b = refl
+issuable_asked true false true true deferred cancel x y a b = sym (ap not a)
+issuable_asked true false true false true cancel x y a b = refl
+issuable_asked true false true false false cancel x y a b = sym (ap not b)
 
-ready-goes : (r : Requests) (n : ℕ) → is_refusal (issued_ready r n) ≡ false
-ready-goes r n = go (is_cancel (entry_of r n))
+ready_goes : (r : Requests) (n : ℕ) → is_refusal (issued_ready r n) ≡ false
+ready_goes r n = go (is_cancel (entry_of r n))
   where
     go : (b : Bool) → is_refusal (if b then ended_with r n (cancel_result r n) else Run (operation_of (entry_of r n))) ≡ false
     go true = refl
     go false = refl
 
-pub issuable-is : (l : LinuxRequests) (n : ℕ) → is_issuable l n ≡ not (is_refusal (issued l n))
-issuable-is l n = issuable-asked (is_outstanding l.requests n) (is_running l.requests n) (is_in_turn l.requests n) (is_doomed l.requests n) (is_deferred l n) false (ended_with l.requests n (doomed_result l.requests n)) (issued_ready l.requests n) refl (ready-goes l.requests n)
+pub issuable_is : (l : LinuxRequests) (n : ℕ) → is_issuable l n ≡ not (is_refusal (issued l n))
+issuable_is l n = issuable_asked (is_outstanding l.requests n) (is_running l.requests n) (is_in_turn l.requests n) (is_doomed l.requests n) (is_deferred l n) false (ended_with l.requests n (doomed_result l.requests n)) (issued_ready l.requests n) refl (ready_goes l.requests n)
 
-pub some-running : (b : Bool) (p q : Posts) → Some q ≡ (if b then Some p else None) → b ≡ true
-some-running true p q e = refl
-some-running false p q e = absurd (cc)
+pub some_running : (b : Bool) (p q : Posts) → Some q ≡ (if b then Some p else None) → b ≡ true
+some_running true p q e = refl
+some_running false p q e = absurd (cc)
 
-pub least-is : (s : Window) (r : Requests) → Shows s r
+pub least_is : (s : Window) (r : Requests) → Shows s r
     → first_member (λ m. not (has_ended r m)) s.first (end_of s) ≡ least_of r
 unfolding first_member
-least-is s r h =
-    least_below-same (λ m. leb s.first m && not (has_ended r m)) (is_outstanding r) (end_of s)
+least_is s r h =
+    least_below_same (λ m. leb s.first m && not (has_ended r m)) (is_outstanding r) (end_of s)
     (λ m low.
     elim (cases_lt m s.first) [
       | inl before ↦ and_left _ _ (lt-leb s.first m before) ∙ sym (and_right _ _ (ap not (h.gone m before)))

@@ -9,42 +9,42 @@ use Rattle.uring_entry.specs.Layout.{Sqe}
 use Rattle.uring_entry.specs.Preparation.{is_faulty}
 use Rattle.uring_entry.specs.Success.{is_success}
 use Rattle.uring_entry.specs.Requests.{Requests, no_request, entry_of, is_linked, is_drain, is_last, has_ended, with_accepted, with_cut, with_started, with_ended}
-use Rattle.uring_entry.proofs.BelowLemmas.{some_below-same}
+use Rattle.uring_entry.proofs.BelowLemmas.{some_below_same}
 use Rattle.uring_entry.specs.Below.{some_below}
 use Rattle.std.proofs.Math.Bool.{or-false}
-use Rattle.uring_entry.proofs.RequestLemmas.{get_or-push_other, entry_of-accepted_at, entry_of-accepted_other, has_failed-unended, has_failed-accepted, has_ended-other, has_ended-same, has_failed-other, has_failed-same, is_running-started_same, is_running-started_other, is_running-ended_same, is_running-ended_other, added-other}
-use Rattle.uring_entry.proofs.GroupEvents.{entry-same, is_last-cut, is_last-cut_last}
+use Rattle.uring_entry.proofs.RequestLemmas.{get_or_push_other, entry_of_accepted_at, entry_of_accepted_other, has_failed_unended, has_failed_accepted, has_ended_other, has_ended_same, has_failed_other, has_failed_same, is_running_started_same, is_running_started_other, is_running_ended_same, is_running_ended_other, added_other}
+use Rattle.uring_entry.proofs.GroupEvents.{entry_same, is_last_cut, is_last_cut_last}
 use Rattle.uring_linux.specs.declared.request.Request.{Request}
 use Rattle.uring_linux.specs.LinuxRequests.{is_skipping, has_skipped, is_refused_drain}
 use Rattle.uring_linux.specs.Window.{Window, new_request, at, end_of, Tells, Shows, IsWithin, IsNew}
-use Rattle.uring_linux.proofs.WindowLemmas.{at-low, at-high}
+use Rattle.uring_linux.proofs.WindowLemmas.{at_low, at_high}
 
 -- Lists.
 
-push-here : (xs : List Request) (x : Request) → slice_get (xs ++ x ∷ []) (length xs) ≡ Some x
-push-here xs x =
+push_here : (xs : List Request) (x : Request) → slice_get (xs ++ x ∷ []) (length xs) ≡ Some x
+push_here xs x =
     slice_get-get_or (xs ++ x ∷ []) (length xs) x (omega (arith, length-append xs (x ∷ []))) ∙ ap Some (get_or-append_seam xs x [] x)
 
-push-other : (xs : List Request) (x : Request) (k : ℕ) → k ≢ length xs
+push_other : (xs : List Request) (x : Request) (k : ℕ) → k ≢ length xs
     → slice_get (xs ++ x ∷ []) k ≡ slice_get xs k
-push-other xs x k ne =
+push_other xs x k ne =
     let long = length-append xs (x ∷ []) in
     elim (cases_lt k (length xs)) [
       | inl low ↦
-          slice_get-get_or (xs ++ x ∷ []) k x (omega (arith, long)) ∙ ap Some (get_or-push_other xs x k x ne)
+          slice_get-get_or (xs ++ x ∷ []) k x (omega (arith, long)) ∙ ap Some (get_or_push_other xs x k x ne)
           ∙ sym (slice_get-get_or xs k x low)
       | inr high ↦
           let past : length (xs ++ x ∷ []) ≤ k = grind (arith, long, ne) in
           slice_get_past (xs ++ x ∷ []) k past ∙ sym (slice_get_past xs k high)
     ]
 
-set-here : (xs : List Request) (x : Request) (i : ℕ) → i < length xs → slice_get (set xs i x) i ≡ Some x
-set-here xs x i lt =
+is_set_here : (xs : List Request) (x : Request) (i : ℕ) → i < length xs → slice_get (set xs i x) i ≡ Some x
+is_set_here xs x i lt =
     slice_get-get_or (set xs i x) i x (omega (arith, length-set xs i x)) ∙ ap Some (get_or-set_same xs i x x lt)
 
-set-other : (xs : List Request) (x : Request) (i k : ℕ) → k ≢ i
+set_other : (xs : List Request) (x : Request) (i k : ℕ) → k ≢ i
     → slice_get (set xs i x) k ≡ slice_get xs k
-set-other xs x i k ne =
+set_other xs x i k ne =
     let long = length-set xs i x in
     elim (cases_lt k (length xs)) [
       | inl low ↦
@@ -55,75 +55,75 @@ set-other xs x i k ne =
 
 -- What is kept.
 
-pub at-within : (s : Window) (n : ℕ) (q : Request) → at s n ≡ Some q → IsWithin s n
-at-within s n q e =
+pub at_within : (s : Window) (n : ℕ) (q : Request) → at s n ≡ Some q → IsWithin s n
+at_within s n q e =
     elim (cases_lt n s.first) [
-      | inl low ↦ absurd (let f : None ≡ Some q = sym (at-low s n low) ∙ e in cc)
+      | inl low ↦ absurd (let f : None ≡ Some q = sym (at_low s n low) ∙ e in cc)
       | inr high ↦
-          let lt = slice_get_within s.items (n - s.first) q (sym (at-high s n high) ∙ e) in
+          let lt = slice_get_within s.items (n - s.first) q (sym (at_high s n high) ∙ e) in
           record { low = high; high = omega arith }
     ]
 
-at-push_here : (s : Window) (q : Request) (room : ℕ)
+at_push_here : (s : Window) (q : Request) (room : ℕ)
     → at (record { first = s.first; items = s.items ++ q ∷ []; room = room }) (end_of s) ≡ Some q
-at-push_here s q room =
+at_push_here s q room =
     let place : (s.first + length s.items) - s.first ≡ length s.items = omega arith in
-    at-high _ (end_of s) (omega arith) ∙ ap (slice_get (s.items ++ q ∷ [])) place ∙ push-here s.items q
+    at_high _ (end_of s) (omega arith) ∙ ap (slice_get (s.items ++ q ∷ [])) place ∙ push_here s.items q
 
-at-push_other : (s : Window) (q : Request) (room n : ℕ) → n ≢ end_of s
+at_push_other : (s : Window) (q : Request) (room n : ℕ) → n ≢ end_of s
     → at (record { first = s.first; items = s.items ++ q ∷ []; room = room }) n ≡ at s n
-at-push_other s q room n ne =
+at_push_other s q room n ne =
     elim (cases_lt n s.first) [
-      | inl low ↦ at-low _ n low ∙ sym (at-low s n low)
-      | inr high ↦ at-high _ n high ∙ push-other s.items q (n - s.first) (λ e. ne (omega (arith, e))) ∙ sym (at-high s n high)
+      | inl low ↦ at_low _ n low ∙ sym (at_low s n low)
+      | inr high ↦ at_high _ n high ∙ push_other s.items q (n - s.first) (λ e. ne (omega (arith, e))) ∙ sym (at_high s n high)
     ]
 
-at-set_here : (s : Window) (q : Request) (n : ℕ) → IsWithin s n
+at_set_here : (s : Window) (q : Request) (n : ℕ) → IsWithin s n
     → at (record s { items = set s.items (n - s.first) q }) n ≡ Some q
-at-set_here s q n w =
+at_set_here s q n w =
     let low = w.low in
     let high = w.high in
-    at-high _ n w.low ∙ set-here s.items q (n - s.first) (omega arith)
+    at_high _ n w.low ∙ is_set_here s.items q (n - s.first) (omega arith)
 
-at-set_other : (s : Window) (q : Request) (n k : ℕ) → s.first ≤ n → k ≢ n
+at_set_other : (s : Window) (q : Request) (n k : ℕ) → s.first ≤ n → k ≢ n
     → at (record s { items = set s.items (n - s.first) q }) k ≡ at s k
-at-set_other s q n k le ne =
+at_set_other s q n k le ne =
     elim (cases_lt k s.first) [
-      | inl low ↦ at-low _ k low ∙ sym (at-low s k low)
-      | inr high ↦ at-high _ k high ∙ set-other s.items q (n - s.first) (k - s.first) (λ e. ne (omega (arith, e))) ∙ sym (at-high s k high)
+      | inl low ↦ at_low _ k low ∙ sym (at_low s k low)
+      | inr high ↦ at_high _ k high ∙ set_other s.items q (n - s.first) (k - s.first) (λ e. ne (omega (arith, e))) ∙ sym (at_high s k high)
     ]
 
 -- An entry is accepted.
 
-refused-accepted : (r : Requests) (e : Sqe) (k : ℕ) → k < length r.accepted
+refused_accepted : (r : Requests) (e : Sqe) (k : ℕ) → k < length r.accepted
     → is_refused_drain (with_accepted r e) k ≡ is_refused_drain r k
-refused-accepted r e k lt =
-    ap (λ b. b && has_skipped (with_accepted r e) k) (entry-same r e is_drain k lt)
+refused_accepted r e k lt =
+    ap (λ b. b && has_skipped (with_accepted r e) k) (entry_same r e is_drain k lt)
     ∙ ap (λ b. is_drain (entry_of r k) && b)
-    (some_below-same (λ m. is_skipping (entry_of (with_accepted r e) m)) (λ m. is_skipping (entry_of r m)) (k + 1)
-    (λ m low. entry-same r e is_skipping m (omega arith)))
+    (some_below_same (λ m. is_skipping (entry_of (with_accepted r e) m)) (λ m. is_skipping (entry_of r m)) (k + 1)
+    (λ m low. entry_same r e is_skipping m (omega arith)))
 
-last-accepted : (r : Requests) (e : Sqe) (k : ℕ) → k < length r.accepted
+last_accepted : (r : Requests) (e : Sqe) (k : ℕ) → k < length r.accepted
     → is_last (with_accepted r e) k ≡ is_last r k
-last-accepted r e k lt =
-    ap (λ b. b || list_any (λ cut. cut == k + 1) r.cuts) (entry-same r e (λ x. not (is_linked x)) k lt)
+last_accepted r e k lt =
+    ap (λ b. b || list_any (λ cut. cut == k + 1) r.cuts) (entry_same r e (λ x. not (is_linked x)) k lt)
 
-tells-accepted : (q : Request) (r : Requests) (e : Sqe) (k : ℕ) → Tells q r k → k < length r.accepted
+tells_accepted : (q : Request) (r : Requests) (e : Sqe) (k : ℕ) → Tells q r k → k < length r.accepted
     → IsNew r (length r.accepted) → Tells q (with_accepted r e) k
-tells-accepted q r e k t lt new = record {
-  entry = t.entry ∙ sym (entry_of-accepted_other r e k (λ is. absurd (omega (arith, is))));
-  faulty = t.faulty ∙ sym (entry-same r e is_faulty k lt);
-  refused = t.refused ∙ sym (refused-accepted r e k lt);
-  last = t.last ∙ sym (last-accepted r e k lt);
+tells_accepted q r e k t lt new = record {
+  entry = t.entry ∙ sym (entry_of_accepted_other r e k (λ is. absurd (omega (arith, is))));
+  faulty = t.faulty ∙ sym (entry_same r e is_faulty k lt);
+  refused = t.refused ∙ sym (refused_accepted r e k lt);
+  last = t.last ∙ sym (last_accepted r e k lt);
   running = t.running;
   ended = t.ended;
-  failed = t.failed ∙ sym (has_failed-accepted r e k new.ended);
+  failed = t.failed ∙ sym (has_failed_accepted r e k new.ended);
 }
 
-pub accepted-shows : (s : Window) (q : Request) (room : ℕ) (r : Requests) (e : Sqe) → Shows s r
+pub accepted_shows : (s : Window) (q : Request) (room : ℕ) (r : Requests) (e : Sqe) → Shows s r
     → Tells q (with_accepted r e) (length r.accepted)
     → Shows (record { first = s.first; items = s.items ++ q ∷ []; room = room }) (with_accepted r e)
-accepted-shows s q room r e h t =
+accepted_shows s q room r e h t =
     let long = length-append s.items (q ∷ []) in
     let more = length-append r.accepted (e ∷ []) in
     let count = h.count in
@@ -132,16 +132,16 @@ accepted-shows s q room r e h t =
       told = λ n x is.
           elim (cases_eq n (end_of s)) [
             | inl same ↦
-                let here : x ≡ q = let f : Some x ≡ Some q = sym is ∙ ap (at _) same ∙ at-push_here s q room in cc in
+                let here : x ≡ q = let f : Some x ≡ Some q = sym is ∙ ap (at _) same ∙ at_push_here s q room in cc in
                 subst (λ y. Tells y (with_accepted r e) n) (sym here)
                 (subst (λ k. Tells q (with_accepted r e) k) (sym (same ∙ count)) t)
             | inr other ↦
-                let was : at s n ≡ Some x = sym (at-push_other s q room n other) ∙ is in
-                let w = at-within s n x was in
-                tells-accepted x r e n (h.told n x was) (omega (arith, w.high, count)) (h.later (length r.accepted) (omega arith))
+                let was : at s n ≡ Some x = sym (at_push_other s q room n other) ∙ is in
+                let w = at_within s n x was in
+                tells_accepted x r e n (h.told n x was) (omega (arith, w.high, count)) (h.later (length r.accepted) (omega arith))
           ];
       gone = h.gone;
-      begins = λ k is. last-accepted r e k (omega (arith, is, count)) ∙ h.begins k is;
+      begins = λ k is. last_accepted r e k (omega (arith, is, count)) ∙ h.begins k is;
       later = λ n le. let new = h.later n (omega (arith, le, more)) in record { started = new.started; ended = new.ended; cut = new.cut };
     }
 
@@ -154,9 +154,9 @@ record Follows (r t : Requests) (n : ℕ) : Type 0 where
   pub begins : (k : ℕ) → is_last r k ≡ true → is_last t k ≡ true
   pub later : (k : ℕ) → length r.accepted ≤ k → IsNew r k → IsNew t k
 
-written-shows : (s : Window) (q : Request) (r t : Requests) (n : ℕ) → Shows s r → IsWithin s n
+written_shows : (s : Window) (q : Request) (r t : Requests) (n : ℕ) → Shows s r → IsWithin s n
     → Follows r t n → Tells q t n → Shows (record s { items = set s.items (n - s.first) q }) t
-written-shows s q r t n h w f here =
+written_shows s q r t n h w f here =
     let long = length-set s.items (n - s.first) q in
     let count = h.count in
     record {
@@ -164,9 +164,9 @@ written-shows s q r t n h w f here =
       told = λ k x is.
           elim (cases_eq k n) [
             | inl same ↦
-                let one : x ≡ q = let g : Some x ≡ Some q = sym is ∙ ap (at _) same ∙ at-set_here s q n w in cc in
+                let one : x ≡ q = let g : Some x ≡ Some q = sym is ∙ ap (at _) same ∙ at_set_here s q n w in cc in
                 subst (λ y. Tells y t k) (sym one) (subst (λ j. Tells q t j) (sym same) here)
-            | inr other ↦ f.others x k other (h.told k x (sym (at-set_other s q n k w.low other) ∙ is))
+            | inr other ↦ f.others x k other (h.told k x (sym (at_set_other s q n k w.low other) ∙ is))
           ];
       gone = λ k lt. f.gone k (h.gone k lt);
       begins = λ k is. f.begins k (h.begins k is);
@@ -175,32 +175,32 @@ written-shows s q r t n h w f here =
 
 -- A request starts.
 
-tells-started : (q : Request) (r : Requests) (n k : ℕ) → k ≢ n → Tells q r k → Tells q (with_started r n) k
-tells-started q r n k ne t = record {
+tells_started : (q : Request) (r : Requests) (n k : ℕ) → k ≢ n → Tells q r k → Tells q (with_started r n) k
+tells_started q r n k ne t = record {
   entry = t.entry;
   faulty = t.faulty;
   refused = t.refused;
   last = t.last;
-  running = t.running ∙ sym (is_running-started_other r n k ne);
+  running = t.running ∙ sym (is_running_started_other r n k ne);
   ended = t.ended;
   failed = t.failed;
 }
 
-pub started-shows : (s : Window) (q : Request) (r : Requests) (n : ℕ) → Shows s r → at s n ≡ Some q
+pub started_shows : (s : Window) (q : Request) (r : Requests) (n : ℕ) → Shows s r → at s n ≡ Some q
     → has_ended r n ≡ false
     → Shows (record s { items = set s.items (n - s.first) (record q { is_running = true }) }) (with_started r n)
-started-shows s q r n h here going =
-    let w = at-within s n q here in
+started_shows s q r n h here going =
+    let w = at_within s n q here in
     let t = h.told n q here in
-    written-shows s (record q { is_running = true }) r (with_started r n) n h w
+    written_shows s (record q { is_running = true }) r (with_started r n) n h w
     (record {
       count = refl;
-      others = λ x k ne was. tells-started x r n k ne was;
+      others = λ x k ne was. tells_started x r n k ne was;
       gone = λ k e. e;
       begins = λ k e. e;
       later = λ k le new.
           record {
-            started = added-other (λ m. m == k) r.started n (ne_eqb n k (λ e. absurd (omega (arith, e, le, w.high, h.count)))) ∙ new.started;
+            started = added_other (λ m. m == k) r.started n (ne_eqb n k (λ e. absurd (omega (arith, e, le, w.high, h.count)))) ∙ new.started;
             ended = new.ended;
             cut = new.cut;
           };
@@ -210,45 +210,45 @@ started-shows s q r n h here going =
       faulty = t.faulty;
       refused = t.refused;
       last = t.last;
-      running = sym (is_running-started_same r n going);
+      running = sym (is_running_started_same r n going);
       ended = t.ended;
       failed = t.failed;
     })
 
 -- A request ends.
 
-tells-ended : (q : Request) (r : Requests) (n : ℕ) (res : ℤ) (bytes : List ℕ) (k : ℕ) → k ≢ n → Tells q r k
+tells_ended : (q : Request) (r : Requests) (n : ℕ) (res : ℤ) (bytes : List ℕ) (k : ℕ) → k ≢ n → Tells q r k
     → Tells q (with_ended r n res bytes) k
-tells-ended q r n res bytes k ne t = record {
+tells_ended q r n res bytes k ne t = record {
   entry = t.entry;
   faulty = t.faulty;
   refused = t.refused;
   last = t.last;
-  running = t.running ∙ sym (is_running-ended_other r n res bytes k ne);
-  ended = t.ended ∙ sym (has_ended-other r n res bytes k ne);
-  failed = t.failed ∙ sym (has_failed-other r n res bytes k ne);
+  running = t.running ∙ sym (is_running_ended_other r n res bytes k ne);
+  ended = t.ended ∙ sym (has_ended_other r n res bytes k ne);
+  failed = t.failed ∙ sym (has_failed_other r n res bytes k ne);
 }
 
-pub ended-shows : (s : Window) (q : Request) (r : Requests) (n : ℕ) (res : ℤ) (bytes : List ℕ) (failed : Bool) → Shows s r
+pub ended_shows : (s : Window) (q : Request) (r : Requests) (n : ℕ) (res : ℤ) (bytes : List ℕ) (failed : Bool) → Shows s r
     → at s n ≡ Some q → has_ended r n ≡ false → failed ≡ not (is_success q.entry res)
     → Shows (record s { items = set s.items (n - s.first) (record q { is_running = false; has_ended = true; has_failed = failed }) }) (with_ended r n res bytes)
-ended-shows s q r n res bytes failed h here going is =
-    let w = at-within s n q here in
+ended_shows s q r n res bytes failed h here going is =
+    let w = at_within s n q here in
     let t = h.told n q here in
-    written-shows s (record q { is_running = false; has_ended = true; has_failed = failed }) r (with_ended r n res bytes) n h w
+    written_shows s (record q { is_running = false; has_ended = true; has_failed = failed }) r (with_ended r n res bytes) n h w
     (record {
       count = refl;
-      others = λ x k ne was. tells-ended x r n res bytes k ne was;
+      others = λ x k ne was. tells_ended x r n res bytes k ne was;
       gone = λ k e.
           elim (cases_eq k n) [
-            | inl same ↦ ap (has_ended (with_ended r n res bytes)) same ∙ has_ended-same r n res bytes
-            | inr other ↦ has_ended-other r n res bytes k other ∙ e
+            | inl same ↦ ap (has_ended (with_ended r n res bytes)) same ∙ has_ended_same r n res bytes
+            | inr other ↦ has_ended_other r n res bytes k other ∙ e
           ];
       begins = λ k e. e;
       later = λ k le new.
           record {
             started = new.started;
-            ended = has_ended-other r n res bytes k (λ e. absurd (omega (arith, e, le, w.high, h.count))) ∙ new.ended;
+            ended = has_ended_other r n res bytes k (λ e. absurd (omega (arith, e, le, w.high, h.count))) ∙ new.ended;
             cut = new.cut;
           };
     })
@@ -257,71 +257,71 @@ ended-shows s q r n res bytes failed h here going is =
       faulty = t.faulty;
       refused = t.refused;
       last = t.last;
-      running = sym (is_running-ended_same r n res bytes);
-      ended = sym (has_ended-same r n res bytes);
-      failed = is ∙ ap (λ e. not (is_success e res)) t.entry ∙ sym (has_failed-same r n res bytes going);
+      running = sym (is_running_ended_same r n res bytes);
+      ended = sym (has_ended_same r n res bytes);
+      failed = is ∙ ap (λ e. not (is_success e res)) t.entry ∙ sym (has_failed_same r n res bytes going);
     })
 
 -- A call closes.
 
-last-kept : (r : Requests) (k : ℕ) → is_last r k ≡ true → is_last (with_cut r) k ≡ true
-last-kept r k was =
+last_kept : (r : Requests) (k : ℕ) → is_last r k ≡ true → is_last (with_cut r) k ≡ true
+last_kept r k was =
     elim (cases_eq (suc k) (length r.accepted)) [
-      | inl last ↦ is_last-cut_last r k last
-      | inr other ↦ is_last-cut r k other ∙ was
+      | inl last ↦ is_last_cut_last r k last
+      | inr other ↦ is_last_cut r k other ∙ was
     ]
 
-new-cut : (r : Requests) (k : ℕ) → length r.accepted ≤ k → IsNew r k → IsNew (with_cut r) k
-new-cut r k le new = record {
+new_cut : (r : Requests) (k : ℕ) → length r.accepted ≤ k → IsNew r k → IsNew (with_cut r) k
+new_cut r k le new = record {
   started = new.started;
   ended = new.ended;
-  cut = added-other (λ cut. cut == k + 1) r.cuts (length r.accepted) (ne_eqb _ _ (λ e. absurd (omega (arith, e, le)))) ∙ new.cut;
+  cut = added_other (λ cut. cut == k + 1) r.cuts (length r.accepted) (ne_eqb _ _ (λ e. absurd (omega (arith, e, le)))) ∙ new.cut;
 }
 
-tells-cut : (q : Request) (r : Requests) (k : ℕ) → suc k ≢ length r.accepted → Tells q r k
+tells_cut : (q : Request) (r : Requests) (k : ℕ) → suc k ≢ length r.accepted → Tells q r k
     → Tells q (with_cut r) k
-tells-cut q r k ne t = record {
+tells_cut q r k ne t = record {
   entry = t.entry;
   faulty = t.faulty;
   refused = t.refused;
-  last = t.last ∙ sym (is_last-cut r k ne);
+  last = t.last ∙ sym (is_last_cut r k ne);
   running = t.running;
   ended = t.ended;
   failed = t.failed;
 }
 
-pub cut-shows : (s : Window) (q : Request) (r : Requests) (n : ℕ) → Shows s r → at s n ≡ Some q
+pub cut_shows : (s : Window) (q : Request) (r : Requests) (n : ℕ) → Shows s r → at s n ≡ Some q
     → n + 1 ≡ end_of s
     → Shows (record s { items = set s.items (n - s.first) (record q { is_last = true }) }) (with_cut r)
-cut-shows s q r n h here is =
-    let w = at-within s n q here in
+cut_shows s q r n h here is =
+    let w = at_within s n q here in
     let t = h.told n q here in
-    written-shows s (record q { is_last = true }) r (with_cut r) n h w
+    written_shows s (record q { is_last = true }) r (with_cut r) n h w
     (record {
       count = refl;
-      others = λ x k ne was. tells-cut x r k (λ e. ne (omega (arith, e, is, h.count))) was;
+      others = λ x k ne was. tells_cut x r k (λ e. ne (omega (arith, e, is, h.count))) was;
       gone = λ k e. e;
-      begins = last-kept r;
-      later = new-cut r;
+      begins = last_kept r;
+      later = new_cut r;
     })
     (record {
       entry = t.entry;
       faulty = t.faulty;
       refused = t.refused;
-      last = sym (is_last-cut_last r n (omega (arith, is, h.count)));
+      last = sym (is_last_cut_last r n (omega (arith, is, h.count)));
       running = t.running;
       ended = t.ended;
       failed = t.failed;
     })
 
-pub cut-shows_none : (s : Window) (r : Requests) → Shows s r → end_of s ≤ s.first
+pub cut_shows_none : (s : Window) (r : Requests) → Shows s r → end_of s ≤ s.first
     → Shows s (with_cut r)
-cut-shows_none s r h none = record {
+cut_shows_none s r h none = record {
   count = h.count;
-  told = λ n q is. let w = at-within s n q is in absurd (omega (arith, w.low, w.high, none));
+  told = λ n q is. let w = at_within s n q is in absurd (omega (arith, w.low, w.high, none));
   gone = h.gone;
-  begins = λ k is. last-kept r k (h.begins k is);
-  later = λ k le. new-cut r k le (h.later k le);
+  begins = λ k is. last_kept r k (h.begins k is);
+  later = λ k le. new_cut r k le (h.later k le);
 }
 
 -- What is kept, whatever room there is.
@@ -332,32 +332,32 @@ pub roomed : (first : ℕ) (items : List Request) (room other : ℕ) (r : Reques
 unfolding at
 roomed first items room other r h = record { count = h.count; told = h.told; gone = h.gone; begins = h.begins; later = h.later }
 
-pub pushed-shows : (s t : Window) (q : Request) (r : Requests) (e : Sqe) → t.first ≡ s.first
+pub pushed_shows : (s t : Window) (q : Request) (r : Requests) (e : Sqe) → t.first ≡ s.first
     → t.items ≡ s.items ++ q ∷ [] → Shows (record s { room = 0 }) r
     → Tells q (with_accepted r e) (length r.accepted) → Shows t (with_accepted r e)
-pushed-shows s t q r e first items h tells =
+pushed_shows s t q r e first items h tells =
     subst (λ f. Shows (record { first = f; items = t.items; room = t.room }) (with_accepted r e)) (sym first)
     (subst (λ xs. Shows (record { first = s.first; items = xs; room = t.room }) (with_accepted r e)) (sym items)
-    (accepted-shows (record s { room = 0 }) q t.room r e h tells))
+    (accepted_shows (record s { room = 0 }) q t.room r e h tells))
 
 -- whether skipped success was asked for, behind one more entry
-pub skipped-accepted : (r : Requests) (e : Sqe) (b : Bool)
+pub skipped_accepted : (r : Requests) (e : Sqe) (b : Bool)
     → b ≡ some_below (λ m. is_skipping (entry_of r m)) (length r.accepted)
     → (b || is_skipping e) ≡ some_below (λ m. is_skipping (entry_of (with_accepted r e) m)) (length r.accepted + 1)
-skipped-accepted r e b is =
+skipped_accepted r e b is =
     let more : suc (length r.accepted) ≡ length r.accepted + 1 = omega arith in
     ap (λ c. c || is_skipping e) is
     ∙ ap (λ c. c || is_skipping e)
-    (some_below-same (λ m. is_skipping (entry_of r m)) (λ m. is_skipping (entry_of (with_accepted r e) m)) (length r.accepted)
-    (λ m low. sym (entry-same r e is_skipping m low)))
-    ∙ ap (λ x. some_below (λ m. is_skipping (entry_of (with_accepted r e) m)) (length r.accepted) || is_skipping x) (sym (entry_of-accepted_at r e))
+    (some_below_same (λ m. is_skipping (entry_of r m)) (λ m. is_skipping (entry_of (with_accepted r e) m)) (length r.accepted)
+    (λ m low. sym (entry_same r e is_skipping m low)))
+    ∙ ap (λ x. some_below (λ m. is_skipping (entry_of (with_accepted r e) m)) (length r.accepted) || is_skipping x) (sym (entry_of_accepted_at r e))
     ∙ ap (some_below (λ m. is_skipping (entry_of (with_accepted r e) m))) more
 
-pub tells-new : (r : Requests) (e : Sqe) (b : Bool) → IsNew r (length r.accepted)
+pub tells_new : (r : Requests) (e : Sqe) (b : Bool) → IsNew r (length r.accepted)
     → b ≡ has_skipped (with_accepted r e) (length r.accepted)
     → Tells (new_request e b) (with_accepted r e) (length r.accepted)
-tells-new r e b new is =
-    let here = sym (entry_of-accepted_at r e) in
+tells_new r e b new is =
+    let here = sym (entry_of_accepted_at r e) in
     record {
       entry = here;
       faulty = ap is_faulty here;
@@ -367,13 +367,13 @@ tells-new r e b new is =
           ∙ sym (ap (λ c. not (is_linked (entry_of (with_accepted r e) (length r.accepted))) || c) new.cut ∙ or-false _);
       running = sym (and_left _ _ new.started);
       ended = sym new.ended;
-      failed = sym (has_failed-unended (with_accepted r e) (length r.accepted) new.ended);
+      failed = sym (has_failed_unended (with_accepted r e) (length r.accepted) new.ended);
     }
 
-pub none-shows : Shows (record { first = 0; items = []; room = 0 }) no_request
-none-shows = record {
+pub none_shows : Shows (record { first = 0; items = []; room = 0 }) no_request
+none_shows = record {
   count = refl;
-  told = λ n q is. let w = at-within (record { first = 0; items = []; room = 0 }) n q is in absurd (omega (arith, w.low, w.high));
+  told = λ n q is. let w = at_within (record { first = 0; items = []; room = 0 }) n q is in absurd (omega (arith, w.low, w.high));
   gone = λ n lt. absurd (omega arith);
   begins = λ k is. absurd (omega arith);
   later = λ n le. record { started = refl; ended = refl; cut = refl };

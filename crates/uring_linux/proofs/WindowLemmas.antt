@@ -11,13 +11,13 @@ use Rattle.uring_linux.specs.declared.request.Test.{Test}
 use Rattle.uring_linux.specs.declared.request.Test.TheVariants.{Unended, Faulty, Broken, Runs}
 use Rattle.uring_linux.specs.Window.{Window, at, passes, said, Tells, IsWithin}
 
-pub at-low : (s : Window) (n : ℕ) → n < s.first → at s n ≡ None
+pub at_low : (s : Window) (n : ℕ) → n < s.first → at s n ≡ None
 unfolding at
-at-low s n lt = ap (λ b. if b then None else slice_get s.items (n - s.first)) (lt-ltb n s.first lt)
+at_low s n lt = ap (λ b. if b then None else slice_get s.items (n - s.first)) (lt-ltb n s.first lt)
 
-pub at-high : (s : Window) (n : ℕ) → s.first ≤ n → at s n ≡ slice_get s.items (n - s.first)
+pub at_high : (s : Window) (n : ℕ) → s.first ≤ n → at s n ≡ slice_get s.items (n - s.first)
 unfolding at
-at-high s n le = ap (λ b. if b then None else slice_get s.items (n - s.first)) (le-ltb n s.first le)
+at_high s n le = ap (λ b. if b then None else slice_get s.items (n - s.first)) (le-ltb n s.first le)
 
 there : (xs : List Request) (i : ℕ) → i < length xs → (q : Request) × (slice_get xs i ≡ Some q)
 there xs i lt =
@@ -32,7 +32,7 @@ kept s n w =
     let low = w.low in
     let high = w.high in
     let found = there s.items (n - s.first) (omega arith) in
-    (found.0, at-high s n low ∙ found.1)
+    (found.0, at_high s n low ∙ found.1)
 
 pub not_none : (s : Window) (n : ℕ) → IsWithin s n → None ≡ at s n → ⊥
 not_none s n w e = let q = kept s n w in let f : None ≡ Some q.0 = e ∙ q.1 in absurd (cc)

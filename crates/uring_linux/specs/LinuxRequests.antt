@@ -1,6 +1,6 @@
 -- The requests of a ring as Linux 6.18 keeps them, where it differs from the manual pages. Requests, groups and links are those of uring_entry's Requests; each rule here was seen of the kernel, and docs/PROTOCOL.md tells what was seen, under the words "The kernel" and "Linux 6.18".
 use Rattle.std.specs.Prelude.{ℕ, ◌+◌, ℤ, pos, neg_ℤ, Bool, not, ◌&&◌, ◌||◌, ◌==◌, nat_lt, nat_le, List, length, Option, Some, None, is_some, if◌then◌else◌}
-use Rattle.uring_entry.specs.declared.errno.TheConstants.{ENOENT, EINVAL, EALREADY, ECANCELED}
+use Rattle.uring_entry.specs.declared.errno.TheConstants.{ENOENT, EINVAL, EOPNOTSUPP, EALREADY, ECANCELED}
 use Rattle.uring_entry.specs.Flags.{skip_success}
 use Rattle.uring_entry.specs.Layout.{Sqe, has, addr_of, user_data_of}
 use Rattle.uring_entry.specs.Preparation.{is_faulty, is_cancel_all}
@@ -9,7 +9,6 @@ use Rattle.uring_entry.specs.Requests as manual
 use Rattle.uring_entry.specs.Requests.{Requests, entry_of, is_linked, is_drain, is_joined, is_in_group, is_behind_failure, is_outstanding, is_running, has_ended}
 use Rattle.uring_entry.specs.Why.{failed_member_of}
 use Rattle.uring_entry.specs.Below.{some_below, least_below}
-use Rattle.uring_linux.specs.declared.errno.TheConstants.{EOPNOTSUPP}
 use Rattle.uring_linux.specs.declared.deferred.Deferred.{Deferred}
 use Rattle.uring_linux.specs.Drains.{Drains, no_drains, is_in_some, with_entry, still_deferred, deferred_with, with_deferred, with_ring}
 

@@ -12,12 +12,11 @@ ghost use Rattle.uring_linux.specs.Window.{Tells, Shows};
 
 use crate::answers::Issued;
 use crate::dispatch::LinuxDispatch;
-use crate::errno::EOPNOTSUPP;
 use crate::members::Span;
 use crate::request::{Request, Test};
 use crate::window::Window;
 use uring_dispatch::Posts;
-use uring_entry::errno::{EALREADY, ECANCELED, EINVAL, ENOENT};
+use uring_entry::errno::{EALREADY, ECANCELED, EINVAL, ENOENT, EOPNOTSUPP};
 use uring_entry::{Sqe, opcode, prepare};
 
 impl LinuxDispatch {

@@ -6,7 +6,6 @@ mod answers;
 mod deferred;
 mod dispatch;
 mod drains;
-pub mod errno;
 pub mod laws;
 mod members;
 mod request;

@@ -4,8 +4,8 @@ use Rattle.std.proofs.lemmas.Bool.{and_parts, and_from, or_cases, both_ways, not
 use Rattle.std.proofs.lemmas.List.Folds.{list_all-append}
 use Rattle.uring_entry.specs.Setup.{Setup}
 use Rattle.uring_entry.specs.Requests.{Requests, has_ended, is_outstanding, is_running, is_issuable, no_bytes, next_of, least_of, outstanding_in}
-use Rattle.uring_entry.proofs.BelowLemmas.{least_below-tells, least_below-out}
-use Rattle.uring_entry.proofs.RequestLemmas.{least_of-goes_on, is_running-started_same}
+use Rattle.uring_entry.proofs.BelowLemmas.{least_below_tells, least_below_out}
+use Rattle.uring_entry.proofs.RequestLemmas.{least_of_goes_on, is_running_started_same}
 use Rattle.uring_core.specs.World.{World, issuing, finishing}
 use Rattle.uring_core.specs.StepAnswers.{IsEnded, FinishesApart, next_answer_of, IsIssued}
 use Rattle.uring_core.specs.Histories.{Event, History, world, history_of}
@@ -17,9 +17,9 @@ use Rattle.uring_core.specs.Events.{started_by}
 use Rattle.uring_core.specs.declared.step.Step.TheVariants as step
 use Rattle.uring_core.specs.declared.answer.Answer.{Answer}
 use Rattle.uring_core.specs.declared.answer.Answer.TheVariants as answer
-use Rattle.uring_core.proofs.Following.{history_of-cons, history_of-append}
+use Rattle.uring_core.proofs.Following.{history_of_cons, history_of_append}
 use Rattle.uring_core.proofs.Numbers.{few_outstanding}
-use Rattle.uring_core.proofs.Outstanding.{ended_less, none_outstanding, count_below-zero}
+use Rattle.uring_core.proofs.Outstanding.{ended_less, none_outstanding, count_below_zero}
 use Rattle.uring_core.proofs.Issuable.{issue_goes, issued_ends, issuable_outstanding, next_is, next_tells}
 
 -- Ends, each of which leaves one outstanding request less.
@@ -54,9 +54,9 @@ least_runs r n a is other least = by_next (next_of r) refl is where
   by_next : (next : Option ℕ) → next_of r ≡ next → a ≡ next_answer_of next → is_running r n ≡ true
   by_next (Some m) next f = absurd (other m f)
   by_next None next f =
-      elim (or_cases _ _ (least_of-goes_on r n least)) [
+      elim (or_cases _ _ (least_of_goes_on r n least)) [
         | inl running ↦ running
-        | inr issuable ↦ absurd (both_ways _ (least_below-out (is_issuable r) (length r.accepted) next n (least_below-tells (is_outstanding r) (length r.accepted) n least).below) issuable)
+        | inr issuable ↦ absurd (both_ways _ (least_below_out (is_issuable r) (length r.accepted) next n (least_below_tells (is_outstanding r) (length r.accepted) n least).below) issuable)
       ]
 
 -- a machine that answered Next fits what it fitted
@@ -78,26 +78,26 @@ finished_least r n a told other is =
 
 -- events that settle further, behind others that did
 
-started-append : (started : Option ℕ) (earlier later : List Event)
+started_append : (started : Option ℕ) (earlier later : List Event)
     → started_last started (earlier ++ later) ≡ started_last (started_last started earlier) later
-started-append started [] later = refl
-started-append started (event ∷ earlier) later = started-append (started_by event) earlier later
+started_append started [] later = refl
+started_append started (event ∷ earlier) later = started_append (started_by event) earlier later
 
-settling-append : (g : Setup) (before : History) (started : Option ℕ) (earlier later : List Event)
+settling_append : (g : Setup) (before : History) (started : Option ℕ) (earlier later : List Event)
     → AreSettling g before started earlier
     → AreSettling g (history_of earlier ++ before) (started_last started earlier) later
     → AreSettling g before started (earlier ++ later)
-settling-append g before started [] later e l = l
-settling-append g before started ((s, a) ∷ earlier) later e l =
-    (e.0, settling-append g ((s, a) ∷ before) (started_by (s, a)) earlier later e.1 (subst (λ h. AreSettling g h (started_last (started_by (s, a)) earlier) later) (history_of-cons (s, a) earlier before) l))
+settling_append g before started [] later e l = l
+settling_append g before started ((s, a) ∷ earlier) later e l =
+    (e.0, settling_append g ((s, a) ∷ before) (started_by (s, a)) earlier later e.1 (subst (λ h. AreSettling g h (started_last (started_by (s, a)) earlier) later) (history_of_cons (s, a) earlier before) l))
 
 -- events that refuse no memory, behind others that refused none
-pub unrefused-append : (g : Setup) (before : History) (earlier later : List Event)
+pub unrefused_append : (g : Setup) (before : History) (earlier later : List Event)
     → AreUnrefused g before earlier → AreUnrefused g (history_of earlier ++ before) later
     → AreUnrefused g before (earlier ++ later)
-unrefused-append g before [] later e l = l
-unrefused-append g before ((s, a) ∷ earlier) later e l =
-    (e.0, unrefused-append g ((s, a) ∷ before) earlier later e.1 (subst (λ h. AreUnrefused g h later) (history_of-cons (s, a) earlier before) l))
+unrefused_append g before [] later e l = l
+unrefused_append g before ((s, a) ∷ earlier) later e l =
+    (e.0, unrefused_append g ((s, a) ∷ before) earlier later e.1 (subst (λ h. AreUnrefused g h later) (history_of_cons (s, a) earlier before) l))
 
 -- an end isn't Again
 not_again : (a : Answer) → IsEnded a → a ≡ answer.Again → ⊥
@@ -150,7 +150,7 @@ settled_run granted old asked new n a b c h same kept next ran fits asked_fits n
       few = omega arith;
       fewer =
           one_fewer old new h ((step.Finish n, c) ∷ (step.Issue n, answer.Run) ∷ h) (kept ∙ same) fits now
-          (finish_less g (world g ((step.Issue n, answer.Run) ∷ h)) n c outstanding (subst (λ running. FinishesApart running c) (is_running-started_same r n unended) now.core.lawful.0));
+          (finish_less g (world g ((step.Issue n, answer.Run) ∷ h)) n c outstanding (subst (λ running. FinishesApart running c) (is_running_started_same r n unended) now.core.lawful.0));
     }
 
 -- the next request ended as it was issued
@@ -208,7 +208,7 @@ settled_finish granted old asked new n a b h same kept other fits least asked_fi
       few = omega arith;
       fewer =
           one_fewer old new h ((step.Finish n, b) ∷ h) (kept ∙ same) fits new_fits
-          (finish_less g (world g h) n b (least_below-tells (is_outstanding r) (length r.accepted) n is).holds (subst (λ running. FinishesApart running b) running new_fits.core.lawful.0));
+          (finish_less g (world g h) n b (least_below_tells (is_outstanding r) (length r.accepted) n is).holds (subst (λ running. FinishesApart running b) running new_fits.core.lawful.0));
     }
 
 -- something is outstanding, so there is a least
@@ -216,7 +216,7 @@ pub some_least : (m : Machine) (h : History) → Fits m h → 1 ≤ m.core.dispa
     → None ≡ least_of (world m.core.setup h).requests → ⊥
 some_least m h fits some none =
     let r : Requests = (world m.core.setup h).requests in
-    let zero_of : outstanding_in r ≡ 0 = count_below-zero (is_outstanding r) (length r.accepted) (least_below-out (is_outstanding r) (length r.accepted) (sym none)) in
+    let zero_of : outstanding_in r ≡ 0 = count_below_zero (is_outstanding r) (length r.accepted) (least_below_out (is_outstanding r) (length r.accepted) (sym none)) in
     omega (arith, some, zero_of, outstanding_of m h fits)
 
 -- what was settled so far, and what is settled then
@@ -233,12 +233,12 @@ settled_more granted first old new h count more ended same before next =
       settles = record {
         events = b.events ++ l.events;
         issues_and_finishes = list_all-append is_issue_or_finish b.events l.events ∙ and_from _ _ b.issues_and_finishes l.issues_and_finishes;
-        settling = settling-append new.core.setup h None b.events l.events (subst (λ g. AreSettling g h None b.events) (sym same) b.settling) behind;
-        fits = subst (λ k. Fits new k) (sym (history_of-append b.events l.events h)) l.fits;
+        settling = settling_append new.core.setup h None b.events l.events (subst (λ g. AreSettling g h None b.events) (sym same) b.settling) behind;
+        fits = subst (λ k. Fits new k) (sym (history_of_append b.events l.events h)) l.fits;
         many = omega (arith, length-append b.events l.events, l.many, b.many);
-        unrefused = λ sure. unrefused-append new.core.setup h b.events l.events (subst (λ g. AreUnrefused g h b.events) (sym same) (b.unrefused sure)) (l.unrefused sure);
+        unrefused = λ sure. unrefused_append new.core.setup h b.events l.events (subst (λ g. AreUnrefused g h b.events) (sym same) (b.unrefused sure)) (l.unrefused sure);
       };
-      none_started = started-append None b.events l.events ∙ ap (λ started. started_last started l.events) before.none_started ∙ last.none_started;
+      none_started = started_append None b.events l.events ∙ ap (λ started. started_last started l.events) before.none_started ∙ last.none_started;
       few = omega (arith, last.few, before.few);
       fewer = omega (arith, last.fewer, before.fewer);
     }

@@ -11,7 +11,7 @@ use Rattle.uring_entry.specs.Below.{least_below, all_below, found_or}
 use Rattle.uring_entry.specs.Success.{is_success}
 use Rattle.uring_entry.specs.declared.errno.TheConstants.{EINVAL, ECANCELED}
 use Rattle.uring_entry.specs.Requests.{Requests, entry_of, has_ended, is_outstanding, is_running, is_doomed, is_ready, is_issuable, holds_back, is_candidate, target_of, is_target, targets_of, result_for, count_result, cancel_result, chosen_by, doomed_result, no_bytes, with_call, with_ended}
-use Rattle.uring_entry.proofs.BelowLemmas.{some_below-same, least_below-same}
+use Rattle.uring_entry.proofs.BelowLemmas.{some_below_same, least_below_same}
 use Rattle.uring_files.specs.Operations.{after, result_of}
 use Rattle.uring_core.proofs.Groups.{longer, entry_kept, doom_kept}
 use Rattle.uring_moves.specs.Moments.{Moment, started, ended_at_once, issued, finished, is_finishable, moved, posted_with}
@@ -64,7 +64,7 @@ module _ (named : ℕ → Bool) (r : Requests) (call : List Sqe) (cut : (length 
   pub ready_kept : (n : ℕ) → n < length r.accepted → is_ready (with_call r call) n ≡ is_ready r n
   unfolding is_ready
   ready_kept n low =
-      ap not (some_below-same (holds_back (with_call r call) n) (holds_back r n) n (λ k less. ap (λ b. not (has_ended r k) && b) (waits_called r call n k cut low less)))
+      ap not (some_below_same (holds_back (with_call r call) n) (holds_back r n) n (λ k less. ap (λ b. not (has_ended r k) && b) (waits_called r call n k cut low less)))
 
   pub outstanding_kept : (n : ℕ) → n < length r.accepted
       → is_outstanding (with_call r call) n ≡ is_outstanding r n
@@ -95,7 +95,7 @@ module _ (named : ℕ → Bool) (r : Requests) (call : List Sqe) (cut : (length 
   unfolding target_of
   target_kept n names low =
       least_between (is_candidate (with_call r call) n) (length r.accepted) (length (with_call r call).accepted) (longer r call cut) (λ k high within. none_there n k names low high within)
-      ∙ least_below-same (is_candidate (with_call r call) n) (is_candidate r n) (length r.accepted) (λ k less. candidate_kept n k low less)
+      ∙ least_below_same (is_candidate (with_call r call) n) (is_candidate r n) (length r.accepted) (λ k less. candidate_kept n k low less)
 
   targets_kept : (n : ℕ) → named (addr_of (entry_of r n)) ≡ true → n < length r.accepted
       → targets_of (with_call r call) n ≡ targets_of r n

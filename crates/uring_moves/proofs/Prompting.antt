@@ -16,8 +16,8 @@ use Rattle.uring_entry.specs.Below.{all_below}
 use Rattle.uring_entry.specs.declared.errno.TheConstants.{EALREADY}
 use Rattle.uring_entry.specs.Success.{is_success}
 use Rattle.uring_entry.specs.Requests.{Requests, entry_of, has_started, has_ended, is_outstanding, is_running, is_doomed, is_behind_failure, some_member, is_joined, is_draining, is_drain, is_ready, is_issuable, waits_for, holds_back, is_candidate, target_of, is_target, targets_of, result_for, count_result, cancel_result, chosen_by, choices_of, doomed_result, no_bytes, with_call, with_started, with_ended}
-use Rattle.uring_entry.proofs.BelowLemmas.{some_below-none, least_below-same, least_below-tells}
-use Rattle.uring_entry.proofs.RequestLemmas.{is_ready-inside, list_any-push}
+use Rattle.uring_entry.proofs.BelowLemmas.{some_below_none, least_below_same, least_below_tells}
+use Rattle.uring_entry.proofs.RequestLemmas.{is_ready_inside, list_any_push}
 use Rattle.uring_files.specs.Operations.{result_of}
 use Rattle.uring_core.proofs.ListCounts.{any_new, any_kept}
 use Rattle.uring_core.proofs.Groups.{join_kept, member_kept}
@@ -73,11 +73,11 @@ run_chosen named r s n k same names can =
 target_as_if : (r : Requests) (s : List ℕ) (n : ℕ) → target_of (with_starts r s) n ≡ target_of r n
 unfolding target_of
 target_as_if r s n =
-    least_below-same (is_candidate (with_starts r s) n) (is_candidate r n) (length r.accepted) (λ k low. candidate_as_if r s n k)
+    least_below_same (is_candidate (with_starts r s) n) (is_candidate r n) (length r.accepted) (λ k low. candidate_as_if r s n k)
 
 target_can : (r : Requests) (n k : ℕ) → target_of r n ≡ Some k → is_candidate r n k ≡ true
 unfolding target_of
-target_can r n k is = (least_below-tells (is_candidate r n) (length r.accepted) k is).holds
+target_can r n k is = (least_below_tells (is_candidate r n) (length r.accepted) k is).holds
 
 all_below_same : (p q : ℕ → Bool) (n : ℕ) → ((k : ℕ) → p k ≡ q k) → all_below p n ≡ all_below q n
 all_below_same p q zero same = refl
@@ -134,11 +134,11 @@ ready_ended : (r q : Requests) (n : ℕ)
     → is_ready r n ≡ true → is_ready q n ≡ true
 unfolding is_ready
 ready_ended r q n more same ready =
-    ap not (some_below-none (holds_back q n) n (λ k low. free k low (has_ended q k) refl)) where
+    ap not (some_below_none (holds_back q n) n (λ k low. free k low (has_ended q k) refl)) where
       free : (k : ℕ) → k < n → (ended : Bool) → has_ended q k ≡ ended → (not ended && waits_for q n k) ≡ false
       free k low true is = refl
       free k low false is =
-          same k low ∙ free_before (has_ended r k) refl (is_ready-inside r n k ready low) where
+          same k low ∙ free_before (has_ended r k) refl (is_ready_inside r n k ready low) where
             free_before : (ended : Bool) → has_ended r k ≡ ended → (not ended && waits_for r n k) ≡ false → waits_for r n k ≡ false
             free_before true was free_then = absurd (both_ways (has_ended q k) is (more k was))
             free_before false was free_then = free_then
@@ -282,7 +282,7 @@ more_begun : (xs ys : List ℕ) (n : ℕ) → ((k : ℕ) → IsAmong xs k → Is
     → IsAmong (xs ++ n ∷ []) k → IsAmong (ys ++ n ∷ []) k
 more_begun xs ys n all k there = elim (any_new (λ j. j == k) xs n there) [
   | inl old ↦ any_kept (λ j. j == k) ys _ (all k old)
-  | inr new ↦ list_any-push (λ j. j == k) ys n ∙ or_second (list_any (λ j. j == k) ys) (n == k) new
+  | inr new ↦ list_any_push (λ j. j == k) ys n ∙ or_second (list_any (λ j. j == k) ys) (n == k) new
 ]
 
 issue_followed : (named : ℕ → Bool) (g : Setup) (calls : List (List Sqe)) (m next : Moment) (n : ℕ) (f : IsFollowed named g calls m)
@@ -334,7 +334,7 @@ issue_followed named g calls m next n f calm can is = by_doom (is_doomed rs n) r
 
         too : (k : ℕ) → is_named named r k ≡ true → IsAmong f.starts k ⊎ ((n == k) ≡ true) → has_started (with_started r n) k ≡ true
         too k named_k (inl old) = any_kept (λ j. j == k) r.started _ (f.named_too k named_k old)
-        too k named_k (inr new) = list_any-push (λ j. j == k) r.started n ∙ or_second (has_started r k) (n == k) new
+        too k named_k (inr new) = list_any_push (λ j. j == k) r.started n ∙ or_second (has_started r k) (n == k) new
   starts spared other here false quiet = record {
     moves = f.moves;
     there = f.there;
@@ -396,7 +396,7 @@ finish_followed named g calls m next n f calm can is = by_name (is_named named r
   still : (k : ℕ) → is_named named r k ≡ false → (has_started (started t n).requests k ≡ true) × (not (has_ended (finished (started t n) n).requests k) ≡ true) → ⊥
   still k quiet e = elim (any_new (λ j. j == k) r.started n e.0) [
     | inl old ↦ both_ways (has_ended (finished (started t n) n).requests k) (not_so _ e.1) (any_kept (λ x. x.number == k) r.ended _ (over k quiet old (has_ended r k) refl))
-    | inr new ↦ both_ways (has_ended (finished (started t n) n).requests k) (not_so _ e.1) (list_any-push (λ x. x.number == k) r.ended _ ∙ or_second (has_ended r k) (n == k) new)
+    | inr new ↦ both_ways (has_ended (finished (started t n) n).requests k) (not_so _ e.1) (list_any_push (λ x. x.number == k) r.ended _ ∙ or_second (has_ended r k) (n == k) new)
   ]
 
   by_name : (names : Bool) → is_named named r n ≡ names → IsFollowed named g calls next
@@ -413,7 +413,7 @@ finish_followed named g calls m next n f calm can is = by_name (is_named named r
       let ready : is_ready r n ≡ true = sym (ready_as_if r f.starts n) ∙ calm.ready n p.1 in
       let starts : moved t (move.Issue n) ≡ Some t1 = can_then (is_issuable r n) (issued t n) t1 (issuable_so (is_outstanding r n) (is_running r n) (is_doomed r n) (is_ready r n) (both (nat_lt n (length r.accepted)) (not (has_ended r n)) p.0 q.1) (f.idle n quiet) (or_second (is_doomed r n) (is_ready r n) ready))
       (if_not (is_doomed r n) _ _ spared ∙ if_not (is_cancel (entry_of r n)) _ _ other) in
-      let begun : has_started t1.requests n ≡ true = list_any-push (λ k. k == n) r.started n ∙ or_second (has_started r n) (n == n) (eq-eqb n n refl) in
+      let begun : has_started t1.requests n ≡ true = list_any_push (λ k. k == n) r.started n ∙ or_second (has_started r n) (n == n) (eq-eqb n n refl) in
       let ends : moved t1 (move.Finish n) ≡ Some t2 = can_then (is_finishable t1.requests n) (finished t1 n) t2 (both (nat_lt n (length r.accepted)) (is_running t1.requests n) p.0 (both (has_started t1.requests n) (not (has_ended r n)) begun q.1)) refl in
       let there : after_moves (starting g calls) (f.moves ++ move.Issue n ∷ []) ≡ Some t1 = leads_more g calls f.moves t t1 (move.Issue n) f.leads starts in
       record {

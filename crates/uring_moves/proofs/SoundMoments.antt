@@ -8,7 +8,7 @@ use Rattle.uring_entry.specs.Setup.{Setup}
 use Rattle.uring_entry.specs.Layout.{Sqe}
 use Rattle.uring_entry.specs.Preparation.{fault_of, is_faulty, is_cancel, operation_of}
 use Rattle.uring_entry.specs.Requests.{Requests, no_request, entry_of, has_started, is_outstanding, is_running, is_doomed, is_ready, is_issuable, doomed_result, cancel_result, with_call, with_started}
-use Rattle.uring_entry.proofs.RequestLemmas.{is_doomed-own_fault}
+use Rattle.uring_entry.proofs.RequestLemmas.{is_doomed_own_fault}
 use Rattle.uring_files.specs.Operations.{IsForFiles, result_of}
 use Rattle.uring_files.proofs.Prepared.{prepared}
 use Rattle.uring_core.proofs.Changes.{not_some}
@@ -108,5 +108,5 @@ pub asks_files : (r : Requests) (n : ℕ) → IsSoundMoment r → is_running r n
 asks_files r n i running =
     let started : has_started r n ≡ true = (and_parts (has_started r n) _ running).0 in
     let right : is_faulty (entry_of r n) ≡ false =
-    false_from_ne_true _ (λ faulty. both_ways _ (i.sound.started_free n started).spared (is_doomed-own_fault r n (i.sound.started_accepted n started) faulty)) in
+    false_from_ne_true _ (λ faulty. both_ways _ (i.sound.started_free n started).spared (is_doomed_own_fault r n (i.sound.started_accepted n started) faulty)) in
     prepared (entry_of r n) (not_some (fault_of (entry_of r n)) right) (i.no_cancel n started)

@@ -1,4 +1,4 @@
--- Sets of numbers as blocks: what is found at a place, and what a write of a block does to the set. `uring_dispatch` imports `holds-same` and `popped`.
+-- Sets of numbers as blocks: what is found at a place, and what a write of a block does to the set. `uring_dispatch` imports `holds_same` and `popped`.
 use Rattle.std.proofs.Common.{◌≡◌, ◌≢◌, ℕ, suc, ◌+◌, ◌-◌, ◌*◌, ◌/◌, ◌%◌, ◌^◌, ◌<◌, ◌≤◌, List, [], ◌∷◌, ◌++◌, length, get_or, set, Bool, true, false, not, eqb, bit_and, bit_or, refl, sym, ◌∙◌, ap, arith, inl, inr, w64, length-set, length-append, Option, Some}
 use Rattle.std.specs.Prelude.{if◌then◌else◌}
 use Rattle.std.specs.Int.{bit_at, bit_not, trailing_zeros}
@@ -11,30 +11,30 @@ use Rattle.std.proofs.Math.ListN.{get_or-append}
 use Rattle.std.proofs.Math.Seq.{get_or-append_seam}
 use Rattle.uring_number_set.specs.NumberSet.{NumberSet, block_of, block_at, holds, Covers, start_of, stop_of, Puts, IsSameSet, IsLeastFrom, IsLeastOf, HasNoneFrom, IsFilled, HasLetGo}
 
-pub block_of-low : (first : ℕ) (blocks : List ℕ) (i : ℕ) → i < first → block_of first blocks i ≡ 0
+pub block_of_low : (first : ℕ) (blocks : List ℕ) (i : ℕ) → i < first → block_of first blocks i ≡ 0
 unfolding block_of
-block_of-low first blocks i lt =
+block_of_low first blocks i lt =
     ap (λ b. if b then 0 else get_or blocks (i - first) 0) (lt-ltb i first lt)
 
-pub block_of-high : (first : ℕ) (blocks : List ℕ) (i : ℕ) → first ≤ i
+pub block_of_high : (first : ℕ) (blocks : List ℕ) (i : ℕ) → first ≤ i
     → block_of first blocks i ≡ get_or blocks (i - first) 0
 unfolding block_of
-block_of-high first blocks i le =
+block_of_high first blocks i le =
     ap (λ b. if b then 0 else get_or blocks (i - first) 0) (le-ltb i first le)
 
-pub block_of-past : (first : ℕ) (blocks : List ℕ) (i : ℕ) → first + length blocks ≤ i
+pub block_of_past : (first : ℕ) (blocks : List ℕ) (i : ℕ) → first + length blocks ≤ i
     → block_of first blocks i ≡ 0
-block_of-past first blocks i le =
-    block_of-high first blocks i (omega arith) ∙ get_or_past blocks (i - first) 0 (omega arith)
+block_of_past first blocks i le =
+    block_of_high first blocks i (omega arith) ∙ get_or_past blocks (i - first) 0 (omega arith)
 
 -- a block that is added is zero, as what isn't kept
-pub block_of-push : (first : ℕ) (blocks : List ℕ) (i : ℕ)
+pub block_of_push : (first : ℕ) (blocks : List ℕ) (i : ℕ)
     → block_of first (blocks ++ 0 ∷ []) i ≡ block_of first blocks i
-block_of-push first blocks i =
+block_of_push first blocks i =
     elim (cases_lt i first) [
-      | inl low ↦ block_of-low first _ i low ∙ sym (block_of-low first blocks i low)
+      | inl low ↦ block_of_low first _ i low ∙ sym (block_of_low first blocks i low)
       | inr high ↦
-          block_of-high first (blocks ++ 0 ∷ []) i high
+          block_of_high first (blocks ++ 0 ∷ []) i high
           ∙ elim (cases_eq (i - first) (length blocks)) [
             | inl same ↦
                 ap (λ k. get_or (blocks ++ 0 ∷ []) k 0) same ∙ get_or-append_seam blocks 0 [] 0
@@ -47,41 +47,41 @@ block_of-push first blocks i =
                       ∙ sym (get_or_past blocks (i - first) 0 past)
                 ]
           ]
-          ∙ sym (block_of-high first blocks i high)
+          ∙ sym (block_of_high first blocks i high)
     ]
 
-pub block_of-pop : (first : ℕ) (blocks : List ℕ) (i : ℕ)
+pub block_of_pop : (first : ℕ) (blocks : List ℕ) (i : ℕ)
     → block_of (first + 1) blocks i ≡ block_of first (0 ∷ blocks) i
-block_of-pop first blocks i =
+block_of_pop first blocks i =
     elim (cases_lt i first) [
-      | inl low ↦ block_of-low (first + 1) blocks i (omega arith) ∙ sym (block_of-low first (0 ∷ blocks) i low)
+      | inl low ↦ block_of_low (first + 1) blocks i (omega arith) ∙ sym (block_of_low first (0 ∷ blocks) i low)
       | inr high ↦
           elim (cases_eq i first) [
             | inl same ↦
                 let zeroth : i - first ≡ 0 = omega arith in
-                block_of-low (first + 1) blocks i (omega arith)
-                ∙ sym (block_of-high first (0 ∷ blocks) i high ∙ ap (λ k. get_or (0 ∷ blocks) k 0) zeroth)
+                block_of_low (first + 1) blocks i (omega arith)
+                ∙ sym (block_of_high first (0 ∷ blocks) i high ∙ ap (λ k. get_or (0 ∷ blocks) k 0) zeroth)
             | inr other ↦
                 let place : i - first ≡ suc (i - (first + 1)) = omega arith in
-                block_of-high (first + 1) blocks i (omega arith)
-                ∙ sym (block_of-high first (0 ∷ blocks) i high ∙ ap (λ k. get_or (0 ∷ blocks) k 0) place)
+                block_of_high (first + 1) blocks i (omega arith)
+                ∙ sym (block_of_high first (0 ∷ blocks) i high ∙ ap (λ k. get_or (0 ∷ blocks) k 0) place)
           ]
     ]
 
-block_of-set_here : (first : ℕ) (blocks : List ℕ) (i block : ℕ) → first ≤ i
+block_of_set_here : (first : ℕ) (blocks : List ℕ) (i block : ℕ) → first ≤ i
     → i < first + length blocks → block_of first (set blocks (i - first) block) i ≡ block
-block_of-set_here first blocks i block le lt =
-    block_of-high first _ i le ∙ get_or-set_same blocks (i - first) block 0 (omega arith)
+block_of_set_here first blocks i block le lt =
+    block_of_high first _ i le ∙ get_or-set_same blocks (i - first) block 0 (omega arith)
 
-block_of-set_other : (first : ℕ) (blocks : List ℕ) (i k block : ℕ) → first ≤ i → k ≢ i
+block_of_set_other : (first : ℕ) (blocks : List ℕ) (i k block : ℕ) → first ≤ i → k ≢ i
     → block_of first (set blocks (i - first) block) k ≡ block_of first blocks k
-block_of-set_other first blocks i k block le ne =
+block_of_set_other first blocks i k block le ne =
     elim (cases_lt k first) [
-      | inl low ↦ block_of-low first _ k low ∙ sym (block_of-low first blocks k low)
+      | inl low ↦ block_of_low first _ k low ∙ sym (block_of_low first blocks k low)
       | inr high ↦
-          block_of-high first (set blocks (i - first) block) k high
+          block_of_high first (set blocks (i - first) block) k high
           ∙ get_or-set_other blocks (i - first) (k - first) block 0 (λ e. ne (omega (arith, e)))
-          ∙ sym (block_of-high first blocks k high)
+          ∙ sym (block_of_high first blocks k high)
     ]
 
 -- what is dropped from the front of a queue
@@ -92,18 +92,18 @@ popped old new r x y e h l is = e ∙ ap (λ o. option_to_list o ++ new) (h x �
 
 -- What is in the set.
 
-pub holds-block : (s : NumberSet) (n block : ℕ) → block_at s (n / 64) ≡ block
+pub holds_block : (s : NumberSet) (n block : ℕ) → block_at s (n / 64) ≡ block
     → holds s n ≡ eqb (bit_at block (n % 64)) 1
 unfolding holds
-holds-block s n block e = ap (λ b. eqb (bit_at b (n % 64)) 1) e
+holds_block s n block e = ap (λ b. eqb (bit_at b (n % 64)) 1) e
 
-pub holds-zero : (s : NumberSet) (n : ℕ) → block_at s (n / 64) ≡ 0 → holds s n ≡ false
-holds-zero s n e = holds-block s n 0 e ∙ ap (λ b. eqb b 1) (bit_at-zero (n % 64))
+pub holds_zero : (s : NumberSet) (n : ℕ) → block_at s (n / 64) ≡ 0 → holds s n ≡ false
+holds_zero s n e = holds_block s n 0 e ∙ ap (λ b. eqb b 1) (bit_at-zero (n % 64))
 
 -- the same blocks are the same set
-pub holds-same : (s t : NumberSet) → ((i : ℕ) → block_at t i ≡ block_at s i) → (n : ℕ)
+pub holds_same : (s t : NumberSet) → ((i : ℕ) → block_at t i ≡ block_at s i) → (n : ℕ)
     → holds t n ≡ holds s n
-holds-same s t same n = holds-block t n (block_at s (n / 64)) (same (n / 64)) ∙ sym (holds-block s n (block_at s (n / 64)) refl)
+holds_same s t same n = holds_block t n (block_at s (n / 64)) (same (n / 64)) ∙ sym (holds_block s n (block_at s (n / 64)) refl)
 
 -- a block is written, in which one bit changes
 written : (s t : NumberSet) (n block : ℕ) (now : Bool) → Covers s n → t.first ≡ s.first
@@ -119,76 +119,76 @@ written s t n block now c first blocks limit here others =
     let at_place : (k : ℕ) → block_at t k ≡ block_of s.first (set s.blocks (n / 64 - s.first) block) k =
     λ k. ap (λ f. block_of f t.blocks k) first ∙ ap (λ bs. block_of s.first bs k) blocks
     in
-    let wrote : block_at t (n / 64) ≡ block = at_place (n / 64) ∙ block_of-set_here s.first s.blocks (n / 64) block place inside in
+    let wrote : block_at t (n / 64) ≡ block = at_place (n / 64) ∙ block_of_set_here s.first s.blocks (n / 64) block place inside in
     record {
-      here = holds-block t n block wrote ∙ here;
+      here = holds_block t n block wrote ∙ here;
       others = λ k ne.
           elim (cases_eq (k / 64) (n / 64)) [
             | inl same ↦
-                holds-block t k block (ap (block_at t) same ∙ wrote)
+                holds_block t k block (ap (block_at t) same ∙ wrote)
                 ∙ ap (λ b. eqb b 1) (others (k % 64) (omega arith) (λ e. absurd (ne (omega (arith, e)))))
                 ∙ ap (λ i. eqb (bit_at (block_at s i) (k % 64)) 1) (sym same)
-                ∙ sym (holds-block s k (block_at s (k / 64)) refl)
+                ∙ sym (holds_block s k (block_at s (k / 64)) refl)
             | inr apart ↦
-                holds-block t k (block_at s (k / 64)) (at_place (k / 64) ∙ block_of-set_other s.first s.blocks (n / 64) (k / 64) block place apart)
-                ∙ sym (holds-block s k (block_at s (k / 64)) refl)
+                holds_block t k (block_at s (k / 64)) (at_place (k / 64) ∙ block_of_set_other s.first s.blocks (n / 64) (k / 64) block place apart)
+                ∙ sym (holds_block s k (block_at s (k / 64)) refl)
           ];
-      blocks = λ i ne. at_place i ∙ block_of-set_other s.first s.blocks (n / 64) i block place ne;
+      blocks = λ i ne. at_place i ∙ block_of_set_other s.first s.blocks (n / 64) i block place ne;
       start = first;
       stop = ap length blocks ∙ length-set s.blocks (n / 64 - s.first) block;
       limit = limit;
     }
 
-pub insert-puts : (s t : NumberSet) (n block : ℕ) → Covers s n → block ≡ block_at s (n / 64)
+pub insert_puts : (s t : NumberSet) (n block : ℕ) → Covers s n → block ≡ block_at s (n / 64)
     → t.first ≡ s.first
     → t.blocks ≡ set s.blocks (n / 64 - s.first) (bit_or block (1 * 2 ^ (n % 64) % 2 ^ 64))
     → t.limit ≡ s.limit → Puts s t n true
-insert-puts s t n block c was first blocks limit =
+insert_puts s t n block c was first blocks limit =
     let low : n % 64 < 64 = omega arith in
     written s t n _ true c first blocks limit (eq-eqb _ 1 (bit_at_set_same w64 block (n % 64) low))
     (λ i lt ne. bit_at_set_other w64 block (n % 64) low i ne ∙ ap (λ b. bit_at b i) was)
 
-pub remove-puts : (s t : NumberSet) (n block : ℕ) → Covers s n → block ≡ block_at s (n / 64)
+pub remove_puts : (s t : NumberSet) (n block : ℕ) → Covers s n → block ≡ block_at s (n / 64)
     → t.first ≡ s.first
     → t.blocks
     ≡ set s.blocks (n / 64 - s.first) (bit_and block (bit_not w64 (1 * 2 ^ (n % 64) % 2 ^ 64)))
     → t.limit ≡ s.limit → Puts s t n false
-remove-puts s t n block c was first blocks limit =
+remove_puts s t n block c was first blocks limit =
     let low : n % 64 < 64 = omega arith in
     let none = bit_at_clear_same w64 block (n % 64) low in
     written s t n _ false c first blocks limit (ap (λ b. eqb b 1) none)
     (λ i lt ne. bit_at_clear_other w64 block (n % 64) low i lt ne ∙ ap (λ b. bit_at b i) was)
 
 -- The lowest bit of a block that isn't zero is in the set.
-lowest-holds : (s : NumberSet) (place block : ℕ) → block ≡ block_at s place → 0 < block
+lowest_holds : (s : NumberSet) (place block : ℕ) → block ≡ block_at s place → 0 < block
     → block < 2 ^ 64 → holds s (64 * place + trailing_zeros w64 block) ≡ true
-lowest-holds s place block is some fits =
+lowest_holds s place block is some fits =
     let t : ℕ = trailing_zeros w64 block in
     let low = bit_at-trailing_zeros w64 block some fits in
     let small : t < 64 = low.0 in
     let at_place : (64 * place + t) / 64 ≡ place = omega arith in
     let at_bit : (64 * place + t) % 64 ≡ t = omega arith in
-    holds-block s (64 * place + t) block (ap (block_at s) at_place ∙ sym is)
+    holds_block s (64 * place + t) block (ap (block_at s) at_place ∙ sym is)
     ∙ ap (λ i. eqb (bit_at block i) 1) at_bit ∙ eq-eqb _ 1 low.1
 
 -- The least number of a block, from one of its numbers on.
 
 -- a block without its low bits
-bit_at-shr : (block k i : ℕ) → bit_at (block / 2 ^ k) i ≡ bit_at block (k + i)
-bit_at-shr block k i = ap (λ b. b % 2) (shr-shr block k i)
+bit_at_shr : (block k i : ℕ) → bit_at (block / 2 ^ k) i ≡ bit_at block (k + i)
+bit_at_shr block k i = ap (λ b. b % 2) (shr-shr block k i)
 
-pub block-none : (block n : ℕ) → block / 2 ^ (n % 64) ≡ 0 → HasNoneFrom block n
-block-none block n zero k le same =
+pub block_none : (block n : ℕ) → block / 2 ^ (n % 64) ≡ 0 → HasNoneFrom block n
+block_none block n zero k le same =
     let place : k % 64 ≡ n % 64 + (k % 64 - n % 64) = omega arith in
-    ap (bit_at block) place ∙ sym (bit_at-shr block (n % 64) (k % 64 - n % 64))
+    ap (bit_at block) place ∙ sym (bit_at_shr block (n % 64) (k % 64 - n % 64))
     ∙ ap (λ b. bit_at b (k % 64 - n % 64)) zero ∙ bit_at-zero (k % 64 - n % 64)
 
-pub block-least : (block n : ℕ) → block < 2 ^ 64 → 0 < block / 2 ^ (n % 64)
+pub block_least : (block n : ℕ) → block < 2 ^ 64 → 0 < block / 2 ^ (n % 64)
     → IsLeastOf block n (n + trailing_zeros w64 (block / 2 ^ (n % 64)))
-block-least block n fits some =
+block_least block n fits some =
     let t : ℕ = trailing_zeros w64 (block / 2 ^ (n % 64)) in
     let low = bit_at-trailing_zeros w64 (block / 2 ^ (n % 64)) some (omega (arith, shr_le block (n % 64))) in
-    let here : bit_at block (n % 64 + t) ≡ 1 = sym (bit_at-shr block (n % 64) t) ∙ low.1 in
+    let here : bit_at block (n % 64 + t) ≡ 1 = sym (bit_at_shr block (n % 64) t) ∙ low.1 in
     let small : n % 64 + t < 64 =
     elim (cases_lt (n % 64 + t) 64) [
       | inl lt ↦ lt
@@ -202,78 +202,78 @@ block-least block n fits some =
       here = ap (bit_at block) place ∙ here;
       before = λ k le lt.
           let behind : k % 64 ≡ n % 64 + (k - n) = omega arith in
-          ap (bit_at block) behind ∙ sym (bit_at-shr block (n % 64) (k - n)) ∙ low.2 (k - n) (omega arith);
+          ap (bit_at block) behind ∙ sym (bit_at_shr block (n % 64) (k - n)) ∙ low.2 (k - n) (omega arith);
     }
 
 -- The least number of the set from n on: it is in n's block, or else in the first block behind it that isn't zero.
-pub least-within : (s : NumberSet) (n block m : ℕ) → block ≡ block_at s (n / 64)
+pub least_within : (s : NumberSet) (n block m : ℕ) → block ≡ block_at s (n / 64)
     → IsLeastOf block n m → IsLeastFrom s n m
-least-within s n block m is l =
+least_within s n block m is l =
     let same = l.same in
     record {
       from = l.from;
-      here = holds-block s m block (ap (block_at s) same ∙ sym is) ∙ eq-eqb _ 1 l.here;
+      here = holds_block s m block (ap (block_at s) same ∙ sym is) ∙ eq-eqb _ 1 l.here;
       before = λ k le lt.
           let there : k / 64 ≡ n / 64 = omega arith in
-          holds-block s k block (ap (block_at s) there ∙ sym is) ∙ ap (λ b. eqb b 1) (l.before k le lt);
+          holds_block s k block (ap (block_at s) there ∙ sym is) ∙ ap (λ b. eqb b 1) (l.before k le lt);
     }
 
-none-within : (s : NumberSet) (n block k : ℕ) → block ≡ block_at s (n / 64) → HasNoneFrom block n
+none_within : (s : NumberSet) (n block k : ℕ) → block ≡ block_at s (n / 64) → HasNoneFrom block n
     → n ≤ k → k / 64 ≡ n / 64 → holds s k ≡ false
-none-within s n block k is none le same =
-    holds-block s k block (ap (block_at s) same ∙ sym is) ∙ ap (λ b. eqb b 1) (none k le same)
+none_within s n block k is none le same =
+    holds_block s k block (ap (block_at s) same ∙ sym is) ∙ ap (λ b. eqb b 1) (none k le same)
 
-pub none-from : (s : NumberSet) (n block : ℕ) → block ≡ block_at s (n / 64) → HasNoneFrom block n
+pub none_from : (s : NumberSet) (n block : ℕ) → block ≡ block_at s (n / 64) → HasNoneFrom block n
     → ((i : ℕ) → n / 64 + 1 ≤ i → block_at s i ≡ 0) → (k : ℕ) → n ≤ k → holds s k ≡ false
-none-from s n block is none zeros k le =
+none_from s n block is none zeros k le =
     elim (cases_eq (k / 64) (n / 64)) [
-      | inl same ↦ none-within s n block k is none le same
-      | inr other ↦ holds-zero s k (zeros (k / 64) (omega arith))
+      | inl same ↦ none_within s n block k is none le same
+      | inr other ↦ holds_zero s k (zeros (k / 64) (omega arith))
     ]
 
-pub least-behind : (s : NumberSet) (n block place found : ℕ) → block ≡ block_at s (n / 64)
+pub least_behind : (s : NumberSet) (n block place found : ℕ) → block ≡ block_at s (n / 64)
     → HasNoneFrom block n → found ≡ block_at s place → 0 < found → found < 2 ^ 64
     → n / 64 + 1 ≤ place → ((i : ℕ) → n / 64 + 1 ≤ i → i < place → block_at s i ≡ 0)
     → IsLeastFrom s n (64 * place + trailing_zeros w64 found)
-least-behind s n block place found is none at_place some fits behind zeros =
+least_behind s n block place found is none at_place some fits behind zeros =
     let low = bit_at-trailing_zeros w64 found some fits in
     let small : trailing_zeros w64 found < 64 = low.0 in
     record {
       from = omega arith;
-      here = lowest-holds s place found at_place some fits;
+      here = lowest_holds s place found at_place some fits;
       before = λ k le lt.
           elim (cases_eq (k / 64) (n / 64)) [
-            | inl same ↦ none-within s n block k is none le same
+            | inl same ↦ none_within s n block k is none le same
             | inr other ↦
                 elim (cases_lt (k / 64) place) [
-                  | inl lower ↦ holds-zero s k (zeros (k / 64) (omega arith) lower)
+                  | inl lower ↦ holds_zero s k (zeros (k / 64) (omega arith) lower)
                   | inr not_lower ↦
                       let same : k / 64 ≡ place = omega arith in
-                      holds-block s k found (ap (block_at s) same ∙ sym at_place)
+                      holds_block s k found (ap (block_at s) same ∙ sym at_place)
                       ∙ ap (λ b. eqb b 1) (low.2 (k % 64) (omega arith))
                 ]
           ];
     }
 
-pub block-not_zero : (s : NumberSet) (n : ℕ) → holds s n ≡ true → block_at s (n / 64) ≢ 0
-block-not_zero s n e zero = both_ways _ (holds-zero s n zero) e
+pub block_not_zero : (s : NumberSet) (n : ℕ) → holds s n ≡ true → block_at s (n / 64) ≢ 0
+block_not_zero s n e zero = both_ways _ (holds_zero s n zero) e
 
 -- The filled blocks.
 
-pub filled-some : (s f : NumberSet) (i : ℕ) → IsFilled s f → holds f i ≡ true → block_at s i ≢ 0
-filled-some s f i h e zero = both_ways _ (h.places i ∙ ap not (eq-eqb (block_at s i) 0 zero)) e
+pub filled_some : (s f : NumberSet) (i : ℕ) → IsFilled s f → holds f i ≡ true → block_at s i ≢ 0
+filled_some s f i h e zero = both_ways _ (h.places i ∙ ap not (eq-eqb (block_at s i) 0 zero)) e
 
-pub filled-none : (s f : NumberSet) (i : ℕ) → IsFilled s f → holds f i ≡ false → block_at s i ≡ 0
-filled-none s f i h e =
+pub filled_none : (s f : NumberSet) (i : ℕ) → IsFilled s f → holds f i ≡ false → block_at s i ≡ 0
+filled_none s f i h e =
     elim (cases_eq (block_at s i) 0) [
       | inl zero ↦ zero
       | inr other ↦ absurd (both_ways _ e (h.places i ∙ ap not (ne_eqb (block_at s i) 0 other)))
     ]
 
 -- a number is put into the set
-pub insert-filled : (s t f g : NumberSet) (n : ℕ) → IsFilled s f → Puts s t n true
+pub insert_filled : (s t f g : NumberSet) (n : ℕ) → IsFilled s f → Puts s t n true
     → Puts f g (n / 64) true → IsFilled t g
-insert-filled s t f g n h p q =
+insert_filled s t f g n h p q =
     let x = h.start in
     let y = h.stop in
     let z = h.few in
@@ -286,7 +286,7 @@ insert-filled s t f g n h p q =
           elim (cases_eq i (n / 64)) [
             | inl same ↦
                 ap (holds g) same ∙ q.here
-                ∙ sym (ap (λ k. not (eqb (block_at t k) 0)) same ∙ ap not (ne_eqb _ 0 (block-not_zero t n p.here)))
+                ∙ sym (ap (λ k. not (eqb (block_at t k) 0)) same ∙ ap not (ne_eqb _ 0 (block_not_zero t n p.here)))
             | inr other ↦ q.others i other ∙ h.places i ∙ ap (λ b. not (eqb b 0)) (sym (p.blocks i other))
           ];
       start = omega arith;
@@ -296,9 +296,9 @@ insert-filled s t f g n h p q =
     }
 
 -- a number is taken out, and its block is zero then
-pub remove-filled_zero : (s t f g : NumberSet) (n : ℕ) → IsFilled s f → Puts s t n false
+pub remove_filled_zero : (s t f g : NumberSet) (n : ℕ) → IsFilled s f → Puts s t n false
     → block_at t (n / 64) ≡ 0 → Puts f g (n / 64) false → IsFilled t g
-remove-filled_zero s t f g n h p zero q =
+remove_filled_zero s t f g n h p zero q =
     let x = h.start in
     let y = h.stop in
     let z = h.few in
@@ -319,9 +319,9 @@ remove-filled_zero s t f g n h p zero q =
     }
 
 -- a number is taken out, and others of its block stay
-pub remove-filled_some : (s t f : NumberSet) (n : ℕ) → IsFilled s f → Puts s t n false
+pub remove_filled_some : (s t f : NumberSet) (n : ℕ) → IsFilled s f → Puts s t n false
     → block_at t (n / 64) ≢ 0 → block_at s (n / 64) ≢ 0 → IsFilled t f
-remove-filled_some s t f n h p some was =
+remove_filled_some s t f n h p some was =
     let x = h.start in
     let y = h.stop in
     let z = h.few in
@@ -342,11 +342,11 @@ remove-filled_some s t f n h p some was =
     }
 
 -- the same blocks have the same places
-pub same-filled : (s t f g : NumberSet) → IsFilled s f → IsSameSet s t → IsSameSet f g
+pub same_filled : (s t f g : NumberSet) → IsFilled s f → IsSameSet s t → IsSameSet f g
     → start_of g ≤ t.first → t.first + length t.blocks ≤ stop_of g
     → stop_of g ≤ t.first + length t.blocks + 63 → t.first / 64 ≤ g.first → IsFilled t g
-same-filled s t f g h p q start stop few let_go = record {
-  places = λ i. holds-same f g q.same i ∙ h.places i ∙ ap (λ b. not (eqb b 0)) (sym (p.same i));
+same_filled s t f g h p q start stop few let_go = record {
+  places = λ i. holds_same f g q.same i ∙ h.places i ∙ ap (λ b. not (eqb b 0)) (sym (p.same i));
   start = start;
   stop = stop;
   few = few;
@@ -354,11 +354,11 @@ same-filled s t f g h p q start stop few let_go = record {
 }
 
 -- a number more is covered, and so is the place of its block, by no block more than that needs
-pub filled-few : (s t f g : NumberSet) (n : ℕ) → IsFilled s f → n < stop_of t
+pub filled_few : (s t f g : NumberSet) (n : ℕ) → IsFilled s f → n < stop_of t
     → stop_of s ≤ stop_of t
     → ((m : ℕ) → stop_of f ≤ 64 * m → n / 64 < 64 * m → stop_of g ≤ 64 * m)
     → stop_of g ≤ t.first + length t.blocks + 63
-filled-few s t f g n h covered longer no_more =
+filled_few s t f g n h covered longer no_more =
     let few = h.few in
     elim (cases_lt (n / 64) (stop_of f)) [
       | inl low ↦ let most = no_more (f.first + length f.blocks) (omega arith) (omega arith) in omega arith
@@ -367,24 +367,24 @@ filled-few s t f g n h covered longer no_more =
 
 -- The memory isn't part of the set.
 
-pub limit-puts : (s t : NumberSet) (n : ℕ) (now : Bool) (a b : ℕ) → Puts s t n now → b ≡ a
+pub limit_puts : (s t : NumberSet) (n : ℕ) (now : Bool) (a b : ℕ) → Puts s t n now → b ≡ a
     → Puts (record s { limit = a }) (record t { limit = b }) n now
 unfolding holds
-limit-puts s t n now a b p same =
+limit_puts s t n now a b p same =
     record { here = p.here; others = p.others; blocks = p.blocks; start = p.start; stop = p.stop; limit = same }
 
-pub limit-least : (s : NumberSet) (a n m : ℕ) → IsLeastFrom s n m
+pub limit_least : (s : NumberSet) (a n m : ℕ) → IsLeastFrom s n m
     → IsLeastFrom (record s { limit = a }) n m
 unfolding holds
-limit-least s a n m l = record { from = l.from; here = l.here; before = l.before }
+limit_least s a n m l = record { from = l.from; here = l.here; before = l.before }
 
 -- a number whose block is zero needn't be taken out
-pub zero-puts : (s : NumberSet) (n : ℕ) → block_at s (n / 64) ≡ 0 → Puts s s n false
-zero-puts s n zero =
-    record { here = holds-zero s n zero; others = λ k ne. refl; blocks = λ i ne. refl; start = refl; stop = refl; limit = refl }
+pub zero_puts : (s : NumberSet) (n : ℕ) → block_at s (n / 64) ≡ 0 → Puts s s n false
+zero_puts s n zero =
+    record { here = holds_zero s n zero; others = λ k ne. refl; blocks = λ i ne. refl; start = refl; stop = refl; limit = refl }
 
-pub same-set : (s : NumberSet) → IsSameSet s s
-same-set s = record { same = λ i. refl; limit = omega arith }
+pub same_set : (s : NumberSet) → IsSameSet s s
+same_set s = record { same = λ i. refl; limit = omega arith }
 
 -- What is let go of the filled blocks: none of their places is before the first place of the set, since what isn't kept there is zero.
 pub let_go : (s t f g : NumberSet) → IsFilled s f → IsSameSet s t → IsSameSet f g
@@ -396,12 +396,12 @@ let_go s t f g h p q stop (inr (inr some)) =
     elim (cases_lt g.first (t.first / 64)) [
       | inl low ↦
           let first : g.first - g.first ≡ 0 = omega arith in
-          let here : block_at g g.first ≡ get_or g.blocks 0 0 = block_of-high g.first g.blocks g.first (omega arith) ∙ ap (λ k. get_or g.blocks k 0) first in
-          let holds_it = lowest-holds g g.first (get_or g.blocks 0 0) (sym here) some.0 some.1 in
+          let here : block_at g g.first ≡ get_or g.blocks 0 0 = block_of_high g.first g.blocks g.first (omega arith) ∙ ap (λ k. get_or g.blocks k 0) first in
+          let holds_it = lowest_holds g g.first (get_or g.blocks 0 0) (sym here) some.0 some.1 in
           let bit = (bit_at-trailing_zeros w64 (get_or g.blocks 0 0) some.0 some.1).0 in
           let n : ℕ = 64 * g.first + trailing_zeros w64 (get_or g.blocks 0 0) in
           let before : n < t.first = omega arith in
-          let zero : block_at s n ≡ 0 = sym (p.same n) ∙ block_of-low t.first t.blocks n before in
-          absurd (both_ways _ (holds-same f g q.same n ∙ h.places n ∙ ap not (eq-eqb (block_at s n) 0 zero)) holds_it)
+          let zero : block_at s n ≡ 0 = sym (p.same n) ∙ block_of_low t.first t.blocks n before in
+          absurd (both_ways _ (holds_same f g q.same n ∙ h.places n ∙ ap not (eq-eqb (block_at s n) 0 zero)) holds_it)
       | inr high ↦ high
     ]

@@ -14,7 +14,7 @@ use Rattle.uring_entry.specs.Requests.{Requests, entry_of, has_started, has_ende
 use Rattle.uring_entry.specs.declared.errno.TheConstants.{ENOMEM}
 use Rattle.uring_entry.specs.declared.operation.Op.{Op}
 use Rattle.uring_entry.specs.declared.operation.Outcome.{Outcome}
-use Rattle.uring_entry.proofs.BelowLemmas.{least_below-some}
+use Rattle.uring_entry.proofs.BelowLemmas.{least_below_some}
 use Rattle.uring_files.specs.Contents.{FileContents}
 use Rattle.uring_files.specs.Operations.{IsOutcome, result_of}
 use Rattle.uring_dispatch.specs.Issuable.{issuable_from}
@@ -225,7 +225,7 @@ below_not n j low = false_from_ne_true (nat_le n j) (λ e. let le : n ≤ j = le
 -- and is the least from its number on that can be
 pub issuable_first : (r : Requests) (n : ℕ) → is_issuable r n ≡ true → issuable_from r n ≡ Some n
 issuable_first r n can =
-    least_below-some (λ k. nat_le n k && is_issuable r k) (length r.accepted) n (issuable_accepted r n can)
+    least_below_some (λ k. nat_le n k && is_issuable r k) (length r.accepted) n (issuable_accepted r n can)
     (both_so (nat_le n n) (is_issuable r n) (le_itself n) can)
     (λ j low. ap (λ b. b && is_issuable r j) (below_not n j low)) where
       le_itself : (k : ℕ) → nat_le k k ≡ true

@@ -9,11 +9,11 @@ use Rattle.std.proofs.lemmas.List.{take_more, map-append}
 use Rattle.std.proofs.lemmas.List.Elements.{All-push, All-more}
 use Rattle.uring_entry.specs.Setup.{Setup}
 use Rattle.uring_entry.specs.Layout.{Sqe, addr_of}
-use Rattle.uring_entry.proofs.RequestLemmas.{list_any-push}
+use Rattle.uring_entry.proofs.RequestLemmas.{list_any_push}
 use Rattle.uring_moves.proofs.MovesLead.{or_first, or_second}
 use Rattle.uring_entry.specs.Preparation.{is_cancel}
 use Rattle.uring_entry.specs.Requests.{has_started, has_ended, is_outstanding, is_running, is_doomed, is_ready, is_issuable, outstanding_in}
-use Rattle.uring_dispatch.proofs.Counting.{count_below-some}
+use Rattle.uring_dispatch.proofs.Counting.{count_below_some}
 use Rattle.uring_moves.specs.Moments.{Moment, starting, moved, after_moves}
 use Rattle.uring_moves.specs.Outcomes.{IsOver}
 use Rattle.uring_moves.specs.Prompt.{NamesAll, AreNamed}
@@ -55,7 +55,7 @@ among_kept names more u there =
 
 pub among_pushed : (names : List ℕ) (u : ℕ) → among (names ++ u ∷ []) u ≡ true
 among_pushed names u =
-    list_any-push (λ name. nat_eq name u) names u ∙ or_second (among names u) (nat_eq u u) (eq-eqb u u refl)
+    list_any_push (λ name. nat_eq name u) names u ∙ or_second (among names u) (nat_eq u u) (eq-eqb u u refl)
 
 pub names_kept : (old new : List ℕ) (entries : List Sqe)
     → ((u : ℕ) → among old u ≡ true → among new u ≡ true)
@@ -145,7 +145,7 @@ on_path g calls names w on goes =
 none_outstanding : (m : Moment) (n : ℕ) → n < length m.requests.accepted → IsOver m
     → is_outstanding m.requests n ≡ true → ⊥
 none_outstanding m n low over out =
-    let some : 0 < outstanding_in m.requests = count_below-some (is_outstanding m.requests) (length m.requests.accepted) n low out in
+    let some : 0 < outstanding_in m.requests = count_below_some (is_outstanding m.requests) (length m.requests.accepted) n low out in
     let none : outstanding_in m.requests ≡ 0 = over.none_outstanding in
     omega (arith, some, none)
 

@@ -3,7 +3,7 @@ use Rattle.std.proofs.Common.{◌≡◌, ℕ, zero, suc, Bool, true, false, Opti
 use Rattle.std.specs.Prelude.{is_some, if◌then◌else◌}
 use Rattle.std.proofs.lemmas.Bool.{both_ways, cases_Bool, cases_lt}
 use Rattle.uring_entry.specs.Requests.{Requests, entry_outstanding, is_last, is_joined}
-use Rattle.uring_entry.proofs.RequestLemmas.{is_joined-yes, is_joined-no, is_joined-inside}
+use Rattle.uring_entry.proofs.RequestLemmas.{is_joined_yes, is_joined_no, is_joined_inside}
 use Rattle.uring_pictures.specs.Graphs.{first_of, member_before}
 use Rattle.uring_pictures.specs.Members.{IsFirst, IsBefore}
 
@@ -11,15 +11,15 @@ use Rattle.uring_pictures.specs.Members.{IsFirst, IsBefore}
 on : (r : Requests) (m n : ℕ) → is_last r n ≡ false → is_joined r m n ≡ true
     → is_joined r m (suc n) ≡ true
 on r m n goes joined =
-    is_joined-yes r m (suc n)
+    is_joined_yes r m (suc n)
     (λ k le lt. elim (cases_lt k n) [
-      | inl inside ↦ is_joined-inside r m n k joined le inside
+      | inl inside ↦ is_joined_inside r m n k joined le inside
       | inr beyond ↦ let same : n ≡ k = omega (arith, beyond, lt) in subst (λ j. is_last r j ≡ false) same goes
     ])
 
 back : (r : Requests) (m n : ℕ) → is_joined r m (suc n) ≡ true → is_joined r m n ≡ true
 back r m n joined =
-    is_joined-yes r m n (λ k le lt. is_joined-inside r m (suc n) k joined le (omega (arith, lt)))
+    is_joined_yes r m n (λ k le lt. is_joined_inside r m (suc n) k joined le (omega (arith, lt)))
 
 not_back : (r : Requests) (m n : ℕ) → is_joined r m n ≡ false → is_joined r m (suc n) ≡ false
 not_back r m n apart =
@@ -29,14 +29,14 @@ not_back r m n apart =
     ]
 
 alone : (r : Requests) (n : ℕ) → is_joined r n n ≡ true
-alone r n = is_joined-yes r n n (λ k le lt. absurd (omega (arith, le, lt)))
+alone r n = is_joined_yes r n n (λ k le lt. absurd (omega (arith, le, lt)))
 
 first_on : (r : Requests) (n : ℕ) (last : Bool) → is_last r n ≡ last → IsFirst r n (first_of r n)
     → IsFirst r (suc n) (if last then suc n else first_of r n)
 first_on r n true ends i = record {
   within = omega arith;
   joined = alone r (suc n);
-  least = λ k lt. is_joined-no r k (suc n) n (omega (arith, lt)) (omega arith) ends;
+  least = λ k lt. is_joined_no r k (suc n) n (omega (arith, lt)) (omega arith) ends;
 }
 first_on r n false goes i =
     let within = i.within in
@@ -78,7 +78,7 @@ before_on : (r : Requests) (n : ℕ) (last found : Bool) → is_last r n ≡ las
     → is_some (entry_outstanding r n) ≡ found → IsBefore r n (member_before r n)
     → IsBefore r (suc n) (if last then None else if found then Some n else member_before r n)
 before_on r n true found ends here b = λ k within joined.
-    absurd (both_ways _ (is_joined-no r k (suc n) n (omega (arith, within)) (omega arith) ends) joined)
+    absurd (both_ways _ (is_joined_no r k (suc n) n (omega (arith, within)) (omega arith) ends) joined)
 before_on r n false true goes here b = record {
   earlier = omega arith;
   joined = on r n n goes (alone r n);

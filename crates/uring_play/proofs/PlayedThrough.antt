@@ -12,7 +12,7 @@ use Rattle.uring_laws.specs.Direct.{told, with_told}
 use Rattle.uring_core.specs.Histories.{Event, History, world, history_of}
 use Rattle.uring_entry.specs.Submission.{published_items}
 use Rattle.uring_laws.proofs.DirectRequests.{direct_requests}
-use Rattle.uring_core.proofs.Following.{history_of-cons, history_of-append}
+use Rattle.uring_core.proofs.Following.{history_of_cons, history_of_append}
 use Rattle.uring_laws.proofs.WholeLaws.{lawful_apart}
 use Rattle.uring_ports.specs.AppEnd.{AppEnd}
 use Rattle.uring_ports.specs.Items.{all_published_as}
@@ -35,13 +35,13 @@ closed_behind : (g : Setup) (results : List JobResult) (h : History)
     → (world g (history_of (map finish_of results) ++ h)).is_closed ≡ (world g h).is_closed
 closed_behind g [] h = refl
 closed_behind g (r ∷ results) h =
-    ap (λ (k : History). (world g k).is_closed) (history_of-cons (finish_of r) (map finish_of results) h) ∙ closed_behind g results (finish_of r ∷ h)
+    ap (λ (k : History). (world g k).is_closed) (history_of_cons (finish_of r) (map finish_of results) h) ∙ closed_behind g results (finish_of r ∷ h)
 
 closed_later : (g : Setup) (trace : List Event) (results : List JobResult)
     → (world g (history_of (trace ++ map finish_of results))).is_closed
     ≡ (world g (history_of trace)).is_closed
 closed_later g trace results =
-    let both = history_of-append trace (map finish_of results) [] in
+    let both = history_of_append trace (map finish_of results) [] in
     let none = append-nil (history_of (trace ++ map finish_of results)) in
     let first = append-nil (history_of trace) in
     ap (λ (k : History). (world g k).is_closed) (sym none ∙ both ∙ ap (λ (k : History). history_of (map finish_of results) ++ k) first)
@@ -108,7 +108,7 @@ told_all (e ∷ events) h =
     let later = told_all events (e ∷ h) in
     let one = told_one (told accepted_by h) (accepted_by e) in
     let head = sum_by-cons accepted_of e events in
-    ap (λ (k : History). sum (told accepted_by k)) (history_of-cons e events h) ∙ omega (arith, later, one, head)
+    ap (λ (k : History). sum (told accepted_by k)) (history_of_cons e events h) ∙ omega (arith, later, one, head)
 
 -- the calls of a lawful trace accepted as many requests as there are
 pub accepted_total : (g : Setup) (trace : List Event) → IsLawful g (history_of trace)

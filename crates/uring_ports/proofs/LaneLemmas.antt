@@ -6,8 +6,8 @@ use Rattle.uring_ports.specs.declared.item.Item.{Item}
 use Rattle.uring_ports.specs.declared.message.Message.{Message}
 use Rattle.uring_ports.specs.Messages.{item_before, items_before, has_close_mark, put_of, AreWhole, owed, MayFollow}
 use Rattle.uring_ports.specs.Ports.{with_call, with_close}
-use Rattle.uring_ports.proofs.MessageLemmas.{items_before-snoc}
-use Rattle.uring_ports.proofs.MessageSteps.{Sent, sends_call, sends_close, item_may_follow, next_item, next_close, owed-snoc}
+use Rattle.uring_ports.proofs.MessageLemmas.{items_before_snoc}
+use Rattle.uring_ports.proofs.MessageSteps.{Sent, sends_call, sends_close, item_may_follow, next_item, next_close, owed_snoc}
 
 -- the next item of a call may be sent
 pub may_send : (ms past : List Message) (items : List Item) (i n : ℕ) (x : Item)
@@ -28,7 +28,7 @@ sends_item ms past items i n x below at left is =
     let taken : take (i + 1) items ≡ take i items ++ x ∷ [] = take_more items i x below ∙ ap (λ y. take i items ++ y ∷ []) (sym at) in
     ap (λ l. l ++ item_before n x ∷ []) is'
     ∙ append_assoc ms (items_before (suc n) (take i items)) (item_before n x ∷ [])
-    ∙ ap (λ l. ms ++ l) (items_before-snoc n (take i items) x)
+    ∙ ap (λ l. ms ++ l) (items_before_snoc n (take i items) x)
     ∙ ap (λ l. ms ++ items_before n l) (sym taken)
     ∙ ap (λ k. ms ++ items_before k (take (i + 1) items)) (sym next)
 
@@ -41,12 +41,12 @@ takes_item before past items left n m more owes may is =
     ap (λ x. past ++ x ∷ []) (next_item past m n (owes ∙ more) may)
     ∙ ap (λ l. l ++ item_before n m.item ∷ []) is'
     ∙ append_assoc before (items_before (suc n) items) (item_before n m.item ∷ [])
-    ∙ ap (λ l. before ++ l) (items_before-snoc n items m.item)
+    ∙ ap (λ l. before ++ l) (items_before_snoc n items m.item)
 
 -- and one item less is owed
 pub owes_less : (past : List Message) (n : ℕ) (m : Message) → owed past ≡ suc n → MayFollow past m
     → owed (past ++ m ∷ []) ≡ n
-owes_less past n m owes may = owed-snoc past m ∙ ap (λ x. x.left) (next_item past m n owes may)
+owes_less past n m owes may = owed_snoc past m ∙ ap (λ x. x.left) (next_item past m n owes may)
 
 -- the message at the head of the lane is the one that a pop takes
 pub same_head : (known rest : List Message) (seen taken : Message) → IsPrefix (seen ∷ []) known

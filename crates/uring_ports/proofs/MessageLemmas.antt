@@ -11,57 +11,57 @@ AreSome [] = Unit {0}
 AreSome ([] ∷ calls) = ⊥
 AreSome ((x ∷ xs) ∷ calls) = AreSome calls
 
-pub some-with_first : (x : Item) (calls : List (List Item)) → AreSome calls
+pub some_with_first : (x : Item) (calls : List (List Item)) → AreSome calls
     → AreSome (with_first x calls)
-some-with_first x [] some = tt
-some-with_first x ([] ∷ calls) some = absurd some
-some-with_first x ((y ∷ ys) ∷ calls) some = some
+some_with_first x [] some = tt
+some_with_first x ([] ∷ calls) some = absurd some
+some_with_first x ((y ∷ ys) ∷ calls) some = some
 
-some-with_item : (left : ℕ) (x : Item) (calls : List (List Item)) → AreSome calls
+some_with_item : (left : ℕ) (x : Item) (calls : List (List Item)) → AreSome calls
     → AreSome (with_item left x calls)
-some-with_item zero x calls some = some
-some-with_item (suc left) x calls some = some-with_first x calls some
+some_with_item zero x calls some = some
+some_with_item (suc left) x calls some = some_with_first x calls some
 
 if_some : (b : Bool) (xs ys : List (List Item)) → AreSome xs → AreSome ys
     → AreSome (if b then xs else ys)
 if_some true xs ys p q = p
 if_some false xs ys p q = q
 
-pub some-calls_of : (ms : List Message) → AreSome (calls_of ms)
-some-calls_of [] = tt
-some-calls_of (m ∷ ms) = if_some m.closes [] (with_item m.left m.item (calls_of ms)) tt (some-with_item m.left m.item (calls_of ms) (some-calls_of ms))
+pub some_calls_of : (ms : List Message) → AreSome (calls_of ms)
+some_calls_of [] = tt
+some_calls_of (m ∷ ms) = if_some m.closes [] (with_item m.left m.item (calls_of ms)) tt (some_with_item m.left m.item (calls_of ms) (some_calls_of ms))
 
-pub some-append : (xs ys : List (List Item)) → AreSome xs → AreSome ys → AreSome (xs ++ ys)
-some-append [] ys p q = q
-some-append ([] ∷ xs) ys p q = absurd p
-some-append ((x ∷ call) ∷ xs) ys p q = some-append xs ys p q
+pub some_append : (xs ys : List (List Item)) → AreSome xs → AreSome ys → AreSome (xs ++ ys)
+some_append [] ys p q = q
+some_append ([] ∷ xs) ys p q = absurd p
+some_append ((x ∷ call) ∷ xs) ys p q = some_append xs ys p q
 
-pub calls_of-call : (x : Item) (xs : List Item) (rest : List Message)
+pub calls_of_call : (x : Item) (xs : List Item) (rest : List Message)
     → calls_of (items_before 0 (x ∷ xs) ++ rest) ≡ (x ∷ xs) ∷ calls_of rest
-calls_of-call x [] rest = refl
-calls_of-call x (y ∷ ys) rest = rw (add-zero (length (y ∷ ys)), calls_of-call y ys rest) refl
+calls_of_call x [] rest = refl
+calls_of_call x (y ∷ ys) rest = rw (add-zero (length (y ∷ ys)), calls_of_call y ys rest) refl
 
-pub calls_of-calls : (calls : List (List Item)) (rest : List Message) → AreSome calls
+pub calls_of_calls : (calls : List (List Item)) (rest : List Message) → AreSome calls
     → calls_of (messages_of_calls calls ++ rest) ≡ calls ++ calls_of rest
-calls_of-calls [] rest some = refl
-calls_of-calls ([] ∷ calls) rest some = absurd some
-calls_of-calls ((x ∷ xs) ∷ calls) rest some = ap calls_of (append_assoc (items_before 0 (x ∷ xs)) (messages_of_calls calls) rest) ∙ calls_of-call x xs (messages_of_calls calls ++ rest) ∙ ap (λ cs. (x ∷ xs) ∷ cs) (calls_of-calls calls rest some)
+calls_of_calls [] rest some = refl
+calls_of_calls ([] ∷ calls) rest some = absurd some
+calls_of_calls ((x ∷ xs) ∷ calls) rest some = ap calls_of (append_assoc (items_before 0 (x ∷ xs)) (messages_of_calls calls) rest) ∙ calls_of_call x xs (messages_of_calls calls ++ rest) ∙ ap (λ cs. (x ∷ xs) ∷ cs) (calls_of_calls calls rest some)
 
-pub close_mark-call : (left : ℕ) (xs : List Item) (rest : List Message)
+pub close_mark_call : (left : ℕ) (xs : List Item) (rest : List Message)
     → has_close_mark (items_before left xs ++ rest) ≡ has_close_mark rest
-close_mark-call left [] rest = refl
-close_mark-call left (x ∷ xs) rest = close_mark-call left xs rest
+close_mark_call left [] rest = refl
+close_mark_call left (x ∷ xs) rest = close_mark_call left xs rest
 
-pub close_mark-calls : (calls : List (List Item)) (rest : List Message)
+pub close_mark_calls : (calls : List (List Item)) (rest : List Message)
     → has_close_mark (messages_of_calls calls ++ rest) ≡ has_close_mark rest
-close_mark-calls [] rest = refl
-close_mark-calls (call ∷ calls) rest = rw append_assoc (close_mark-call 0 call (messages_of_calls calls ++ rest) ∙ close_mark-calls calls rest)
+close_mark_calls [] rest = refl
+close_mark_calls (call ∷ calls) rest = rw append_assoc (close_mark_call 0 call (messages_of_calls calls ++ rest) ∙ close_mark_calls calls rest)
 
 put_of_closing : (calls : List (List Item)) (closed : Bool) → AreSome calls
     → put_of (messages_of_calls calls ++ (if closed then close_mark ∷ [] else []))
     ≡ record { calls = calls; closed = closed }
-put_of_closing calls true some = ap (λ cs. record { calls = cs; closed = has_close_mark (messages_of_calls calls ++ close_mark ∷ []) }) (calls_of-calls calls (close_mark ∷ []) some ∙ append-nil calls) ∙ ap (λ b. record { calls = calls; closed = b }) (close_mark-calls calls (close_mark ∷ []))
-put_of_closing calls false some = ap (λ cs. record { calls = cs; closed = has_close_mark (messages_of_calls calls ++ []) }) (calls_of-calls calls [] some ∙ append-nil calls) ∙ ap (λ b. record { calls = calls; closed = b }) (close_mark-calls calls [])
+put_of_closing calls true some = ap (λ cs. record { calls = cs; closed = has_close_mark (messages_of_calls calls ++ close_mark ∷ []) }) (calls_of_calls calls (close_mark ∷ []) some ∙ append-nil calls) ∙ ap (λ b. record { calls = calls; closed = b }) (close_mark_calls calls (close_mark ∷ []))
+put_of_closing calls false some = ap (λ cs. record { calls = cs; closed = has_close_mark (messages_of_calls calls ++ []) }) (calls_of_calls calls [] some ∙ append-nil calls) ∙ ap (λ b. record { calls = calls; closed = b }) (close_mark_calls calls [])
 
 -- messages of something were sent for just that
 pub stands : (ms : List Message) (p : Put) → AreSome p.calls → ms ≡ messages_of p → put_of ms ≡ p
@@ -71,44 +71,44 @@ stands ms p some is = ap put_of is ∙ put_of_closing p.calls p.closed some
 pub whole : (ms : List Message) (p : Put) → AreSome p.calls → ms ≡ messages_of p → AreWhole ms
 whole ms p some is = ap messages_of (stands ms p some is) ∙ sym is
 
-pub length-items_before : (left : ℕ) (xs : List Item) → length (items_before left xs) ≡ length xs
-length-items_before left [] = refl
-length-items_before left (x ∷ xs) = ap suc (length-items_before left xs)
+pub length_items_before : (left : ℕ) (xs : List Item) → length (items_before left xs) ≡ length xs
+length_items_before left [] = refl
+length_items_before left (x ∷ xs) = ap suc (length_items_before left xs)
 
-pub length-messages_of_calls : (calls : List (List Item))
+pub length_messages_of_calls : (calls : List (List Item))
     → length (messages_of_calls calls) ≡ length (items_of_calls calls)
-length-messages_of_calls [] = refl
-length-messages_of_calls (call ∷ calls) = rw (length-append (items_before 0 call) (messages_of_calls calls), length-append call (items_of_calls calls)) (rw (length-items_before 0 call, length-messages_of_calls calls) refl)
+length_messages_of_calls [] = refl
+length_messages_of_calls (call ∷ calls) = rw (length-append (items_before 0 call) (messages_of_calls calls), length-append call (items_of_calls calls)) (rw (length_items_before 0 call, length_messages_of_calls calls) refl)
 
 length_closing : (closed : Bool)
     → length {A = Message} (if closed then close_mark ∷ [] else []) ≡ (if closed then 1 else 0)
 length_closing true = refl
 length_closing false = refl
 
-pub length-messages_of : (p : Put) → length (messages_of p) ≡ places_of p
-length-messages_of p =
-    rw length-append (rw (length-messages_of_calls p.calls, length_closing p.closed) refl)
+pub length_messages_of : (p : Put) → length (messages_of p) ≡ places_of p
+length_messages_of p =
+    rw length-append (rw (length_messages_of_calls p.calls, length_closing p.closed) refl)
 
-pub items_before-snoc : (left : ℕ) (xs : List Item) (x : Item)
+pub items_before_snoc : (left : ℕ) (xs : List Item) (x : Item)
     → items_before (suc left) xs ++ item_before left x ∷ [] ≡ items_before left (xs ++ x ∷ [])
-items_before-snoc left [] x = rw zero-add refl
-items_before-snoc left (y ∷ ys) x = ap (λ n. item_before n y ∷ (items_before (suc left) ys ++ item_before left x ∷ [])) (omega (arith, length-append ys (x ∷ []))) ∙ ap (λ ms. item_before (length (ys ++ x ∷ []) + left) y ∷ ms) (items_before-snoc left ys x)
+items_before_snoc left [] x = rw zero-add refl
+items_before_snoc left (y ∷ ys) x = ap (λ n. item_before n y ∷ (items_before (suc left) ys ++ item_before left x ∷ [])) (omega (arith, length-append ys (x ∷ []))) ∙ ap (λ ms. item_before (length (ys ++ x ∷ []) + left) y ∷ ms) (items_before_snoc left ys x)
 
-pub owed_from-append : (n : ℕ) (xs ys : List Message)
+pub owed_from_append : (n : ℕ) (xs ys : List Message)
     → owed_from n (xs ++ ys) ≡ owed_from (owed_from n xs) ys
-owed_from-append n [] ys = refl
-owed_from-append n (x ∷ xs) ys = owed_from-append x.left xs ys
+owed_from_append n [] ys = refl
+owed_from_append n (x ∷ xs) ys = owed_from_append x.left xs ys
 
-pub owed_from-items : (n left : ℕ) (x : Item) (xs : List Item)
+pub owed_from_items : (n left : ℕ) (x : Item) (xs : List Item)
     → owed_from n (items_before left (x ∷ xs)) ≡ left
-owed_from-items n left x [] = zero-add left
-owed_from-items n left x (y ∷ ys) = owed_from-items (length (y ∷ ys) + left) left y ys
+owed_from_items n left x [] = zero-add left
+owed_from_items n left x (y ∷ ys) = owed_from_items (length (y ∷ ys) + left) left y ys
 
-owed_from-call : (call : List Item) → owed_from 0 (items_before 0 call) ≡ 0
-owed_from-call [] = refl
-owed_from-call (x ∷ xs) = owed_from-items 0 0 x xs
+owed_from_call : (call : List Item) → owed_from 0 (items_before 0 call) ≡ 0
+owed_from_call [] = refl
+owed_from_call (x ∷ xs) = owed_from_items 0 0 x xs
 
 -- behind whole calls nothing is owed
-pub owed-calls : (calls : List (List Item)) → owed (messages_of_calls calls) ≡ 0
-owed-calls [] = refl
-owed-calls (call ∷ calls) = rw (owed_from-append, owed_from-call) (owed-calls calls)
+pub owed_calls : (calls : List (List Item)) → owed (messages_of_calls calls) ≡ 0
+owed_calls [] = refl
+owed_calls (call ∷ calls) = rw (owed_from_append, owed_from_call) (owed_calls calls)

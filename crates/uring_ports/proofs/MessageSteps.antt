@@ -8,7 +8,7 @@ use Rattle.uring_ports.specs.declared.item.Item.{Item}
 use Rattle.uring_ports.specs.declared.message.Message.{Message}
 use Rattle.uring_ports.specs.Ports.{Put, with_call, with_close, items_of_calls, places_of, LeavesItems}
 use Rattle.uring_ports.specs.Messages.{close_mark, item_before, items_before, messages_of_calls, messages_of, with_item, calls_of, items_of, has_close_mark, put_of, AreWhole, owed, Continues, MayFollow}
-use Rattle.uring_ports.proofs.MessageLemmas.{AreSome, some-calls_of, some-append, calls_of-calls, stands, whole, length-messages_of, owed_from-append, owed_from-items, owed-calls}
+use Rattle.uring_ports.proofs.MessageLemmas.{AreSome, some_calls_of, some_append, calls_of_calls, stands, whole, length_messages_of, owed_from_append, owed_from_items, owed_calls}
 
 -- whole messages with no close mark are those of their calls
 pub open_calls : (ms : List Message) → AreWhole ms → has_close_mark ms ≡ false
@@ -22,11 +22,11 @@ closed_calls ms are_whole closed = sym are_whole ∙ ap (λ b. messages_of_calls
 
 -- nothing is owed behind whole messages with no close mark
 pub nothing_owed : (ms : List Message) → AreWhole ms → has_close_mark ms ≡ false → owed ms ≡ 0
-nothing_owed ms are_whole open' = ap owed (open_calls ms are_whole open') ∙ owed-calls (calls_of ms)
+nothing_owed ms are_whole open' = ap owed (open_calls ms are_whole open') ∙ owed_calls (calls_of ms)
 
 -- whole messages take as many places as there are of them
 pub places : (ms : List Message) → AreWhole ms → places_of (put_of ms) ≡ length ms
-places ms are_whole = sym (length-messages_of (put_of ms)) ∙ ap length are_whole
+places ms are_whole = sym (length_messages_of (put_of ms)) ∙ ap length are_whole
 
 one_some : (items : List Item) → 0 < length items → AreSome (items ∷ [])
 one_some [] some = absurd (omega arith)
@@ -37,10 +37,10 @@ pub record Sent (ms : List Message) (p : Put) : Type 0 where
   pub put : put_of ms ≡ p
   pub whole : AreWhole ms
 
-messages-with_call : (ms : List Message) (items : List Item) → AreWhole ms
+messages_with_call : (ms : List Message) (items : List Item) → AreWhole ms
     → has_close_mark ms ≡ false
     → ms ++ items_before 0 items ≡ messages_of (with_call (put_of ms) items)
-messages-with_call ms items are_whole open' =
+messages_with_call ms items are_whole open' =
     ap (λ l. l ++ items_before 0 items) (open_calls ms are_whole open')
     ∙ ap (λ l. messages_of_calls (calls_of ms) ++ l) (sym (append-nil (items_before 0 items)))
     ∙ sym (flat_map-append (items_before 0) (calls_of ms) (items ∷ []))
@@ -51,8 +51,8 @@ messages-with_call ms items are_whole open' =
 pub sends_call : (ms : List Message) (items : List Item) → AreWhole ms → has_close_mark ms ≡ false
     → 0 < length items → Sent (ms ++ items_before 0 items) (with_call (put_of ms) items)
 sends_call ms items are_whole open' some =
-    let all_some = some-append (calls_of ms) (items ∷ []) (some-calls_of ms) (one_some items some) in
-    let is = messages-with_call ms items are_whole open' in
+    let all_some = some_append (calls_of ms) (items ∷ []) (some_calls_of ms) (one_some items some) in
+    let is = messages_with_call ms items are_whole open' in
     record { put = stands _ (with_call (put_of ms) items) all_some is; whole = whole _ (with_call (put_of ms) items) all_some is }
 
 -- the close mark behind all calls
@@ -60,25 +60,25 @@ pub sends_close : (ms : List Message) → AreWhole ms → has_close_mark ms ≡ 
     → Sent (ms ++ close_mark ∷ []) (with_close (put_of ms))
 sends_close ms are_whole open' =
     let is : ms ++ close_mark ∷ [] ≡ messages_of (with_close (put_of ms)) = ap (λ l. l ++ close_mark ∷ []) (open_calls ms are_whole open') in
-    record { put = stands _ (with_close (put_of ms)) (some-calls_of ms) is; whole = whole _ (with_close (put_of ms)) (some-calls_of ms) is }
+    record { put = stands _ (with_close (put_of ms)) (some_calls_of ms) is; whole = whole _ (with_close (put_of ms)) (some_calls_of ms) is }
 
-pub close_mark-append : (xs ys : List Message)
+pub close_mark_append : (xs ys : List Message)
     → has_close_mark (xs ++ ys) ≡ has_close_mark xs || has_close_mark ys
-close_mark-append [] ys = refl
-close_mark-append (x ∷ xs) ys = ap (λ b. x.closes || b) (close_mark-append xs ys) ∙ sym (or_assoc x.closes (has_close_mark xs) (has_close_mark ys))
+close_mark_append [] ys = refl
+close_mark_append (x ∷ xs) ys = ap (λ b. x.closes || b) (close_mark_append xs ys) ∙ sym (or_assoc x.closes (has_close_mark xs) (has_close_mark ys))
 
-close_mark-items : (left : ℕ) (xs : List Item) → has_close_mark (items_before left xs) ≡ false
-close_mark-items left [] = refl
-close_mark-items left (x ∷ xs) = close_mark-items left xs
+close_mark_items : (left : ℕ) (xs : List Item) → has_close_mark (items_before left xs) ≡ false
+close_mark_items left [] = refl
+close_mark_items left (x ∷ xs) = close_mark_items left xs
 
 no_mark : (ms : List Message) (left : ℕ) (xs : List Item) → has_close_mark ms ≡ false
     → has_close_mark (ms ++ items_before left xs) ≡ false
-no_mark ms left xs open' = close_mark-append ms (items_before left xs) ∙ ap (λ b. b || has_close_mark (items_before left xs)) open' ∙ close_mark-items left xs
+no_mark ms left xs open' = close_mark_append ms (items_before left xs) ∙ ap (λ b. b || has_close_mark (items_before left xs)) open' ∙ close_mark_items left xs
 
 continues : (ms : List Message) (left : ℕ) (xs : List Item) (x : Item) → owed ms ≡ 0
     → Continues (owed (ms ++ items_before (suc left) xs)) (item_before left x)
 continues ms left [] x none = rw (append-nil ms, none) (λ e. cc)
-continues ms left (y ∷ ys) x none = rw (owed_from-append 0 ms (items_before (suc left) (y ∷ ys)), owed_from-items (owed ms) (suc left) y ys) refl
+continues ms left (y ∷ ys) x none = rw (owed_from_append 0 ms (items_before (suc left) (y ∷ ys)), owed_from_items (owed ms) (suc left) y ys) refl
 
 -- the next item of a call may follow
 pub item_may_follow : (ms : List Message) (left : ℕ) (xs : List Item) (x : Item)
@@ -93,8 +93,8 @@ pub close_may_follow : (ms : List Message) → AreWhole ms → has_close_mark ms
 close_may_follow ms are_whole open' = (open', rw (nothing_owed ms are_whole open') (λ _. refl))
 
 -- the last message says how many items are to come
-pub owed-snoc : (ms : List Message) (m : Message) → owed (ms ++ m ∷ []) ≡ m.left
-owed-snoc ms m = owed_from-append 0 ms (m ∷ [])
+pub owed_snoc : (ms : List Message) (m : Message) → owed (ms ++ m ∷ []) ≡ m.left
+owed_snoc ms m = owed_from_append 0 ms (m ∷ [])
 
 -- if items of a call are to come, the next message is the next of them
 pub next_item : (ms : List Message) (m : Message) (left : ℕ) → owed ms ≡ suc left → MayFollow ms m
@@ -107,30 +107,30 @@ pub next_close : (ms : List Message) (m : Message) → AreWhole ms → MayFollow
 next_close ms m are_whole may closes =
     let c = rw (nothing_owed ms are_whole may.0) at may.1 in c closes
 
-items-with_item : (left : ℕ) (x : Item) (calls : List (List Item))
+items_with_item : (left : ℕ) (x : Item) (calls : List (List Item))
     → items_of_calls (with_item left x calls) ≡ x ∷ items_of_calls calls
-items-with_item zero x calls = refl
-items-with_item (suc left) x [] = refl
-items-with_item (suc left) x (call ∷ calls) = refl
+items_with_item zero x calls = refl
+items_with_item (suc left) x [] = refl
+items_with_item (suc left) x (call ∷ calls) = refl
 
 items_if : (b : Bool) (x : Item) (left : ℕ) (calls : List (List Item)) (xs : List Item)
     → xs ≡ items_of_calls calls
     → (if b then [] else x ∷ xs) ≡ items_of_calls (if b then [] else with_item left x calls)
 items_if true x left calls xs is = refl
-items_if false x left calls xs is = ap (λ l. x ∷ l) is ∙ sym (items-with_item left x calls)
+items_if false x left calls xs is = ap (λ l. x ∷ l) is ∙ sym (items_with_item left x calls)
 
 -- the items that messages were sent for are those of the calls that they were sent for
-pub items-calls_of : (ms : List Message) → items_of ms ≡ items_of_calls (calls_of ms)
-items-calls_of [] = refl
-items-calls_of (m ∷ ms) =
-    items_if m.closes m.item m.left (calls_of ms) (items_of ms) (items-calls_of ms)
+pub items_calls_of : (ms : List Message) → items_of ms ≡ items_of_calls (calls_of ms)
+items_calls_of [] = refl
+items_calls_of (m ∷ ms) =
+    items_if m.closes m.item m.left (calls_of ms) (items_of ms) (items_calls_of ms)
 
 calls_of_closed : (past known : List Message) → AreWhole past → has_close_mark past ≡ true
     → calls_of (past ++ known) ≡ calls_of past
 calls_of_closed past known past_whole closed =
     ap (λ l. calls_of (l ++ known)) (closed_calls past past_whole closed)
     ∙ ap calls_of (append_assoc (messages_of_calls (calls_of past)) (close_mark ∷ []) known)
-    ∙ calls_of-calls (calls_of past) (close_mark ∷ known) (some-calls_of past)
+    ∙ calls_of_calls (calls_of past) (close_mark ∷ known) (some_calls_of past)
     ∙ append-nil (calls_of past)
 
 same_closed : (past all : List Message) → AreWhole past → AreWhole all → has_close_mark past ≡ true
@@ -143,7 +143,7 @@ same_closed past all past_whole all_whole past_closed all_closed calls =
 mark_stays : (past known : List Message) → has_close_mark past ≡ true
     → has_close_mark (past ++ known) ≡ true
 mark_stays past known closed =
-    close_mark-append past known ∙ ap (λ b. b || has_close_mark known) closed
+    close_mark_append past known ∙ ap (λ b. b || has_close_mark known) closed
 
 -- nothing follows a close mark
 pub nothing_behind : (past known : List Message) → AreWhole past → AreWhole (past ++ known)
@@ -156,8 +156,8 @@ leaves_open : (past known : List Message) → AreWhole past → has_close_mark p
     → LeavesItems (put_of (past ++ known)) (put_of past) (items_of known)
 leaves_open past known past_whole open' = record {
   rest = calls_of known;
-  calls = sym (ap (λ l. calls_of (l ++ known)) (open_calls past past_whole open') ∙ calls_of-calls (calls_of past) known (some-calls_of past));
-  items = items-calls_of known;
+  calls = sym (ap (λ l. calls_of (l ++ known)) (open_calls past past_whole open') ∙ calls_of_calls (calls_of past) known (some_calls_of past));
+  items = items_calls_of known;
   closed = λ e. absurd (false≢true (sym open' ∙ e));
 }
 

@@ -12,9 +12,9 @@ use Rattle.uring_entry.specs.Setup.{Setup}
 use Rattle.uring_entry.specs.IndexWords.{word_of}
 use Rattle.uring_entry.specs.Submission.{Submission, Place, Call, taken, staged, pending, dropped_in, place_of, entries_of, places_from, is_busy, with_filled, with_staged, with_published}
 use Rattle.uring_rings.specs.Sq.{Sq, IsSq, ShowsSubmission, words, progress}
-use Rattle.uring_rings.proofs.Elements.{slice_get-append_left, slice_get-append_right}
+use Rattle.uring_rings.proofs.Elements.{slice_get_append_left, slice_get_append_right}
 use Rattle.uring_rings.proofs.Counts.{distance_of_words, word_after, cells_after_write}
-use Rattle.uring_rings.proofs.SubmissionWords.{length-words, words-indexed, words-stored, size_limit, not_named}
+use Rattle.uring_rings.proofs.SubmissionWords.{length_words, words_indexed, words_stored, size_limit, not_named}
 
 -- the size of the set-up is a power of two
 pub size_power : (g : Setup) (q : Sq) (l : Submission) → IsSq q.size q.table q.array q.call
@@ -39,10 +39,10 @@ index_shows g q l d tail cell word i s small leads not_full is_tail is_cell =
     let size_fits : g.sq ≤ 2 ^ 32 = omega arith in
     let cells_length : length q.array ≡ g.sq = i.cells ∙ s.size in
     let cell_of_tail : cell ≡ (g.start + staged l) % 2 ^ 32 % g.sq = is_cell ∙ ap (λ (n : ℕ). q.tail % n) s.size ∙ ap (λ (n : ℕ). n % g.sq) s.tail in
-    let last : word ≡ get_or (words (with_staged l word)) (staged l) 0 = rw words-indexed (sym (get_or_push (words l) word 0 (staged l) (length-words l))) in
+    let last : word ≡ get_or (words (with_staged l word)) (staged l) 0 = rw words_indexed (sym (get_or_push (words l) word 0 (staged l) (length_words l))) in
     let before = λ (k : ℕ) (from : l.seen_head ≤ k) (to : k < staged l).
-    let within : k < length (words l) = rw length-words to in
-    s.cells k from to ∙ sym (ap (λ (ws : List ℕ). get_or ws k 0) (words-indexed l word) ∙ get_or_append_left (words l) (word ∷ []) 0 k within) in
+    let within : k < length (words l) = rw length_words to in
+    s.cells k from to ∙ sym (ap (λ (ws : List ℕ). get_or ws k 0) (words_indexed l word) ∙ get_or_append_left (words l) (word ∷ []) 0 k within) in
     let at_tail = is_tail ∙ ap (λ (w : ℕ). (w + 1) % 2 ^ 32) s.tail ∙ word_after g.start (staged l) 1 ∙ ap (λ (n : ℕ). (g.start + n) % 2 ^ 32) (sym grown) in
     let few : staged (with_staged l word) ≤ l.seen_head + g.sq = omega arith in
     let cells : (k : ℕ) → l.seen_head ≤ k → k < staged (with_staged l word) → get_or (set q.array cell word) (word_of g.start k % g.sq) 0 ≡ get_or (words (with_staged l word)) k 0 =
@@ -120,8 +120,8 @@ placed_both : (P : Place → Type 0) (xs ys : List Place) (low : ℕ)
     → (k : ℕ) (p : Place) → low ≤ k → slice_get (xs ++ ys) k ≡ Some p → P p
 placed_both P xs ys low first second k p from found =
     ⊎_elim
-    (λ (l : k < length xs). first k p from (sym (slice_get-append_left xs ys k l) ∙ found))
-    (λ (r : length xs ≤ k). second (k - length xs) p (sym (slice_get-append_right xs ys k r) ∙ found))
+    (λ (l : k < length xs). first k p from (sym (slice_get_append_left xs ys k l) ∙ found))
+    (λ (r : length xs ≤ k). second (k - length xs) p (sym (slice_get_append_right xs ys k r) ∙ found))
     (cases_lt k (length xs))
 
 -- everything staged is published
@@ -140,6 +140,6 @@ store_shows g q l s =
     let call = s.call ∙ progress_kept g.sq l l.call s.call_fits s.taken_first in
     let call_fits = fits_kept g.sq l l.call s.call_fits in
     let cells : (k : ℕ) → l.seen_head ≤ k → k < staged (with_published g.sq l) → get_or q.array (word_of g.start k % g.sq) 0 ≡ get_or (words (with_published g.sq l)) k 0 =
-    λ k from to. s.cells k from (omega arith) ∙ ap (λ (ws : List ℕ). get_or ws k 0) (sym (words-stored g.sq l)) in
+    λ k from to. s.cells k from (omega arith) ∙ ap (λ (ws : List ℕ). get_or ws k 0) (sym (words_stored g.sq l)) in
     let places = placed_both (λ (p : Place). p ≡ place_of g.sq l.content p.word) l.published xs l.seen_head s.places (placed_by g.sq l.content l.fresh) in
     assumption

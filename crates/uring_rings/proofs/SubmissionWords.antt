@@ -13,8 +13,8 @@ use Rattle.uring_rings.specs.Sq.{Sq, IsSq, ShowsSubmission, words}
 use Rattle.uring_rings.proofs.Counts.{word_after, distance_of_words}
 
 -- there are as many words as staged positions
-pub length-words : (l : Submission) → length (words l) ≡ staged l
-length-words l = simp (length-append, length-map)
+pub length_words : (l : Submission) → length (words l) ≡ staged l
+length_words l = simp (length-append, length-map)
 
 -- the word of a published position is its place's
 pub word_published : (l : Submission) (k : ℕ) (p : Place) → slice_get l.published k ≡ Some p
@@ -34,8 +34,8 @@ place_at l k within =
     (get_or l.published k none, slice_get-get_or l.published k none within)
 
 -- one more word is staged
-pub words-indexed : (l : Submission) (word : ℕ) → words (with_staged l word) ≡ words l ++ word ∷ []
-words-indexed l word =
+pub words_indexed : (l : Submission) (word : ℕ) → words (with_staged l word) ≡ words l ++ word ∷ []
+words_indexed l word =
     sym (append_assoc (map (λ (q : Place). q.word) l.published) l.fresh (word ∷ []))
 
 -- a place keeps its word
@@ -46,8 +46,8 @@ words_of_places size content (w ∷ ws) =
     ap (λ (vs : List ℕ). w ∷ vs) (words_of_places size content ws)
 
 -- publishing changes no word
-pub words-stored : (size : ℕ) (l : Submission) → words (with_published size l) ≡ words l
-words-stored size l =
+pub words_stored : (size : ℕ) (l : Submission) → words (with_published size l) ≡ words l
+words_stored size l =
     append-nil (map (λ (q : Place). q.word) (l.published ++ map (place_of size l.content) l.fresh))
     ∙ map-append (λ (q : Place). q.word) l.published (map (place_of size l.content) l.fresh)
     ∙ ap (λ (ws : List ℕ). map (λ (q : Place). q.word) l.published ++ ws) (words_of_places size l.content l.fresh)

@@ -4,9 +4,9 @@ use Rattle.std.proofs.lemmas.List.{take_more, length-take, get_or-take}
 use Rattle.uring_text.specs.Completions.{trimmed, before_others}
 
 -- a zero at the end doesn't count
-pub trimmed-zero : (bytes : List ℕ) → trimmed (bytes ++ 0 ∷ []) ≡ trimmed bytes
-trimmed-zero [] = refl
-trimmed-zero (b ∷ bytes) = ap (before_others b) (trimmed-zero bytes)
+pub trimmed_zero : (bytes : List ℕ) → trimmed (bytes ++ 0 ∷ []) ≡ trimmed bytes
+trimmed_zero [] = refl
+trimmed_zero (b ∷ bytes) = ap (before_others b) (trimmed_zero bytes)
 
 kept_before : (b : ℕ) (bytes : List ℕ) → 0 < length bytes → before_others b bytes ≡ b ∷ bytes
 kept_before zero [] h = absurd (omega arith)
@@ -25,12 +25,12 @@ same_last b c bytes e =
     rw at e
 
 -- bytes that don't end with a zero are whole
-pub trimmed-whole : (bytes : List ℕ)
+pub trimmed_whole : (bytes : List ℕ)
     → (0 < length bytes → get_or bytes (length bytes - 1) 0 ≡ 0 → ⊥) → trimmed bytes ≡ bytes
-trimmed-whole [] h = refl
-trimmed-whole (b ∷ []) h = alone b (λ e. h (omega arith) e)
-trimmed-whole (b ∷ c ∷ bytes) h =
-    let rest : trimmed (c ∷ bytes) ≡ c ∷ bytes = trimmed-whole (c ∷ bytes) (λ lt e. h (omega arith) (same_last b c bytes e)) in
+trimmed_whole [] h = refl
+trimmed_whole (b ∷ []) h = alone b (λ e. h (omega arith) e)
+trimmed_whole (b ∷ c ∷ bytes) h =
+    let rest : trimmed (c ∷ bytes) ≡ c ∷ bytes = trimmed_whole (c ∷ bytes) (λ lt e. h (omega arith) (same_last b c bytes e)) in
     rw rest (kept_before b (c ∷ bytes) (omega arith))
 
 -- a zero at the end is cut off
@@ -38,11 +38,11 @@ pub cut_zero : (bytes : List ℕ) (used : ℕ) → 0 < used → used ≤ length 
     → get_or bytes (used - 1) 0 ≡ 0 → trimmed (take (used - 1) bytes) ≡ trimmed (take used bytes)
 cut_zero bytes used lt le zero_is =
     let last : take used bytes ≡ take (used - 1) bytes ++ get_or bytes (used - 1) 0 ∷ [] = ap (λ (n : ℕ). take n bytes) (omega arith) ∙ take_more bytes (used - 1) 0 (omega arith) in
-    sym (ap trimmed last ∙ ap (λ (b : ℕ). trimmed (take (used - 1) bytes ++ b ∷ [])) zero_is ∙ trimmed-zero (take (used - 1) bytes))
+    sym (ap trimmed last ∙ ap (λ (b : ℕ). trimmed (take (used - 1) bytes ++ b ∷ [])) zero_is ∙ trimmed_zero (take (used - 1) bytes))
 
 -- no zero is left at the end
 pub cut_whole : (bytes : List ℕ) (used : ℕ) → used ≤ length bytes
     → (0 < used → get_or bytes (used - 1) 0 ≡ 0 → ⊥) → take used bytes ≡ trimmed (take used bytes)
 cut_whole bytes used le h =
     let size : length (take used bytes) ≡ used = omega (arith, length-take used bytes) in
-    sym (trimmed-whole (take used bytes) (λ lt e. h (omega arith) (sym (get_or-take used bytes (used - 1) 0 (omega arith)) ∙ ap (λ (n : ℕ). get_or (take used bytes) (n - 1) 0) (sym size) ∙ e)))
+    sym (trimmed_whole (take used bytes) (λ lt e. h (omega arith) (sym (get_or-take used bytes (used - 1) 0 (omega arith)) ∙ ap (λ (n : ℕ). get_or (take used bytes) (n - 1) 0) (sym size) ∙ e)))

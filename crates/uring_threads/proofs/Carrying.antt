@@ -15,7 +15,7 @@ use Rattle.uring_laws.specs.Direct.{with_told}
 use Rattle.uring_core.specs.declared.step.Step.TheVariants as step
 use Rattle.uring_core.specs.declared.answer.Answer.{Answer}
 use Rattle.uring_core.specs.declared.answer.Answer.TheVariants as answer
-use Rattle.uring_core.proofs.Following.{history_of-cons, history_of-append}
+use Rattle.uring_core.proofs.Following.{history_of_cons, history_of_append}
 use Rattle.uring_workers.specs.declared.job.Job.{Job}
 use Rattle.uring_workers.specs.declared.work_lanes.WorkLanes.{WorkLanes}
 use Rattle.uring_threads.specs.Collected.{Collects, CollectsSeen}
@@ -37,13 +37,13 @@ use Rattle.uring_threads.proofs.Collecting.{grown_history}
 
 -- A job that was sent is the last of its worker's, and of no other.
 
-jobs-own : (place : Op → ℕ) (k : ℕ) (jobs : List Job) (j : Job) → place j.op ≡ k
+jobs_own : (place : Op → ℕ) (k : ℕ) (jobs : List Job) (j : Job) → place j.op ≡ k
     → jobs_at place k (jobs ++ j ∷ []) ≡ jobs_at place k jobs ++ j ∷ []
-jobs-own place k jobs j own = filter-append (λ i. place i.op == k) jobs (j ∷ []) ∙ ap (λ (b : Bool). jobs_at place k jobs ++ cond b (j ∷ []) []) (eq-eqb (place j.op) k own)
+jobs_own place k jobs j own = filter-append (λ i. place i.op == k) jobs (j ∷ []) ∙ ap (λ (b : Bool). jobs_at place k jobs ++ cond b (j ∷ []) []) (eq-eqb (place j.op) k own)
 
-jobs-other : (place : Op → ℕ) (k : ℕ) (jobs : List Job) (j : Job) → place j.op ≢ k
+jobs_other : (place : Op → ℕ) (k : ℕ) (jobs : List Job) (j : Job) → place j.op ≢ k
     → jobs_at place k (jobs ++ j ∷ []) ≡ jobs_at place k jobs
-jobs-other place k jobs j other = filter-append (λ i. place i.op == k) jobs (j ∷ []) ∙ ap (λ (b : Bool). jobs_at place k jobs ++ cond b (j ∷ []) []) (ne_eqb (place j.op) k other) ∙ append-nil (jobs_at place k jobs)
+jobs_other place k jobs j other = filter-append (λ i. place i.op == k) jobs (j ∷ []) ∙ ap (λ (b : Bool). jobs_at place k jobs ++ cond b (j ∷ []) []) (ne_eqb (place j.op) k other) ∙ append-nil (jobs_at place k jobs)
 
 -- Nothing is sent or taken in by an event that starts no request and takes in no result.
 
@@ -64,8 +64,8 @@ quiet_events g (e ∷ later) h none idle =
     let results = sum_by-append (λ x. cond (takes_result x) 1 0) (e ∷ []) later in
     let here = quiet_event (world g h) e (omega (arith, none, issues)) (omega (arith, idle, results)) in
     let next = quiet_events g later (e ∷ h) (omega (arith, none, issues)) (omega (arith, idle, results)) in (
-      ap (jobs_in g) (history_of-cons e later h) ∙ next.0 ∙ ap (with_told (jobs_in g h)) here.0,
-      ap (done_in g) (history_of-cons e later h) ∙ next.1 ∙ ap (with_told (done_in g h)) here.1,
+      ap (jobs_in g) (history_of_cons e later h) ∙ next.0 ∙ ap (with_told (jobs_in g h)) here.0,
+      ap (done_in g) (history_of_cons e later h) ∙ next.1 ∙ ap (with_told (done_in g h)) here.1,
     )
 
 -- the jobs sent and the operations done stay
@@ -80,7 +80,7 @@ pub quiet_stays : (a b : Kept) (t : Tally) → Appends a b t → t.issues ≡ 0 
     → WorkStays a b
 quiet_stays a b t p none idle =
     let g : Setup = a.setup in
-    let told_so : history b ≡ history_of p.events ++ history a = ap history_of p.trace ∙ sym (append-nil (history_of (a.trace ++ p.events))) ∙ history_of-append a.trace p.events [] ∙ ap (λ h. history_of p.events ++ h) (append-nil (history a)) in
+    let told_so : history b ≡ history_of p.events ++ history a = ap history_of p.trace ∙ sym (append-nil (history_of (a.trace ++ p.events))) ∙ history_of_append a.trace p.events [] ∙ ap (λ h. history_of p.events ++ h) (append-nil (history a)) in
     let quiet = quiet_events g p.events (history a) (ap (λ (u : Tally). u.issues) p.tally ∙ none) (ap (λ (u : Tally). u.finishes) p.tally ∙ idle) in
     record {
       jobs = λ workers k. ap₂ (λ (s : Setup) h. jobs_to s workers k h) p.setup told_so ∙ ap (jobs_at (place_of workers g.files) k) quiet.0;
@@ -144,13 +144,13 @@ carried_run a b n place op old new issued carried at low many was_sent others = 
       | inl here ↦
           let s : IsSent j (get_or old k d) (get_or new k d) = subst (λ i. IsSent j (get_or old i d) (get_or new i d)) (sym here) (was_sent d) in
           record {
-            jobs = s.jobs ∙ ap (λ js. js ++ j ∷ []) before.jobs ∙ sym (jobs-own (place_of (length old) g.files) k (jobs_in g (history a)) j (sym at ∙ sym here)) ∙ sym jobs;
+            jobs = s.jobs ∙ ap (λ js. js ++ j ∷ []) before.jobs ∙ sym (jobs_own (place_of (length old) g.files) k (jobs_in g (history a)) j (sym at ∙ sym here)) ∙ sym jobs;
             results = ap (λ r. results_received (record (get_or old k d) { results = r })) s.results ∙ before.results ∙ ap results_of (sym done);
           }
       | inr other ↦
           let same : get_or new k d ≡ get_or old k d = others k d within' other in
           record {
-            jobs = ap (λ (l : WorkLanes). jobs_sent l) same ∙ before.jobs ∙ sym (jobs-other (place_of (length old) g.files) k (jobs_in g (history a)) j (λ e. other (sym e ∙ sym at))) ∙ sym jobs;
+            jobs = ap (λ (l : WorkLanes). jobs_sent l) same ∙ before.jobs ∙ sym (jobs_other (place_of (length old) g.files) k (jobs_in g (history a)) j (λ e. other (sym e ∙ sym at))) ∙ sym jobs;
             results = ap (λ (l : WorkLanes). results_received l) same ∙ before.results ∙ ap results_of (sym done);
           }
     ]

@@ -14,9 +14,9 @@ use Rattle.uring_threads.specs.declared.intake.Intake.{Intake}
 use Rattle.uring_threads.specs.declared.intake.Intake.TheVariants as intake
 
 -- closes of two lists of events
-pub closes-append : (es fs : List Event)
+pub closes_append : (es fs : List Event)
     → count_by closes_ring (es ++ fs) ≡ count_by closes_ring es + count_by closes_ring fs
-closes-append es fs = sum_by-append (λ e. cond (closes_ring e) 1 0) es fs
+closes_append es fs = sum_by-append (λ e. cond (closes_ring e) 1 0) es fs
 
 -- nothing was appended, or nothing that closes
 pub once_unmoved : (a b : Kept) (i : Intake) → IsUnmoved a b → ClosesOnce a i → ClosesOnce b i
@@ -25,7 +25,7 @@ once_unmoved a b i u once = ap (count_by closes_ring) u.trace ∙ once
 pub once_stays : (a b : Kept) (t : Tally) (i : Intake) → Appends a b t → t.closes ≡ 0
     → ClosesOnce a i → ClosesOnce b i
 once_stays a b t i p none once =
-    ap (count_by closes_ring) p.trace ∙ closes-append a.trace p.events ∙ ap (λ n. count_by closes_ring a.trace + n) (ap (λ (u : Tally). u.closes) p.tally ∙ none) ∙ omega arith ∙ once
+    ap (count_by closes_ring) p.trace ∙ closes_append a.trace p.events ∙ ap (λ n. count_by closes_ring a.trace + n) (ap (λ (u : Tally). u.closes) p.tally ∙ none) ∙ omega arith ∙ once
 
 -- a call was begun
 not_shut : (a : Kept) (count : _) (b : Begun) → ClosesOnce a intake.Ready
@@ -43,4 +43,4 @@ once_begun a b t i count x p none ready once =
 -- the close mark was pulled
 pub once_shut : (a b : Kept) (x : Answer) → Grows a b (step.Close, x) → ClosesOnce a intake.Ready
     → ClosesOnce b intake.Closed
-once_shut a b x g once = ap (count_by closes_ring) g.trace ∙ closes-append a.trace ((step.Close, x) ∷ []) ∙ ap (λ n. n + 1) once
+once_shut a b x g once = ap (count_by closes_ring) g.trace ∙ closes_append a.trace ((step.Close, x) ∷ []) ∙ ap (λ n. n + 1) once

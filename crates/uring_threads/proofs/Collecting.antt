@@ -7,7 +7,7 @@ use Rattle.std.proofs.lemmas.List.{map-append, length_push}
 use Rattle.uring_entry.specs.Preparation.{operation_of}
 use Rattle.uring_entry.specs.Requests.{entry_of, is_running, with_ended}
 use Rattle.uring_entry.specs.Setup.{Setup}
-use Rattle.uring_entry.proofs.RequestLemmas.{is_running-ended_same, is_running-ended_other}
+use Rattle.uring_entry.proofs.RequestLemmas.{is_running_ended_same, is_running_ended_other}
 use Rattle.uring_entry.specs.declared.operation.Outcome.{Outcome}
 use Rattle.uring_core.specs.Core.{IsFinished}
 use Rattle.uring_core.specs.World.{World}
@@ -17,7 +17,7 @@ use Rattle.uring_core.specs.Histories.{Event, history_of, IsLawfulApart}
 use Rattle.uring_core.specs.declared.step.Step.TheVariants as step
 use Rattle.uring_core.specs.declared.answer.Answer.{Answer}
 use Rattle.uring_core.specs.declared.answer.Answer.TheVariants as answer
-use Rattle.uring_core.proofs.Following.{history_of-snoc}
+use Rattle.uring_core.proofs.Following.{history_of_snoc}
 use Rattle.uring_workers.specs.declared.job.JobResult.{JobResult}
 use Rattle.uring_threads.specs.Collected.{CanBeTaken, OthersStay, Collects, CollectsNext, CollectsSeen, NextStays, NoneComes, TakesNext, Wait}
 use Rattle.uring_threads.specs.Dispatched.{AreTakenIn}
@@ -27,7 +27,7 @@ use Rattle.uring_threads.specs.Settled.{IsWork, IsTakenIn, finish_of}
 use Rattle.uring_workers.specs.Work.{place_of, result_of, results_of}
 use Rattle.uring_threads.specs.Dealt.{jobs_to, done_by_worker}
 use Rattle.uring_threads.specs.Tallies.{finishes_counted, results_taken_in}
-use Rattle.uring_threads.proofs.LeftAt.{done-own, done-other}
+use Rattle.uring_threads.proofs.LeftAt.{done_by_own, done_other}
 use Rattle.uring_threads.proofs.Posting.{posts_none, posts_then, end_posts}
 use Rattle.uring_threads.proofs.Recording.{records_none, records_one, finishes_then}
 use Rattle.uring_threads.proofs.Settling.{results_run}
@@ -35,7 +35,7 @@ use Rattle.uring_threads.proofs.TraceSteps.{grown, appends_none, appends_one, ap
 
 -- the history of a trace that is one event longer
 pub grown_history : (a b : Kept) (e : Event) → Grows a b e → history b ≡ e ∷ history a
-grown_history a b e grows = ap history_of grows.trace ∙ history_of-snoc a.trace e
+grown_history a b e grows = ap history_of grows.trace ∙ history_of_snoc a.trace e
 
 -- a request that runs is ended
 pub ends_running : (a : Kept) (n : ℕ) (outcome : Outcome) (x : Answer)
@@ -60,13 +60,13 @@ module _ (a b : Kept) (workers place : ℕ) (r : JobResult) (can : CanBeTaken a 
   result_taken results taken =
       ap (λ rs. rs ++ r ∷ []) taken
       ∙ sym (map-append result_of (done_by_worker a.setup workers place (history a)) (end ∷ []))
-      ∙ ap results_of (sym (ap₂ (λ g h. done_by_worker g workers place h) grows.setup (grown_history a b (finish_of r) grows) ∙ done-own (place_of workers a.setup.files) place (done_in a.setup (history a)) end can.own))
+      ∙ ap results_of (sym (ap₂ (λ g h. done_by_worker g workers place h) grows.setup (grown_history a b (finish_of r) grows) ∙ done_by_own (place_of workers a.setup.files) place (done_in a.setup (history a)) end can.own))
 
   -- so this worker's are one more
   pub one_taken_in : results_taken_in workers place b ≡ results_taken_in workers place a + 1
   unfolding end
   one_taken_in =
-      ap length (ap₂ (λ g h. done_by_worker g workers place h) grows.setup (grown_history a b (finish_of r) grows) ∙ done-own (place_of workers a.setup.files) place (done_in a.setup (history a)) end can.own)
+      ap length (ap₂ (λ g h. done_by_worker g workers place h) grows.setup (grown_history a b (finish_of r) grows) ∙ done_by_own (place_of workers a.setup.files) place (done_in a.setup (history a)) end can.own)
       ∙ length_push (done_by_worker a.setup workers place (history a)) end
 
   pub others_stay : OthersStay a b workers place
@@ -75,7 +75,7 @@ module _ (a b : Kept) (workers place : ℕ) (r : JobResult) (can : CanBeTaken a 
       record {
         jobs = λ k. ap₂ (λ g h. jobs_to g workers k h) grows.setup (grown_history a b (finish_of r) grows);
         results = λ k other. ap₂ (λ g h. done_by_worker g workers k h) grows.setup (grown_history a b (finish_of r) grows)
-            ∙ done-other (place_of workers a.setup.files) k (done_in a.setup (history a)) end (λ same. other (sym same ∙ can.own));
+            ∙ done_other (place_of workers a.setup.files) k (done_in a.setup (history a)) end (λ same. other (sym same ∙ can.own));
       }
 
 -- what was seen first is what is popped
@@ -130,8 +130,8 @@ end_comes a b workers r grows = λ k number can.
     let runs : is_running (with_ended (now a).requests n res bytes) number ≡ true = subst (λ (w : World). is_running w.requests number ≡ true) ended can.runs in
     record {
       runs = elim (cases_eq number n) [
-        | inl same ↦ absurd (both_ways _ (ap (is_running (with_ended (now a).requests n res bytes)) same ∙ is_running-ended_same (now a).requests n res bytes) runs)
-        | inr other ↦ sym (is_running-ended_other (now a).requests n res bytes number other) ∙ runs
+        | inl same ↦ absurd (both_ways _ (ap (is_running (with_ended (now a).requests n res bytes)) same ∙ is_running_ended_same (now a).requests n res bytes) runs)
+        | inr other ↦ sym (is_running_ended_other (now a).requests n res bytes number other) ∙ runs
       ];
       own = sym (ap₂ (λ (g : Setup) (w : World). place_of workers g.files (operation_of (entry_of w.requests number))) grows.setup ended) ∙ can.own;
     }

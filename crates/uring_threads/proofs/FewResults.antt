@@ -10,7 +10,7 @@ use Rattle.uring_laws.specs.Finishes.{done_in, done_by}
 use Rattle.uring_core.specs.Histories.{Event, History, world, history_of}
 use Rattle.uring_core.specs.World.{World}
 use Rattle.uring_core.specs.declared.step.Step.TheVariants as step
-use Rattle.uring_core.proofs.Following.{history_of-cons, history_of-append}
+use Rattle.uring_core.proofs.Following.{history_of_cons, history_of_append}
 use Rattle.uring_workers.specs.WorkLanes.{results_seen}
 use Rattle.uring_threads.specs.Collected.{Collects, CollectsFew, CollectsSeen, NextStays, NoneComes, OtherLanesStay, SeesNoMore, TakesSeen}
 use Rattle.uring_workers.specs.WorkLanes.{AreSameLanes}
@@ -33,13 +33,13 @@ no_results g [] h none = refl
 no_results g (e ∷ later) h none =
     let both = sum_by-append (λ x. cond (takes_result x) 1 0) (e ∷ []) later in
     let here : done_by (world g h) e ≡ None = no_result (world g h) e (omega (arith, none, both)) in
-    ap (done_in g) (history_of-cons e later h) ∙ no_results g later (e ∷ h) (omega (arith, none, both)) ∙ ap (with_told (done_in g h)) here
+    ap (done_in g) (history_of_cons e later h) ∙ no_results g later (e ∷ h) (omega (arith, none, both)) ∙ ap (with_told (done_in g h)) here
 
 -- by events none of which takes one in
 pub none_taken_in : (a b : Kept) (t : Tally) → Appends a b t → t.finishes ≡ 0 → (workers k : ℕ)
     → results_taken_in workers k b ≡ results_taken_in workers k a
 none_taken_in a b t p none workers k =
-    let told_so : history b ≡ history_of p.events ++ history a = ap history_of p.trace ∙ sym (append-nil (history_of (a.trace ++ p.events))) ∙ history_of-append a.trace p.events [] ∙ ap (λ h. history_of p.events ++ h) (append-nil (history a)) in
+    let told_so : history b ≡ history_of p.events ++ history a = ap history_of p.trace ∙ sym (append-nil (history_of (a.trace ++ p.events))) ∙ history_of_append a.trace p.events [] ∙ ap (λ h. history_of p.events ++ h) (append-nil (history a)) in
     let same : done_in a.setup (history_of p.events ++ history a) ≡ done_in a.setup (history a) = no_results a.setup p.events (history a) (ap (λ (u : Tally). u.finishes) p.tally ∙ none) in
     ap length (ap₂ (λ (s : Setup) h. done_by_worker s workers k h) p.setup told_so ∙ ap (filter (λ d. place_of workers a.setup.files d.op == k)) same)
 

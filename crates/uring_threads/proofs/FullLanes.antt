@@ -10,7 +10,7 @@ use Rattle.uring_core.specs.Histories.{Event, History, world, history_of}
 use Rattle.uring_core.specs.World.{World}
 use Rattle.uring_core.specs.declared.step.Step.TheVariants as step
 use Rattle.uring_core.specs.declared.answer.Answer.TheVariants as answer
-use Rattle.uring_core.proofs.Following.{history_of-cons}
+use Rattle.uring_core.proofs.Following.{history_of_cons}
 use Rattle.uring_threads.specs.Dispatched.{HaveCarried}
 use Rattle.uring_workers.specs.WorkLanes.{HoldJobs, HoldResults, AreSameLanes, SomeIsFull}
 use Rattle.uring_threads.specs.Kept.{Kept, now, history}
@@ -22,13 +22,13 @@ use Rattle.uring_workers.proofs.LaneFacts.{lane_full}
 use Rattle.uring_workers.specs.declared.job.Job.{Job}
 use Rattle.uring_threads.specs.declared.turns.Turn.{Turn}
 use Rattle.uring_workers.specs.declared.work_lanes.WorkLanes.{WorkLanes}
-use Rattle.uring_threads.proofs.Times.{times, times-append, times-counts}
+use Rattle.uring_threads.proofs.Times.{times, times_append, times_counts}
 
 -- a history counts what its events do
 times_history : (p : Event → Bool) (events : List Event)
     → times p (history_of events) ≡ times p events
 times_history p [] = refl
-times_history p (e ∷ later) = omega (arith, ap (times p) (history_of-cons e later []), times-append p (history_of (e ∷ later)) [], times-append p (history_of later) (e ∷ []), times_history p later)
+times_history p (e ∷ later) = omega (arith, ap (times p) (history_of_cons e later []), times_append p (history_of (e ∷ later)) [], times_append p (history_of later) (e ∷ []), times_history p later)
 
 -- each request that starts sends a job
 told_length : (w : World) (jobs : List Job) (e : Event)
@@ -54,7 +54,7 @@ some_full k (d ∷ lanes) carried hold full =
       count_by-le-length at (jobs_in k.setup (history k)),
       jobs_count k.setup (history k),
       times_history starts_request k.trace,
-      times-counts starts_request k.trace,
+      times_counts starts_request k.trace,
     )
 
 -- the same lanes hold as many jobs

@@ -3,8 +3,8 @@ use Rattle.std.proofs.Common.{◌≡◌, ℕ, true, List, Some, None, length, �
 use Rattle.std.proofs.lemmas.Bool.{and_parts}
 use Rattle.uring_entry.specs.Preparation.{operation_of}
 use Rattle.uring_entry.specs.Requests.{Requests, entry_of, is_running, is_issuable, next_of, operation_running}
-use Rattle.uring_entry.proofs.RequestLemmas.{is_running-started_same}
-use Rattle.uring_entry.proofs.BelowLemmas.{least_below-tells}
+use Rattle.uring_entry.proofs.RequestLemmas.{is_running_started_same}
+use Rattle.uring_entry.proofs.BelowLemmas.{least_below_tells}
 use Rattle.uring_core.specs.StepAnswers.{CalledForApart, IsEnded, IsIssued}
 use Rattle.uring_core.proofs.Issuable.{issue_goes, issued_ends}
 use Rattle.uring_core.proofs.SoundRequests.{outstanding_tells}
@@ -16,7 +16,7 @@ use Rattle.uring_threads.proofs.TraceSteps.{grown}
 
 -- the next can be issued
 next_issuable : (r : Requests) (n : ℕ) → next_of r ≡ Some n → is_issuable r n ≡ true
-next_issuable r n next = (least_below-tells (is_issuable r) (length r.accepted) n next).holds
+next_issuable r n next = (least_below_tells (is_issuable r) (length r.accepted) n next).holds
 
 -- its Issue is answered in one of two ways
 pub issue_cases : (a : Kept) (n : ℕ) (x : Answer) → next_of (now a).requests ≡ Some n
@@ -34,6 +34,6 @@ pub started_runs : (a b : Kept) (n : ℕ) → next_of (now a).requests ≡ Some 
 started_runs a b n next grows none =
     let waits = and_parts _ _ (and_parts _ _ (next_issuable (now a).requests n next)).0 in
     let unended = (outstanding_tells (now a).requests n waits.0).1 in
-    let runs : is_running (now b).requests n ≡ true = ap (λ w. is_running w.requests n) (grown a b (step.Issue n) answer.Run grows) ∙ is_running-started_same (now a).requests n unended in
+    let runs : is_running (now b).requests n ≡ true = ap (λ w. is_running w.requests n) (grown a b (step.Issue n) answer.Run grows) ∙ is_running_started_same (now a).requests n unended in
     let some : operation_running (now b).requests n ≡ Some (operation_of (entry_of (now b).requests n)) = ap (λ x. cond x (Some (operation_of (entry_of (now b).requests n))) None) runs in
     absurd (let no : None ≡ Some (operation_of (entry_of (now b).requests n)) = sym none ∙ some in cc)

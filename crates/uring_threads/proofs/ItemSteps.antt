@@ -26,11 +26,11 @@ items_stand l slot (bad_word word ∷ later) s =
     (next.0, omega (arith, next.1, length_push l.fresh word))
 
 -- the last item is put last
-with_items-snoc : (l : Submission) (slot : ℕ) (items : List Published) (item : Published)
+with_items_snoc : (l : Submission) (slot : ℕ) (items : List Published) (item : Published)
     → with_items l slot (items ++ item ∷ [])
     ≡ with_item (with_items l slot items) (slot + length items) item
-with_items-snoc l slot [] item = ap (λ s. with_item l s item) (omega arith)
-with_items-snoc l slot (first ∷ later) item = with_items-snoc (with_item l slot first) (slot + 1) later item ∙ ap (λ s. with_item (with_items (with_item l slot first) (slot + 1) later) s item) (omega arith)
+with_items_snoc l slot [] item = ap (λ s. with_item l s item) (omega arith)
+with_items_snoc l slot (first ∷ later) item = with_items_snoc (with_item l slot first) (slot + 1) later item ∙ ap (λ s. with_item (with_items (with_item l slot first) (slot + 1) later) s item) (omega arith)
 
 -- so many items are put, and the ring stands
 pub put_stands : (w : World) (items : List Item) (i : ℕ) → Stands w.submission [] 0
@@ -51,7 +51,7 @@ items_more w items i slot item at within is =
     let before : List Published = all_published_as (take i items) in
     let many : slot ≡ 0 + length before = omega (arith, at, length-map (take i items) published_as, length-take-le i items (omega arith)) in
     rw (take_more items i item within, ← is)
-    (ap (on_submission w) (ap (λ s. with_item (with_items w.submission 0 before) s (published_as item)) many ∙ sym (with_items-snoc w.submission 0 before (published_as item)) ∙ ap (with_items w.submission 0) (sym (map-append published_as (take i items) (item ∷ [])))))
+    (ap (on_submission w) (ap (λ s. with_item (with_items w.submission 0 before) s (published_as item)) many ∙ sym (with_items_snoc w.submission 0 before (published_as item)) ∙ ap (with_items w.submission 0) (sym (map-append published_as (take i items) (item ∷ [])))))
 
 -- a store of the tail published them, and so many positions wait
 pub published_now : (a b : Kept) (w : World) (items : List Item) (x : Answer)

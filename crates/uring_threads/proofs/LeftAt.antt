@@ -16,7 +16,7 @@ use Rattle.uring_core.proofs.Sound.{sound_of}
 use Rattle.uring_workers.specs.declared.job.Job.{Job}
 use Rattle.uring_threads.specs.Dealt.{job_in, jobs_in, jobs_at}
 use Rattle.uring_workers.specs.Work.{jobs_of}
-use Rattle.uring_threads.proofs.Times.{times, times-append, times-counts, times-some, times-any, none_passes}
+use Rattle.uring_threads.proofs.Times.{times, times_append, times_counts, times_some, times_any, none_passes}
 use Rattle.uring_threads.proofs.Sent.{jobs_are_starts, AreOf, done_is_of, carried_out, done_ended}
 
 -- the operation of a request, where these entries were accepted
@@ -71,10 +71,10 @@ done_own place k n accepted (d ∷ ds) all own =
           omega (arith, rest)
 
 -- jobs have the numbers of their operations
-pub jobs-times : (n : ℕ) (ds : List Done)
+pub jobs_times : (n : ℕ) (ds : List Done)
     → times (λ j. j.number == n) (jobs_of ds) ≡ times (λ d. d.number == n) ds
-jobs-times n [] = refl
-jobs-times n (d ∷ ds) = omega (arith, jobs-times n ds)
+jobs_times n [] = refl
+jobs_times n (d ∷ ds) = omega (arith, jobs_times n ds)
 
 -- What is left.
 
@@ -83,7 +83,7 @@ module _ (g : Setup) (h : History) (lawful : IsLawfulApart g h) (place : Op → 
   sent_times : (n : ℕ) → times (λ j. j.number == n) (jobs_at place k (map (job_in (world g h).requests) (world g h).requests.started)) ≡ times (λ d. d.number == n) (done_at place k (done_in g h)) + times (λ j. j.number == n) later
   sent_times n =
       ap (λ js. times (λ j. j.number == n) (jobs_at place k js)) (sym (jobs_are_starts g h lawful)) ∙ ap (times (λ j. j.number == n)) all
-      ∙ times-append (λ (j : Job). j.number == n) (jobs_of (done_at place k (done_in g h))) later ∙ ap (λ m. m + times (λ j. j.number == n) later) (jobs-times n (done_at place k (done_in g h)))
+      ∙ times_append (λ (j : Job). j.number == n) (jobs_of (done_at place k (done_in g h))) later ∙ ap (λ m. m + times (λ j. j.number == n) later) (jobs_times n (done_at place k (done_in g h)))
 
   -- what is left is the place's own
   pub left_own : (n : ℕ) → 1 ≤ times (λ j. j.number == n) later
@@ -102,8 +102,8 @@ module _ (g : Setup) (h : History) (lawful : IsLawfulApart g h) (place : Op → 
       let own = left_own n some in
       let sent = sent_own place k n r r.started own in
       let once = (sound_of g h lawful).requests.starts_once n in
-      let started : has_started r n ≡ true = times-any (λ m. m == n) r.started (omega (arith, sent_times n)) in
-      running r n started (λ ended. absurd (omega (arith, sent_times n, times-counts (λ m. m == n) r.started, carried_out g h lawful n started ended, done_own place k n r.accepted (done_in g h) (done_is_of g h lawful) own))) where
+      let started : has_started r n ≡ true = times_any (λ m. m == n) r.started (omega (arith, sent_times n)) in
+      running r n started (λ ended. absurd (omega (arith, sent_times n, times_counts (λ m. m == n) r.started, carried_out g h lawful n started ended, done_own place k n r.accepted (done_in g h) (done_is_of g h lawful) own))) where
         running : (r : Requests) (n : ℕ) → has_started r n ≡ true → (has_ended r n ≡ true → ⊥) → is_running r n ≡ true
         running r n started open_end = ap (λ b. b && not (has_ended r n)) started ∙ ap not (false_from_ne_true _ open_end)
 
@@ -114,7 +114,7 @@ module _ (g : Setup) (h : History) (lawful : IsLawfulApart g h) (place : Op → 
       let r : Requests = (world g h).requests in
       let parts = and_parts _ _ running in
       let here = eq-eqb _ _ own in
-      let some = times-some (λ m. m == n) r.started parts.0 in
+      let some = times_some (λ m. m == n) r.started parts.0 in
       let sent = sent_own place k n r r.started here in
       let fewer = done_ended g h lawful n in
       let none = none_ended r n (not-true _ parts.1) in
@@ -124,13 +124,13 @@ module _ (g : Setup) (h : History) (lawful : IsLawfulApart g h) (place : Op → 
 
 -- Operations of a place, with one more carried out.
 
-pub done-own : (place : Op → ℕ) (k : ℕ) (ds : List Done) (d : Done) → place d.op ≡ k
+pub done_by_own : (place : Op → ℕ) (k : ℕ) (ds : List Done) (d : Done) → place d.op ≡ k
     → done_at place k (ds ++ d ∷ []) ≡ done_at place k ds ++ d ∷ []
-done-own place k ds d own = filter-append (λ (x : Done). place x.op == k) ds (d ∷ []) ∙ ap (λ b. done_at place k ds ++ cond b (d ∷ []) []) (eq-eqb _ _ own)
+done_by_own place k ds d own = filter-append (λ (x : Done). place x.op == k) ds (d ∷ []) ∙ ap (λ b. done_at place k ds ++ cond b (d ∷ []) []) (eq-eqb _ _ own)
 
-pub done-other : (place : Op → ℕ) (k : ℕ) (ds : List Done) (d : Done) → place d.op ≢ k
+pub done_other : (place : Op → ℕ) (k : ℕ) (ds : List Done) (d : Done) → place d.op ≢ k
     → done_at place k (ds ++ d ∷ []) ≡ done_at place k ds
-done-other place k ds d other =
+done_other place k ds d other =
     filter-append (λ (x : Done). place x.op == k) ds (d ∷ [])
     ∙ ap (λ b. done_at place k ds ++ cond b (d ∷ []) []) (false_from_ne_true _ (λ same. other (eqb-true _ _ same)))
     ∙ append-nil (done_at place k ds)

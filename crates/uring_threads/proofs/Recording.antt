@@ -38,12 +38,12 @@ pub records_more : (a b c : Kept) (s : Step) (n : ℕ) (x : Answer) → Records 
     → Grows b c (s, x) → Records a c (replicate (n + 1) s)
 records_more a b c s n x p g = records_then a b c (replicate n s) (s ∷ []) p (records_one b c s x g) ∙ ap (λ zs. steps_of a ++ zs) (replicate_more n s)
 
-items_row-snoc : (slot : ℕ) (items : List Item) (item : Item)
+items_row_snoc : (slot : ℕ) (items : List Item) (item : Item)
     → items_row slot (items ++ item ∷ [])
     ≡ items_row slot items ++ item_row (slot + length items) item
-items_row-snoc slot [] item = append-nil (item_row slot item) ∙ ap (λ s. item_row s item) (omega arith)
-items_row-snoc slot (first ∷ later) item =
-    ap (λ zs. item_row slot first ++ zs) (items_row-snoc (slot + 1) later item)
+items_row_snoc slot [] item = append-nil (item_row slot item) ∙ ap (λ s. item_row s item) (omega arith)
+items_row_snoc slot (first ∷ later) item =
+    ap (λ zs. item_row slot first ++ zs) (items_row_snoc (slot + 1) later item)
     ∙ sym (append_assoc (item_row slot first) (items_row (slot + 1) later) (item_row (slot + 1 + length later) item))
     ∙ ap (λ s. (item_row slot first ++ items_row (slot + 1) later) ++ item_row s item) (omega arith)
 
@@ -55,7 +55,7 @@ items_recorded a b c items i slot item at within is p q =
     let many : slot ≡ 0 + length (take i items) = omega (arith, at, length-take-le i items (omega arith)) in
     rw (take_more items i item within, ← is)
     (records_then a b c (items_row 0 (take i items)) (item_row slot item) p q
-    ∙ ap (λ zs. steps_of a ++ zs) (ap (λ s. items_row 0 (take i items) ++ item_row s item) many ∙ sym (items_row-snoc 0 (take i items) item)))
+    ∙ ap (λ zs. steps_of a ++ zs) (ap (λ s. items_row 0 (take i items) ++ item_row s item) many ∙ sym (items_row_snoc 0 (take i items) item)))
 
 -- a call that opened: it took all its positions, closed, and the application loaded the head
 pub call_recorded : (a b c d e : Kept) (n : ℕ) (x y z : Answer) → Grows a b (step.Begin n, x)

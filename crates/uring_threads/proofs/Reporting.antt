@@ -24,7 +24,7 @@ use Rattle.uring_entry.specs.Setup.{Setup}
 use Rattle.uring_entry.specs.Submission.{Submission, taken, published_items, IsItem}
 use Rattle.uring_core.specs.Histories.{Event, world, history_of}
 use Rattle.uring_core.specs.World.{World}
-use Rattle.uring_core.proofs.Following.{history_of-snoc}
+use Rattle.uring_core.proofs.Following.{history_of_snoc}
 use Rattle.uring_threads.specs.Delivered.{OnlyPosts}
 use Rattle.uring_threads.specs.Turns.{IsDelivered, Tied, ClosesOnce, waiting_in, is_shut}
 use Rattle.uring_threads.specs.Kernel.{Kernel, IsKernel}
@@ -40,10 +40,10 @@ use Rattle.uring_threads.specs.declared.intake.Intake.TheVariants as intake
 use Rattle.uring_workers.specs.declared.job.Job.{Job}
 use Rattle.uring_workers.specs.declared.job.JobResult.{JobResult}
 use Rattle.uring_workers.specs.declared.work_lanes.WorkLanes.{WorkLanes}
-use Rattle.uring_threads.proofs.Closing.{closes-append}
+use Rattle.uring_threads.proofs.Closing.{closes_append}
 use Rattle.uring_threads.proofs.Posting.{posts_none, posts_then, end_posts}
 use Rattle.uring_threads.proofs.SameEnds.{together_same}
-use Rattle.uring_threads.proofs.Times.{times, times-counts}
+use Rattle.uring_threads.proofs.Times.{times, times_counts}
 use Rattle.uring_threads.proofs.Tying.{all_first}
 
 -- Finishes leave the rings, but for what is posted.
@@ -54,7 +54,7 @@ finishes_post g events [] = subst (λ es. OnlyPosts (world g (history_of events)
 finishes_post g events (r ∷ rs) =
     let w : World = world g (history_of events) in
     let p = end_posts g.cq w.completions (entry_of w.requests r.number) r.outcome.res r.outcome.bytes in
-    let one : OnlyPosts w (world g (history_of (events ++ finish_of r ∷ []))) = subst (λ h. OnlyPosts w (world g h)) (sym (history_of-snoc events (finish_of r))) (record { submission = refl; accepted = refl; is_closed = refl; reaped = p.0; head = p.1 }) in
+    let one : OnlyPosts w (world g (history_of (events ++ finish_of r ∷ []))) = subst (λ h. OnlyPosts w (world g h)) (sym (history_of_snoc events (finish_of r))) (record { submission = refl; accepted = refl; is_closed = refl; reaped = p.0; head = p.1 }) in
     subst (λ es. OnlyPosts w (world g (history_of es))) (append_assoc events (finish_of r ∷ []) (map finish_of rs))
     (posts_then w (world g (history_of (events ++ finish_of r ∷ []))) (world g (history_of ((events ++ finish_of r ∷ []) ++ map finish_of rs))) one (finishes_post g (events ++ finish_of r ∷ []) rs))
 
@@ -107,7 +107,7 @@ module _ (size : ℕ) (w : World) (put pulled : Put) (i : Intake) (r : Report) (
 -- The ring is closed once, if at all.
 
 no_close : (rs : List JobResult) → count_by closes_ring (map finish_of rs) ≡ 0
-no_close rs = sym (times-counts closes_ring (map finish_of rs)) ∙ none rs where
+no_close rs = sym (times_counts closes_ring (map finish_of rs)) ∙ none rs where
   none : (rs : List JobResult) → times closes_ring (map finish_of rs) ≡ 0
   none [] = refl
   none (r ∷ rs) = omega (arith, none rs)
@@ -119,7 +119,7 @@ pub has_one_close : (size : ℕ) (k : Kept) (pulled : Put) (i : Intake) (lanes :
     → Tied size (now k) pulled i → ClosesOnce k i → OnlyPosts (now k) (left_by r)
     → FinishesAll k.trace lanes workers r → HasOneClose r
 has_one_close size k pulled i lanes workers r t once posts trace =
-    ap (count_by closes_ring) trace ∙ closes-append k.trace (map finish_of (all_waiting lanes workers))
+    ap (count_by closes_ring) trace ∙ closes_append k.trace (map finish_of (all_waiting lanes workers))
     ∙ omega (arith, no_close (all_waiting lanes workers)) ∙ once ∙ ap one_if (t.shut ∙ sym t.closed ∙ sym posts.is_closed)
 
 -- What the application received.
@@ -223,7 +223,7 @@ each_posts g events [] = subst (λ es. length (unreaped (world g (history_of es)
 each_posts g events (r ∷ rs) =
     let w : World = world g (history_of events) in
     let one : length (unreaped (world g (history_of (events ++ finish_of r ∷ []))).completions) ≤ length (unreaped w.completions) + 1 =
-    subst (λ h. length (unreaped (world g h).completions) ≤ length (unreaped w.completions) + 1) (sym (history_of-snoc events (finish_of r))) (one_end g.cq w.completions (entry_of w.requests r.number) r.outcome.res r.outcome.bytes) in
+    subst (λ h. length (unreaped (world g h).completions) ≤ length (unreaped w.completions) + 1) (sym (history_of_snoc events (finish_of r))) (one_end g.cq w.completions (entry_of w.requests r.number) r.outcome.res r.outcome.bytes) in
     subst (λ es. length (unreaped (world g (history_of es)).completions) ≤ length (unreaped w.completions) + length (r ∷ rs)) (append_assoc events (finish_of r ∷ []) (map finish_of rs))
     (omega (arith, one, each_posts g (events ++ finish_of r ∷ []) rs))
 

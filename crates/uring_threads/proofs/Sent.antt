@@ -28,7 +28,7 @@ use Rattle.uring_core.proofs.Sound.{sound_of}
 use Rattle.uring_core.proofs.SoundRequests.{IsSoundRequests, outstanding_tells, idle_tells}
 use Rattle.uring_workers.specs.declared.job.Job.{Job}
 use Rattle.uring_threads.specs.Dealt.{job_in, jobs_in}
-use Rattle.uring_threads.proofs.Times.{times, times-append, times-told}
+use Rattle.uring_threads.proofs.Times.{times, times_append, times_told}
 
 -- Jobs: one for each request that started.
 
@@ -67,12 +67,12 @@ AreOf accepted [] = Unit {0}
 AreOf accepted (d ∷ ds) = (d.number < length accepted)
     × (d.op ≡ operation_of (slice_index_or accepted d.number zero_entry)) × AreOf accepted ds
 
-of-snoc : (accepted : List Sqe) (ds : List Done) (d : Done) → AreOf accepted ds
+of_snoc : (accepted : List Sqe) (ds : List Done) (d : Done) → AreOf accepted ds
     → d.number < length accepted → d.op ≡ operation_of (slice_index_or accepted d.number zero_entry)
     → AreOf accepted (ds ++ d ∷ [])
-of-snoc accepted [] d all within op = (within, op, tt)
-of-snoc accepted (first ∷ ds) d all within op =
-    (all.0, all.1, of-snoc accepted ds d all.2 within op)
+of_snoc accepted [] d all within op = (within, op, tt)
+of_snoc accepted (first ∷ ds) d all within op =
+    (all.0, all.1, of_snoc accepted ds d all.2 within op)
 
 of_call : (r : Requests) (entries : List Sqe) (ds : List Done) → AreOf r.accepted ds
     → AreOf (r.accepted ++ entries) ds
@@ -97,7 +97,7 @@ done_then w q s a done (starts n outstanding idle spared ready no_cancel) i all 
 done_then w q s a done (ends_doomed n outstanding) i all = all
 done_then w q s a done (ends_cancel n outstanding spared ready cancel) i all = all
 done_then w q s a done (ends_run n res bytes running) i all =
-    of-snoc w.requests.accepted done _ all (i.started_accepted n (and_parts _ _ running).0) refl
+    of_snoc w.requests.accepted done _ all (i.started_accepted n (and_parts _ _ running).0) refl
 
 pub done_is_of : (g : Setup) (h : History) → IsLawfulApart g h
     → AreOf (world g h).requests.accepted (done_in g h)
@@ -141,7 +141,7 @@ end_carries r m end done at fresh all n started ended =
 carried_then : (g : Setup) (w : World) (q : Requests) (s : Step) (a : Answer) (done : List Done)
     → Move w.requests s a q → CalledForApart g w s a → Carried w.requests done
     → Carried q (with_told done (done_by w (s, a)))
-carried_then g w q s a done (stays _ _ no_start no_end) called all = λ n started ended. omega (arith, all n started ended, times-told (λ (d : Done). d.number == n) done (done_by w (s, a)))
+carried_then g w q s a done (stays _ _ no_start no_end) called all = λ n started ended. omega (arith, all n started ended, times_told (λ (d : Done). d.number == n) done (done_by w (s, a)))
 carried_then g w q s a done (accepts accepted missed head entries) called all = all
 carried_then g w q s a done (starts m outstanding idle spared ready no_cancel) called all =
     λ n started ended.
@@ -155,8 +155,8 @@ carried_then g w q s a done (ends_cancel m outstanding spared ready cancel) call
     end_carries w.requests m (record { number = m; res = cancel_result w.requests m; bytes = no_bytes }) done refl (not_started w m _ _ called outstanding) all
 carried_then g w q s a done (ends_run m res bytes running) called all = λ n started ended.
     elim (any_new (λ e. e.number == n) w.requests.ended (record { number = m; res = res; bytes = bytes }) ended) [
-      | inl old ↦ omega (arith, all n started old, times-told (λ (d : Done). d.number == n) done (done_by w (s, a)))
-      | inr new ↦ let one : ◌≡◌ {A = ℕ} (cond (m == n) 1 0) 1 = ap (λ b. cond b 1 0) new in omega (arith, times-append (λ (d : Done). d.number == n) done (record { number = m; op = operation_of (entry_of w.requests m); outcome = record { res = res; bytes = bytes } } ∷ []))
+      | inl old ↦ omega (arith, all n started old, times_told (λ (d : Done). d.number == n) done (done_by w (s, a)))
+      | inr new ↦ let one : ◌≡◌ {A = ℕ} (cond (m == n) 1 0) 1 = ap (λ b. cond b 1 0) new in omega (arith, times_append (λ (d : Done). d.number == n) done (record { number = m; op = operation_of (entry_of w.requests m); outcome = record { res = res; bytes = bytes } } ∷ []))
     ]
 
 pub carried_out : (g : Setup) (h : History) → IsLawfulApart g h
@@ -175,14 +175,14 @@ ended_then w q s a done (stays _ _ no_start no_end) all =
     subst (λ o. FewerDone w.requests (with_told done o)) (sym (silent_none w s a no_end)) all
 ended_then w q s a done (accepts accepted missed head entries) all = all
 ended_then w q s a done (starts m outstanding idle spared ready no_cancel) all = all
-ended_then w q s a done (ends_doomed m outstanding) all = λ n. omega (arith, all n, times-append (λ (e : Ending). e.number == n) w.requests.ended (record { number = m; res = doomed_result w.requests m; bytes = no_bytes } ∷ []))
-ended_then w q s a done (ends_cancel m outstanding spared ready cancel) all = λ n. omega (arith, all n, times-append (λ (e : Ending). e.number == n) w.requests.ended (record { number = m; res = cancel_result w.requests m; bytes = no_bytes } ∷ []))
+ended_then w q s a done (ends_doomed m outstanding) all = λ n. omega (arith, all n, times_append (λ (e : Ending). e.number == n) w.requests.ended (record { number = m; res = doomed_result w.requests m; bytes = no_bytes } ∷ []))
+ended_then w q s a done (ends_cancel m outstanding spared ready cancel) all = λ n. omega (arith, all n, times_append (λ (e : Ending). e.number == n) w.requests.ended (record { number = m; res = cancel_result w.requests m; bytes = no_bytes } ∷ []))
 ended_then w q s a done (ends_run m res bytes running) all = λ n.
     omega (
       arith,
       all n,
-      times-append (λ (e : Ending). e.number == n) w.requests.ended (record { number = m; res = res; bytes = bytes } ∷ []),
-      times-append (λ (d : Done). d.number == n) done (record { number = m; op = operation_of (entry_of w.requests m); outcome = record { res = res; bytes = bytes } } ∷ []),
+      times_append (λ (e : Ending). e.number == n) w.requests.ended (record { number = m; res = res; bytes = bytes } ∷ []),
+      times_append (λ (d : Done). d.number == n) done (record { number = m; op = operation_of (entry_of w.requests m); outcome = record { res = res; bytes = bytes } } ∷ []),
     )
 
 pub done_ended : (g : Setup) (h : History) → IsLawfulApart g h

@@ -14,20 +14,20 @@ use Rattle.uring_threads.specs.Kept.{Kept, history}
 use Rattle.uring_threads.specs.Settled.{IsWork, finish_of, with_taken_in}
 use Rattle.uring_threads.specs.Dealt.{jobs_to, done_by_worker}
 use Rattle.uring_workers.specs.Work.{jobs_of, results_of}
-use Rattle.uring_core.proofs.Following.{history_of-cons, history_of-append}
+use Rattle.uring_core.proofs.Following.{history_of_cons, history_of_append}
 use Rattle.uring_threads.proofs.Settling.{IsDrained, drain}
 
 -- results that are taken in send no job
 pub jobs_keep : (g : Setup) (workers k : ℕ) (rs : List JobResult) (h : History)
     → jobs_to g workers k (with_taken_in rs h) ≡ jobs_to g workers k h
 jobs_keep g workers k [] h = refl
-jobs_keep g workers k (r ∷ rs) h = ap (jobs_to g workers k) (history_of-cons (finish_of r) (map finish_of rs) h) ∙ jobs_keep g workers k rs (finish_of r ∷ h)
+jobs_keep g workers k (r ∷ rs) h = ap (jobs_to g workers k) (history_of_cons (finish_of r) (map finish_of rs) h) ∙ jobs_keep g workers k rs (finish_of r ∷ h)
 
 -- the history of a trace that goes on
 pub longer_history : (a b : Kept) (events : List Event) → b.trace ≡ a.trace ++ events
     → history b ≡ history_of events ++ history a
 longer_history a b events same =
-    ap history_of same ∙ sym (append-nil (history_of (a.trace ++ events))) ∙ history_of-append a.trace events [] ∙ ap (λ h. history_of events ++ h) (append-nil (history_of a.trace))
+    ap history_of same ∙ sym (append-nil (history_of (a.trace ++ events))) ∙ history_of_append a.trace events [] ∙ ap (λ h. history_of events ++ h) (append-nil (history_of a.trace))
 
 module _ (a b : Kept) (workers k : ℕ) (done : List Done) (untaken : List Job) (waiting : List JobResult) (lanes : WorkLanes)
     (lawful : IsLawfulApart a.setup (history a)) (carried : HasCarried a workers k lanes)

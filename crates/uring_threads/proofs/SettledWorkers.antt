@@ -45,12 +45,12 @@ waits_behind before waiting all same = ap (drop (length before)) same ∙ behind
   behind [] ys = refl
   behind (x ∷ xs) ys = behind xs ys
 
-waiting-append : (ls ms : List WorkLanes) (ws vs : List Worker) → length ls ≡ length ws
+waiting_append : (ls ms : List WorkLanes) (ws vs : List Worker) → length ls ≡ length ws
     → all_waiting (ls ++ ms) (ws ++ vs) ≡ all_waiting ls ws ++ all_waiting ms vs
-waiting-append [] ms [] vs same = refl
-waiting-append [] ms (w ∷ ws) vs same = absurd (omega (arith, same))
-waiting-append (l ∷ ls) ms [] vs same = absurd (omega (arith, same))
-waiting-append (l ∷ ls) ms (w ∷ ws) vs same = ap (λ rs. waiting_at l w ++ rs) (waiting-append ls ms ws vs (omega (arith, same))) ∙ sym (append_assoc (waiting_at l w) (all_waiting ls ws) (all_waiting ms vs))
+waiting_append [] ms [] vs same = refl
+waiting_append [] ms (w ∷ ws) vs same = absurd (omega (arith, same))
+waiting_append (l ∷ ls) ms [] vs same = absurd (omega (arith, same))
+waiting_append (l ∷ ls) ms (w ∷ ws) vs same = ap (λ rs. waiting_at l w ++ rs) (waiting_append ls ms ws vs (omega (arith, same))) ∙ sym (append_assoc (waiting_at l w) (all_waiting ls ws) (all_waiting ms vs))
 
 -- one worker more
 waiting_more : (ls : List WorkLanes) (ws : List Worker) (d : WorkLanes) (e : Worker) (k : ℕ)
@@ -59,7 +59,7 @@ waiting_more : (ls : List WorkLanes) (ws : List Worker) (d : WorkLanes) (e : Wor
     ≡ all_waiting (take k ls) (take k ws) ++ waiting_at (get_or ls k d) (get_or ws k e)
 waiting_more ls ws d e k many lt =
     rw (take_more ls k d lt, take_more ws k e (omega (arith, many, lt)))
-    (waiting-append (take k ls) (get_or ls k d ∷ []) (take k ws) (get_or ws k e ∷ []) (length-take-le k ls (omega arith) ∙ sym (length-take-le k ws (omega (arith, many, lt))))
+    (waiting_append (take k ls) (get_or ls k d ∷ []) (take k ws) (get_or ws k e ∷ []) (length-take-le k ls (omega arith) ∙ sym (length-take-le k ws (omega (arith, many, lt))))
     ∙ ap (λ rs. all_waiting (take k ls) (take k ws) ++ rs) (append-nil (waiting_at (get_or ls k d) (get_or ws k e))))
 
 -- nothing was done

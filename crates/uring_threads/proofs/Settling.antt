@@ -15,16 +15,16 @@ use Rattle.uring_laws.specs.Finishes.{done_in, done_at, first_files}
 use Rattle.uring_core.specs.Histories.{History, world, IsLawfulApart, history_of}
 use Rattle.uring_core.specs.StepAnswers.{FinishesApart}
 use Rattle.uring_core.specs.declared.answer.Answer.TheVariants as answer
-use Rattle.uring_core.proofs.Following.{history_of-cons, history_of-append}
+use Rattle.uring_core.proofs.Following.{history_of_cons, history_of_append}
 use Rattle.uring_workers.specs.declared.job.Job.{Job}
 use Rattle.uring_workers.specs.declared.job.JobResult.{JobResult}
 use Rattle.uring_workers.specs.Work.{place_of_file, place_of, jobs_of, results_of, result_of, job_of}
 use Rattle.uring_threads.specs.Dealt.{job_in, jobs_at, jobs_to, done_by_worker, IsDealtByFile}
 use Rattle.uring_threads.specs.Settled.{Work, IsWork, ResultsRun, NoneWaits, Settles, finish_of, with_taken_in, waiting_of}
 use Rattle.uring_threads.proofs.Dealing.{dealt_by_file, workers_join, files_by_worker, file_within}
-use Rattle.uring_threads.proofs.LeftAt.{op_at, left_own, left_runs, runs_left, done-own, done-other}
+use Rattle.uring_threads.proofs.LeftAt.{op_at, left_own, left_runs, runs_left, done_by_own, done_other}
 use Rattle.uring_threads.proofs.Sent.{jobs_are_starts, AreOf, done_is_of}
-use Rattle.uring_threads.proofs.Times.{times, times-append, times-some, times-any}
+use Rattle.uring_threads.proofs.Times.{times, times_append, times_some, times_any}
 
 -- The operations of a worker begin with those whose results were taken in.
 
@@ -104,10 +104,10 @@ module _ (g : Setup) (workers : ℕ) (h : History) (k : ℕ) (lawful : IsLawfulA
       ∙ append_assoc (jobs_of (done_by_worker g workers k h)) (jobs_of more.0) work.untaken
 
 -- results have the numbers of their operations
-results-times : (n : ℕ) (ds : List Done)
+results_times : (n : ℕ) (ds : List Done)
     → times (λ j. j.number == n) (jobs_of ds) ≡ times (λ r. r.number == n) (results_of ds)
-results-times n [] = refl
-results-times n (d ∷ ds) = omega (arith, results-times n ds)
+results_times n [] = refl
+results_times n (d ∷ ds) = omega (arith, results_times n ds)
 
 -- One result.
 
@@ -118,7 +118,7 @@ first_is_left ds untaken r later same =
     let n = r.number in
     let one : ◌≡◌ {A = ℕ} (cond (r.number == n) 1 0) 1 = ap (λ b. cond b 1 0) (eq-eqb n n refl) in
     let there : times (λ x. x.number == n) (results_of ds) ≡ cond (r.number == n) 1 0 + times (λ x. x.number == n) later = ap (times (λ x. x.number == n)) same in
-    omega (arith, times-append (λ (j : Job). j.number == n) (jobs_of ds) untaken, results-times n ds)
+    omega (arith, times_append (λ (j : Job). j.number == n) (jobs_of ds) untaken, results_times n ds)
 
 pub results_run : (g : Setup) → ResultsRun g
 results_run g workers h k done untaken r later lawful is =
@@ -137,12 +137,12 @@ results_run g workers h k done untaken r later lawful is =
           record {
             jobs = is.jobs;
             results =
-                ap (λ ds. results_of ds ++ later) (done-own place k (done_in g h) end own)
+                ap (λ ds. results_of ds ++ later) (done_by_own place k (done_in g h) end own)
                 ∙ ap (λ rs. rs ++ later) (map-append result_of (done_by_worker g workers k h) (end ∷ []))
                 ∙ append_assoc (results_of (done_by_worker g workers k h)) (r ∷ []) later ∙ is.results;
           };
       sent = λ j. refl;
-      others = λ j unlike. done-other place j (done_in g h) end (λ same. unlike (sym same ∙ own));
+      others = λ j unlike. done_other place j (done_in g h) end (λ same. unlike (sym same ∙ own));
     }
 
 -- None waits.
@@ -177,8 +177,8 @@ none_waits g workers h works some lawful are done none =
         (λ running.
             let k : ℕ = place (operation_of (entry_of (world g h).requests n)) in
             let lt = dealt.within (operation_of (entry_of (world g h).requests n)) in
-            (k, lt, times-any (λ (j : Job). j.number == n) (works k).untaken (runs_left g h lawful place k (works k).untaken (came k lt).1 n refl running))),
-        (λ there. left_runs g h lawful place there.0 (works there.0).untaken (came there.0 there.1).1 n (times-some (λ (j : Job). j.number == n) (works there.0).untaken there.2)),
+            (k, lt, times_any (λ (j : Job). j.number == n) (works k).untaken (runs_left g h lawful place k (works k).untaken (came k lt).1 n refl running))),
+        (λ there. left_runs g h lawful place there.0 (works there.0).untaken (came there.0 there.1).1 n (times_some (λ (j : Job). j.number == n) (works there.0).untaken there.2)),
       );
     }
 
@@ -208,7 +208,7 @@ drain g workers h k done untaken (r ∷ later) lawful is =
     let one = results_run g workers h k done untaken r later lawful is in
     let next : IsLawfulApart g (finish_of r ∷ h) = (subst (λ b. FinishesApart b (answer.Ended r.outcome.res r.outcome.bytes)) (sym one.runs) tt, lawful) in
     let rest = drain g workers (finish_of r ∷ h) k done untaken later next one.later in
-    subst (λ last. IsDrained g workers h last k (record { done = done; untaken = untaken; waiting = r ∷ later })) (sym (history_of-cons (finish_of r) (map finish_of later) h))
+    subst (λ last. IsDrained g workers h last k (record { done = done; untaken = untaken; waiting = r ∷ later })) (sym (history_of_cons (finish_of r) (map finish_of later) h))
     (record { lawful = rest.lawful; own = rest.own; sent = λ j. rest.sent j ∙ one.sent j; others = λ j unlike. rest.others j unlike ∙ one.others j unlike })
 
 -- the work of a worker of which nothing was taken in
@@ -227,10 +227,10 @@ record AreDrained (g : Setup) (workers : ℕ) (h : History) (works : ℕ → Wor
   before : (k : ℕ) → k < count → IsWork g workers h k (drained (works k))
   behind : (k : ℕ) → count ≤ k → k < workers → IsWork g workers h k (works k)
 
-taken_in-append : (earlier later : List JobResult) (h : History)
+taken_in_append : (earlier later : List JobResult) (h : History)
     → with_taken_in (earlier ++ later) h ≡ with_taken_in later (with_taken_in earlier h)
-taken_in-append earlier later h =
-    ap (λ events. history_of events ++ h) (map-append finish_of earlier later) ∙ history_of-append (map finish_of earlier) (map finish_of later) h
+taken_in_append earlier later h =
+    ap (λ events. history_of events ++ h) (map-append finish_of earlier later) ∙ history_of_append (map finish_of earlier) (map finish_of later) h
 
 drain_first : (g : Setup) (workers : ℕ) (h : History) (works : ℕ → Work) → IsLawfulApart g h
     → ((k : ℕ) → k < workers → IsWork g workers h k (works k)) → (count : ℕ) → count ≤ workers
@@ -246,7 +246,7 @@ drain_first g workers h works lawful are (suc count) le =
     let there : History = with_taken_in (waiting_of works count) h in
     let work : Work = works count in
     let one = drain g workers there count work.done work.untaken work.waiting so_far.lawful (so_far.behind count (omega arith) (omega arith)) in
-    subst (λ last. AreDrained g workers last works (suc count)) (sym (taken_in-append (waiting_of works count) work.waiting h))
+    subst (λ last. AreDrained g workers last works (suc count)) (sym (taken_in_append (waiting_of works count) work.waiting h))
     (record {
       lawful = one.lawful;
       before = λ k lt. elim (cases_eq k count) [

@@ -9,38 +9,38 @@ abbrev pub times : {X : Type 0} → (X → Bool) → List X → ℕ
 times p [] = 0
 times p (x ∷ xs) = cond (p x) 1 0 + times p xs
 
-pub times-append : {X : Type 0} (p : X → Bool) (xs ys : List X)
+pub times_append : {X : Type 0} (p : X → Bool) (xs ys : List X)
     → times p (xs ++ ys) ≡ times p xs + times p ys
-times-append p [] ys = omega arith
-times-append p (x ∷ xs) ys = omega (arith, times-append p xs ys)
+times_append p [] ys = omega arith
+times_append p (x ∷ xs) ys = omega (arith, times_append p xs ys)
 
 -- it is the count
-pub times-counts : {X : Type 0} (p : X → Bool) (xs : List X) → times p xs ≡ count_by p xs
-times-counts p [] = refl
-times-counts p (x ∷ xs) = omega (arith, times-counts p xs, sum_by-cons (λ y. cond (p y) 1 0) x xs)
+pub times_counts : {X : Type 0} (p : X → Bool) (xs : List X) → times p xs ≡ count_by p xs
+times_counts p [] = refl
+times_counts p (x ∷ xs) = omega (arith, times_counts p xs, sum_by-cons (λ y. cond (p y) 1 0) x xs)
 
 -- some element passes exactly if that isn't 0
-pub times-some : {X : Type 0} (p : X → Bool) (xs : List X) → list_any p xs ≡ true → 1 ≤ times p xs
-times-some p [] e = absurd (let f : false ≡ true = e in cc)
-times-some p (x ∷ xs) e =
+pub times_some : {X : Type 0} (p : X → Bool) (xs : List X) → list_any p xs ≡ true → 1 ≤ times p xs
+times_some p [] e = absurd (let f : false ≡ true = e in cc)
+times_some p (x ∷ xs) e =
     elim (or_cases _ _ e) [
       | inl here ↦ let one = cond-true {A = ℕ} (p x) 1 0 here in omega arith
-      | inr later ↦ omega (arith, times-some p xs later)
+      | inr later ↦ omega (arith, times_some p xs later)
     ]
 
-pub times-any : {X : Type 0} (p : X → Bool) (xs : List X) → 1 ≤ times p xs → list_any p xs ≡ true
-times-any p [] some = absurd (omega arith)
-times-any p (x ∷ xs) some =
+pub times_any : {X : Type 0} (p : X → Bool) (xs : List X) → 1 ≤ times p xs → list_any p xs ≡ true
+times_any p [] some = absurd (omega arith)
+times_any p (x ∷ xs) some =
     elim (cases_Bool (p x)) [
       | inl here ↦ or_left _ _ here
-      | inr other ↦ let none = cond-false {A = ℕ} (p x) 1 0 other in or_right _ _ (times-any p xs (omega arith))
+      | inr other ↦ let none = cond-false {A = ℕ} (p x) 1 0 other in or_right _ _ (times_any p xs (omega arith))
     ]
 
 -- what is told comes behind what was told
-pub times-told : {X : Type 0} (p : X → Bool) (xs : List X) (o : Option X)
+pub times_told : {X : Type 0} (p : X → Bool) (xs : List X) (o : Option X)
     → times p xs ≤ times p (with_told xs o)
-times-told p xs None = omega arith
-times-told p xs (Some x) = omega (arith, times-append p xs (x ∷ []))
+times_told p xs None = omega arith
+times_told p xs (Some x) = omega (arith, times_append p xs (x ∷ []))
 
 -- none passes
 pub none_passes : {X : Type 0} (p : X → Bool) (xs : List X) → list_any p xs ≡ false → times p xs ≡ 0

@@ -5,7 +5,7 @@ use Rattle.std.proofs.lemmas.List.Sums.{sum_by-append}
 use Rattle.uring_entry.specs.Setup.{Setup}
 use Rattle.uring_core.specs.World.{happens}
 use Rattle.uring_core.specs.Histories.{Event, history_of, world}
-use Rattle.uring_core.proofs.Following.{history_of-snoc}
+use Rattle.uring_core.proofs.Following.{history_of_snoc}
 use Rattle.uring_core.specs.declared.step.Step.{Step}
 use Rattle.uring_core.specs.declared.answer.Answer.{Answer}
 use Rattle.uring_threads.specs.Kept.{Kept, now, Grows, IsUnmoved}
@@ -14,7 +14,7 @@ use Rattle.uring_threads.specs.Tallies.{Tally, tally_of, both, none_counted, App
 -- the world after one event more
 pub grown : (a b : Kept) (s : Step) (x : Answer) → Grows a b (s, x)
     → now b ≡ happens a.setup (now a) s x
-grown a b s x g = ap₂ (λ (k : Setup) es. world k (history_of es)) g.setup g.trace ∙ ap (world a.setup) (history_of-snoc a.trace (s, x))
+grown a b s x g = ap₂ (λ (k : Setup) es. world k (history_of es)) g.setup g.trace ∙ ap (world a.setup) (history_of_snoc a.trace (s, x))
 
 -- the trace is one event longer
 pub grown_length : (a b : Kept) (e : Event) → Grows a b e → length b.trace ≡ length a.trace + 1
@@ -26,8 +26,8 @@ unmoved_now a b u = ap₂ (λ (k : Setup) es. world k (history_of es)) u.setup u
 
 -- Tallies.
 
-tally-append : (es fs : List Event) → tally_of (es ++ fs) ≡ both (tally_of es) (tally_of fs)
-tally-append es fs =
+tally_append : (es fs : List Event) → tally_of (es ++ fs) ≡ both (tally_of es) (tally_of fs)
+tally_append es fs =
     rw (
       sum_by-append (λ e. cond (stages_item e) 1 0) es fs,
       sum_by-append (λ e. cond (issues_request e) 1 0) es fs,
@@ -69,7 +69,7 @@ appends_then a b c t u v p q sums =
     record {
       events = p.events ++ q.events;
       trace = q.trace ∙ ap (λ es. es ++ q.events) p.trace ∙ append_assoc a.trace p.events q.events;
-      tally = tally-append p.events q.events ∙ ap₂ both p.tally q.tally ∙ sums;
+      tally = tally_append p.events q.events ∙ ap₂ both p.tally q.tally ∙ sums;
       served = sum_by-append (λ e. cond (is_refused e) 1 0) p.events q.events ∙ ap₂ (λ m n. m + n) p.served q.served;
       room = omega (arith, p.room, q.room);
       setup = q.setup ∙ p.setup;

@@ -54,10 +54,10 @@ tied_begun size w v put count begun.Again t e spent =
 tied_begun size w v put count begun.Spent t e spent = subst (λ u. Tied size u put (intake.Spent count)) (sym e) (record { published = t.published; calls = t.calls; stands = t.stands; spent = spent refl; closed = t.closed; shut = t.shut })
 
 -- the items of calls with one more
-items_of_calls-snoc : (calls : List (List Item)) (items : List Item)
+items_of_calls_snoc : (calls : List (List Item)) (items : List Item)
     → items_of_calls (calls ++ items ∷ []) ≡ items_of_calls calls ++ items
-items_of_calls-snoc [] items = append-nil items
-items_of_calls-snoc (call ∷ later) items = ap (λ xs. call ++ xs) (items_of_calls-snoc later items) ∙ sym (append_assoc call (items_of_calls later) items)
+items_of_calls_snoc [] items = append-nil items
+items_of_calls_snoc (call ∷ later) items = ap (λ xs. call ++ xs) (items_of_calls_snoc later items) ∙ sym (append_assoc call (items_of_calls later) items)
 
 -- what holds of all of two lists holds of all of each
 pub all_first : {X : Type 0} (P : X → Type 0) (xs ys : List X) → All P (xs ++ ys) → All P xs
@@ -85,7 +85,7 @@ tied_published size w put items t not_closed few =
     let shown : List Published = all_published_as items in
     let put_stands = items_stand l 0 shown (record { fresh = refl; call = t.stands.call; head = t.stands.head; waiting = t.stands.waiting }) in
     let many : length (with_items l 0 shown).fresh ≡ length items = omega (arith, put_stands.1, ap length t.stands.fresh, length-map items published_as) in
-    let whole : all_published_as (items_of_calls (put.calls ++ items ∷ [])) ≡ all_published_as (items_of_calls put.calls) ++ shown = ap all_published_as (items_of_calls-snoc put.calls items) ∙ map-append published_as (items_of_calls put.calls) items in
+    let whole : all_published_as (items_of_calls (put.calls ++ items ∷ [])) ≡ all_published_as (items_of_calls put.calls) ++ shown = ap all_published_as (items_of_calls_snoc put.calls items) ∙ map-append published_as (items_of_calls put.calls) items in
     record {
       published = λ good.
           let before : List Published = all_published_as (items_of_calls put.calls) in

@@ -6,10 +6,10 @@ use Rattle.std.proofs.lemmas.List.{append-nil}
 use Rattle.uring_entry.specs.Setup.{Setup}
 use Rattle.uring_core.specs.CalledFor.{IsLawful}
 use Rattle.uring_core.specs.Histories.{Event, History, world, history_of}
-use Rattle.uring_core.proofs.Following.{history_of-snoc}
+use Rattle.uring_core.proofs.Following.{history_of_snoc}
 use Rattle.uring_machine.specs.Machine.{Machine, Fits, IsUnrefused}
 use Rattle.uring_machine.specs.Settling.{AreUnrefused}
-use Rattle.uring_machine.proofs.Settling.{unrefused-append}
+use Rattle.uring_machine.proofs.Settling.{unrefused_append}
 use Rattle.uring_core.specs.declared.answer.Answer.{Answer}
 use Rattle.uring_core.specs.declared.step.Step.{Step}
 use Rattle.uring_trace.specs.Spelling.{IsStep, IsBad}
@@ -65,13 +65,13 @@ told_bad granted m is_echo line before after bad e =
 pub one_more : (event : Option Event) (events : List Event)
     → with_event event (history_of events) ≡ history_of (events ++ option_to_list event)
 one_more None events = ap (λ (es : List Event). history_of es) (sym (append-nil events))
-one_more (Some event) events = sym (history_of-snoc events event)
+one_more (Some event) events = sym (history_of_snoc events event)
 
 -- one answer more that refuses no memory
 pub unrefused_more : (g : Setup) (event : Option Event) (events : List Event) → AreUnrefused g [] events
     → AreUnrefused g (history_of events) (option_to_list event)
     → AreUnrefused g [] (events ++ option_to_list event)
-unrefused_more g event events earlier last = unrefused-append g [] events (option_to_list event) earlier (subst (λ (h : History). AreUnrefused g h (option_to_list event)) (sym (append-nil (history_of events))) last)
+unrefused_more g event events earlier last = unrefused_append g [] events (option_to_list event) earlier (subst (λ (h : History). AreUnrefused g h (option_to_list event)) (sym (append-nil (history_of events))) last)
 
 -- one exchange more
 answered : (granted : Type 0) (manner : Manner) (m m' : Machine) (is_echo : Bool) (xs : List Exchange) (line text before after : List ℕ)

@@ -4,8 +4,8 @@ use Rattle.std.proofs.lemmas.Bool.{and_parts, not-true}
 use Rattle.uring_entry.specs.Setup.{Setup}
 use Rattle.uring_entry.specs.Preparation.{is_cancel}
 use Rattle.uring_entry.specs.Requests.{Requests, entry_of, has_ended, is_outstanding, is_running, is_last, is_doomed, is_ready, doomed_result, cancel_result, no_bytes, with_ended}
-use Rattle.uring_entry.proofs.RequestLemmas.{is_joined-yes, is_doomed-behind, has_ended-other, is_running-ended_other, has_failed-same, never_success}
-use Rattle.uring_entry.proofs.EventLemmas.{is_joined-ended, is_behind_failure-from}
+use Rattle.uring_entry.proofs.RequestLemmas.{is_joined_yes, is_doomed_behind, has_ended_other, is_running_ended_other, has_failed_same, never_success}
+use Rattle.uring_entry.proofs.EventLemmas.{is_joined_ended, is_behind_failure_from}
 use Rattle.uring_core.specs.World.{World}
 use Rattle.uring_core.specs.Histories.{History, world}
 use Rattle.uring_core.specs.declared.step.Step.TheVariants as step
@@ -21,13 +21,13 @@ next_doomed r n below bytes next =
     let after : Requests = with_ended r n (negsuc below) bytes in
     let unended : has_ended r n ≡ false = not-true _ (and_parts _ _ next.runs).1 in
     let last : (k : ℕ) → n ≤ k → k < n + 1 → is_last r k ≡ false = λ k from to. subst (λ j. is_last r j ≡ false) (let same : n ≡ k = omega arith in same) next.joined in
-    is_doomed-behind after (n + 1)
-    (is_behind_failure-from after (n + 1) n
+    is_doomed_behind after (n + 1)
+    (is_behind_failure_from after (n + 1) n
     (record {
       before = omega arith;
-      joined = is_joined-ended r n (negsuc below) bytes n (n + 1) ∙ is_joined-yes r n (n + 1) last;
+      joined = is_joined_ended r n (negsuc below) bytes n (n + 1) ∙ is_joined_yes r n (n + 1) last;
       soft = next.soft;
-      failed = has_failed-same r n (negsuc below) bytes unended ∙ ap not (never_success (entry_of r n) below);
+      failed = has_failed_same r n (negsuc below) bytes unended ∙ ap not (never_success (entry_of r n) below);
     }))
 
 doomed_ends : (outstanding running doomed ready cancel : Bool) (as_doomed as_cancel : ℤ)
@@ -49,8 +49,8 @@ next_cancelled w after n below bytes next is =
     let r : Requests = w.requests in
     let e : Requests = with_ended r n (negsuc below) bytes in
     let other : n + 1 ≢ n = λ same. omega (arith, same) in
-    let outstanding : is_outstanding e (n + 1) ≡ true = ap (λ b. nat_lt (n + 1) (length r.accepted) && not b) (has_ended-other r n (negsuc below) bytes (n + 1) other) ∙ next.waits in
-    let running : is_running e (n + 1) ≡ false = is_running-ended_other r n (negsuc below) bytes (n + 1) other ∙ next.unstarted in
+    let outstanding : is_outstanding e (n + 1) ≡ true = ap (λ b. nat_lt (n + 1) (length r.accepted) && not b) (has_ended_other r n (negsuc below) bytes (n + 1) other) ∙ next.waits in
+    let running : is_running e (n + 1) ≡ false = is_running_ended_other r n (negsuc below) bytes (n + 1) other ∙ next.unstarted in
     subst (λ (q : Requests). (if not (is_outstanding q (n + 1)) then answer.Unknown else (if is_running q (n + 1) then answer.Running else (if is_doomed q (n + 1) then answer.Ended (doomed_result q (n + 1)) no_bytes else (if not (is_ready q (n + 1)) then answer.NotReady else (if is_cancel (entry_of q (n + 1)) then answer.Ended (cancel_result q (n + 1)) no_bytes else answer.Run))))) ≡ answer.Ended (doomed_result r (n + 1)) no_bytes)
     (sym is)
     (doomed_ends (is_outstanding e (n + 1)) (is_running e (n + 1)) (is_doomed e (n + 1)) (is_ready e (n + 1)) (is_cancel (entry_of e (n + 1))) (doomed_result e (n + 1)) (cancel_result e (n + 1)) outstanding running (next_doomed r n below bytes next))

@@ -17,7 +17,7 @@ use Rattle.uring_core.specs.declared.step.Step.{Step}
 use Rattle.uring_core.specs.declared.step.Step.TheVariants as step
 use Rattle.uring_core.specs.declared.answer.Answer.{Answer}
 use Rattle.uring_core.specs.declared.answer.Answer.TheVariants as answer
-use Rattle.uring_core.proofs.Following.{history_of-cons}
+use Rattle.uring_core.proofs.Following.{history_of_cons}
 use Rattle.uring_uses.specs.Replays.{is_out_of_memory, AreReplays}
 
 -- one answer, or memory was refused for one of the two
@@ -62,7 +62,7 @@ lawful_before g h ((s, a) ∷ later) lawful = lawful_before g h later lawful.1
 first_before : (g : Setup) (h : History) (e : Event) (events : List Event)
     → IsLawful g (history_of (e ∷ events) ++ h)
     → IsLawful g (history_of events ++ e ∷ h)
-first_before g h e events lawful = subst (λ k. IsLawful g k) (history_of-cons e events h) lawful
+first_before g h e events lawful = subst (λ k. IsLawful g k) (history_of_cons e events h) lawful
 
 -- one more answer, the same in both
 one_more : (x y : Answer) (xs ys : List Answer) → x ≡ y → AreReplays xs ys

@@ -4,8 +4,8 @@ use Rattle.std.proofs.lemmas.Bool.{and_parts, and_from, or_cases, both_ways, not
 use Rattle.std.proofs.lemmas.List.Folds.{list_all-append}
 use Rattle.uring_entry.specs.Preparation.{operation_of}
 use Rattle.uring_entry.specs.Requests.{Requests, entry_of, has_ended, is_outstanding, is_running, is_issuable, is_doomed, is_ready, no_bytes, next_of, least_of, with_started, with_ended, operation_running, outstanding_in}
-use Rattle.uring_entry.proofs.BelowLemmas.{least_below-tells, least_below-out}
-use Rattle.uring_entry.proofs.RequestLemmas.{least_of-goes_on, is_running-started_same, is_running-started_other, is_running-ended_same, is_running-ended_other}
+use Rattle.uring_entry.proofs.BelowLemmas.{least_below_tells, least_below_out}
+use Rattle.uring_entry.proofs.RequestLemmas.{least_of_goes_on, is_running_started_same, is_running_started_other, is_running_ended_same, is_running_ended_other}
 use Rattle.uring_core.specs.World.{World}
 use Rattle.uring_core.specs.StepAnswers.{IsEnded, FinishesApart, issue_answer, next_answer_of, IsIssued}
 use Rattle.uring_core.specs.Histories.{History, world}
@@ -14,7 +14,7 @@ use Rattle.uring_machine.specs.Settling.{is_issue_or_finish}
 use Rattle.uring_core.specs.declared.step.Step.TheVariants as step
 use Rattle.uring_core.specs.declared.answer.Answer.{Answer}
 use Rattle.uring_core.specs.declared.answer.Answer.TheVariants as answer
-use Rattle.uring_core.proofs.Outstanding.{ended_less, none_outstanding, count_below-zero}
+use Rattle.uring_core.proofs.Outstanding.{ended_less, none_outstanding, count_below_zero}
 use Rattle.uring_core.proofs.Issuable.{next_tells}
 use Rattle.uring_core.proofs.Issuable.{issue_goes, issued_ends}
 use Rattle.uring_uses.specs.Simulations.{NoneRuns, HasRun, IsIdle}
@@ -29,15 +29,15 @@ some_next r a quiet some is other = by_least (least_of r) refl where
   by_next : (n : ℕ) → least_of r ≡ Some n → (next : Option ℕ) → next_of r ≡ next → a ≡ next_answer_of next → ⊥
   by_next n least (Some m) next e = other m e
   by_next n least None next e =
-      elim (or_cases _ _ (least_of-goes_on r n least)) [
+      elim (or_cases _ _ (least_of_goes_on r n least)) [
         | inl running ↦ both_ways _ (quiet n) running
-        | inr issuable ↦ both_ways _ (least_below-out (is_issuable r) (length r.accepted) next n (least_below-tells (is_outstanding r) (length r.accepted) n least).below) issuable
+        | inr issuable ↦ both_ways _ (least_below_out (is_issuable r) (length r.accepted) next n (least_below_tells (is_outstanding r) (length r.accepted) n least).below) issuable
       ]
 
   by_least : (least : Option ℕ) → least_of r ≡ least → ⊥
   by_least (Some n) least = by_next n least (next_of r) refl is
   by_least None none =
-      let zero_of : outstanding_in r ≡ 0 = count_below-zero (is_outstanding r) (length r.accepted) (least_below-out (is_outstanding r) (length r.accepted) none) in
+      let zero_of : outstanding_in r ≡ 0 = count_below_zero (is_outstanding r) (length r.accepted) (least_below_out (is_outstanding r) (length r.accepted) none) in
       omega (arith, some, zero_of)
 
 -- The issue of the next request.
@@ -68,8 +68,8 @@ quiet_after_end : (r : Requests) (n : ℕ) (res : ℤ) (bytes : List ℕ)
     → is_running (with_ended r n res bytes) k ≡ false
 quiet_after_end r n res bytes quiet k =
     elim (cases_eq k n) [
-      | inl same ↦ subst (λ j. is_running (with_ended r n res bytes) j ≡ false) (sym same) (is_running-ended_same r n res bytes)
-      | inr other ↦ is_running-ended_other r n res bytes k other ∙ quiet k
+      | inl same ↦ subst (λ j. is_running (with_ended r n res bytes) j ≡ false) (sym same) (is_running_ended_same r n res bytes)
+      | inr other ↦ is_running_ended_other r n res bytes k other ∙ quiet k
     ]
 
 quiet_after_run : (r : Requests) (n : ℕ) (res : ℤ) (bytes : List ℕ)
@@ -77,8 +77,8 @@ quiet_after_run : (r : Requests) (n : ℕ) (res : ℤ) (bytes : List ℕ)
     → is_running (with_ended (with_started r n) n res bytes) k ≡ false
 quiet_after_run r n res bytes quiet k =
     elim (cases_eq k n) [
-      | inl same ↦ subst (λ j. is_running (with_ended (with_started r n) n res bytes) j ≡ false) (sym same) (is_running-ended_same (with_started r n) n res bytes)
-      | inr other ↦ is_running-ended_other (with_started r n) n res bytes k other ∙ is_running-started_other r n k other ∙ quiet k
+      | inl same ↦ subst (λ j. is_running (with_ended (with_started r n) n res bytes) j ≡ false) (sym same) (is_running_ended_same (with_started r n) n res bytes)
+      | inr other ↦ is_running_ended_other (with_started r n) n res bytes k other ∙ is_running_started_other r n k other ∙ quiet k
     ]
 
 -- A turn.
@@ -168,7 +168,7 @@ turn_start old asked new h n a b same kept named ran quiet asked_fits fits =
     record {
       waits = waits;
       quiet = subst (λ g. NoneRuns (world g h)) (sym (kept ∙ same)) quiet;
-      runs = is_running-started_same (world new.setup h).requests n waits.unended;
+      runs = is_running_started_same (world new.setup h).requests n waits.unended;
       fits = subst (λ d. FitsApart new ((step.Issue n, d) ∷ h)) ran fits;
     }
 

@@ -2,7 +2,7 @@
 use Rattle.std.proofs.Common.{◌≡◌, ℕ, ◌<◌, ℤ, Bool, true, false, not, ◌&&◌, if◌then◌else◌, refl}
 use Rattle.uring_entry.specs.Requests.{Requests, entry_of, has_ended, is_outstanding, is_running, is_doomed, is_ready, waits_for, doomed_result, cancel_result, no_bytes}
 use Rattle.uring_entry.specs.Preparation.{is_cancel}
-use Rattle.uring_entry.proofs.RequestLemmas.{is_ready-inside}
+use Rattle.uring_entry.proofs.RequestLemmas.{is_ready_inside}
 use Rattle.uring_core.specs.World.{World}
 use Rattle.uring_core.specs.StepAnswers.{issue_answer}
 use Rattle.uring_core.specs.declared.answer.Answer.TheVariants as answer
@@ -28,5 +28,5 @@ pub run_waits_for_none : (w : World) (n m : ℕ) → answer.Run ≡ issue_answer
 run_waits_for_none w n m is lt waits =
     let r : Requests = w.requests in
     ended_or (has_ended r m) (waits_for r n m)
-    (is_ready-inside r n m (run_ready (is_outstanding r n) (is_running r n) (is_doomed r n) (is_ready r n) (is_cancel (entry_of r n)) (doomed_result r n) (cancel_result r n) is) lt)
+    (is_ready_inside r n m (run_ready (is_outstanding r n) (is_running r n) (is_doomed r n) (is_ready r n) (is_cancel (entry_of r n)) (doomed_result r n) (cancel_result r n) is) lt)
     waits

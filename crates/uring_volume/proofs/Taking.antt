@@ -9,17 +9,17 @@ use Rattle.uring_volume.specs.Writes.{Write}
 use Rattle.uring_volume.specs.Events.{History, is_safe}
 use Rattle.uring_volume.specs.Choices.{has_safe, up_to_safe}
 
-pub filter-map : {X Y : Type 0} (f : X → Y) (p : Y → Bool) (xs : List X)
+pub filter_of_map : {X Y : Type 0} (f : X → Y) (p : Y → Bool) (xs : List X)
     → filter p (map f xs) ≡ map f (filter (λ x. p (f x)) xs)
-filter-map f p [] = refl
-filter-map f p (x ∷ xs) = elim (cases_Bool (p (f x))) [
+filter_of_map f p [] = refl
+filter_of_map f p (x ∷ xs) = elim (cases_Bool (p (f x))) [
   | inl is ↦
       cond-true (p (f x)) (f x ∷ filter p (map f xs)) (filter p (map f xs)) is
-      ∙ ap (λ ys. f x ∷ ys) (filter-map f p xs)
+      ∙ ap (λ ys. f x ∷ ys) (filter_of_map f p xs)
       ∙ ap (map f) (sym (cond-true (p (f x)) (x ∷ filter (λ y. p (f y)) xs) (filter (λ y. p (f y)) xs) is))
   | inr out ↦
       cond-false (p (f x)) (f x ∷ filter p (map f xs)) (filter p (map f xs)) out
-      ∙ filter-map f p xs
+      ∙ filter_of_map f p xs
       ∙ ap (map f) (sym (cond-false (p (f x)) (x ∷ filter (λ y. p (f y)) xs) (filter (λ y. p (f y)) xs) out))
 ]
 
@@ -48,11 +48,11 @@ up_to_last h (w ∷ later) (suc i) d within safe none =
     ap (λ ws. w ∷ ws) (up_to_last h later i d (omega arith) safe none)
     ∙ sym (cond-true (has_safe h (w ∷ later)) (w ∷ up_to_safe h later) [] (or_right (is_safe h w) (has_safe h later) (any_at (λ v. is_safe h v) later i d (omega arith) safe)))
 
-pub get-map : {X Y : Type 0} (f : X → Y) (xs : List X) (i : ℕ) (d : X)
+pub get_map : {X Y : Type 0} (f : X → Y) (xs : List X) (i : ℕ) (d : X)
     → get_or (map f xs) i (f d) ≡ f (get_or xs i d)
-get-map f [] i d = refl
-get-map f (x ∷ xs) zero d = refl
-get-map f (x ∷ xs) (suc i) d = get-map f xs i d
+get_map f [] i d = refl
+get_map f (x ∷ xs) zero d = refl
+get_map f (x ∷ xs) (suc i) d = get_map f xs i d
 
 -- A search among the writes that references point to, at the reference x with index i.
 
@@ -63,7 +63,7 @@ pub last_safe : {X : Type 0} (f : X → Write) (h : History) (xs : List X) (n i 
 last_safe f h xs n i x e within at safe none =
     ap (λ j. take j (map f xs)) (add-one i)
     ∙ up_to_last h (map f xs) i (f x) (omega (arith, length-map xs f))
-    (subst (λ (w : Write). is_safe h w ≡ true) (ap f at ∙ sym (get-map f xs i x)) safe)
+    (subst (λ (w : Write). is_safe h w ≡ true) (ap f at ∙ sym (get_map f xs i x)) safe)
     (subst (λ j. has_safe h (drop j (map f xs)) ≡ false) e none)
 
 pub one_less : {X : Type 0} (f : X → Write) (p : Write → Bool) (xs : List X) (n i : ℕ) (x : X)
@@ -73,7 +73,7 @@ one_less f p xs n i x e within at out none =
     let here : i < length (map f xs) = omega (arith, length-map xs f) in
     ap (list_any p) (drop-cons (map f xs) i (f x) here)
     ∙ or_from (p (get_or (map f xs) i (f x))) (list_any p (drop (suc i) (map f xs)))
-    (ap p (get-map f xs i x ∙ ap f (sym at)) ∙ out)
+    (ap p (get_map f xs i x ∙ ap f (sym at)) ∙ out)
     (subst (λ j. list_any p (drop j (map f xs)) ≡ false) e none)
 
 pub one_more : {X : Type 0} (f : X → Write) (p : Write → Bool) (xs : List X) (i : ℕ) (x : X)
@@ -89,7 +89,7 @@ one_more f p xs i x within at out none =
 pub one_found : {X : Type 0} (f : X → Write) (p : Write → Bool) (xs : List X) (i : ℕ) (x : X)
     → i < length xs → x ≡ get_or xs i x → p (f x) ≡ true → list_any p (map f xs) ≡ true
 one_found f p xs i x within at is =
-    any_at p (map f xs) i (f x) (omega (arith, length-map xs f)) (ap p (get-map f xs i x ∙ ap f (sym at)) ∙ is)
+    any_at p (map f xs) i (f x) (omega (arith, length-map xs f)) (ap p (get_map f xs i x ∙ ap f (sym at)) ∙ is)
 
 -- what a loop over all references has pushed
 pub all_pushed : {X : Type 0} (f : X → Write) (p : Write → Bool) (old new xs ys : List X) (i : ℕ)
@@ -99,7 +99,7 @@ all_pushed f p old new xs ys i pushed same all =
     ap (map f) pushed
     ∙ map-append f old (filter (λ x. p (f x)) (take i ys))
     ∙ ap (λ zs. map f old ++ map f (filter (λ x. p (f x)) zs)) (take_all i ys all ∙ same)
-    ∙ ap (λ zs. map f old ++ zs) (sym (filter-map f p xs))
+    ∙ ap (λ zs. map f old ++ zs) (sym (filter_of_map f p xs))
 
 -- what a loop over the first n references has pushed
 pub first_pushed : {X : Type 0} (f : X → Write) (old new rest : List X) (i n : ℕ)

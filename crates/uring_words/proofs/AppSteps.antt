@@ -18,10 +18,10 @@ pub all_published : (words : List ℕ) (homes : List (Option Position)) (a : App
 all_published words homes a d h = ap length h.begins ∙ length-append (d.taken ++ d.known) h.rest ∙ ap (λ (n : ℕ). n + length h.rest) (length-append d.taken d.known)
 
 -- the head is loaded, and the places that are free are taken
-pub keeps-head_loaded : (words : List ℕ) (homes : List (Option Position)) (a : AppSide) (d : KernelSide) (blank : List Position)
+pub keeps_head_loaded : (words : List ℕ) (homes : List (Option Position)) (a : AppSide) (d : KernelSide) (blank : List Position)
     → (h : Agree words homes a d) → length a.published + length blank ≡ a.end
     → Agree words (after homes (held_from a.start a.size (length a.published) blank) (held_from a.start a.size (length a.published) (blank ++ h.free))) (head_loaded a (length d.taken + a.size)) d
-keeps-head_loaded words homes a d blank h many =
+keeps_head_loaded words homes a d blank h many =
     let s = h.sized in
     let n : ℕ = length a.published in
     let held = held_from a.start a.size n blank in
@@ -44,12 +44,12 @@ keeps-head_loaded words homes a d blank h many =
     }
 
 -- the tail is stored, and the places of what was written are given
-pub keeps-tail_stored : (words : List ℕ) (homes : List (Option Position)) (a : AppSide) (d : KernelSide) (w : ℕ) (blank written : List Position)
+pub keeps_tail_stored : (words : List ℕ) (homes : List (Option Position)) (a : AppSide) (d : KernelSide) (w : ℕ) (blank written : List Position)
     → (h : Agree words homes a d) → length a.published + (length written + length blank) ≡ a.end
     → length written + length blank ≤ a.size
     → w ≡ word_of a.start (length a.published + length written) → AreWhole (a.published ++ written)
     → Agree (set words 0 w) (after homes (with_first_behind a.start a.size (length a.published) blank written) (held_from a.start a.size (length a.published + length written) blank)) (tail_stored a written) d
-keeps-tail_stored words homes a d w blank written h many few is_word whole =
+keeps_tail_stored words homes a d w blank written h many few is_word whole =
     let s = h.sized in
     let n : ℕ = length a.published in
     let held = with_first_behind a.start a.size n blank written in
@@ -76,11 +76,11 @@ keeps-tail_stored words homes a d w blank written h many few is_word whole =
     }
 
 -- all places are given back
-pub keeps-all_given : (words : List ℕ) (homes : List (Option Position)) (a : AppSide) (d : KernelSide) (blank : List Position)
+pub keeps_all_given : (words : List ℕ) (homes : List (Option Position)) (a : AppSide) (d : KernelSide) (blank : List Position)
     → (h : Agree words homes a d) → length a.published + length blank ≡ a.end
     → length blank ≤ a.size
     → Agree words (after homes (held_from a.start a.size (length a.published) blank) []) (all_given a) d
-keeps-all_given words homes a d blank h many few =
+keeps_all_given words homes a d blank h many few =
     let s = h.sized in
     let n : ℕ = length a.published in
     let held = held_from a.start a.size n blank in

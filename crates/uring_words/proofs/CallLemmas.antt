@@ -8,28 +8,28 @@ use Rattle.uring_words.specs.Submission.Calls.{calls_of, has_close_mark, put_of,
 use Rattle.uring_words.specs.declared.submission.view.Position.{Position}
 use Rattle.uring_words.specs.declared.submission.view.Position.TheVariants as position
 
-pub more-length : (xs : List Item) → length (all_more xs) ≡ length xs
-more-length [] = refl
-more-length (x ∷ xs) = let n = more-length xs in omega arith
+pub more_length : (xs : List Item) → length (all_more xs) ≡ length xs
+more_length [] = refl
+more_length (x ∷ xs) = let n = more_length xs in omega arith
 
-pub more-append : (xs ys : List Item) → all_more (xs ++ ys) ≡ all_more xs ++ all_more ys
-more-append [] ys = refl
-more-append (x ∷ xs) ys = ap (λ ps. position.More x ∷ ps) (more-append xs ys)
+pub more_append : (xs ys : List Item) → all_more (xs ++ ys) ≡ all_more xs ++ all_more ys
+more_append [] ys = refl
+more_append (x ∷ xs) ys = ap (λ ps. position.More x ∷ ps) (more_append xs ys)
 
-close_mark-append : (xs ys : List Position) → has_close_mark xs ≡ false
+close_mark_append : (xs ys : List Position) → has_close_mark xs ≡ false
     → has_close_mark (xs ++ ys) ≡ has_close_mark ys
-close_mark-append [] ys none = refl
-close_mark-append (position.More x ∷ ps) ys none = close_mark-append ps ys none
-close_mark-append (position.Last x ∷ ps) ys none = close_mark-append ps ys none
-close_mark-append (position.Close ∷ ps) ys none = absurd (false≢true (sym none))
+close_mark_append [] ys none = refl
+close_mark_append (position.More x ∷ ps) ys none = close_mark_append ps ys none
+close_mark_append (position.Last x ∷ ps) ys none = close_mark_append ps ys none
+close_mark_append (position.Close ∷ ps) ys none = absurd (false≢true (sym none))
 
 -- whole calls behind whole calls are whole
-whole-append : (b : Bool) (xs ys : List Position) → AreWholeFrom b xs
+whole_append : (b : Bool) (xs ys : List Position) → AreWholeFrom b xs
     → has_close_mark xs ≡ false → AreWhole ys → AreWholeFrom b (xs ++ ys)
-whole-append b [] ys h none w = let P : Bool → Type 0 = λ c. AreWholeFrom c ys in subst P (sym h) w
-whole-append b (position.More x ∷ ps) ys h none w = whole-append true ps ys h none w
-whole-append b (position.Last x ∷ ps) ys h none w = whole-append false ps ys h none w
-whole-append b (position.Close ∷ ps) ys h none w = absurd (false≢true (sym none))
+whole_append b [] ys h none w = let P : Bool → Type 0 = λ c. AreWholeFrom c ys in subst P (sym h) w
+whole_append b (position.More x ∷ ps) ys h none w = whole_append true ps ys h none w
+whole_append b (position.Last x ∷ ps) ys h none w = whole_append false ps ys h none w
+whole_append b (position.Close ∷ ps) ys h none w = absurd (false≢true (sym none))
 
 -- what is behind whole calls is whole
 pub whole_rest : (b : Bool) (xs ys : List Position) → AreWholeFrom b xs → has_close_mark xs ≡ false
@@ -52,14 +52,14 @@ first_append x (position.More y ∷ ps) ds h none = two_first x y (calls_of ps) 
 first_append x (position.Last y ∷ ps) ds h none = refl
 first_append x (position.Close ∷ ps) ds h none = absurd (false≢true (sym none))
 
-calls-append : (b : Bool) (xs ys : List Position) → AreWholeFrom b xs
+calls_append : (b : Bool) (xs ys : List Position) → AreWholeFrom b xs
     → has_close_mark xs ≡ false → calls_of (xs ++ ys) ≡ calls_of xs ++ calls_of ys
-calls-append b [] ys h none = refl
-calls-append b (position.More x ∷ ps) ys h none =
-    ap (with_first x) (calls-append true ps ys h none) ∙ first_append x ps (calls_of ys) h none
-calls-append b (position.Last x ∷ ps) ys h none =
-    ap (λ cs. (x ∷ []) ∷ cs) (calls-append false ps ys h none)
-calls-append b (position.Close ∷ ps) ys h none = absurd (false≢true (sym none))
+calls_append b [] ys h none = refl
+calls_append b (position.More x ∷ ps) ys h none =
+    ap (with_first x) (calls_append true ps ys h none) ∙ first_append x ps (calls_of ys) h none
+calls_append b (position.Last x ∷ ps) ys h none =
+    ap (λ cs. (x ∷ []) ∷ cs) (calls_append false ps ys h none)
+calls_append b (position.Close ∷ ps) ys h none = absurd (false≢true (sym none))
 
 -- the positions of one call
 one_call : (front : List Item) (last : Item)
@@ -90,10 +90,10 @@ holds_call xs front last whole none =
     let call = all_more front ++ position.Last last ∷ [] in
     record {
       is = λ i. record {
-        calls = (calls-append false xs call whole none ∙ ap (λ cs. calls_of xs ++ cs) (one_call front last)) i;
-        closed = (close_mark-append xs call none ∙ call_is_open front last ∙ sym none) i;
+        calls = (calls_append false xs call whole none ∙ ap (λ cs. calls_of xs ++ cs) (one_call front last)) i;
+        closed = (close_mark_append xs call none ∙ call_is_open front last ∙ sym none) i;
       };
-      whole = whole-append false xs call whole none (call_is_whole false front last);
+      whole = whole_append false xs call whole none (call_is_whole false front last);
     }
 
 -- the close mark behind all calls
@@ -103,31 +103,31 @@ holds_close xs whole none =
     let mark = position.Close ∷ [] in
     record {
       is = λ i. record {
-        calls = (calls-append false xs mark whole none ∙ append-nil (calls_of xs)) i;
-        closed = close_mark-append xs mark none i;
+        calls = (calls_append false xs mark whole none ∙ append-nil (calls_of xs)) i;
+        closed = close_mark_append xs mark none i;
       };
-      whole = whole-append false xs mark whole none (refl, refl);
+      whole = whole_append false xs mark whole none (refl, refl);
     }
 
-items-with_first : (x : Item) (calls : List (List Item))
+items_with_first : (x : Item) (calls : List (List Item))
     → items_of_calls (with_first x calls) ≡ x ∷ items_of_calls calls
-items-with_first x [] = refl
-items-with_first x (c ∷ cs) = refl
+items_with_first x [] = refl
+items_with_first x (c ∷ cs) = refl
 
 -- the items that positions hold are those of their calls
-items-calls_of : (b : Bool) (ps : List Position) → AreWholeFrom b ps
+items_calls_of : (b : Bool) (ps : List Position) → AreWholeFrom b ps
     → items_of ps ≡ items_of_calls (calls_of ps)
-items-calls_of b [] h = refl
-items-calls_of b (position.More x ∷ ps) h =
-    ap (λ xs. x ∷ xs) (items-calls_of true ps h) ∙ sym (items-with_first x (calls_of ps))
-items-calls_of b (position.Last x ∷ ps) h = ap (λ xs. x ∷ xs) (items-calls_of false ps h)
-items-calls_of b (position.Close ∷ ps) h = ap items_of h.1
+items_calls_of b [] h = refl
+items_calls_of b (position.More x ∷ ps) h =
+    ap (λ xs. x ∷ xs) (items_calls_of true ps h) ∙ sym (items_with_first x (calls_of ps))
+items_calls_of b (position.Last x ∷ ps) h = ap (λ xs. x ∷ xs) (items_calls_of false ps h)
+items_calls_of b (position.Close ∷ ps) h = ap items_of h.1
 
 -- whole calls take as many places as there are of them
 pub places : (b : Bool) (ps : List Position) → AreWholeFrom b ps → places_of (put_of ps) ≡ length ps
 places b [] h = refl
 places b (position.More x ∷ ps) h =
-    let n = places true ps h in omega (arith, ap length (items-with_first x (calls_of ps)))
+    let n = places true ps h in omega (arith, ap length (items_with_first x (calls_of ps)))
 places b (position.Last x ∷ ps) h = let n = places false ps h in omega arith
 places b (position.Close ∷ ps) h = omega (arith, ap length h.1)
 
@@ -179,8 +179,8 @@ leaves_either false all old new is whole old_whole open' =
     let new_whole = whole_rest false old new old_whole open' (subst AreWhole is whole) in
     record {
       rest = calls_of new;
-      calls = sym (ap calls_of is ∙ calls-append false old new old_whole open');
-      items = items-calls_of false new new_whole;
+      calls = sym (ap calls_of is ∙ calls_append false old new old_whole open');
+      items = items_calls_of false new new_whole;
       closed = λ c. absurd (false≢true (sym open' ∙ c));
     }
 

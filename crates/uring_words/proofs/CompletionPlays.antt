@@ -13,7 +13,7 @@ use Rattle.uring_words.specs.Places.{place_of}
 use Rattle.uring_words.specs.Slots.{held_from, app_has, kernel_has}
 use Rattle.uring_words.specs.declared.completion.view.AppSide.{AppSide}
 use Rattle.uring_words.specs.declared.completion.view.KernelSide.{KernelSide}
-use Rattle.uring_words.proofs.CompletionSteps.{put_many, few_cells, keeps-tail_stored, keeps-dropped_stored, keeps-head_loaded, keeps-all_given, keeps-tail_loaded, keeps-dropped_loaded, keeps-head_stored}
+use Rattle.uring_words.proofs.CompletionSteps.{put_many, few_cells, keeps_tail_stored, keeps_dropped_stored, keeps_head_loaded, keeps_all_given, keeps_tail_loaded, keeps_dropped_loaded, keeps_head_stored}
 use Rattle.uring_words.proofs.SlotActs.{with_given, gives_all, gives_all-homes, gives_all-carried, gives_all-valid, changes, changes-homes, changes-carried, takes_all, more_valid}
 use Rattle.uring_words.proofs.SlotSeats.{app_step, kernel_step}
 
@@ -28,7 +28,7 @@ stores_tail slots id i me word c others is_kernel holds room is_word is =
     kernel_step slots id i (λ _. word) me (λ _. StoresTail (step slots i word 0 none) me word) is_kernel (λ words homes a h both.
     let d : KernelSide = me.0.kernel in
     let P : List (ℕ × Cqe) → Type 0 = λ held. Agree (set words i word) (put_back homes held) a (put_first d held) in
-    (put_first d me.1, gives, tt, subst P (sym holds) (rw is (keeps-tail_stored words homes a d word c h room is_word)), refl))
+    (put_first d me.1, gives, tt, subst P (sym holds) (rw is (keeps_tail_stored words homes a d word c h room is_word)), refl))
 
 -- the dropped word is stored
 pub stores_dropped : (slots id i : ℕ) (me : Holder) (word : ℕ) → me.0.is_kernel ≡ true
@@ -36,7 +36,7 @@ pub stores_dropped : (slots id i : ℕ) (me : Holder) (word : ℕ) → me.0.is_k
     → Allows BothAgree slots id me i (λ _. word) (λ _. StoresDropped (step slots i word 0 none) me word)
 stores_dropped slots id i me word is_kernel small is =
     kernel_step slots id i (λ _. word) me (λ _. StoresDropped (step slots i word 0 none) me word) is_kernel
-    (λ words homes a h both. (dropped_stored me.0.kernel word, keeps, tt, rw is (keeps-dropped_stored words homes a me.0.kernel word h small), refl))
+    (λ words homes a h both. (dropped_stored me.0.kernel word, keeps, tt, rw is (keeps_dropped_stored words homes a me.0.kernel word h small), refl))
 
 -- the head is loaded
 pub loads_head : (slots id i : ℕ) (me : Holder) (blank : List Cqe) → me.0.is_kernel ≡ true
@@ -61,7 +61,7 @@ loads_head slots id i me blank is_kernel holds ends is =
       e,
       changes me.1 after,
       subst V (sym holds) (gives_all-valid homes held (takes_all after) (more_valid d.start d.size h.sized.power (few_cells words homes a d h) homes n d.end blank h.free h.sized.cells (sym ends) (omega arith) h.stand_free)),
-      subst (λ (ws : List ℕ). P ws (homes_after homes me.1 (changes me.1 after))) (sym (set-get_or words i 0)) (subst (P words) (sym at_home) (keeps-head_loaded words homes a d blank h ends)),
+      subst (λ (ws : List ℕ). P ws (homes_after homes me.1 (changes me.1 after))) (sym (set-get_or words i 0)) (subst (P words) (sym at_home) (keeps_head_loaded words homes a d blank h ends)),
       (
         length a.got,
         blank ++ h.free,
@@ -85,7 +85,7 @@ gives_back slots id i me blank is_kernel holds ends =
       all_given d,
       gives_all me.1 keeps,
       gives_all-valid homes me.1 keeps tt,
-      subst (λ (ws : List ℕ). P ws (homes_after homes me.1 (gives_all me.1 keeps))) (sym (set-get_or words i 0)) (subst (P words) (sym at_home) (keeps-all_given words homes a d blank h ends)),
+      subst (λ (ws : List ℕ). P ws (homes_after homes me.1 (gives_all me.1 keeps))) (sym (set-get_or words i 0)) (subst (P words) (sym at_home) (keeps_all_given words homes a d blank h ends)),
       ap (kernel_has me (all_given d)) (gives_all-carried me.1 keeps),
     ))
 
@@ -114,7 +114,7 @@ loads_tail slots id i me is_app holds is =
       b,
       changes me.1 after,
       subst V (sym holds') (gives_all-valid homes held (takes_all after) (more_valid d.start d.size h.sized.power (few_cells words homes a d h) homes n (tail_seen a) a.known h.rest h.sized.cells refl (omega arith) h.stand)),
-      subst (λ (ws : List ℕ). P ws (homes_after homes me.1 (changes me.1 after))) (sym (set-get_or words i 0)) (subst (P words) (sym at_home) (keeps-tail_loaded words homes a d h)),
+      subst (λ (ws : List ℕ). P ws (homes_after homes me.1 (changes me.1 after))) (sym (set-get_or words i 0)) (subst (P words) (sym at_home) (keeps_tail_loaded words homes a d h)),
       (
         h.rest,
         ap (app_has me b) (changes-carried me.1 after ∙ sym (of_ring (a.known ++ h.rest))),
@@ -141,7 +141,7 @@ stores_head slots id i me word c cs is_app known holds is_word is =
     let n : ℕ = length a.got in
     let held : me.1 ≡ held_from d.start d.size n (c ∷ cs) = holds ∙ ap₂ (λ s z. held_from s z n a.known) h.sized.start h.sized.size ∙ ap (held_from d.start d.size n) known in
     let P : List (ℕ × Cqe) → List Cqe → Type 0 = λ l ks. Agree (set words i word) (put_back homes l) (got_first a ks) d in
-    let kept = keeps-head_stored words homes a d word c cs h known (is_word ∙ ap (λ s. word_of s (n + 1)) h.sized.start) in
+    let kept = keeps_head_stored words homes a d word c cs h known (is_word ∙ ap (λ s. word_of s (n + 1)) h.sized.start) in
     (got_first a a.known, gives, tt, subst (λ (l : List (ℕ × Cqe)). P l a.known) (sym held) (subst (P (held_from d.start d.size n (c ∷ cs))) (sym known) (rw is kept)), refl))
 
 -- the dropped word is loaded
@@ -156,6 +156,6 @@ loads_dropped slots id i me is_app is =
       dropped_loaded a (get_or words i 0),
       keeps,
       tt,
-      subst (P (get_or words i 0)) (sym (set-get_or words i 0)) (subst (λ (n : ℕ). P n words) (sym found) (keeps-dropped_loaded words homes a d h)),
+      subst (P (get_or words i 0)) (sym (set-get_or words i 0)) (subst (λ (n : ℕ). P n words) (sym found) (keeps_dropped_loaded words homes a d h)),
       (refl, rw found h.small, is),
     ))

@@ -12,7 +12,7 @@ use Rattle.uring_words.specs.Places.{place_of}
 use Rattle.uring_words.specs.Slots.{held_from, StandFrom}
 use Rattle.uring_words.specs.declared.completion.view.AppSide.{AppSide}
 use Rattle.uring_words.specs.declared.completion.view.KernelSide.{KernelSide}
-use Rattle.uring_words.proofs.SlotActs.{with_given, with_given-length, stands_else, stands_given, given_stand, stand_both, taken_more, more-length, more_stands}
+use Rattle.uring_words.proofs.SlotActs.{with_given, with_given-length, stands_else, stands_given, given_stand, stand_both, taken_more, more_length, more_stands}
 use Rattle.uring_words.proofs.Standing.{some_size, place_below, next_turn}
 
 -- the sizes of the table after a store
@@ -51,10 +51,10 @@ pub few_cells : (words : List ℕ) (homes : List (Option Cqe)) (a : AppSide) (d 
 few_cells words homes a d h = omega (arith, h.sized.limit)
 
 -- the tail is stored, and the first cell that the dispatcher held goes home
-pub keeps-tail_stored : (words : List ℕ) (homes : List (Option Cqe)) (a : AppSide) (d : KernelSide) (w : ℕ) (c : Cqe)
+pub keeps_tail_stored : (words : List ℕ) (homes : List (Option Cqe)) (a : AppSide) (d : KernelSide) (w : ℕ) (c : Cqe)
     → Agree words homes a d → length d.put < d.end → w ≡ word_of d.start (length d.put + 1)
     → Agree (set words tail_index w) (set homes (place_of d.start d.size (length d.put)) (some c)) a (record d { put = d.put ++ c ∷ [] })
-keeps-tail_stored words homes a d w c h room is_word =
+keeps_tail_stored words homes a d w c h room is_word =
     let n : ℕ = length d.put in
     let place : ℕ = place_of d.start d.size n in
     let homes' : List (Option Cqe) = set homes place (some c) in
@@ -82,9 +82,9 @@ keeps-tail_stored words homes a d w c h room is_word =
       loaded = h.loaded;
     }
 
-pub last-snoc : (v : ℕ) (ws : List ℕ) (w : ℕ) → last_of v (ws ++ w ∷ []) ≡ w
-last-snoc v [] w = refl
-last-snoc v (x ∷ xs) w = last-snoc x xs w
+pub last_snoc : (v : ℕ) (ws : List ℕ) (w : ℕ) → last_of v (ws ++ w ∷ []) ≡ w
+last_snoc v [] w = refl
+last_snoc v (x ∷ xs) w = last_snoc x xs w
 
 -- what was had is had by a word that has had more
 pub had_more : (had more ws : List ℕ) → WereHad had ws → WereHad (had ++ more) ws
@@ -96,10 +96,10 @@ last_is : (v : ℕ) (vs : List ℕ) → (before : List ℕ) × (v ∷ vs ≡ bef
 last_is v [] = ([], refl)
 last_is v (x ∷ xs) = let r = last_is x xs in (v ∷ r.0, ap (λ l. v ∷ l) r.1)
 
-last-behind : (v : ℕ) (before : List ℕ) (w : ℕ) (after : List ℕ)
+last_behind : (v : ℕ) (before : List ℕ) (w : ℕ) (after : List ℕ)
     → last_of v (before ++ w ∷ after) ≡ last_of w after
-last-behind v [] w after = refl
-last-behind v (x ∷ xs) w after = last-behind x xs w after
+last_behind v [] w after = refl
+last_behind v (x ∷ xs) w after = last_behind x xs w after
 
 -- the word that stands there is the last that was had
 pub had_last : (v : ℕ) (vs ws : List ℕ) → WereHad (v ∷ vs) ws
@@ -108,20 +108,20 @@ had_last v vs [] h = let r = last_is v vs in (r.0, [], r.1, tt)
 had_last v vs (w ∷ ws) h =
     let rest = had_last w h.1 ws h.3 in
     let P : ℕ → Type 0 = λ x. WereHad (w ∷ h.1) (ws ++ x ∷ []) in
-    (h.0, h.1, h.2, subst P (sym (last-behind 0 h.0 w h.1) ∙ sym (ap (last_of 0) h.2)) rest)
+    (h.0, h.1, h.2, subst P (sym (last_behind 0 h.0 w h.1) ∙ sym (ap (last_of 0) h.2)) rest)
 
 -- the dropped word is stored
-pub keeps-dropped_stored : (words : List ℕ) (homes : List (Option Cqe)) (a : AppSide) (d : KernelSide) (w : ℕ)
+pub keeps_dropped_stored : (words : List ℕ) (homes : List (Option Cqe)) (a : AppSide) (d : KernelSide) (w : ℕ)
     → Agree words homes a d → w < 2 ^ 32 → Agree (set words dropped_index w) homes a (dropped_stored d w)
-keeps-dropped_stored words homes a d w h is_small =
+keeps_dropped_stored words homes a d w h is_small =
     let long = h.sized.many in
     record {
       sized = resized words homes homes dropped_index w a a d (dropped_stored d w) refl refl refl refl refl h.sized;
       room = h.room;
       tail = get_or-set_other words dropped_index tail_index w 0 (λ e. omega arith) ∙ h.tail;
       head = get_or-set_other words dropped_index head_index w 0 (λ e. omega arith) ∙ h.head;
-      dropped = get_or-set_same words dropped_index w 0 (omega arith) ∙ sym (last-snoc 0 d.dropped w);
-      small = rw (last-snoc 0 d.dropped w) is_small;
+      dropped = get_or-set_same words dropped_index w 0 (omega arith) ∙ sym (last_snoc 0 d.dropped w);
+      small = rw (last_snoc 0 d.dropped w) is_small;
       rest = h.rest;
       begins = h.begins;
       stand = h.stand;
@@ -132,10 +132,10 @@ keeps-dropped_stored words homes a d w h is_small =
     }
 
 -- the head is loaded, and the dispatcher takes what is free
-pub keeps-head_loaded : (words : List ℕ) (homes : List (Option Cqe)) (a : AppSide) (d : KernelSide) (blank : List Cqe)
+pub keeps_head_loaded : (words : List ℕ) (homes : List (Option Cqe)) (a : AppSide) (d : KernelSide) (blank : List Cqe)
     → (h : Agree words homes a d) → length d.put + length blank ≡ d.end
     → Agree words (taken_more d.start d.size homes (length d.put) blank h.free) a (head_loaded d (length a.got + d.size))
-keeps-head_loaded words homes a d blank h ends =
+keeps_head_loaded words homes a d blank h ends =
     let fits = few_cells words homes a d h in
     let power = h.sized.power in
     let n : ℕ = length d.put in
@@ -145,7 +145,7 @@ keeps-head_loaded words homes a d blank h ends =
     let room = h.room in
     let long = length-append blank h.free in
     record {
-      sized = rehomed words homes homes' a a d (head_loaded d (length a.got + d.size)) refl refl refl refl (more-length d.start d.size homes n blank h.free) h.sized;
+      sized = rehomed words homes homes' a a d (head_loaded d (length a.got + d.size)) refl refl refl refl (more_length d.start d.size homes n blank h.free) h.sized;
       room = omega arith;
       tail = h.tail;
       head = h.head;
@@ -161,10 +161,10 @@ keeps-head_loaded words homes a d blank h ends =
     }
 
 -- the dispatcher gives back its cells
-pub keeps-all_given : (words : List ℕ) (homes : List (Option Cqe)) (a : AppSide) (d : KernelSide) (blank : List Cqe)
+pub keeps_all_given : (words : List ℕ) (homes : List (Option Cqe)) (a : AppSide) (d : KernelSide) (blank : List Cqe)
     → Agree words homes a d → length d.put + length blank ≡ d.end
     → Agree words (with_given homes (held_from d.start d.size (length d.put) blank)) a (all_given d)
-keeps-all_given words homes a d blank h ends =
+keeps_all_given words homes a d blank h ends =
     let fits = few_cells words homes a d h in
     let power = h.sized.power in
     let n : ℕ = length d.put in
@@ -191,10 +191,10 @@ keeps-all_given words homes a d blank h ends =
     }
 
 -- the tail is loaded, and the application takes all that was put
-pub keeps-tail_loaded : (words : List ℕ) (homes : List (Option Cqe)) (a : AppSide) (d : KernelSide)
+pub keeps_tail_loaded : (words : List ℕ) (homes : List (Option Cqe)) (a : AppSide) (d : KernelSide)
     → (h : Agree words homes a d)
     → Agree words (taken_more d.start d.size homes (length a.got) a.known h.rest) (tail_loaded a h.rest) d
-keeps-tail_loaded words homes a d h =
+keeps_tail_loaded words homes a d h =
     let fits = few_cells words homes a d h in
     let power = h.sized.power in
     let b : AppSide = tail_loaded a h.rest in
@@ -205,7 +205,7 @@ keeps-tail_loaded words homes a d h =
     let room = h.room in
     let long = length-append a.known h.rest in
     record {
-      sized = rehomed words homes homes' a b d d refl refl refl refl (more-length d.start d.size homes n a.known h.rest) h.sized;
+      sized = rehomed words homes homes' a b d d refl refl refl refl (more_length d.start d.size homes n a.known h.rest) h.sized;
       room = h.room;
       tail = h.tail;
       head = h.head;
@@ -221,9 +221,9 @@ keeps-tail_loaded words homes a d h =
     }
 
 -- the dropped word is loaded
-pub keeps-dropped_loaded : (words : List ℕ) (homes : List (Option Cqe)) (a : AppSide) (d : KernelSide)
+pub keeps_dropped_loaded : (words : List ℕ) (homes : List (Option Cqe)) (a : AppSide) (d : KernelSide)
     → Agree words homes a d → Agree words homes (dropped_loaded a (last_of 0 d.dropped)) d
-keeps-dropped_loaded words homes a d h = record {
+keeps_dropped_loaded words homes a d h = record {
   sized = rehomed words homes homes a (dropped_loaded a (last_of 0 d.dropped)) d d refl refl refl refl refl h.sized;
   room = h.room;
   tail = h.tail;
@@ -240,10 +240,10 @@ keeps-dropped_loaded words homes a d h = record {
 }
 
 -- the head is stored, and the first cell that the application held goes home
-pub keeps-head_stored : (words : List ℕ) (homes : List (Option Cqe)) (a : AppSide) (d : KernelSide) (w : ℕ) (c : Cqe) (cs : List Cqe)
+pub keeps_head_stored : (words : List ℕ) (homes : List (Option Cqe)) (a : AppSide) (d : KernelSide) (w : ℕ) (c : Cqe) (cs : List Cqe)
     → Agree words homes a d → a.known ≡ c ∷ cs → w ≡ word_of d.start (length a.got + 1)
     → Agree (set words head_index w) (set homes (place_of d.start d.size (length a.got)) (some c)) (record a { got = a.got ++ c ∷ []; known = cs }) d
-keeps-head_stored words homes a d w c cs h is is_word =
+keeps_head_stored words homes a d w c cs h is is_word =
     let fits = few_cells words homes a d h in
     let power = h.sized.power in
     let n : ℕ = length a.got in

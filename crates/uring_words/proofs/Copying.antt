@@ -18,7 +18,7 @@ use Rattle.uring_words.specs.declared.submission.view.AppSide.{AppSide}
 use Rattle.uring_words.specs.declared.submission.view.KernelSide.{KernelSide}
 use Rattle.uring_words.specs.declared.submission.view.Position.{Position}
 use Rattle.uring_words.specs.declared.submission.view.Position.TheVariants as position
-use Rattle.uring_words.proofs.CallLemmas.{holds_call, holds_close, more-length, more-append, never_open, close_is_first}
+use Rattle.uring_words.proofs.CallLemmas.{holds_call, holds_close, more_length, more_append, never_open, close_is_first}
 use Rattle.uring_words.proofs.Plays.{stores_head, stores_tail}
 use Rattle.uring_words.proofs.Turning.{part_done, next_of, stands_first, is_next, goes_behind, turns_behind}
 
@@ -34,16 +34,16 @@ module _ (v : View AppSide KernelSide) (blank : List Position) (front : List Ite
   module _ (place : ℕ) (m : Holder) (is : m ≡ (v, with_first_behind v.app.start v.app.size (length v.app.published) (drop (length (all_more front)) blank) (all_more front)))
       (room : length front + 1 ≤ length blank) (at : place ≡ place_of v.app.start v.app.size (length v.app.published + length front)) where
     here : place ≡ place_of v.app.start v.app.size (length v.app.published + length (all_more front))
-    here = at ∙ ap (λ (k : ℕ). place_of v.app.start v.app.size (length v.app.published + k)) (sym (more-length front))
+    here = at ∙ ap (λ (k : ℕ). place_of v.app.start v.app.size (length v.app.published + k)) (sym (more_length front))
 
     pub last_stands_first : (x : Position) × (m.1 ≡ (place, x) ∷ rest m.1)
-    last_stands_first = stands_first v.app.start v.app.size (length v.app.published) (length (all_more front)) place blank (all_more front) m v is (omega (arith, more-length front)) here
+    last_stands_first = stands_first v.app.start v.app.size (length v.app.published) (length (all_more front)) place blank (all_more front) m v is (omega (arith, more_length front)) here
 
     pub last_goes_behind : (after : Holder) → after ≡ (m.0, rest m.1 ++ (place, last) ∷ [])
         → after ≡ (v, with_first_behind v.app.start v.app.size (length v.app.published) left written)
     last_goes_behind after moved =
         let many : length (all_more front) + 1 ≡ length written = sym (length-append (all_more front) (last ∷ [])) in
-        goes_behind v.app.start v.app.size (length v.app.published) (length (all_more front)) place blank (all_more front) m v is (omega (arith, more-length front)) here last after refl moved
+        goes_behind v.app.start v.app.size (length v.app.published) (length (all_more front)) place blank (all_more front) m v is (omega (arith, more_length front)) here last after refl moved
         ∙ ap (λ (k : ℕ). (v, held_from v.app.start v.app.size (length v.app.published + k) left ++ held_from v.app.start v.app.size (length v.app.published) written)) many
 
 -- the tail is stored behind what was written
@@ -97,7 +97,7 @@ module _ (b : Holder) (k place : ℕ) (m after : Holder) (x : Position)
 
   module _ (items : List Item) (front : take k b.0.kernel.known ≡ all_more items) where
     pub front_more : (item : Item) → x ≡ position.More item → take (k + 1) b.0.kernel.known ≡ all_more (items ++ item ∷ [])
-    front_more item same = read_next.1 ∙ (λ i. front i ++ same i ∷ []) ∙ sym (more-append items (item ∷ []))
+    front_more item same = read_next.1 ∙ (λ i. front i ++ same i ∷ []) ∙ sym (more_append items (item ∷ []))
 
     all_read : after ≡ (b.0, with_first_behind b.0.kernel.start b.0.kernel.size (length b.0.kernel.taken) (drop (k + 1) b.0.kernel.known) (take (k + 1) b.0.kernel.known))
     all_read =
@@ -138,7 +138,7 @@ pub call_ends : (known : List Position) (k : ℕ) (items : List Item) → AreWho
     → length known ≤ k → take k known ≡ all_more items → ⊥
 call_ends known k items whole some all front =
     let same : known ≡ all_more items = sym (take_all k known all) ∙ front in
-    never_open items (omega (arith, ap length same, more-length items)) (subst AreWhole same whole)
+    never_open items (omega (arith, ap length same, more_length items)) (subst AreWhole same whole)
 
 -- the head is stored behind what was read
 pub head_allowed : (slots id : ℕ) (b m : Holder) (what : Pulled) (items : List Item) (next : ℕ) → ReadsCall b m what items next
@@ -164,7 +164,7 @@ pub pulls : (d : KernelSide) (what : Pulled) (items : List Item) (read others : 
     → Pulls d.size (put_of d.taken) what items (put_of (d.taken ++ read)) × AreWhole (d.taken ++ read)
 pulls d pulled.Call items read others rests open' few known h =
     let holding = holds_call d.taken h.0 h.1 rests.whole open' in
-    let many : length items ≤ d.size = omega (arith, ap length h.2, length-append h.0 (h.1 ∷ []), ap length h.3, length-append (all_more h.0) (position.Last h.1 ∷ []), more-length h.0, ap length known, length-append read others) in
+    let many : length items ≤ d.size = omega (arith, ap length h.2, length-append h.0 (h.1 ∷ []), ap length h.3, length-append (all_more h.0) (position.Last h.1 ∷ []), more_length h.0, ap length known, length-append read others) in
     let some : 0 < length items = omega (arith, ap length h.2, length-append h.0 (h.1 ∷ [])) in (
       (some, many, open', ap (λ l. put_of (d.taken ++ l)) h.3 ∙ holding.is ∙ ap (with_call (put_of d.taken)) (sym h.2)),
       subst (λ l. AreWhole (d.taken ++ l)) (sym h.3) holding.whole,

@@ -13,10 +13,10 @@ use Rattle.uring_words.proofs.Handing.{after, after-length, take_others, give_do
 use Rattle.uring_words.proofs.SlotActs.{stand_both}
 
 -- the tail is loaded, and the places of all that was published are taken
-pub keeps-tail_loaded : (words : List ℕ) (homes : List (Option Position)) (a : AppSide) (d : KernelSide)
+pub keeps_tail_loaded : (words : List ℕ) (homes : List (Option Position)) (a : AppSide) (d : KernelSide)
     → (h : Agree words homes a d)
     → Agree words (after homes (held_from a.start a.size (length d.taken) d.known) (held_from a.start a.size (length d.taken) (d.known ++ h.rest))) a (tail_loaded d h.rest)
-keeps-tail_loaded words homes a d h =
+keeps_tail_loaded words homes a d h =
     let s = h.sized in
     let n : ℕ = length d.taken in
     let held = held_from a.start a.size n d.known in
@@ -39,11 +39,11 @@ keeps-tail_loaded words homes a d h =
     }
 
 -- the head is stored, and the places of what was read are given back
-pub keeps-head_stored : (words : List ℕ) (homes : List (Option Position)) (a : AppSide) (d : KernelSide) (w : ℕ) (others read : List Position)
+pub keeps_head_stored : (words : List ℕ) (homes : List (Option Position)) (a : AppSide) (d : KernelSide) (w : ℕ) (others read : List Position)
     → (h : Agree words homes a d) → d.known ≡ read ++ others
     → w ≡ word_of a.start (length d.taken + length read)
     → Agree (set words 1 w) (after homes (with_first_behind a.start a.size (length d.taken) others read) (held_from a.start a.size (length d.taken + length read) others)) a (head_stored d read others)
-keeps-head_stored words homes a d w others read h known is_word =
+keeps_head_stored words homes a d w others read h known is_word =
     let s = h.sized in
     let n : ℕ = length d.taken in
     let held = with_first_behind a.start a.size n others read in

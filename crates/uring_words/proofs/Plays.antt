@@ -10,8 +10,8 @@ use Rattle.uring_words.specs.Submission.Rule.{Agree, BothAgree}
 use Rattle.uring_words.specs.Submission.Steps.{Holder, with_first_behind, tail_stored, head_loaded, all_given, tail_loaded, head_stored, StoresTail, LoadsHead, GivesAll, LoadsTail, StoresHead}
 use Rattle.uring_words.specs.declared.submission.view.AppSide.{AppSide}
 use Rattle.uring_words.specs.declared.submission.view.Position.{Position}
-use Rattle.uring_words.proofs.AppSteps.{all_published, keeps-head_loaded, keeps-tail_stored, keeps-all_given}
-use Rattle.uring_words.proofs.KernelSteps.{keeps-tail_loaded, keeps-head_stored}
+use Rattle.uring_words.proofs.AppSteps.{all_published, keeps_head_loaded, keeps_tail_stored, keeps_all_given}
+use Rattle.uring_words.proofs.KernelSteps.{keeps_tail_loaded, keeps_head_stored}
 use Rattle.uring_words.proofs.Handing.{after, take_valid, give_valid, all_valid, held-length, same_parts, same_slots}
 use Rattle.uring_words.proofs.SlotActs.{changes, changes-carried}
 use Rattle.uring_words.proofs.SlotSeats.{app_step, kernel_step}
@@ -57,7 +57,7 @@ stores_tail slots id me word blank written is_app holds many few limit is_word w
     let count : length written ≡ length written' = same_count a.start n (length written) (length written') (omega arith) (omega arith) (sym is_word ∙ found) in
     let parts = same_slots a.start a.size (n + length written) n (n + length written') n blank written blank' written' count (sym holds ∙ same) in
     ap (app_has me (tail_stored a written)) (changes-carried old new) ∙ (λ i. app_has me (tail_stored a (parts.1 i)) (held_from a.start a.size (n + length (parts.1 i)) (parts.0 i))) in
-    let r = subst P (sym holds) (give_valid a.start a.size h.sized.power fits homes h.sized.places n blank written few, keeps-tail_stored words homes a d word blank written h many few is_word whole, told) in
+    let r = subst P (sym holds) (give_valid a.start a.size h.sized.power fits homes h.sized.places n blank written few, keeps_tail_stored words homes a d word blank written h many few is_word whole, told) in
     (tail_stored a written, act, r.0, r.1, r.2))
 
 -- the head is loaded
@@ -80,7 +80,7 @@ loads_head slots id me blank is_app holds many =
     let count = all_published words homes a d h in
     let few : length blank + length h.free ≤ a.size = omega (arith, h.all, h.room) in
     let there = subst (λ (k : ℕ). StandFrom a.start a.size homes k h.free) (sym many) h.stand_free in
-    let kept = subst (λ ws. Agree ws (after homes old new) b d) (sym (set-get_or words 1 0)) (keeps-head_loaded words homes a d blank h many) in
+    let kept = subst (λ ws. Agree ws (after homes old new) b d) (sym (set-get_or words 1 0)) (keeps_head_loaded words homes a d blank h many) in
     let told : Then (app_has me b (carried_after old act)) = (
       length d.taken,
       blank ++ h.free,
@@ -106,7 +106,7 @@ gives_all_places slots id me blank is_app holds many few =
     let Then = GivesAll (step slots 1 0 0 none) me (get_or words 1 0) in
     let P : Slots → Type 0 = λ c. Valid homes c act × Agree (set words 1 (get_or words 1 0)) (homes_after homes c act) b d × Then (app_has me b (carried_after c act)) in
     let fits : a.size ≤ 2 ^ 32 = omega (arith, h.sized.limit) in
-    let kept = subst (λ ws. Agree ws (after homes old []) b d) (sym (set-get_or words 1 0)) (keeps-all_given words homes a d blank h many few) in
+    let kept = subst (λ ws. Agree ws (after homes old []) b d) (sym (set-get_or words 1 0)) (keeps_all_given words homes a d blank h many few) in
     let r = subst P (sym holds) (all_valid a.start a.size h.sized.power fits homes n blank, kept, ap (app_has me b) (changes-carried old [])) in
     (b, act, r.0, r.1, r.2))
 
@@ -128,7 +128,7 @@ loads_tail slots id me is_kernel holds =
     let fits : a.size ≤ 2 ^ 32 = omega (arith, s.limit) in
     let count = all_published words homes a d h in
     let few : length d.known + length h.rest ≤ a.size = omega (arith, h.all, h.room) in
-    let kept = subst (λ ws. Agree ws (after homes old new) a e) (sym (set-get_or words 0 0)) (keeps-tail_loaded words homes a d h) in
+    let kept = subst (λ ws. Agree ws (after homes old new) a e) (sym (set-get_or words 0 0)) (keeps_tail_loaded words homes a d h) in
     let holds' : me.1 ≡ old = holds ∙ (λ i. held_from (s.start i) (s.size i) n d.known) in
     let told : Then (kernel_has me e (carried_after old act)) = (
       h.rest,
@@ -173,7 +173,7 @@ stores_head slots id me word others read is_kernel holds known few is_word =
     ap (kernel_has me e) (changes-carried old new) ∙ (λ i. kernel_has me (head_stored d (halves.0 i) (halves.1 i)) (held_from (sym s.start i) (sym s.size i) (n + length (halves.0 i)) (halves.1 i))) in
     let r = subst P (sym holds') (
       give_valid a.start a.size s.power fits homes s.places n others read (omega (arith, h.all, h.room)),
-      keeps-head_stored words homes a d word others read h known (is_word ∙ ap (λ k. word_of k (n + length read)) s.start),
+      keeps_head_stored words homes a d word others read h known (is_word ∙ ap (λ k. word_of k (n + length read)) s.start),
       told,
     ) in
     (e, act, r.0, r.1, r.2))

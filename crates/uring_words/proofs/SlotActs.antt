@@ -73,9 +73,9 @@ module _ {S : Type 0} where
   taken_more start size homes k xs ys =
       with_taken (with_given homes (held_from start size k xs)) (held_from start size k (xs ++ ys))
 
-  pub more-length : (start size : ℕ) (homes : List (Option S)) (k : ℕ) (xs ys : List S)
+  pub more_length : (start size : ℕ) (homes : List (Option S)) (k : ℕ) (xs ys : List S)
       → length (taken_more start size homes k xs ys) ≡ length homes
-  more-length start size homes k xs ys =
+  more_length start size homes k xs ys =
       with_taken-length (with_given homes (held_from start size k xs)) (held_from start size k (xs ++ ys))
       ∙ with_given-length homes (held_from start size k xs)
 

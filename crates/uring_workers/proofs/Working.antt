@@ -6,7 +6,7 @@ use Rattle.uring_files.specs.Contents.{FileContents, empty_files}
 use Rattle.uring_files.specs.Operations.{after, IsOutcome}
 use Rattle.uring_files.proofs.OperationCases.{many_after}
 use Rattle.uring_files.specs.Done.{Done, files_left, AreDone}
-use Rattle.uring_files.proofs.DoneLemmas.{left-snoc, done-snoc}
+use Rattle.uring_files.proofs.DoneLemmas.{left_snoc, done_snoc}
 use Rattle.uring_ports.specs.Lanes.{numbers_of, numbers_of_pointer}
 use Rattle.uring_workers.specs.declared.job.Job.{Job}
 use Rattle.uring_workers.specs.declared.job.JobResult.{JobResult}
@@ -16,22 +16,22 @@ use Rattle.rtrb.specs.declared.end.End.{End}
 use Rattle.uring_workers.specs.Worker.{Worker, done_of, IsWorking}
 
 -- jobs and results of the same operations are theirs
-pub done_of-own : (done : List Done) → done_of (jobs_of done) (results_of done) ≡ done
-done_of-own [] = refl
-done_of-own (d ∷ ds) = ap (λ xs. d ∷ xs) (done_of-own ds)
+pub done_of_own : (done : List Done) → done_of (jobs_of done) (results_of done) ≡ done
+done_of_own [] = refl
+done_of_own (d ∷ ds) = ap (λ xs. d ∷ xs) (done_of_own ds)
 
 -- the operation of a job that ended so
 abbrev pub done_as : Job → Outcome → Done
 done_as j outcome = record { number = j.number; op = j.op; outcome = outcome }
 
-pub done_of-snoc : (jobs : List Job) (results : List JobResult) (files : List FileContents)
+pub done_of_snoc : (jobs : List Job) (results : List JobResult) (files : List FileContents)
     → IsWorking jobs results files → (j : Job) (outcome : Outcome)
     → done_of (jobs ++ j ∷ []) (results ++ record { number = j.number; outcome = outcome } ∷ [])
     ≡ done_of jobs results ++ done_as j outcome ∷ []
-done_of-snoc jobs results files w j outcome =
+done_of_snoc jobs results files w j outcome =
     ap (λ js. done_of js (results ++ result_of (done_as j outcome) ∷ [])) (jobs_snoc jobs (done_of jobs results) j outcome w.jobs_done)
     ∙ ap (λ rs. done_of (jobs_of (done_of jobs results ++ done_as j outcome ∷ [])) rs) (results_snoc results (done_of jobs results) j outcome w.results_done)
-    ∙ done_of-own (done_of jobs results ++ done_as j outcome ∷ []) where
+    ∙ done_of_own (done_of jobs results ++ done_as j outcome ∷ []) where
       jobs_snoc : (jobs : List Job) (done : List Done) (j : Job) (outcome : Outcome) → jobs ≡ jobs_of done → jobs ++ j ∷ [] ≡ jobs_of (done ++ done_as j outcome ∷ [])
       jobs_snoc jobs done j outcome same = ap (λ js. js ++ j ∷ []) same ∙ sym (map-append job_of done (done_as j outcome ∷ []))
 
@@ -44,15 +44,15 @@ pub goes_on : (jobs : List Job) (results : List JobResult) (files : List FileCon
 goes_on jobs results files w j outcome right =
     let done : List Done = done_of jobs results in
     let d : Done = done_as j outcome in
-    let more = done_of-snoc jobs results files w j outcome in
+    let more = done_of_snoc jobs results files w j outcome in
     let first : List FileContents = empty_files (length files) in
     let same : empty_files (length (after files j.op outcome.res)) ≡ first = ap empty_files (many_after files j.op outcome.res) in
-    let rights : AreDone first (done ++ d ∷ []) = done-snoc first done d w.right (subst (λ fs. IsOutcome fs j.op outcome) w.left right) in
+    let rights : AreDone first (done ++ d ∷ []) = done_snoc first done d w.right (subst (λ fs. IsOutcome fs j.op outcome) w.left right) in
     record {
       jobs_done = ap (λ js. js ++ j ∷ []) w.jobs_done ∙ sym (map-append job_of done (d ∷ [])) ∙ ap jobs_of (sym more);
       results_done = ap (λ rs. rs ++ result_of d ∷ []) w.results_done ∙ sym (map-append result_of done (d ∷ [])) ∙ ap results_of (sym more);
       right = subst (λ fs. AreDone fs (done_of (jobs ++ j ∷ []) (results ++ result_of d ∷ []))) (sym same) (subst (AreDone first) (sym more) rights);
-      left = ap (λ fs. after fs j.op outcome.res) w.left ∙ sym (left-snoc first done d) ∙ ap (files_left first) (sym more) ∙ ap (λ fs. files_left fs (done_of (jobs ++ j ∷ []) (results ++ result_of d ∷ []))) (sym same);
+      left = ap (λ fs. after fs j.op outcome.res) w.left ∙ sym (left_snoc first done d) ∙ ap (files_left first) (sym more) ∙ ap (λ fs. files_left fs (done_of (jobs ++ j ∷ []) (results ++ result_of d ∷ []))) (sym same);
     }
 
 -- ends of lanes with the same words, slots and names have the same numbers

@@ -4,7 +4,7 @@ use Rattle.std.proofs.lemmas.Bool.{cases_eq, eq-eqb, ne_eqb}
 use Rattle.std.proofs.lemmas.Nat.Bits.{bit_at-lt, shr_and_one}
 use Rattle.uring_entry.specs.Below.{count_below}
 use Rattle.uring_dispatch.specs.Window.{one_if}
-use Rattle.uring_dispatch.proofs.Counting.{ones-counted}
+use Rattle.uring_dispatch.proofs.Counting.{ones_counted}
 use Rattle.uring_dispatch.proofs.issuable.nth_bit.Goals as goal
 
 pub returns-then-left-bit-clause-here : goal.returns-then-left-bit-clause-here
@@ -48,6 +48,6 @@ unreachable-requires c =
     let stop : 64 ≡ c.loop-i.i = omega arith in
     let P : ℕ → Type 0 = λ s. c.args.block < 2 ^ s in
     let fits : c.args.block < 2 ^ 64 = omega arith in
-    let all = ones-counted c.args.block c.loop-i.i (subst P stop fits) in
+    let all = ones_counted c.args.block c.loop-i.i (subst P stop fits) in
     let so_far : c.loop-i.left + count_below (λ i. eqb (bit_at c.args.block i) 1) c.loop-i.i ≡ c.args.k = c.loop-i.invariant in
     omega arith

@@ -1,6 +1,6 @@
 use Rattle.std.proofs.lemmas.Bool.{or_cases}
-use Rattle.uring_entry.proofs.RequestLemmas.{least_of-goes_on}
+use Rattle.uring_entry.proofs.RequestLemmas.{least_of_goes_on}
 use Rattle.uring_dispatch.proofs.laws.least_goes_on.Goals as goal
 
 pub returns : goal.returns
-returns c = λ r n e. or_cases _ _ (least_of-goes_on r n e)
+returns c = λ r n e. or_cases _ _ (least_of_goes_on r n e)

@@ -3,7 +3,7 @@ use Rattle.std.proofs.lemmas.Bool.{not-true, not-false}
 use Rattle.uring_entry.specs.Setup.{Setup}
 use Rattle.uring_core.specs.Core.{FitsApart}
 use Rattle.uring_core.specs.Histories.{history_of, world}
-use Rattle.uring_core.proofs.Following.{history_of-snoc}
+use Rattle.uring_core.proofs.Following.{history_of_snoc}
 use Rattle.uring_timelines.specs.declared.mark.Mark.{Mark}
 use Rattle.uring_early.specs.Bare.{IssueMeets, IssuesMeet, known_by, known_mark, known_marks}
 use Rattle.uring_early.proofs.Knowing.{issues_more, known_more, wrong_known}
@@ -21,7 +21,7 @@ loop-event-preserved c =
     let setup : c.loop-event.core.setup ≡ c.args.core.now.setup = c.loop-event.invariant.setup in
     record {
       setup = c.in_ok-add_one.ensures.setup ∙ setup;
-      fits = subst (FitsApart c.add_one.new.core) (sym (ap history_of grown ∙ history_of-snoc earlier e)) fits;
+      fits = subst (FitsApart c.add_one.new.core) (sym (ap history_of grown ∙ history_of_snoc earlier e)) fits;
       meet = subst (IssuesMeet c.args.core.now.setup c.args.told.now []) (sym grown) (issues_more c.args.core.now.setup c.args.told.now earlier e c.loop-event.invariant.meet (subst (λ (s : Setup). IssueMeets (known_by s c.args.told.now (history_of earlier) e) e) setup (c.in_ok-add_one.ensures.meets made (history_of earlier) c.loop-event.invariant.fits)));
       marks =
           c.in_ok-add_one.ensures.mark made (history_of earlier) c.loop-event.invariant.fits

@@ -3,7 +3,7 @@ use Rattle.std.proofs.lemmas.Bool.{not-true, not-false}
 use Rattle.uring_entry.specs.Setup.{Setup}
 use Rattle.uring_core.specs.Core.{FitsApart}
 use Rattle.uring_core.specs.Histories.{history_of, world}
-use Rattle.uring_core.proofs.Following.{history_of-snoc}
+use Rattle.uring_core.proofs.Following.{history_of_snoc}
 use Rattle.uring_timelines.specs.declared.mark.Mark.{Mark}
 use Rattle.uring_early.specs.Marks.{mark_by, marks_behind}
 use Rattle.uring_early.proofs.Marking.{marks_more, taken_next, wrong_from}
@@ -19,7 +19,7 @@ loop-event-preserved c =
     let setup : c.follow_one.new.core.setup ≡ c.args.core.now.setup = c.in_ok-follow_one.ensures.setup ∙ c.loop-event.invariant.setup in
     record {
       setup = setup;
-      fits = subst (FitsApart c.follow_one.new.core) (sym (ap history_of grown ∙ history_of-snoc earlier c.event-item.result)) fits;
+      fits = subst (FitsApart c.follow_one.new.core) (sym (ap history_of grown ∙ history_of_snoc earlier c.event-item.result)) fits;
       marks =
           c.in_ok-push.ensures.items ∙ ap (λ (ms : List Mark). ms ++ c.mark_of.result ∷ []) c.loop-event.invariant.marks
           ∙ ap (λ (m : Mark). marks_behind c.args.core.now.setup [] earlier ++ m ∷ []) (c.mark_of.ensures (c.event-item.result ∷ history_of earlier) fits ∙ ap (λ (s : Setup). mark_by (world s (c.event-item.result ∷ history_of earlier)).requests c.event-item.result) setup)

@@ -1,5 +1,5 @@
-use Rattle.uring_laws.proofs.ReasonLaws.{unaccepted-said, ended-said, runs-said}
+use Rattle.uring_laws.proofs.ReasonLaws.{unaccepted_said, ended_said, runs_said}
 use Rattle.uring_laws.proofs.reasons.end_is_said.Goals as goal
 
 pub returns : goal.returns
-returns c = λ r n. (unaccepted-said r n, ended-said r n, runs-said r n)
+returns c = λ r n. (unaccepted_said r n, ended_said r n, runs_said r n)

@@ -1,5 +1,5 @@
-use Rattle.uring_laws.proofs.ReasonLaws.{two-steps}
+use Rattle.uring_laws.proofs.ReasonLaws.{two_steps}
 use Rattle.uring_laws.proofs.reasons.two_steps_lead_on.Goals as goal
 
 pub returns : goal.returns
-returns c = two-steps
+returns c = two_steps

@@ -1,7 +1,7 @@
 use Rattle.std.proofs.Common.{not, ◌&&◌, length, sym, ◌∙◌, ap, arith}
 use Rattle.std.proofs.lemmas.Bool.{and_left, and_from}
 use Rattle.uring_entry.specs.Requests.{has_ended}
-use Rattle.uring_entry.proofs.BelowLemmas.{some_below-none, some_below-some}
+use Rattle.uring_entry.proofs.BelowLemmas.{some_below_none, some_below_some}
 use Rattle.uring_linux.specs.Drains.{is_in_some}
 use Rattle.uring_linux.specs.LinuxRequests.{is_alone}
 use Rattle.uring_linux.proofs.drains.is_alone.Goals as goal
@@ -14,7 +14,7 @@ unfolding is_alone
 returns-then-not-is_in_some c = λ r s.
     sym
     (ap not
-    (some_below-some (λ k. not (has_ended r k) && not (is_in_some c.args.groups.now.items k)) (length r.accepted) c.loop-n.n (omega (arith, s.count))
+    (some_below_some (λ k. not (has_ended r k) && not (is_in_some c.args.groups.now.items k)) (length r.accepted) c.loop-n.n (omega (arith, s.count))
     (and_from _ _ (sym (c.passes.ensures r s (record { low = omega arith; high = omega arith })) ∙ c.if-passes.true)
     (ap not (sym c.is_in_some.ensures ∙ c.if-not-is_in_some.true)))))
 
@@ -23,5 +23,5 @@ unfolding is_alone
 returns c = λ r s.
     sym
     (ap not
-    (some_below-none (λ k. not (has_ended r k) && not (is_in_some c.args.groups.now.items k)) (length r.accepted)
+    (some_below_none (λ k. not (has_ended r k) && not (is_in_some c.args.groups.now.items k)) (length r.accepted)
     (λ k lt. c.loop-n.invariant r s k (omega (arith, s.count)))))

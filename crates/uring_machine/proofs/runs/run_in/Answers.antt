@@ -7,7 +7,7 @@ use Rattle.uring_core.specs.declared.answer.Answer.{Answer}
 use Rattle.uring_core.proofs.Following.{follow_next, zip_next}
 use Rattle.uring_machine.specs.Machine.{IsUnrefused, elements_for_step}
 use Rattle.uring_machine.specs.Settling.{AreUnrefused}
-use Rattle.uring_machine.proofs.Settling.{unrefused-append}
+use Rattle.uring_machine.proofs.Settling.{unrefused_append}
 use Rattle.uring_machine.proofs.runs.run_in.Goals as goal
 
 -- one answer more that refuses no memory
@@ -18,7 +18,7 @@ unrefused_next : (g : Setup) (h : History) (steps : List Step) (i : ℕ) (answer
     → AreUnrefused g h (zip (take (i + 1) steps) pushed)
 unrefused_next g h steps i answers pushed s a lt at many more earlier last =
     subst (AreUnrefused g h) (sym (zip_next steps i answers pushed s a lt at many more))
-    (unrefused-append g h (zip (take i steps) answers) ((s, a) ∷ []) earlier (last, tt))
+    (unrefused_append g h (zip (take i steps) answers) ((s, a) ∷ []) earlier (last, tt))
 
 pub loop-step-preserved : goal.loop-step-preserved
 loop-step-preserved g c =

@@ -2,7 +2,7 @@ use Rattle.std.proofs.Common.{[], ◌∷◌, ◌++◌, ◌<◌, ◌∙◌, ap, a
 use Rattle.rtrb.specs.Ring.{received, known_items}
 use Rattle.uring_ports.specs.Messages.{put_of, owed, items_before}
 use Rattle.uring_ports.specs.Ports.{with_call, with_close}
-use Rattle.uring_ports.proofs.MessageSteps.{Sent, owed-snoc}
+use Rattle.uring_ports.proofs.MessageSteps.{Sent, owed_snoc}
 use Rattle.uring_ports.proofs.LaneLemmas.{same_head, takes_first, takes_close, takes_call}
 use Rattle.uring_ports.proofs.call_lane.pull.Goals as goal
 
@@ -22,7 +22,7 @@ returns-then-first-clause-pulled c = (c.clear.ensures.items, c.requires.open, (t
 pub pull_rest-requires-clause-owed : goal.pull_rest-requires-clause-owed
 pull_rest-requires-clause-owed c =
     let first = same_head (known_items c.slots-seen.new.self) (known_items c.pop_known-2.new.self) c.peek_known-first.result.now c.pop_known-2.result c.peek_known-first.ensures c.pop_known-2.ensures.received.1 in
-    ap owed c.pop_known-2.ensures.received.0 ∙ owed-snoc (received c.slots-seen.new.self) c.pop_known-2.result ∙ ap (λ m. m.left) first
+    ap owed c.pop_known-2.ensures.received.0 ∙ owed_snoc (received c.slots-seen.new.self) c.pop_known-2.result ∙ ap (λ m. m.left) first
 
 some_pulled : (c : goal.After-pull_rest) → 0 < length c.pull_rest.new.items.items
 some_pulled c = omega (arith, c.pull_rest.ensures.count)

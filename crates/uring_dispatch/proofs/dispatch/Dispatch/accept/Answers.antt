@@ -1,22 +1,22 @@
 use Rattle.std.proofs.Common.{ap, arith}
 use Rattle.std.proofs.lemmas.Bool.{false≢true}
 use Rattle.uring_dispatch.specs.Dispatch.{Dispatch}
-use Rattle.uring_dispatch.proofs.Views.{held-from, shows-held, room-fewer}
+use Rattle.uring_dispatch.proofs.Views.{held_from, shows_held, room_fewer}
 use Rattle.uring_dispatch.proofs.dispatch.Dispatch.accept.Goals as goal
 
 pub accept-requires : goal.accept-requires
 accept-requires c =
     let room = ap (λ (d : Dispatch). d.room) c.self.view_is in
-    room-fewer _ _ 1 (omega arith) c.self.invariant.memory
+    room_fewer _ _ 1 (omega arith) c.self.invariant.memory
 
 pub invariant_of-self : goal.invariant_of-self
 invariant_of-self c =
     let room = ap (λ (d : Dispatch). d.room) c.self.view_is in
     record {
-      memory = c.accept.ensures.room _ (room-fewer _ c.self.inside.room _ (omega arith) c.self.invariant.memory);
+      memory = c.accept.ensures.room _ (room_fewer _ c.self.inside.room _ (omega arith) c.self.invariant.memory);
       closed = λ no. absurd (false≢true no);
     }
 
 pub returns-clause-shows : goal.returns-clause-shows
 returns-clause-shows c = λ r s.
-    shows-held _ _ _ _ _ (c.accept.ensures.shows r (held-from _ _ c.self.inside.outstanding.grouped.groups _ _ r c.self.view_is s))
+    shows_held _ _ _ _ _ (c.accept.ensures.shows r (held_from _ _ c.self.inside.outstanding.grouped.groups _ _ r c.self.view_is s))

@@ -1,5 +1,5 @@
-use Rattle.uring_dispatch.proofs.Views.{held-from}
+use Rattle.uring_dispatch.proofs.Views.{held_from}
 use Rattle.uring_dispatch.proofs.dispatch.Dispatch.issuable.Goals as goal
 
 pub returns : goal.returns
-returns c = λ r s. c.count.ensures r (held-from _ _ c.self.inside.outstanding.grouped.groups _ _ r c.self.view_is s)
+returns c = λ r s. c.count.ensures r (held_from _ _ c.self.inside.outstanding.grouped.groups _ _ r c.self.view_is s)

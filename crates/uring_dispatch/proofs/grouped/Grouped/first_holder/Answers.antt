@@ -5,8 +5,8 @@ use Rattle.uring_dispatch.specs.Window.{Window}
 use Rattle.uring_entry.specs.Requests.{Requests}
 use Rattle.uring_dispatch.specs.Groups.{Groups, group_at, drain_of, IsFirstDraining}
 use Rattle.uring_dispatch.specs.Held.{AreHeld}
-use Rattle.uring_entry.proofs.GroupLemmas.{first_member-inside}
-use Rattle.uring_dispatch.proofs.WhyHeld.{first-of_all, first-draining_is, first-own}
+use Rattle.uring_entry.proofs.GroupLemmas.{first_member_inside}
+use Rattle.uring_dispatch.proofs.WhyHeld.{first_of_all, first_draining_is, first_own}
 use Rattle.uring_dispatch.proofs.grouped.Grouped.first_holder.Goals as goal
 
 plain : (o : Option ℕ) → is_some o ≡ false → o ≡ None
@@ -19,28 +19,28 @@ first-behind : (w : Window) (g : Groups) (r : Requests) (b : Group) (from : ℕ)
     → drain_of (group_at g key) ≡ Some number → from ≤ number
 first-behind w g r b from h f le key number d =
     let shown = h.groups f.key b f.here in
-    let member = first_member-inside _ b.from b.end f.number (sym shown.drain ∙ f.drains) in
+    let member = first_member_inside _ b.from b.end f.number (sym shown.drain ∙ f.drains) in
     let least = f.first key number d in
     omega (arith, member.0)
 
 pub returns-in-Some-clause-holds : goal.returns-in-Some-clause-holds
 returns-in-Some-clause-holds c = λ r h.
-    first-of_all _ _ r c.args.n c.in-Some.least c.args.request.now c.group_of-group.result c.args.self.now.sound h c.requires c.group_of-group.ensures.group
+    first_of_all _ _ r c.args.n c.in-Some.least c.args.request.now c.group_of-group.result c.args.self.now.sound h c.requires c.group_of-group.ensures.group
     (sym c.is_some.ensures ∙ c.if-is_some.true) c.in-Some.ensures
 
 pub returns-in-Some-first_draining-clause-holds : goal.returns-in-Some-first_draining-clause-holds
 returns-in-Some-first_draining-clause-holds c = λ r h.
-    first-draining_is _ _ r c.args.n c.args.request.now c.group_of-group.result c.in-Some-first_draining.first c.args.self.now.sound h c.requires c.group_of-group.ensures.group
+    first_draining_is _ _ r c.args.n c.args.request.now c.group_of-group.result c.in-Some-first_draining.first c.args.self.now.sound h c.requires c.group_of-group.ensures.group
     (plain c.group_of-group.result.drain (sym c.is_some.ensures ∙ c.if-is_some.false)) c.in-Some-first_draining.ensures c.if-first-group.true
 
 pub returns-in-Some-2-clause-holds : goal.returns-in-Some-2-clause-holds
 returns-in-Some-2-clause-holds c = λ r h.
-    first-own _ _ r c.args.n c.args.request.now c.group_of-group.result c.args.self.now.sound h c.requires c.group_of-group.ensures.group
+    first_own _ _ r c.args.n c.args.request.now c.group_of-group.result c.args.self.now.sound h c.requires c.group_of-group.ensures.group
     (plain c.group_of-group.result.drain (sym c.is_some.ensures ∙ c.if-is_some.false))
     (first-behind _ _ r c.in-Some-first_draining.first c.group_of-group.result.from h c.in-Some-first_draining.ensures c.if-first-group.false)
 
 pub returns-in-None-first_draining-clause-holds : goal.returns-in-None-first_draining-clause-holds
 returns-in-None-first_draining-clause-holds c = λ r h.
-    first-own _ _ r c.args.n c.args.request.now c.group_of-group.result c.args.self.now.sound h c.requires c.group_of-group.ensures.group
+    first_own _ _ r c.args.n c.args.request.now c.group_of-group.result c.args.self.now.sound h c.requires c.group_of-group.ensures.group
     (plain c.group_of-group.result.drain (sym c.is_some.ensures ∙ c.if-is_some.false))
     (λ key number d. absurd (c.in-None-first_draining.ensures key number d))

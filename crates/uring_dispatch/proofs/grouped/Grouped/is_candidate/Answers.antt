@@ -1,20 +1,20 @@
 use Rattle.std.proofs.Common.{sym, ◌∙◌, ap, not, arith}
-use Rattle.uring_dispatch.proofs.HeldLemmas.{candidate-none, candidate-self, candidate-other_data, candidate-else}
+use Rattle.uring_dispatch.proofs.HeldLemmas.{candidate_none, candidate_self, candidate_other_data, candidate_else}
 use Rattle.uring_dispatch.proofs.grouped.Grouped.is_candidate.Goals as goal
 
 pub returns-in_default-clause-candidate : goal.returns-in_default-clause-candidate
 returns-in_default-clause-candidate c =
-    λ r h e. sym (candidate-none _ _ r c.args.n c.args.m h (sym c.in_default.ensures))
+    λ r h e. sym (candidate_none _ _ r c.args.n c.args.m h (sym c.in_default.ensures))
 
 pub returns-then-m-n-clause-candidate : goal.returns-then-m-n-clause-candidate
 returns-then-m-n-clause-candidate c =
-    λ r h e. sym (candidate-self r c.args.n c.args.m (omega arith))
+    λ r h e. sym (candidate_self r c.args.n c.args.m (omega arith))
 
 pub returns-then-user_data-clause-candidate : goal.returns-then-user_data-clause-candidate
 returns-then-user_data-clause-candidate c = λ r h e.
-    sym (candidate-other_data _ _ r c.args.n c.args.m c.in-Some.request.now c.args.user_data h (sym c.in-Some.ensures) e (λ same. absurd (omega (arith, same))))
+    sym (candidate_other_data _ _ r c.args.n c.args.m c.in-Some.request.now c.args.user_data h (sym c.in-Some.ensures) e (λ same. absurd (omega (arith, same))))
 
 pub returns-clause-candidate : goal.returns-clause-candidate
 returns-clause-candidate c = λ r h e.
     ap not (c.is_doomed.ensures r h)
-    ∙ sym (candidate-else _ _ r c.args.n c.args.m c.in-Some.request.now c.args.user_data c.args.self.now.sound h (sym c.in-Some.ensures) e (λ same. absurd (omega (arith, same))) (omega arith))
+    ∙ sym (candidate_else _ _ r c.args.n c.args.m c.in-Some.request.now c.args.user_data c.args.self.now.sound h (sym c.in-Some.ensures) e (λ same. absurd (omega (arith, same))) (omega arith))

@@ -3,34 +3,34 @@ use Rattle.std.proofs.lemmas.Bool.{false≢true}
 use Rattle.std.proofs.lemmas.Result.{on_ok_weaker}
 use Rattle.uring_dispatch.specs.Window.{Window, end_of}
 use Rattle.uring_dispatch.specs.Groups.{Groups}
-use Rattle.uring_dispatch.proofs.Alike.{sound-alike, alike-from, reserved-window, reserved-groups}
-use Rattle.uring_dispatch.proofs.Sizes.{window-few, groups-few}
+use Rattle.uring_dispatch.proofs.Alike.{sound_alike, alike_from, reserved_window, reserved_groups}
+use Rattle.uring_dispatch.proofs.Sizes.{window_few, groups_few}
 use Rattle.uring_dispatch.proofs.grouped.Grouped.reserve_in.Goals as goal
 
 pub invariant_of-self : goal.invariant_of-self
 invariant_of-self g c =
-    let window = reserved-window c.reserve_in.result c.args.self.now.window c.reserve_in.new.self c.args.count c.reserve_in.ensures.ok c.reserve_in.ensures.err in
-    record { sound = sound-alike _ _ _ _ (alike-from _ _ _ _ window.0 refl) c.args.self.now.sound }
+    let window = reserved_window c.reserve_in.result c.args.self.now.window c.reserve_in.new.self c.args.count c.reserve_in.ensures.ok c.reserve_in.ensures.err in
+    record { sound = sound_alike _ _ _ _ (alike_from _ _ _ _ window.0 refl) c.args.self.now.sound }
 
 pub returns-in_err-reserve_in-clause-window_kept : goal.returns-in_err-reserve_in-clause-window_kept
 returns-in_err-reserve_in-clause-window_kept g c =
-    (reserved-window c.reserve_in.result c.args.self.now.window c.reserve_in.new.self c.args.count c.reserve_in.ensures.ok c.reserve_in.ensures.err).1
+    (reserved_window c.reserve_in.result c.args.self.now.window c.reserve_in.new.self c.args.count c.reserve_in.ensures.ok c.reserve_in.ensures.err).1
 
 pub returns-in_err-reserve_in-clause-same : goal.returns-in_err-reserve_in-clause-same
 returns-in_err-reserve_in-clause-same g c =
-    let window = reserved-window c.reserve_in.result c.args.self.now.window c.reserve_in.new.self c.args.count c.reserve_in.ensures.ok c.reserve_in.ensures.err in
+    let window = reserved_window c.reserve_in.result c.args.self.now.window c.reserve_in.new.self c.args.count c.reserve_in.ensures.ok c.reserve_in.ensures.err in
     record { window = window.0; groups = refl }
 
 pub returns-in_err-reserve_in-clause-granted : goal.returns-in_err-reserve_in-clause-granted
 returns-in_err-reserve_in-clause-granted g c = λ r n h grants below.
-    let few = window-few _ _ r h in
+    let few = window_few _ _ r h in
     absurd (false≢true (c.in_err-reserve_in.ensures.granted n grants (omega arith) (omega arith)))
 
 pub invariant_of-self-2 : goal.invariant_of-self-2
 invariant_of-self-2 g c =
-    let window = reserved-window c.reserve_in.result c.args.self.now.window c.reserve_in.new.self c.args.count c.reserve_in.ensures.ok c.reserve_in.ensures.err in
-    let groups = reserved-groups c.reserve_in-2.result c.args.self.now.groups c.reserve_in-2.new.self c.args.count c.reserve_in-2.ensures.ok c.reserve_in-2.ensures.err in
-    record { sound = sound-alike _ _ _ _ (alike-from _ _ _ _ window.0 groups.0) c.args.self.now.sound }
+    let window = reserved_window c.reserve_in.result c.args.self.now.window c.reserve_in.new.self c.args.count c.reserve_in.ensures.ok c.reserve_in.ensures.err in
+    let groups = reserved_groups c.reserve_in-2.result c.args.self.now.groups c.reserve_in-2.new.self c.args.count c.reserve_in-2.ensures.ok c.reserve_in-2.ensures.err in
+    record { sound = sound_alike _ _ _ _ (alike_from _ _ _ _ window.0 groups.0) c.args.self.now.sound }
 
 pub returns-clause-window_room : goal.returns-clause-window_room
 returns-clause-window_room g c =
@@ -42,19 +42,19 @@ returns-clause-groups_room g c =
 
 pub returns-clause-window_kept : goal.returns-clause-window_kept
 returns-clause-window_kept g c =
-    (reserved-window c.reserve_in.result c.args.self.now.window c.reserve_in.new.self c.args.count c.reserve_in.ensures.ok c.reserve_in.ensures.err).1
+    (reserved_window c.reserve_in.result c.args.self.now.window c.reserve_in.new.self c.args.count c.reserve_in.ensures.ok c.reserve_in.ensures.err).1
 
 pub returns-clause-groups_kept : goal.returns-clause-groups_kept
 returns-clause-groups_kept g c =
-    (reserved-groups c.reserve_in-2.result c.args.self.now.groups c.reserve_in-2.new.self c.args.count c.reserve_in-2.ensures.ok c.reserve_in-2.ensures.err).1
+    (reserved_groups c.reserve_in-2.result c.args.self.now.groups c.reserve_in-2.new.self c.args.count c.reserve_in-2.ensures.ok c.reserve_in-2.ensures.err).1
 
 pub returns-clause-same : goal.returns-clause-same
 returns-clause-same g c =
-    let window = reserved-window c.reserve_in.result c.args.self.now.window c.reserve_in.new.self c.args.count c.reserve_in.ensures.ok c.reserve_in.ensures.err in
-    let groups = reserved-groups c.reserve_in-2.result c.args.self.now.groups c.reserve_in-2.new.self c.args.count c.reserve_in-2.ensures.ok c.reserve_in-2.ensures.err in
+    let window = reserved_window c.reserve_in.result c.args.self.now.window c.reserve_in.new.self c.args.count c.reserve_in.ensures.ok c.reserve_in.ensures.err in
+    let groups = reserved_groups c.reserve_in-2.result c.args.self.now.groups c.reserve_in-2.new.self c.args.count c.reserve_in-2.ensures.ok c.reserve_in-2.ensures.err in
     record { window = window.0; groups = groups.0 }
 
 pub returns-clause-granted : goal.returns-clause-granted
 returns-clause-granted g c = λ r n h grants below.
-    let few = groups-few _ _ c.args.self.now.sound in
+    let few = groups_few _ _ c.args.self.now.sound in
     c.reserve_in-2.ensures.granted n (end_of c.args.self.now.window) grants c.args.self.now.sound.beyond (omega arith) (omega arith)

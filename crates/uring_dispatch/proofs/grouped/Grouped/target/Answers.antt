@@ -1,21 +1,21 @@
 use Rattle.std.proofs.Common.{sym, ◌∙◌, arith, below_more, inl, inr}
 use Rattle.std.proofs.lemmas.Bool.{cases_lt}
-use Rattle.uring_entry.proofs.RequestLemmas.{target_of-none, target_of-some}
-use Rattle.uring_dispatch.proofs.HeldLemmas.{candidate-none}
-use Rattle.uring_dispatch.proofs.ByData.{outside, some-within}
+use Rattle.uring_entry.proofs.RequestLemmas.{target_of_none, target_of_some}
+use Rattle.uring_dispatch.proofs.HeldLemmas.{candidate_none}
+use Rattle.uring_dispatch.proofs.ByData.{outside, some_within}
 use Rattle.uring_dispatch.proofs.grouped.Grouped.target.Goals as goal
 
 pub loop-m-init : goal.loop-m-init
 loop-m-init c = λ r h e k lt.
     elim (cases_lt k c.first.result) [
-      | inl low ↦ candidate-none _ _ r c.args.n k h (c.first.ensures.before k low)
+      | inl low ↦ candidate_none _ _ r c.args.n k h (c.first.ensures.before k low)
       | inr high ↦ outside _ _ r c.args.n k c.args.user_data c.args.span.from c.args.span.to h e c.requires (inl (omega (arith, lt, high)))
     ]
 
 pub returns-then-is_candidate-clause-target : goal.returns-then-is_candidate-clause-target
 returns-then-is_candidate-clause-target c = λ r h e.
     sym
-    (target_of-some r _ c.loop-m.m (omega (arith, h.count, some-within _ c.loop-m.m (c.is_candidate.ensures.there c.if-is_candidate.true))) (sym (c.is_candidate.ensures.candidate r h e) ∙ c.if-is_candidate.true)
+    (target_of_some r _ c.loop-m.m (omega (arith, h.count, some_within _ c.loop-m.m (c.is_candidate.ensures.there c.if-is_candidate.true))) (sym (c.is_candidate.ensures.candidate r h e) ∙ c.if-is_candidate.true)
     (c.loop-m.invariant r h e))
 
 pub loop-m-preserved : goal.loop-m-preserved
@@ -25,7 +25,7 @@ loop-m-preserved c = λ r h e.
 pub returns-clause-target : goal.returns-clause-target
 returns-clause-target c = λ r h e.
     sym
-    (target_of-none r _
+    (target_of_none r _
     (λ m lt.
     elim (cases_lt m c.loop-m.m) [
       | inl low ↦ c.loop-m.invariant r h e m low

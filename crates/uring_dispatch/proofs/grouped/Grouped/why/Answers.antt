@@ -1,19 +1,19 @@
 use Rattle.std.proofs.Common.{sym, ◌∙◌, ap}
 use Rattle.uring_entry.specs.declared.why.Why.TheVariants.{IsDoomed}
-use Rattle.uring_entry.proofs.WhyLemmas.{why-doomed, why-waiting}
-use Rattle.uring_dispatch.proofs.WhyHeld.{still-held}
+use Rattle.uring_entry.proofs.WhyLemmas.{why_doomed, why_waiting}
+use Rattle.uring_dispatch.proofs.WhyHeld.{still_held}
 use Rattle.uring_dispatch.proofs.grouped.Grouped.why.Goals as goal
 
 pub returns-then-is_doomed : goal.returns-then-is_doomed
 returns-then-is_doomed c = λ r h.
     ap IsDoomed (c.doom.ensures r h)
     ∙ sym
-    (why-doomed r c.args.n (still-held _ _ r c.args.n c.in-Some.request.now c.args.self.now.sound h (sym c.in-Some.ensures) c.if-request.false)
+    (why_doomed r c.args.n (still_held _ _ r c.args.n c.in-Some.request.now c.args.self.now.sound h (sym c.in-Some.ensures) c.if-request.false)
     (sym (c.is_doomed.ensures r h) ∙ c.if-is_doomed.true))
 
 pub returns : goal.returns
 returns c = λ r h.
     c.waiting.ensures r h
     ∙ sym
-    (why-waiting r c.args.n (still-held _ _ r c.args.n c.in-Some.request.now c.args.self.now.sound h (sym c.in-Some.ensures) c.if-request.false)
+    (why_waiting r c.args.n (still_held _ _ r c.args.n c.in-Some.request.now c.args.self.now.sound h (sym c.in-Some.ensures) c.if-request.false)
     (sym (c.is_doomed.ensures r h) ∙ c.if-is_doomed.false))

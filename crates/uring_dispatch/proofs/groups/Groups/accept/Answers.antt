@@ -1,7 +1,7 @@
 use Rattle.std.proofs.Common.{arith, ap, ◌∙◌, Some}
 use Rattle.uring_dispatch.specs.declared.group.Group.{Group}
 use Rattle.uring_dispatch.specs.Groups.{Groups, with_barrier}
-use Rattle.uring_dispatch.proofs.GroupsKept.{IsAccepted, accept-groups, accept-front, beyond-with, only_key, last-kept}
+use Rattle.uring_dispatch.proofs.GroupsKept.{IsAccepted, accept_groups, accept_front, beyond_with, only_key, last_kept}
 use Rattle.uring_dispatch.proofs.groups.Groups.accept.Goals as goal
 
 pub invariant_of-self : goal.invariant_of-self
@@ -13,8 +13,8 @@ invariant_of-self c =
     in
     let items = c.note_barrier.ensures.items ∙ ap (λ (q : Group). with_barrier c.self.inside.barriers.items q.drain c.args.n c.put-key.result) c.joined-group.ensures in
     let room = ap (λ (g : Groups). g.room) c.self.view_is in (
-      rw items (accept-groups _ _ _ _ _ _ _ _ _ c.self.invariant.0 beyond accepted (λ k e. only_key _ _ k _ c.joinable-self-inside.ensures e)),
-      rw items (accept-front _ _ _ _ _ _ _ _ c.self.invariant.1 accepted),
+      rw items (accept_groups _ _ _ _ _ _ _ _ _ c.self.invariant.0 beyond accepted (λ k e. only_key _ _ k _ c.joinable-self-inside.ensures e)),
+      rw items (accept_front _ _ _ _ _ _ _ _ c.self.invariant.1 accepted),
       omega arith,
       omega arith,
     )
@@ -22,7 +22,7 @@ invariant_of-self c =
 pub returns-clause-beyond : goal.returns-clause-beyond
 returns-clause-beyond c =
     let beyond = rw (← c.self.view_is) at c.requires.beyond in
-    rw c.note_barrier.ensures.items (beyond-with c.self.inside.barriers.items c.joined-group.result.drain c.args.n c.put-key.result beyond)
+    rw c.note_barrier.ensures.items (beyond_with c.self.inside.barriers.items c.joined-group.result.drain c.args.n c.put-key.result beyond)
 
 pub returns-clause-kept : goal.returns-clause-kept
-returns-clause-kept c = rw (← c.self.view_is) (last-kept _ _ _ c.self.invariant.0)
+returns-clause-kept c = rw (← c.self.view_is) (last_kept _ _ _ c.self.invariant.0)

@@ -1,17 +1,17 @@
 use Rattle.std.proofs.Common.{◌≡◌, ◌+◌, ◌*◌, sym, ◌∙◌, ap, refl, arith, count_ones}
 use Rattle.uring_entry.specs.Below.{count_below}
 use Rattle.uring_dispatch.specs.Limits.{can_go}
-use Rattle.uring_dispatch.proofs.Counting.{block-counted, count_below-within}
-use Rattle.uring_dispatch.proofs.IssuableLemmas.{count-start, count-end}
+use Rattle.uring_dispatch.proofs.Counting.{block_counted, count_below_within}
+use Rattle.uring_dispatch.proofs.IssuableLemmas.{count_start, count_end}
 use Rattle.uring_dispatch.proofs.outstanding.Outstanding.count.Goals as goal
 
 pub loop-place-init : goal.loop-place-init
-loop-place-init c = sym (count-start _ _ c.args.self.now.waiting c.limit-limit.result c.first-place.result c.args.self.now.listed c.first-place.ensures.before)
+loop-place-init c = sym (count_start _ _ c.args.self.now.waiting c.limit-limit.result c.first-place.result c.args.self.now.listed c.first-place.ensures.before)
 
 pub overflow_add-total : goal.overflow_add-total
 overflow_add-total c =
-    let step = block-counted (can_go c.args.self.now.waiting c.limit-limit.result) c.block.result c.loop-place.place 64 refl c.block.type_inv c.block.ensures in
-    let few = count_below-within (can_go c.args.self.now.waiting c.limit-limit.result) (64 * (c.loop-place.place + 1)) in
+    let step = block_counted (can_go c.args.self.now.waiting c.limit-limit.result) c.block.result c.loop-place.place 64 refl c.block.type_inv c.block.ensures in
+    let few = count_below_within (can_go c.args.self.now.waiting c.limit-limit.result) (64 * (c.loop-place.place + 1)) in
     let so_far : c.loop-place.total ≡ count_below (can_go c.args.self.now.waiting c.limit-limit.result) (64 * c.loop-place.place) = c.loop-place.invariant in
     let ones : c.from-total.result ≡ count_ones c.block.result = c.from-total.ensures in
     let end = c.end.ensures.limit in
@@ -19,11 +19,11 @@ overflow_add-total c =
 
 pub loop-place-preserved : goal.loop-place-preserved
 loop-place-preserved c =
-    let step = block-counted (can_go c.args.self.now.waiting c.limit-limit.result) c.block.result c.loop-place.place 64 refl c.block.type_inv c.block.ensures in
+    let step = block_counted (can_go c.args.self.now.waiting c.limit-limit.result) c.block.result c.loop-place.place 64 refl c.block.type_inv c.block.ensures in
     let so_far : c.loop-place.total ≡ count_below (can_go c.args.self.now.waiting c.limit-limit.result) (64 * c.loop-place.place) = c.loop-place.invariant in
     ap (λ t. t + c.from-total.result) so_far ∙ ap (λ o. count_below (can_go c.args.self.now.waiting c.limit-limit.result) (64 * c.loop-place.place) + o) c.from-total.ensures ∙ sym step
 
 pub returns : goal.returns
 returns c = λ r h.
     c.loop-place.invariant
-    ∙ count-end _ _ r c.args.self.now.waiting c.limit-limit.result (64 * c.loop-place.place) c.args.self.now.grouped.sound h c.args.self.now.listed (c.limit-limit.ensures r h) (omega (arith, c.end.ensures.value))
+    ∙ count_end _ _ r c.args.self.now.waiting c.limit-limit.result (64 * c.loop-place.place) c.args.self.now.grouped.sound h c.args.self.now.listed (c.limit-limit.ensures r h) (omega (arith, c.end.ensures.value))

@@ -1,23 +1,23 @@
 use Rattle.std.proofs.Common.{arith}
-use Rattle.uring_dispatch.proofs.WaitingLemmas.{tell-outstanding, tell-behind, tell-kept, keeps-both, forgotten-listed, forgotten-keeps, end-listed}
-use Rattle.uring_dispatch.proofs.ByData.{found-on, found-dropped, goes-ended}
+use Rattle.uring_dispatch.proofs.WaitingLemmas.{tell_outstanding, tell_behind, tell_kept, keeps_both, forgotten_listed, forgotten_keeps, end_listed}
+use Rattle.uring_dispatch.proofs.ByData.{found_on, found_dropped, goes_ended}
 use Rattle.uring_dispatch.proofs.outstanding.Outstanding.end_by_key.Goals as goal
 
 pub forget-requires : goal.forget-requires
-forget-requires c = tell-outstanding _ _ _ c.args.n c.args.self.now.listed c.take_out-others.ensures.there
+forget-requires c = tell_outstanding _ _ _ c.args.n c.args.self.now.listed c.take_out-others.ensures.there
 
 pub relist_other-requires : goal.relist_other-requires
 relist_other-requires c =
-    let own = forgotten-listed _ c.take_out-others.new.self.groups _ _ c.args.n c.take_out-others.ensures.gone.here c.forget.ensures.heads c.forget.ensures.doomed in
-    tell-kept _ _ _ _ _ (tell-outstanding _ _ _ c.take_out-others.result.head c.args.self.now.listed c.take_out-others.ensures.head)
-    (forgotten-keeps _ _ _ _ c.args.n own c.forget.ensures.heads c.forget.ensures.doomed)
+    let own = forgotten_listed _ c.take_out-others.new.self.groups _ _ c.args.n c.take_out-others.ensures.gone.here c.forget.ensures.heads c.forget.ensures.doomed in
+    tell_kept _ _ _ _ _ (tell_outstanding _ _ _ c.take_out-others.result.head c.args.self.now.listed c.take_out-others.ensures.head)
+    (forgotten_keeps _ _ _ _ c.args.n own c.forget.ensures.heads c.forget.ensures.doomed)
 
 pub relist_range-requires : goal.relist_range-requires
 relist_range-requires c = λ k from to.
     let doomed = c.take_out-others.ensures.doomed in
-    let own = forgotten-listed _ c.take_out-others.new.self.groups _ _ c.args.n c.take_out-others.ensures.gone.here c.forget.ensures.heads c.forget.ensures.doomed in
-    let keeps = forgotten-keeps _ _ _ _ c.args.n own c.forget.ensures.heads c.forget.ensures.doomed in
-    tell-kept _ _ _ _ _ (tell-kept _ _ _ _ _ (tell-behind _ _ _ c.args.n k c.args.self.now.listed c.take_out-others.ensures.there from (omega arith)) keeps) c.relist_other.ensures.keeps
+    let own = forgotten_listed _ c.take_out-others.new.self.groups _ _ c.args.n c.take_out-others.ensures.gone.here c.forget.ensures.heads c.forget.ensures.doomed in
+    let keeps = forgotten_keeps _ _ _ _ c.args.n own c.forget.ensures.heads c.forget.ensures.doomed in
+    tell_kept _ _ _ _ _ (tell_kept _ _ _ _ _ (tell_behind _ _ _ c.args.n k c.args.self.now.listed c.take_out-others.ensures.there from (omega arith)) keeps) c.relist_other.ensures.keeps
 
 pub invariant_of-self : goal.invariant_of-self
 invariant_of-self c = (c.take_out-others.new.self.sound, tt)
@@ -25,16 +25,16 @@ invariant_of-self c = (c.take_out-others.new.self.sound, tt)
 pub invariant_of-self-2 : goal.invariant_of-self-2
 invariant_of-self-2 c =
     let gone = c.take_out-others.ensures.gone in
-    let own = forgotten-listed _ c.take_out-others.new.self.groups _ _ c.args.n gone.here c.forget.ensures.heads c.forget.ensures.doomed in
-    let a = forgotten-keeps _ _ _ _ c.args.n own c.forget.ensures.heads c.forget.ensures.doomed in
+    let own = forgotten_listed _ c.take_out-others.new.self.groups _ _ c.args.n gone.here c.forget.ensures.heads c.forget.ensures.doomed in
+    let a = forgotten_keeps _ _ _ _ c.args.n own c.forget.ensures.heads c.forget.ensures.doomed in
     let b = c.relist_other.ensures in
     let d = c.relist_range.ensures in
     record {
       listed =
-          end-listed _ _ _ _ _ _ _ c.args.n c.take_out-others.result.head c.take_out-others.result.doomed_end c.first-first.result c.args.self.now.listed gone c.take_out-others.ensures.counts.end c.take_out-others.ensures.others
-          (keeps-both _ _ _ _ _ (keeps-both _ _ _ _ _ a b.keeps) d.keeps) (d.keeps.told c.args.n (b.keeps.told c.args.n own)) (d.keeps.told c.take_out-others.result.head (b.here own)) d.here c.drop_before.ensures.heads c.drop_before.ensures.doomed c.first-first.ensures.within c.first-first.ensures.before;
+          end_listed _ _ _ _ _ _ _ c.args.n c.take_out-others.result.head c.take_out-others.result.doomed_end c.first-first.result c.args.self.now.listed gone c.take_out-others.ensures.counts.end c.take_out-others.ensures.others
+          (keeps_both _ _ _ _ _ (keeps_both _ _ _ _ _ a b.keeps) d.keeps) (d.keeps.told c.args.n (b.keeps.told c.args.n own)) (d.keeps.told c.take_out-others.result.head (b.here own)) d.here c.drop_before.ensures.heads c.drop_before.ensures.doomed c.first-first.ensures.within c.first-first.ensures.before;
       found =
           let e = c.drop_before-2.ensures in
           let end = c.take_out-others.ensures.counts.end in
-          found-dropped _ _ _ c.first-first.result (found-on _ _ _ c.args.self.now.found (goes-ended _ _ c.args.n gone end) (omega (arith, end, c.args.self.now.found.places))) c.first-first.ensures.within c.first-first.ensures.before e.up e.no_more e.ends;
+          found_dropped _ _ _ c.first-first.result (found_on _ _ _ c.args.self.now.found (goes_ended _ _ c.args.n gone end) (omega (arith, end, c.args.self.now.found.places))) c.first-first.ensures.within c.first-first.ensures.before e.up e.no_more e.ends;
     }

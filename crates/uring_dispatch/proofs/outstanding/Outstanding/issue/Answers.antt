@@ -1,26 +1,26 @@
 use Rattle.std.proofs.Common.{sym, ◌∙◌}
-use Rattle.uring_dispatch.proofs.WindowLemmas.{at-keyed}
-use Rattle.uring_dispatch.proofs.HeldLemmas.{outstanding-none, outstanding-some, running-some}
-use Rattle.uring_dispatch.proofs.Issues.{issued-gone, issued-runs, issued-else}
+use Rattle.uring_dispatch.proofs.WindowLemmas.{at_keyed}
+use Rattle.uring_dispatch.proofs.HeldLemmas.{outstanding_none, outstanding_some, running_some}
+use Rattle.uring_dispatch.proofs.Issues.{issued_gone, issued_runs, issued_else}
 use Rattle.uring_dispatch.proofs.outstanding.Outstanding.issue.Goals as goal
 
 pub returns-in_default-clause-answer : goal.returns-in_default-clause-answer
 returns-in_default-clause-answer c = λ r h.
-    issued-gone r c.args.n (outstanding-none _ _ r c.args.n h (at-keyed _ c.args.n _ (sym c.in_default.ensures.value)))
+    issued_gone r c.args.n (outstanding_none _ _ r c.args.n h (at_keyed _ c.args.n _ (sym c.in_default.ensures.value)))
 
 pub returns-then-request-clause-answer : goal.returns-then-request-clause-answer
 returns-then-request-clause-answer c = λ r h.
-    let there = at-keyed _ c.args.n _ (sym c.in-Some.ensures.value) ∙ c.by_key-request.ensures in
-    issued-runs r c.args.n (outstanding-some _ _ r c.args.n _ c.args.self.now.grouped.sound h there)
-    (running-some _ _ r c.args.n _ h there ∙ c.if-request.true)
+    let there = at_keyed _ c.args.n _ (sym c.in-Some.ensures.value) ∙ c.by_key-request.ensures in
+    issued_runs r c.args.n (outstanding_some _ _ r c.args.n _ c.args.self.now.grouped.sound h there)
+    (running_some _ _ r c.args.n _ h there ∙ c.if-request.true)
 
 pub issue_waiting-requires-clause-there : goal.issue_waiting-requires-clause-there
 issue_waiting-requires-clause-there c =
-    at-keyed _ c.args.n _ (sym c.in-Some.ensures.value) ∙ c.by_key-request.ensures
+    at_keyed _ c.args.n _ (sym c.in-Some.ensures.value) ∙ c.by_key-request.ensures
 
 pub returns-clause-answer : goal.returns-clause-answer
 returns-clause-answer c = λ r h.
-    let there = at-keyed _ c.args.n _ (sym c.in-Some.ensures.value) ∙ c.by_key-request.ensures in
+    let there = at_keyed _ c.args.n _ (sym c.in-Some.ensures.value) ∙ c.by_key-request.ensures in
     c.issue_waiting.ensures.answer r h
-    ∙ issued-else r c.args.n (outstanding-some _ _ r c.args.n _ c.args.self.now.grouped.sound h there)
-    (running-some _ _ r c.args.n _ h there ∙ c.if-request.false)
+    ∙ issued_else r c.args.n (outstanding_some _ _ r c.args.n _ c.args.self.now.grouped.sound h there)
+    (running_some _ _ r c.args.n _ h there ∙ c.if-request.false)

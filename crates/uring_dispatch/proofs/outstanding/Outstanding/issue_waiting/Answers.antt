@@ -5,23 +5,23 @@ use Rattle.uring_entry.specs.Layout.{addr_of}
 use Rattle.uring_entry.specs.Requests.{entry_of, no_bytes}
 use Rattle.uring_dispatch.specs.Window.{at, runs, one_if, started}
 use Rattle.uring_dispatch.specs.Groups.{Groups}
-use Rattle.uring_dispatch.proofs.HeldLemmas.{shown-within}
-use Rattle.uring_dispatch.proofs.WaitingLemmas.{tell-outstanding, started-listed, forgotten-keeps, restarted-listed}
+use Rattle.uring_dispatch.proofs.HeldLemmas.{shown_within}
+use Rattle.uring_dispatch.proofs.WaitingLemmas.{tell_outstanding, started_listed, forgotten_keeps, restarted_listed}
 use Rattle.uring_entry.proofs.RequestLemmas.{never_success}
-use Rattle.uring_dispatch.proofs.Choosing.{ends-failing}
-use Rattle.uring_dispatch.proofs.Issues.{op-none, op-some, issued-faulty, issued-doomed, issued-not_ready, issued-cancel, issued-run}
+use Rattle.uring_dispatch.proofs.Choosing.{ends_failing}
+use Rattle.uring_dispatch.proofs.Issues.{op_none, op_some, issued_faulty, issued_doomed, issued_not_ready, issued_cancel, issued_run}
 use Rattle.uring_entry.proofs.Preparations.{cancel_asked}
-use Rattle.uring_dispatch.proofs.ByData.{found-on, goes-changed}
+use Rattle.uring_dispatch.proofs.ByData.{found_on, goes_changed}
 use Rattle.uring_dispatch.proofs.outstanding.Outstanding.issue_waiting.Goals as goal
 
 pub returns-in_default-clause-answer : goal.returns-in_default-clause-answer
 returns-in_default-clause-answer c = λ r h.
     let shown = h.shown c.args.n c.args.request c.requires.there in
-    issued-faulty r c.args.n (shown-within _ _ r c.args.n c.args.request c.args.self.now.grouped.sound h c.requires.there) (op-none (entry_of r c.args.n) (sym c.in_default.is ∙ shown.op))
+    issued_faulty r c.args.n (shown_within _ _ r c.args.n c.args.request c.args.self.now.grouped.sound h c.requires.there) (op_none (entry_of r c.args.n) (sym c.in_default.is ∙ shown.op))
 
 pub returns-in_default-clause-shows : goal.returns-in_default-clause-shows
 returns-in_default-clause-shows c = λ r h.
-    ends-failing _ _ r c.args.n 21 (c.end_by_key.ensures.shows r _ no_bytes h (sym (never_success (entry_of r c.args.n) 21)))
+    ends_failing _ _ r c.args.n 21 (c.end_by_key.ensures.shows r _ no_bytes h (sym (never_success (entry_of r c.args.n) 21)))
 
 pub returns-in_default-clause-counts : goal.returns-in_default-clause-counts
 returns-in_default-clause-counts c = λ room between.
@@ -32,12 +32,12 @@ returns-in_default-clause-counts c = λ room between.
 pub returns-then-is_doomed_in-clause-answer : goal.returns-then-is_doomed_in-clause-answer
 returns-then-is_doomed_in-clause-answer c = λ r h.
     let shown = h.shown c.args.n c.args.request c.requires.there in
-    let does = op-some (entry_of r c.args.n) c.in-Some.op (sym c.in-Some.is ∙ shown.op) in
-    issued-doomed r c.args.n (sym (c.is_doomed_in.ensures r h) ∙ c.if-is_doomed_in.true) does.0
+    let does = op_some (entry_of r c.args.n) c.in-Some.op (sym c.in-Some.is ∙ shown.op) in
+    issued_doomed r c.args.n (sym (c.is_doomed_in.ensures r h) ∙ c.if-is_doomed_in.true) does.0
 
 pub returns-then-is_doomed_in-clause-shows : goal.returns-then-is_doomed_in-clause-shows
 returns-then-is_doomed_in-clause-shows c = λ r h.
-    ends-failing _ _ r c.args.n 124 (c.end_by_key-then-is_doomed_in.ensures.shows r _ no_bytes h (sym (never_success (entry_of r c.args.n) 124)))
+    ends_failing _ _ r c.args.n 124 (c.end_by_key-then-is_doomed_in.ensures.shows r _ no_bytes h (sym (never_success (entry_of r c.args.n) 124)))
 
 pub returns-then-is_doomed_in-clause-counts : goal.returns-then-is_doomed_in-clause-counts
 returns-then-is_doomed_in-clause-counts c = λ room between.
@@ -47,36 +47,36 @@ returns-then-is_doomed_in-clause-counts c = λ room between.
 
 pub returns-then-not-is_ready-clause-answer : goal.returns-then-not-is_ready-clause-answer
 returns-then-not-is_ready-clause-answer c = λ r h.
-    issued-not_ready r c.args.n (sym (c.is_doomed_in.ensures r h) ∙ c.if-is_doomed_in.false) (sym (c.is_ready.ensures r h) ∙ c.if-not-is_ready.true)
+    issued_not_ready r c.args.n (sym (c.is_doomed_in.ensures r h) ∙ c.if-is_doomed_in.false) (sym (c.is_ready.ensures r h) ∙ c.if-not-is_ready.true)
 
 pub returns-in-Cancel-clause-answer : goal.returns-in-Cancel-clause-answer
 returns-in-Cancel-clause-answer c = λ r h.
     let shown = h.shown c.args.n c.args.request c.requires.there in
-    let does = op-some (entry_of r c.args.n) c.in-Some.op (sym c.in-Some.is ∙ shown.op) in
+    let does = op_some (entry_of r c.args.n) c.in-Some.op (sym c.in-Some.is ∙ shown.op) in
     let asks = cancel_asked (entry_of r c.args.n) _ c.in-Cancel.all (sym does.1 ∙ c.in-Cancel.is) in
     rw (to_z-of_z w32 c.cancel.result (search rules))
-    (issued-cancel r c.args.n _ (sym (c.is_doomed_in.ensures r h) ∙ c.if-is_doomed_in.false) (sym (c.is_ready.ensures r h) ∙ c.if-not-is_ready.false)
+    (issued_cancel r c.args.n _ (sym (c.is_doomed_in.ensures r h) ∙ c.if-is_doomed_in.false) (sym (c.is_ready.ensures r h) ∙ c.if-not-is_ready.false)
     asks.0 (c.cancel.ensures.answer r h (c.addr-user_data.ensures ∙ ap addr_of shown.entry) asks.1))
 
 pub returns-in-Cancel-clause-shows : goal.returns-in-Cancel-clause-shows
 returns-in-Cancel-clause-shows c = λ r h.
     let shown = h.shown c.args.n c.args.request c.requires.there in
-    let does = op-some (entry_of r c.args.n) c.in-Some.op (sym c.in-Some.is ∙ shown.op) in
+    let does = op_some (entry_of r c.args.n) c.in-Some.op (sym c.in-Some.is ∙ shown.op) in
     let asks = cancel_asked (entry_of r c.args.n) _ c.in-Cancel.all (sym does.1 ∙ c.in-Cancel.is) in
     rw (to_z-of_z w32 c.cancel.result (search rules)) (c.cancel.ensures.shows r h (c.addr-user_data.ensures ∙ ap addr_of shown.entry) asks.0 asks.1)
 
 pub forget-requires : goal.forget-requires
-forget-requires c = tell-outstanding _ _ _ c.args.n c.args.self.now.listed (ap is_some c.requires.there)
+forget-requires c = tell_outstanding _ _ _ c.args.n c.args.self.now.listed (ap is_some c.requires.there)
 
 pub invariant_of-self : goal.invariant_of-self
 invariant_of-self c =
     let changes = c.start.ensures.changes _ c.requires.there in
-    let own = started-listed _ c.start.new.self.groups _ _ c.args.n c.args.request changes.here c.forget.ensures.heads c.forget.ensures.doomed in
+    let own = started_listed _ c.start.new.self.groups _ _ c.args.n c.args.request changes.here c.forget.ensures.heads c.forget.ensures.doomed in
     record {
       listed =
-          restarted-listed _ _ _ _ _ _ c.args.n (started c.args.request) c.args.self.now.listed (ap is_some c.requires.there) changes c.start.ensures.same.end c.start.ensures.groups
-          (forgotten-keeps _ _ _ _ c.args.n own c.forget.ensures.heads c.forget.ensures.doomed) own;
-      found = let end = c.start.ensures.same.end in found-on _ _ _ c.args.self.now.found (goes-changed _ _ c.args.n c.args.request (started c.args.request) c.requires.there changes end refl) (omega (arith, end, c.args.self.now.found.places));
+          restarted_listed _ _ _ _ _ _ c.args.n (started c.args.request) c.args.self.now.listed (ap is_some c.requires.there) changes c.start.ensures.same.end c.start.ensures.groups
+          (forgotten_keeps _ _ _ _ c.args.n own c.forget.ensures.heads c.forget.ensures.doomed) own;
+      found = let end = c.start.ensures.same.end in found_on _ _ _ c.args.self.now.found (goes_changed _ _ c.args.n c.args.request (started c.args.request) c.requires.there changes end refl) (omega (arith, end, c.args.self.now.found.places));
     }
 
 pub returns : goal.returns
@@ -91,10 +91,10 @@ returns c =
         places = omega arith;
       };
       answer = λ r h.
-          let does = op-some (entry_of r c.args.n) c.in-Some.op (sym c.in-Some.is ∙ (h.shown c.args.n c.args.request c.requires.there).op) in
-          issued-run r c.args.n c.in-Some.op (sym (c.is_doomed_in.ensures r h) ∙ c.if-is_doomed_in.false) (sym (c.is_ready.ensures r h) ∙ c.if-not-is_ready.false) does.1 c.in_default-op.not-Cancel;
+          let does = op_some (entry_of r c.args.n) c.in-Some.op (sym c.in-Some.is ∙ (h.shown c.args.n c.args.request c.requires.there).op) in
+          issued_run r c.args.n c.in-Some.op (sym (c.is_doomed_in.ensures r h) ∙ c.if-is_doomed_in.false) (sym (c.is_ready.ensures r h) ∙ c.if-not-is_ready.false) does.1 c.in_default-op.not-Cancel;
       shows = λ r h.
-          let does = op-some (entry_of r c.args.n) c.in-Some.op (sym c.in-Some.is ∙ (h.shown c.args.n c.args.request c.requires.there).op) in
+          let does = op_some (entry_of r c.args.n) c.in-Some.op (sym c.in-Some.is ∙ (h.shown c.args.n c.args.request c.requires.there).op) in
           c.start.ensures.shows r h does.0;
       counts = λ room between. record { accepted = same.end; outstanding = same.outstanding; running = c.start.ensures.running; room = omega arith; between = refl };
     }

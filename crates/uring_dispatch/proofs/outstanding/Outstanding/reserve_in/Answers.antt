@@ -1,23 +1,23 @@
 use Rattle.std.proofs.Common.{◌+◌, arith}
 use Rattle.std.proofs.lemmas.Bool.{false≢true}
 use Rattle.uring_dispatch.specs.Window.{end_of}
-use Rattle.uring_dispatch.proofs.Alike.{listed-alike, alike-records}
-use Rattle.uring_dispatch.proofs.AcceptsListed.{same-listed}
-use Rattle.uring_dispatch.proofs.ByData.{found-on, found-renewed, goes-alike}
-use Rattle.uring_dispatch.proofs.Views.{reserved-room}
+use Rattle.uring_dispatch.proofs.Alike.{listed_alike, alike_records}
+use Rattle.uring_dispatch.proofs.AcceptsListed.{same_listed}
+use Rattle.uring_dispatch.proofs.ByData.{found_on, found_renewed, goes_alike}
+use Rattle.uring_dispatch.proofs.Views.{reserved_room}
 use Rattle.uring_dispatch.proofs.outstanding.Outstanding.reserve_in.Goals as goal
 
 pub invariant_of-self : goal.invariant_of-self
 invariant_of-self g c =
-    let alike = alike-records _ _ c.reserve_in.ensures.same in
+    let alike = alike_records _ _ c.reserve_in.ensures.same in
     record {
-      listed = listed-alike _ _ _ _ _ alike c.args.self.now.listed;
-      found = found-on _ _ _ c.args.self.now.found (goes-alike _ _ _ _ alike) (omega (arith, alike.end, c.args.self.now.found.places));
+      listed = listed_alike _ _ _ _ _ alike c.args.self.now.listed;
+      found = found_on _ _ _ c.args.self.now.found (goes_alike _ _ _ _ alike) (omega (arith, alike.end, c.args.self.now.found.places));
     }
 
 pub returns-in_err-reserve_in-clause-kept : goal.returns-in_err-reserve_in-clause-kept
 returns-in_err-reserve_in-clause-kept g c = λ k le r.
-    let end = (alike-records _ _ c.reserve_in.ensures.same).end in
+    let end = (alike_records _ _ c.reserve_in.ensures.same).end in
     record {
       window = c.reserve_in.ensures.window_kept k le r.window;
       groups = c.reserve_in.ensures.groups_kept k le r.groups;
@@ -32,7 +32,7 @@ returns-in_err-reserve_in-clause-granted g c =
 
 pub returns-in_err-reserve_in-2-clause-kept : goal.returns-in_err-reserve_in-2-clause-kept
 returns-in_err-reserve_in-2-clause-kept g c = λ k le r.
-    let end = (alike-records _ _ c.reserve_in.ensures.same).end in
+    let end = (alike_records _ _ c.reserve_in.ensures.same).end in
     record {
       window = c.reserve_in.ensures.window_kept k le r.window;
       groups = c.reserve_in.ensures.groups_kept k le r.groups;
@@ -49,22 +49,22 @@ returns-in_err-reserve_in-2-clause-granted g c = λ r n h grants below.
 
 pub invariant_of-self-5 : goal.invariant_of-self-5
 invariant_of-self-5 g c =
-    let alike = alike-records _ _ c.reserve_in.ensures.same in
-    let was = found-on _ _ _ c.args.self.now.found (goes-alike _ _ _ _ alike) (omega (arith, alike.end, c.args.self.now.found.places)) in
+    let alike = alike_records _ _ c.reserve_in.ensures.same in
+    let was = found_on _ _ _ c.args.self.now.found (goes_alike _ _ _ _ alike) (omega (arith, alike.end, c.args.self.now.found.places)) in
     record {
-      listed = same-listed _ _ _ _ (listed-alike _ _ _ _ _ alike c.args.self.now.listed) c.reserve_in-2.ensures.same_heads c.reserve_in-2.ensures.same_doomed;
-      found = found-renewed _ _ _ c.first-first.result was c.reserve_in-3.ensures.same c.first-first.ensures.within c.first-first.ensures.before
+      listed = same_listed _ _ _ _ (listed_alike _ _ _ _ _ alike c.args.self.now.listed) c.reserve_in-2.ensures.same_heads c.reserve_in-2.ensures.same_doomed;
+      found = found_renewed _ _ _ c.first-first.result was c.reserve_in-3.ensures.same c.first-first.ensures.within c.first-first.ensures.before
           (c.reserve_in-3.ensures.kept (end_of c.reserve_in.new.self.window) (omega (arith, c.end.ensures.value)) was.places);
     }
 
 pub returns-clause-room : goal.returns-clause-room
 returns-clause-room g c =
-    reserved-room _ c.reserve_in-3.result c.args.self.now.grouped.window c.args.self.now.waiting c.args.count c.in_ok-reserve_in.ensures.window_room c.in_ok-reserve_in.ensures.groups_room
-    (alike-records _ _ c.reserve_in.ensures.same).end c.args.self.now.listed.heads.stop c.args.self.now.listed.doomed.stop c.in_ok-reserve_in-2.ensures.heads c.in_ok-reserve_in-2.ensures.doomed (rw (← c.end.ensures.value) c.reserve_in-3.ensures.places)
+    reserved_room _ c.reserve_in-3.result c.args.self.now.grouped.window c.args.self.now.waiting c.args.count c.in_ok-reserve_in.ensures.window_room c.in_ok-reserve_in.ensures.groups_room
+    (alike_records _ _ c.reserve_in.ensures.same).end c.args.self.now.listed.heads.stop c.args.self.now.listed.doomed.stop c.in_ok-reserve_in-2.ensures.heads c.in_ok-reserve_in-2.ensures.doomed (rw (← c.end.ensures.value) c.reserve_in-3.ensures.places)
 
 pub returns-clause-kept : goal.returns-clause-kept
 returns-clause-kept g c = λ k le r.
-    let end = (alike-records _ _ c.reserve_in.ensures.same).end in
+    let end = (alike_records _ _ c.reserve_in.ensures.same).end in
     record {
       window = c.reserve_in.ensures.window_kept k le r.window;
       groups = c.reserve_in.ensures.groups_kept k le r.groups;
@@ -75,7 +75,7 @@ returns-clause-kept g c = λ k le r.
 
 pub returns-clause-granted : goal.returns-clause-granted
 returns-clause-granted g c = λ r n h grants below.
-    let end = (alike-records _ _ c.reserve_in.ensures.same).end in
+    let end = (alike_records _ _ c.reserve_in.ensures.same).end in
     c.reserve_in-3.ensures.granted n grants (omega (arith, c.end.ensures.value, end, below))
 
 pub invariant_of-self-2 : goal.invariant_of-self-2
@@ -89,8 +89,8 @@ invariant_of-self-4 g c = (c.reserve_in.new.self.sound, tt)
 
 pub invariant_of-self-in-Break-branch-2 : goal.invariant_of-self-in-Break-branch-2
 invariant_of-self-in-Break-branch-2 g c =
-    let alike = alike-records _ _ c.reserve_in.ensures.same in
+    let alike = alike_records _ _ c.reserve_in.ensures.same in
     record {
-      listed = same-listed _ _ _ _ (listed-alike _ _ _ _ _ alike c.args.self.now.listed) c.reserve_in-2.ensures.same_heads c.reserve_in-2.ensures.same_doomed;
-      found = found-on _ _ _ c.args.self.now.found (goes-alike _ _ _ _ alike) (omega (arith, alike.end, c.args.self.now.found.places));
+      listed = same_listed _ _ _ _ (listed_alike _ _ _ _ _ alike c.args.self.now.listed) c.reserve_in-2.ensures.same_heads c.reserve_in-2.ensures.same_doomed;
+      found = found_on _ _ _ c.args.self.now.found (goes_alike _ _ _ _ alike) (omega (arith, alike.end, c.args.self.now.found.places));
     }

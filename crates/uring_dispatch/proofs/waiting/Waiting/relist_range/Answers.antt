@@ -1,14 +1,14 @@
 use Rattle.std.proofs.Common.{arith, inl, inr, ℕ, ◌≡◌, subst}
 use Rattle.std.proofs.lemmas.Bool.{cases_lt}
 use Rattle.uring_dispatch.specs.Waiting.{IsListedAt}
-use Rattle.uring_dispatch.proofs.WaitingLemmas.{keeps-none, keeps-both, tell-kept}
+use Rattle.uring_dispatch.proofs.WaitingLemmas.{keeps_none, keeps_both, tell_kept}
 use Rattle.uring_dispatch.proofs.waiting.Waiting.relist_range.Goals as goal
 
 pub loop-n-init : goal.loop-n-init
-loop-n-init c = record { here = λ k from to. absurd (omega arith); keeps = keeps-none _ _ _ }
+loop-n-init c = record { here = λ k from to. absurd (omega arith); keeps = keeps_none _ _ _ }
 
 pub relist-requires : goal.relist-requires
-relist-requires c = tell-kept _ _ _ _ c.loop-n.n (c.requires c.loop-n.n (omega arith) (omega arith)) c.loop-n.invariant.keeps
+relist-requires c = tell_kept _ _ _ _ c.loop-n.n (c.requires c.loop-n.n (omega arith) (omega arith)) c.loop-n.invariant.keeps
 
 pub loop-n-preserved : goal.loop-n-preserved
 loop-n-preserved c = record {
@@ -20,5 +20,5 @@ loop-n-preserved c = record {
             let P : ℕ → Type 0 = λ j. IsListedAt c.args.grouped.now.window c.args.grouped.now.groups c.relist.new.self j in
             subst P same c.relist.ensures.here
       ];
-  keeps = keeps-both _ _ _ _ _ c.loop-n.invariant.keeps c.relist.ensures.keeps;
+  keeps = keeps_both _ _ _ _ _ c.loop-n.invariant.keeps c.relist.ensures.keeps;
 }

@@ -3,30 +3,30 @@ use Rattle.std.proofs.lemmas.Int.{to_z-of_z}
 use Rattle.uring_linux.specs.Issues.{ended_with}
 use Rattle.uring_linux.specs.LinuxDispatch.{LinuxDispatch, ShowsRequests}
 use Rattle.uring_linux.specs.Drains.{Drains, is_in_some}
-use Rattle.uring_linux.proofs.WindowEvents.{at-within}
-use Rattle.uring_linux.proofs.Standings.{shown, outside-ended, outstanding-ended, outstanding-going, asked, healthy}
+use Rattle.uring_linux.proofs.WindowEvents.{at_within}
+use Rattle.uring_linux.proofs.Standings.{shown, outside_ended, outstanding_ended, outstanding_going, asked, healthy}
 use Rattle.uring_linux.proofs.dispatch.LinuxDispatch.answer.Goals as goal
 
 pub returns-in_default : goal.returns-in_default
 returns-in_default c = λ l g.
     let h = shown c.self.inside.window c.self.inside.drains c.self.inside.has_skipped c.self.inside.room c.self.inside.is_between_calls l (subst (λ (d : LinuxDispatch). ShowsRequests d l) (sym c.self.view_is) g) in
-    sym (asked l c.args.n false _ _ _ _ (outside-ended _ l.requests c.args.n h (sym c.in_default.is ∙ c.copy.ensures)) refl refl refl refl)
+    sym (asked l c.args.n false _ _ _ _ (outside_ended _ l.requests c.args.n h (sym c.in_default.is ∙ c.copy.ensures)) refl refl refl refl)
 
 pub returns-then-request : goal.returns-then-request
 returns-then-request c = λ l g.
     let h = shown c.self.inside.window c.self.inside.drains c.self.inside.has_skipped c.self.inside.room c.self.inside.is_between_calls l (subst (λ (d : LinuxDispatch). ShowsRequests d l) (sym c.self.view_is) g) in
     let t = h.told c.args.n c.in-Some.request (sym c.in-Some.ensures) in
-    sym (asked l c.args.n false _ _ _ _ (outstanding-ended _ l.requests c.args.n t c.if-request.true) refl refl refl refl)
+    sym (asked l c.args.n false _ _ _ _ (outstanding_ended _ l.requests c.args.n t c.if-request.true) refl refl refl refl)
 
 pub returns-then-request-2 : goal.returns-then-request-2
 returns-then-request-2 c = λ l g.
     let h = shown c.self.inside.window c.self.inside.drains c.self.inside.has_skipped c.self.inside.room c.self.inside.is_between_calls l (subst (λ (d : LinuxDispatch). ShowsRequests d l) (sym c.self.view_is) g) in
     let here = sym c.in-Some.ensures in
     let t = h.told c.args.n c.in-Some.request here in
-    sym (asked l c.args.n true true _ _ _ (outstanding-going _ _ l.requests c.args.n h here c.if-request.false) (sym t.running ∙ c.if-request-2.true) refl refl refl)
+    sym (asked l c.args.n true true _ _ _ (outstanding_going _ _ l.requests c.args.n h here c.if-request.false) (sym t.running ∙ c.if-request-2.true) refl refl refl)
 
 pub span_of-span-requires : goal.span_of-span-requires
-span_of-span-requires c = at-within _ c.args.n c.in-Some.request (sym c.in-Some.ensures)
+span_of-span-requires c = at_within _ c.args.n c.in-Some.request (sym c.in-Some.ensures)
 
 pub returns-then-not-is_in_turn : goal.returns-then-not-is_in_turn
 returns-then-not-is_in_turn c = λ l g.
@@ -35,7 +35,7 @@ returns-then-not-is_in_turn c = λ l g.
     let t = h.told c.args.n c.in-Some.request here in
     let m = c.span_of-span.ensures l.requests h in
     sym
-    (asked l c.args.n true false false _ _ (outstanding-going _ _ l.requests c.args.n h here c.if-request.false) (sym t.running ∙ c.if-request-2.false)
+    (asked l c.args.n true false false _ _ (outstanding_going _ _ l.requests c.args.n h here c.if-request.false) (sym t.running ∙ c.if-request-2.false)
     (sym (c.is_in_turn.ensures l.requests h m) ∙ c.if-not-is_in_turn.true) refl refl)
 
 pub returns-then-is_doomed : goal.returns-then-is_doomed
@@ -48,7 +48,7 @@ returns-then-is_doomed c = λ l g.
     ended l.requests h t m
     ∙ ap (ended_with l.requests c.args.n) (c.doomed_result.ensures l.requests c.args.n t)
     ∙ sym
-    (asked l c.args.n true false true true _ (outstanding-going _ _ l.requests c.args.n h here c.if-request.false) (sym t.running ∙ c.if-request-2.false)
+    (asked l c.args.n true false true true _ (outstanding_going _ _ l.requests c.args.n h here c.if-request.false) (sym t.running ∙ c.if-request-2.false)
     (sym (c.is_in_turn.ensures l.requests h m) ∙ c.if-not-is_in_turn.false) (sym (c.is_doomed.ensures l.requests h m) ∙ c.if-is_doomed.true) refl)
 
 pub returns-then-is_deferred : goal.returns-then-is_deferred
@@ -59,7 +59,7 @@ returns-then-is_deferred c = λ l g.
     let t = h.told c.args.n c.in-Some.request here in
     let m = c.span_of-span.ensures l.requests h in
     sym
-    (asked l c.args.n true false true false true (outstanding-going _ _ l.requests c.args.n h here c.if-request.false) (sym t.running ∙ c.if-request-2.false)
+    (asked l c.args.n true false true false true (outstanding_going _ _ l.requests c.args.n h here c.if-request.false) (sym t.running ∙ c.if-request-2.false)
     (sym (c.is_in_turn.ensures l.requests h m) ∙ c.if-not-is_in_turn.false) (sym (c.is_doomed.ensures l.requests h m) ∙ c.if-is_doomed.false)
     (ap (λ (d : Drains). is_in_some d.deferred c.args.n) (sym f.held.drains) ∙ sym c.is_deferred.ensures ∙ c.if-is_deferred.true))
 
@@ -74,6 +74,6 @@ returns c = λ l g.
     let free = sym (c.is_doomed.ensures l.requests h m) ∙ c.if-is_doomed.false in
     c.ready.ensures l.requests h t m (healthy l.requests c.args.n (omega (arith, m.high, m.last, h.count)) free) idle
     ∙ sym
-    (asked l c.args.n true false true false false (outstanding-going _ _ l.requests c.args.n h here c.if-request.false) idle
+    (asked l c.args.n true false true false false (outstanding_going _ _ l.requests c.args.n h here c.if-request.false) idle
     (sym (c.is_in_turn.ensures l.requests h m) ∙ c.if-not-is_in_turn.false) free
     (ap (λ (d : Drains). is_in_some d.deferred c.args.n) (sym f.held.drains) ∙ sym c.is_deferred.ensures ∙ c.if-is_deferred.false))

@@ -1,10 +1,10 @@
 use Rattle.std.proofs.Common.{rules, w32}
 use Rattle.std.proofs.lemmas.Int.{to_z-of_z}
 use Rattle.uring_entry.specs.Requests.{is_running}
-use Rattle.uring_linux.proofs.Standings.{some-running, running-outstanding}
+use Rattle.uring_linux.proofs.Standings.{some_running, running_outstanding}
 use Rattle.uring_linux.proofs.dispatch.LinuxDispatch.end_running.Goals as goal
 
 pub returns-clause-shows : goal.returns-clause-shows
 returns-clause-shows c = λ l bytes h.
     let shows = rw (to_z-of_z w32 c.args.res (search rules)) at c.end.ensures.shows in
-    shows l bytes h (running-outstanding c.args.self.now.held.window l.requests c.args.n h.held.window (some-running (is_running l.requests c.args.n) _ c.in-Some.posts (c.in-Some.ensures l h)))
+    shows l bytes h (running_outstanding c.args.self.now.held.window l.requests c.args.n h.held.window (some_running (is_running l.requests c.args.n) _ c.in-Some.posts (c.in-Some.ensures l h)))

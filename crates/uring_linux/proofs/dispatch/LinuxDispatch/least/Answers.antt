@@ -3,7 +3,7 @@ use Rattle.uring_entry.specs.Groups.{first_member}
 use Rattle.uring_linux.specs.declared.request.Test.TheVariants.{Unended}
 use Rattle.uring_linux.specs.Window.{said}
 use Rattle.uring_linux.specs.LinuxDispatch.{LinuxDispatch, ShowsRequests}
-use Rattle.uring_linux.proofs.Standings.{shown, least-is}
+use Rattle.uring_linux.proofs.Standings.{shown, least_is}
 use Rattle.uring_linux.proofs.dispatch.LinuxDispatch.least.Goals as goal
 
 pub returns : goal.returns
@@ -12,4 +12,4 @@ returns c = λ l g.
     c.first_with.ensures.first l.requests h (omega arith) (omega arith)
     ∙ ap (λ x. first_member (said Unended l.requests) x c.end-end.result) c.first-first.ensures
     ∙ ap (first_member (said Unended l.requests) c.self.inside.window.first) c.end-end.ensures.value
-    ∙ least-is c.self.inside.window l.requests h
+    ∙ least_is c.self.inside.window l.requests h

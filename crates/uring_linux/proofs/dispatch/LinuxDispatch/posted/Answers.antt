@@ -3,14 +3,14 @@ use Rattle.std.specs.Prelude.{if◌then◌else◌}
 use Rattle.std.proofs.lemmas.Int.{to_z-of_z}
 use Rattle.uring_linux.specs.Issues.{posts_of}
 use Rattle.uring_linux.specs.LinuxDispatch.{LinuxDispatch, ShowsRequests}
-use Rattle.uring_linux.proofs.WindowEvents.{at-within}
-use Rattle.uring_linux.proofs.Standings.{shown, outside-idle}
+use Rattle.uring_linux.proofs.WindowEvents.{at_within}
+use Rattle.uring_linux.proofs.Standings.{shown, outside_idle}
 use Rattle.uring_linux.proofs.dispatch.LinuxDispatch.posted.Goals as goal
 
 pub returns-in_default : goal.returns-in_default
 returns-in_default c = λ l g.
     let h = shown c.self.inside.window c.self.inside.drains c.self.inside.has_skipped c.self.inside.room c.self.inside.is_between_calls l (subst (λ (d : LinuxDispatch). ShowsRequests d l) (sym c.self.view_is) g) in
-    sym (ap (λ b. if b then Some (posts_of l.requests c.args.n c.args.res) else None) (outside-idle _ l.requests c.args.n h (sym c.in_default.is ∙ c.copy.ensures)))
+    sym (ap (λ b. if b then Some (posts_of l.requests c.args.n c.args.res) else None) (outside_idle _ l.requests c.args.n h (sym c.in_default.is ∙ c.copy.ensures)))
 
 pub returns-then-not-request : goal.returns-then-not-request
 returns-then-not-request c = λ l g.
@@ -19,7 +19,7 @@ returns-then-not-request c = λ l g.
     sym (ap (λ b. if b then Some (posts_of l.requests c.args.n c.args.res) else None) (sym t.running ∙ c.if-not-request.true))
 
 pub span_of-span-requires : goal.span_of-span-requires
-span_of-span-requires c = at-within _ c.args.n c.in-Some.request (sym c.in-Some.ensures)
+span_of-span-requires c = at_within _ c.args.n c.in-Some.request (sym c.in-Some.ensures)
 
 pub returns : goal.returns
 returns c = λ l g.

@@ -2,13 +2,13 @@ use Rattle.std.proofs.Common.{arith, sym, ◌∙◌, ap, subst}
 use Rattle.uring_entry.specs.Requests.{with_cut}
 use Rattle.uring_linux.specs.Window.{Window, Shows}
 use Rattle.uring_linux.proofs.WindowLemmas.{not_none}
-use Rattle.uring_linux.proofs.WindowEvents.{cut-shows, cut-shows_none}
+use Rattle.uring_linux.proofs.WindowEvents.{cut_shows, cut_shows_none}
 use Rattle.uring_linux.proofs.window.Window.close.Goals as goal
 
 pub returns-then-end-self-clause-shows : goal.returns-then-end-self-clause-shows
 returns-then-end-self-clause-shows c = λ r h.
     let first = ap (λ (s : Window). s.first) c.self.view_is in
-    cut-shows_none _ r h (omega arith)
+    cut_shows_none _ r h (omega arith)
 
 pub returns-in_default-clause-shows : goal.returns-in_default-clause-shows
 returns-in_default-clause-shows c = λ r h.
@@ -19,4 +19,4 @@ pub returns-clause-shows : goal.returns-clause-shows
 returns-clause-shows c = λ r h.
     let first = ap (λ (s : Window). s.first) c.self.view_is in
     subst (λ (s : Window). Shows s (with_cut r)) (sym c.write.ensures)
-    (cut-shows _ c.in-Some.request r _ h (sym c.in-Some.ensures) (omega arith))
+    (cut_shows _ c.in-Some.request r _ h (sym c.in-Some.ensures) (omega arith))

@@ -2,7 +2,7 @@ use Rattle.std.proofs.Common.{◌&&◌, leb, sym, ◌∙◌, arith, below_more}
 use Rattle.std.proofs.lemmas.Bool.{and_left, and_right, and_from, lt-leb, le-leb}
 use Rattle.uring_entry.specs.Groups.{first_member}
 use Rattle.uring_linux.specs.Window.{said}
-use Rattle.uring_entry.proofs.BelowLemmas.{least_below-none, least_below-some}
+use Rattle.uring_entry.proofs.BelowLemmas.{least_below_none, least_below_some}
 use Rattle.uring_linux.proofs.window.Window.first_with.Goals as goal
 
 pub loop-n-init : goal.loop-n-init
@@ -12,7 +12,7 @@ pub returns-then-passes-clause-first : goal.returns-then-passes-clause-first
 unfolding first_member
 returns-then-passes-clause-first c = λ r s a b.
     sym
-    (least_below-some (λ m. leb c.args.from m && said c.args.test r m) c.args.end c.loop-n.n (omega arith)
+    (least_below_some (λ m. leb c.args.from m && said c.args.test r m) c.args.end c.loop-n.n (omega arith)
     (and_from _ _ (le-leb c.args.from c.loop-n.n (omega arith))
     (sym (c.passes.ensures r s (record { low = omega arith; high = omega arith })) ∙ c.if-passes.true))
     (c.loop-n.invariant r s a b))
@@ -24,4 +24,4 @@ loop-n-preserved c = λ r s a b.
 
 pub returns-clause-first : goal.returns-clause-first
 unfolding first_member
-returns-clause-first c = λ r s a b. sym (least_below-none (λ m. leb c.args.from m && said c.args.test r m) c.args.end (λ k lt. c.loop-n.invariant r s a b k (omega arith)))
+returns-clause-first c = λ r s a b. sym (least_below_none (λ m. leb c.args.from m && said c.args.test r m) c.args.end (λ k lt. c.loop-n.invariant r s a b k (omega arith)))

@@ -1,12 +1,12 @@
 use Rattle.std.proofs.Common.{sym, ◌∙◌, ap}
 use Rattle.uring_entry.specs.Groups.{is_before}
-use Rattle.uring_entry.proofs.GroupLemmas.{behind-is}
+use Rattle.uring_entry.proofs.GroupLemmas.{behind_is}
 use Rattle.uring_linux.proofs.window.Window.is_behind_failure.Goals as goal
 
 pub returns-in-Some : goal.returns-in-Some
 returns-in-Some c = λ r s m.
-    sym (behind-is r _ _ c.args.n m.group m.low m.high ∙ ap (λ o. is_before o c.args.n) (sym (c.in-Some.ensures.first r s m.first m.last)))
+    sym (behind_is r _ _ c.args.n m.group m.low m.high ∙ ap (λ o. is_before o c.args.n) (sym (c.in-Some.ensures.first r s m.first m.last)))
 
 pub returns-in-None : goal.returns-in-None
 returns-in-None c = λ r s m.
-    sym (behind-is r _ _ c.args.n m.group m.low m.high ∙ ap (λ o. is_before o c.args.n) (sym (c.in-None.ensures.first r s m.first m.last)))
+    sym (behind_is r _ _ c.args.n m.group m.low m.high ∙ ap (λ o. is_before o c.args.n) (sym (c.in-None.ensures.first r s m.first m.last)))

@@ -1,22 +1,22 @@
 use Rattle.std.proofs.Common.{◌≡◌, ℕ, ◌-◌, ◌+◌, ◌∙◌, ap, arith, get_or, sym, ◌<◌, ◌≤◌, List, inl, inr}
 use Rattle.std.proofs.lemmas.Bool.{cases_lt}
 use Rattle.uring_number_set.specs.NumberSet.{NumberSet, block_of, IsFirstFilled, IsFirstBlock}
-use Rattle.uring_number_set.proofs.BlockLemmas.{block_of-low, block_of-high}
+use Rattle.uring_number_set.proofs.BlockLemmas.{block_of_low, block_of_high}
 use Rattle.uring_number_set.proofs.blocks.Blocks.first_filled.Goals as goal
 
 at_place : (first : ℕ) (blocks : List ℕ) (i : ℕ)
     → block_of first blocks (first + i) ≡ get_or blocks i 0
 at_place first blocks i =
     let place : (first + i) - first ≡ i = omega arith in
-    block_of-high first blocks (first + i) (omega arith) ∙ ap (λ k. get_or blocks k 0) place
+    block_of_high first blocks (first + i) (omega arith) ∙ ap (λ k. get_or blocks k 0) place
 
 below : (first : ℕ) (blocks : List ℕ) (from skip i : ℕ) → skip ≡ from - first
     → ((k : ℕ) → skip ≤ k → k < i → get_or blocks k 0 ≡ 0) → (k : ℕ)
     → from ≤ k → k < first + i → block_of first blocks k ≡ 0
 below first blocks from skip i e h k le lt =
     elim (cases_lt k first) [
-      | inl low ↦ block_of-low first blocks k low
-      | inr high ↦ block_of-high first blocks k high ∙ h (k - first) (omega arith) (omega arith)
+      | inl low ↦ block_of_low first blocks k low
+      | inr high ↦ block_of_high first blocks k high ∙ h (k - first) (omega arith) (omega arith)
     ]
 
 found : (s : NumberSet) (from skip i : ℕ) → skip ≡ from - s.first → IsFirstFilled s.blocks skip i
@@ -39,8 +39,8 @@ nowhere : (first : ℕ) (blocks : List ℕ) (from skip : ℕ) → skip ≡ from 
     → block_of first blocks i ≡ 0
 nowhere first blocks from skip e h i le =
     elim (cases_lt i first) [
-      | inl low ↦ block_of-low first blocks i low
-      | inr high ↦ block_of-high first blocks i high ∙ h (i - first) (omega arith)
+      | inl low ↦ block_of_low first blocks i low
+      | inr high ↦ block_of_high first blocks i high ∙ h (i - first) (omega arith)
     ]
 
 pub returns-in-None : goal.returns-in-None

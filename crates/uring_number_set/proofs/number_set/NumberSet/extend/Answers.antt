@@ -1,15 +1,15 @@
 use Rattle.std.proofs.Common.{arith}
 use Rattle.uring_number_set.specs.NumberSet.{stop_of}
-use Rattle.uring_number_set.proofs.BlockLemmas.{same-filled, filled-few}
+use Rattle.uring_number_set.proofs.BlockLemmas.{same_filled, filled_few}
 use Rattle.uring_number_set.proofs.number_set.NumberSet.extend.Goals as goal
 
 pub invariant_of-self : goal.invariant_of-self
 invariant_of-self c =
     let a = c.self.invariant.start in
     let b = c.self.invariant.stop in
-    same-filled _ _ _ _ c.self.invariant c.extend.ensures.same c.extend-2.ensures.same (omega arith)
+    same_filled _ _ _ _ c.self.invariant c.extend.ensures.same c.extend-2.ensures.same (omega arith)
     (let no_more = c.extend.ensures.no_more (stop_of c.extend-2.new.self) (omega arith) (omega arith) in omega arith)
-    (filled-few c.self.inside.numbers c.extend.new.self c.self.inside.filled c.extend-2.new.self c.args.n c.self.invariant c.extend.ensures.covered c.extend.ensures.longer c.extend-2.ensures.no_more)
+    (filled_few c.self.inside.numbers c.extend.new.self c.self.inside.filled c.extend-2.new.self c.args.n c.self.invariant c.extend.ensures.covered c.extend.ensures.longer c.extend-2.ensures.no_more)
     (omega (arith, c.self.invariant.let_go))
 
 pub returns : goal.returns

@@ -1,5 +1,5 @@
 use Rattle.std.proofs.Common.{arith}
-use Rattle.uring_number_set.proofs.BlockLemmas.{same-filled, same-set}
+use Rattle.uring_number_set.proofs.BlockLemmas.{same_filled, same_set}
 use Rattle.uring_number_set.proofs.number_set.NumberSet.reserve_in.Goals as goal
 
 pub invariant_of-self : goal.invariant_of-self
@@ -9,7 +9,7 @@ invariant_of-self g c =
     let k = c.self.invariant.few in
     let d = c.reserve_in.ensures.start in
     let e = c.reserve_in.ensures.stop in
-    same-filled _ _ _ _ c.self.invariant (same-set c.self.inside.numbers) c.reserve_in.ensures.same (omega arith) (omega arith) (omega arith)
+    same_filled _ _ _ _ c.self.invariant (same_set c.self.inside.numbers) c.reserve_in.ensures.same (omega arith) (omega arith) (omega arith)
     (omega (arith, c.self.invariant.let_go))
 
 pub invariant_of-self-2 : goal.invariant_of-self-2
@@ -21,5 +21,5 @@ invariant_of-self-2 g c =
     let e = c.reserve_in.ensures.stop in
     let f = c.reserve_in-2.ensures.start in
     let g = c.reserve_in-2.ensures.stop in
-    same-filled _ _ _ _ c.self.invariant c.reserve_in-2.ensures.same c.reserve_in.ensures.same (omega arith) (omega arith) (omega arith)
+    same_filled _ _ _ _ c.self.invariant c.reserve_in-2.ensures.same c.reserve_in.ensures.same (omega arith) (omega arith) (omega arith)
     (omega (arith, c.self.invariant.let_go))

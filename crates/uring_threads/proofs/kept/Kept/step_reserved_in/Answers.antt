@@ -3,13 +3,13 @@ use Rattle.uring_entry.specs.Setup.{Setup, IsWithinLimits}
 use Rattle.uring_core.specs.Core.{FitsApart, elements_for}
 use Rattle.uring_core.specs.Histories.{history_of, world}
 use Rattle.uring_core.specs.StepAnswers.{CalledForApart}
-use Rattle.uring_core.proofs.Following.{history_of-snoc}
+use Rattle.uring_core.proofs.Following.{history_of_snoc}
 use Rattle.uring_threads.proofs.kept.Kept.step_reserved_in.Goals as goal
 
 pub invariant_of-self : goal.invariant_of-self
 invariant_of-self g c =
     let before = c.self.inside.trace.items in
-    let events = ap history_of c.push_reserved.ensures.items ∙ history_of-snoc before (c.args.step, c.step_in-answer.result) in (
+    let events = ap history_of c.push_reserved.ensures.items ∙ history_of_snoc before (c.args.step, c.step_in-answer.result) in (
       subst IsWithinLimits (sym c.step_in-answer.ensures.setup) c.self.invariant.0,
       subst (FitsApart c.step_in-answer.new.self) (sym events) (c.step_in-answer.ensures.fits (history_of before) c.self.invariant.1),
       ap (λ (g : Setup). g.stops) c.step_in-answer.ensures.setup ∙ c.self.invariant.2,

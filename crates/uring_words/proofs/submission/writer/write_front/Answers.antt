@@ -2,7 +2,7 @@ use Rattle.std.proofs.Common.{◌≡◌, ℕ, ◌+◌, ◌%◌, [], ◌∷◌, �
 use Rattle.std.proofs.lemmas.List.{take_more}
 use Rattle.uring_words.specs.Submission.Calls.{all_more}
 use Rattle.uring_words.specs.declared.submission.view.Position.TheVariants as position
-use Rattle.uring_words.proofs.CallLemmas.{more-length, more-append}
+use Rattle.uring_words.proofs.CallLemmas.{more_length, more_append}
 use Rattle.uring_words.proofs.Handing.{held-length}
 use Rattle.uring_words.proofs.Standing.{at_place}
 use Rattle.uring_words.proofs.Turning.{part_done, stands_first, goes_behind}
@@ -26,8 +26,8 @@ loop-item-preserved c =
     let room = c.requires.room in
     let x = c.item-item.result in
     let at = at_place a.start c.args.size a.size (n + k) c.loop-item.next c.requires.size.0 c.requires.size.1 inv.next in
-    let many : k ≡ length (all_more (take k items)) = sym (more-length (take k items) ∙ length-take-le k items (omega (arith, c.loop-item-test.true))) in
-    let longer : all_more (take k items) ++ position.More x ∷ [] ≡ all_more (take (k + 1) items) = sym (ap all_more (take_more items k x c.loop-item-test.true ∙ ap (λ y. take k items ++ y ∷ []) (sym c.item-item.is)) ∙ more-append (take k items) (x ∷ [])) in
+    let many : k ≡ length (all_more (take k items)) = sym (more_length (take k items) ∙ length-take-le k items (omega (arith, c.loop-item-test.true))) in
+    let longer : all_more (take k items) ++ position.More x ∷ [] ≡ all_more (take (k + 1) items) = sym (ap all_more (take_more items k x c.loop-item-test.true ∙ ap (λ y. take k items ++ y ∷ []) (sym c.item-item.is)) ∙ more_append (take k items) (x ∷ [])) in
     record {
       table = c.write_first.ensures.table ∙ inv.table;
       next = omega (arith, inv.next);
@@ -44,7 +44,7 @@ returns-clause-written c =
     let k : ℕ = c.loop-item.item-index in
     let items = c.args.items.now in
     let all = take_all k items c.loop-item-test.false in
-    let many : k ≡ length (all_more items) = omega (arith, more-length items, c.loop-item-test.false, c.loop-item.auto.item-index-end) in
+    let many : k ≡ length (all_more items) = omega (arith, more_length items, c.loop-item-test.false, c.loop-item.auto.item-index-end) in
     λ blank holds.
     c.loop-item.invariant.written blank holds
     ∙ ap (λ xs. (c.args.seat.now.me.0, part_done a.start a.size n k blank (all_more xs))) all

@@ -4,7 +4,7 @@ use Rattle.rtrb.specs.Ring.{sent, received}
 use Rattle.uring_files.specs.Done.{Done}
 use Rattle.uring_workers.specs.Worker.{Worker}
 use Rattle.uring_files.proofs.OperationCases.{many_after}
-use Rattle.uring_workers.proofs.Working.{goes_on, done_of-snoc, done_as, same_ring, same_worker}
+use Rattle.uring_workers.proofs.Working.{goes_on, done_of_snoc, done_as, same_ring, same_worker}
 use Rattle.uring_workers.proofs.worker.Worker.turn_in.Goals as goal
 
 pub invariant_of-self : goal.invariant_of-self
@@ -29,7 +29,7 @@ returns-clause-turns g c =
             rw (← c.self.view_is)
             (same_worker inside.place (same_ring c.pop.new.self.end inside.jobs.end popped.ring.0.0 popped.ring.0.1 popped.ring.0.2)
             (same_ring c.push_reserved.new.self.end inside.results.end (pushed.ring.0.0 ∙ full.0.0.0) (pushed.ring.0.1 ∙ full.0.0.1) (pushed.ring.0.2 ∙ full.0.0.2))
-            (rw (popped.ok.0, pushed.sent.0, full.1) (done_of-snoc (received inside.jobs) (sent inside.results) inside.files c.self.invariant c.in-Ok.job c.carry_out-outcome.result))
+            (rw (popped.ok.0, pushed.sent.0, full.1) (done_of_snoc (received inside.jobs) (sent inside.results) inside.files c.self.invariant c.in-Ok.job c.carry_out-outcome.result))
             c.carry_out-outcome.ensures.files);
         first = rw (← c.self.view_is) popped.ok.1;
         room = rw (← c.self.view_is) (let before = full.2 in let after = pushed.sent.1 in omega arith);

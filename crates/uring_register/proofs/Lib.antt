@@ -1,0 +1,2 @@
+mod TableRuns
+mod TableLaws

@@ -1,0 +1,48 @@
+-- Which slot a file gets.
+use Rattle.std.proofs.Common.{◌≡◌, ℕ, ◌<◌, ◌≤◌, List, slice_index_or, sym, inl, inr, ◌∙◌, arith}
+use Rattle.uring_register.specs.declared.table.Table.{Table}
+use Rattle.uring_register.specs.Tables.{Filing, content, size, start_by, NoneIsFree, IsFirstFree, IsGiven, GivesNone, KeepsTable}
+
+none_by : (f g : ℕ → ℕ) (from end most : ℕ) → ((s : ℕ) → s < most → f s ≡ g s) → end ≤ most
+    → NoneIsFree f from end → NoneIsFree g from end
+none_by f g from end most same within none = λ s one two zero. none s one two (same s (omega (arith, two, within)) ∙ zero)
+
+first_by : (f g : ℕ → ℕ) (from end most slot : ℕ) → ((s : ℕ) → s < most → f s ≡ g s) → end ≤ most
+    → IsFirstFree f from end slot → IsFirstFree g from end slot
+first_by f g from end most slot same within found = record {
+  from_there = found.from_there;
+  to_there = found.to_there;
+  free = sym (same slot (omega (arith, found.to_there, within))) ∙ found.free;
+  first = none_by f g from slot most same (omega (arith, found.to_there, within)) found.first;
+}
+
+-- what the slots hold is their words
+abbrev pub word : List ℕ → ℕ → ℕ
+word rows slot = slice_index_or rows slot 0
+
+pub given_first : (log : List Filing) (t : Table) (rows : List ℕ) (start slot : ℕ) → KeepsTable log t rows
+    → start ≡ start_by t.from t.end t.hint → IsFirstFree (word rows) start t.end slot → IsGiven log slot
+given_first log t rows start slot k is found =
+    let within : t.end ≤ size log = omega (arith, k.in_table, k.count) in
+    let so : IsFirstFree (content log) start t.end slot = first_by (word rows) (content log) start t.end (size log) slot k.words within found in
+    rw (← k.range_from) (rw (← k.range_end) (rw (← k.hint) (inl (rw (← is) so))))
+
+pub given_second : (log : List Filing) (t : Table) (rows : List ℕ) (start slot : ℕ) → KeepsTable log t rows
+    → start ≡ start_by t.from t.end t.hint → start ≤ t.end
+    → NoneIsFree (word rows) start t.end → IsFirstFree (word rows) t.from start slot → IsGiven log slot
+given_second log t rows start slot k is le none found =
+    let within : t.end ≤ size log = omega (arith, k.in_table, k.count) in
+    let before : start ≤ size log = omega (arith, within, le) in
+    let so : IsFirstFree (content log) t.from start slot = first_by (word rows) (content log) t.from start (size log) slot k.words before found in
+    let not : NoneIsFree (content log) start t.end = none_by (word rows) (content log) start t.end (size log) k.words within none in
+    rw (← k.range_from) (rw (← k.range_end) (rw (← k.hint) (inr (rw (← is) (not, so)))))
+
+pub given_none : (log : List Filing) (t : Table) (rows : List ℕ) (start : ℕ) → KeepsTable log t rows
+    → start ≡ start_by t.from t.end t.hint → start ≤ t.end
+    → NoneIsFree (word rows) start t.end → NoneIsFree (word rows) t.from start → GivesNone log
+given_none log t rows start k is le none found =
+    let within : t.end ≤ size log = omega (arith, k.in_table, k.count) in
+    let before : start ≤ size log = omega (arith, within, le) in
+    let so : NoneIsFree (content log) t.from start = none_by (word rows) (content log) t.from start (size log) k.words before found in
+    let not : NoneIsFree (content log) start t.end = none_by (word rows) (content log) start t.end (size log) k.words within none in
+    rw (← k.range_from) (rw (← k.range_end) (rw (← k.hint) (rw (← is) (not, so))))
