@@ -1,6 +1,6 @@
 -- The numbers of Linux and the limits, each written out once. Those that code and definitions name are these.
 use Rattle.std.specs.Prelude.{◌≡◌, ◌+◌, pos}
-use Rattle.uring_entry.specs.declared.errno.TheConstants.{ENOENT, EBADF, ENOMEM, EINVAL, EFBIG, EALREADY, ECANCELED}
+use Rattle.uring_entry.specs.declared.errno.TheConstants.{ENOENT, EBADF, ENOMEM, EINVAL, EFBIG, EOPNOTSUPP, EALREADY, ECANCELED}
 use Rattle.uring_entry.specs.declared.opcode.TheConstants.{NOP, FSYNC, ASYNC_CANCEL, READ, WRITE, ASYNC_CANCEL_ALL}
 use Rattle.uring_entry.specs.declared.flags.TheConstants.SqeFlags.{IO_DRAIN, IO_LINK, IO_HARDLINK, ASYNC, CQE_SKIP_SUCCESS, REFUSED}
 use Rattle.uring_entry.specs.declared.setup.TheConstants.Setup.{MAX_SQ, MAX_CQ, MAX_FILES}
@@ -13,6 +13,7 @@ pub record AreErrorNumbers : Type 0 where
   pub no_memory : ENOMEM ≡ pos 12
   pub invalid : EINVAL ≡ pos 22
   pub file_too_big : EFBIG ≡ pos 27
+  pub not_supported : EOPNOTSUPP ≡ pos 95
   pub already : EALREADY ≡ pos 114
   pub cancelled : ECANCELED ≡ pos 125
 
