@@ -7,3 +7,5 @@ pub mod IssuingLaws
 pub mod Telling
 pub mod Enrolling
 pub mod EnrollingLaws
+pub mod Calling
+pub mod CallingLaws

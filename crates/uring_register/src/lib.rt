@@ -1,6 +1,8 @@
 //! What is registered with a ring by io_uring_register(2): its restrictions, and what the slots of its tables of files and buffers hold. Whoever keeps the files and the buffers asks here what each call changes, and with which error it is refused.
 #![tactic(auto)]
 
+mod call;
+mod call_laws;
 mod enrolled;
 mod enrolled_laws;
 mod eventfd;
@@ -11,6 +13,10 @@ mod restrictions;
 mod table;
 mod table_laws;
 
+pub use call::{
+    Call, Caller, Content, argument_fault, call_of, calling_fault, content_fault, probed,
+};
+pub use call_laws::{can_be_allowed, is_made_by_right};
 pub use enrolled::{
     begin_rows, dismiss, dismissing_fault, enroll, enrolling_fault, named, row_for,
 };
