@@ -34,6 +34,106 @@ int32_t wulgach_set_up(const struct wulgach_asked_ring *asked, struct wulgach_se
 /* What a ring can do (IORING_FEAT_..), whose rings stand in one mapping or in two. */
 uint32_t wulgach_features(bool is_one_mapping);
 
+/* ---- calls of io_uring_register(2) ---- */
+
+/* Who calls on what. */
+struct wulgach_caller {
+    int32_t fd;             /* the descriptor that is called on */
+    bool is_open, is_ring;  /* whether it is open, and a ring's; then */
+    bool is_another;        /* whether another thread alone may call on it, */
+    bool is_allowed;        /* and whether its restrictions allow the call */
+};
+
+/* The fault of who makes the call of this number on what, or 0: -22 (EINVAL) of 36 and more, and of the descriptor -1; -9 (EBADF) if it
+ * isn't open, -95 (EOPNOTSUPP) of what is no ring, -17 (EEXIST) of another thread, -13 (EACCES) of a call that isn't allowed, and -22 of
+ * one that isn't served. */
+int32_t wulgach_calling_fault(uint32_t code, const struct wulgach_caller *caller);
+
+/* The fault of the call's argument and its count, before anything is read, or 0: -14 (EFAULT) of files and buffers without a list; else
+ * -22, if an argument is missing, or there is one and none belongs there, or the count isn't one that the call may have. -22 too of a call
+ * that isn't served. */
+int32_t wulgach_argument_fault(uint32_t code, bool has_argument, uint32_t count);
+
+/* What the call has read, as far as it has it. */
+struct wulgach_content {
+    uint32_t nr;            /* how many it is of */
+    uint32_t flags;
+    bool has_reserved;      /* a reserved field isn't 0; of a probe any byte */
+    bool has_data;          /* it names a list */
+};
+
+/* The fault of that, or 0: -14 if it couldn't be read, -22 of none, of a reserved field, of a flag that isn't served, of a sparse table
+ * with a list, and of a cancel by a descriptor and any. */
+int32_t wulgach_content_fault(uint32_t code, bool is_read, const struct wulgach_content *content);
+
+/* How many rows of a probe are looked at, and told, if so many are asked for: at most one for each operation that there is. Which are
+ * supported wulgach_is_served says. */
+uint32_t wulgach_probed(uint32_t count);
+
+/* ---- the thread that may call ---- */
+
+/* The one thread that may call on a ring, if there is one. The fields belong to the library. */
+struct wulgach_issuer {
+    uint32_t flags;
+    bool wants_one, has_one;
+    uint32_t thread;
+};
+
+/* A thread sets a ring up, with these flags (IORING_SETUP_..). It alone may call then with DEFER_TASKRUN, and with SINGLE_ISSUER where the
+ * layer is strict; of a ring that is made disabled the first that enables it. */
+void wulgach_issuer_begin(struct wulgach_issuer *issuer, uint32_t thread, uint32_t flags, bool is_strict);
+void wulgach_issuer_enable(struct wulgach_issuer *issuer, uint32_t thread);
+
+/* Whether a thread is another one, whose calls of io_uring_register(2) are refused; and so its call of io_uring_enter(2): if it submits,
+ * unless the ring has a thread of its own (SQPOLL), and with DEFER_TASKRUN if it asks for completions (GETEVENTS). */
+bool wulgach_issuer_is_another(const struct wulgach_issuer *issuer, uint32_t thread);
+bool wulgach_issuer_refuses_enter(const struct wulgach_issuer *issuer, uint32_t thread, uint32_t to_submit, bool gets);
+
+/* ---- an eventfd ---- */
+
+/* Whether a ring has an eventfd, and whether it is told of what ends asynchronously alone. The fields may be read. */
+struct wulgach_eventfd {
+    bool is_registered, is_async;
+};
+
+void wulgach_eventfd_begin(struct wulgach_eventfd *eventfd);
+
+/* The fault of registering one, or 0: -16 (EBUSY) if there is one, -14 if its number couldn't be read, -9 if it isn't open, -22 if it is
+ * none. Each of the three is false behind one that is. And that is done. */
+int32_t wulgach_eventfd_registering_fault(const struct wulgach_eventfd *eventfd, bool is_read, bool is_open, bool is_eventfd);
+void wulgach_eventfd_register(struct wulgach_eventfd *eventfd, bool is_async);
+
+/* The fault of unregistering it, or 0: -6 (ENXIO) if there is none; and that is done. */
+int32_t wulgach_eventfd_unregistering_fault(const struct wulgach_eventfd *eventfd);
+void wulgach_eventfd_unregister(struct wulgach_eventfd *eventfd);
+
+/* Whether it is told of a completion of which wulgach_tells says that it is to be, where the completion ring's flags are these; and whether
+ * a call may leave what can go on without waiting: not where there is one, nor on a ring with a thread of its own. */
+bool wulgach_eventfd_tells(const struct wulgach_eventfd *eventfd, uint32_t cq_flags);
+bool wulgach_eventfd_may_leave(const struct wulgach_eventfd *eventfd, bool has_thread);
+
+/* ---- rings by number ---- */
+
+/* What a thread's 16 rows hold are words of the caller's: 0 in a free one. `count` is how many words there are, 16 at least. */
+void wulgach_enrolled_begin(uint64_t *words, size_t count);
+
+/* The fault of enrolling a ring, before a row is looked for, or 0: -22 of a reserved field, and of a number past the last, unless any is
+ * asked for (2^32 - 1); -9 of a descriptor that isn't open, -95 of what is no ring. */
+int32_t wulgach_enrolling_fault(uint32_t asked, bool has_reserved, bool is_open, bool is_ring);
+
+/* Writes the row that it gets, the first free one of those that it asks for, and returns 0; or returns -16, and writes nothing. And the
+ * row gets a descriptor. */
+int32_t wulgach_enrolled_place(const uint64_t *words, size_t count, uint32_t asked, uint32_t *row);
+void wulgach_enroll(uint64_t *words, size_t count, uint32_t row, uint32_t descriptor);
+
+/* The fault of emptying the row of a number, or 0: -22 of a reserved field, of data, and of a number past the last. And that is done, also
+ * to undo what enrolled a ring. */
+int32_t wulgach_dismissing_fault(uint32_t row, bool has_reserved, bool has_data);
+void wulgach_dismiss(uint64_t *words, size_t count, uint32_t row);
+
+/* Writes the descriptor of a number, and returns 0; or returns -22 of a number past the last, -9 of a free row, and writes nothing. */
+int32_t wulgach_enrolled_named(const uint64_t *words, size_t count, uint32_t number, uint64_t *descriptor);
+
 /* ---- restrictions ---- */
 
 /* A row of a list: `struct io_uring_restriction` without what is reserved. */

@@ -158,10 +158,99 @@ static void look_at_rows(void)
     demand(wulgach_updated(0, -9) == -9 && wulgach_updated(2, -9) == 2 && wulgach_updated(3, 0) == 3 && wulgach_updated(0, 0) == 0, "what an update returns");
 }
 
+/* Calls of io_uring_register(2), by their numbers; what a real ring of Linux 6.18 said to the same. */
+enum { BUFFERS = 0, FILES = 2, NO_FILES = 3, EVENTFD = 4, UPDATE = 6, PROBE = 8, RESTRICT = 11, FILES2 = 13, BUFFERS2 = 15, ENROLL = 20, DISMISS = 21, RING = 22, CANCEL = 24, RANGE = 25 };
+
+#define CALL(code, ...) wulgach_calling_fault(code, &(struct wulgach_caller){__VA_ARGS__})
+#define CONTENT(code, ...) wulgach_content_fault(code, true, &(struct wulgach_content){__VA_ARGS__})
+
+static void make_calls(void)
+{
+    demand(CALL(PROBE, .fd = 3, .is_open = true, .is_ring = true, .is_allowed = true) == 0 && CALL(26, .fd = 3, .is_open = true, .is_ring = true, .is_allowed = true) == -22, "calls");
+    demand(CALL(36, .fd = 3) == -22 && CALL(35, .fd = 3) == -9 && CALL(35, .fd = -1) == -22 && CALL(PROBE, .fd = -2) == -9, "numbers and descriptors");
+    demand(CALL(PROBE, .fd = 1, .is_open = true) == -95 && CALL(26, .fd = 3, .is_open = true, .is_ring = true) == -13, "what is no ring, what isn't allowed");
+    demand(CALL(PROBE, .fd = 3, .is_open = true, .is_ring = true, .is_another = true) == -17, "another thread");
+    demand(wulgach_argument_fault(FILES, false, 0) == -14 && wulgach_argument_fault(BUFFERS, true, 0) == 0 && wulgach_argument_fault(UPDATE, false, 0) == -22, "lists");
+    demand(wulgach_argument_fault(FILES2, false, 0) == -22 && wulgach_argument_fault(FILES2, false, 32) == 0 && wulgach_argument_fault(BUFFERS2, true, 33) == -22, "sizes");
+    demand(wulgach_argument_fault(RANGE, false, 0) == -22 && wulgach_argument_fault(RANGE, true, 1) == -22 && wulgach_argument_fault(RANGE, true, 0) == 0, "a range");
+    demand(wulgach_argument_fault(NO_FILES, true, 0) == -22 && wulgach_argument_fault(NO_FILES, false, 1) == -22 && wulgach_argument_fault(NO_FILES, false, 0) == 0, "nothing");
+    demand(wulgach_argument_fault(CANCEL, false, 1) == -22 && wulgach_argument_fault(RING, true, 0) == -22 && wulgach_argument_fault(EVENTFD, false, 1) == 0, "one");
+    demand(wulgach_argument_fault(PROBE, false, 0) == -22 && wulgach_argument_fault(PROBE, true, 256) == 0 && wulgach_argument_fault(PROBE, true, 257) == -22, "a probe");
+    demand(wulgach_argument_fault(ENROLL, true, 0) == -22 && wulgach_argument_fault(ENROLL, false, 16) == 0 && wulgach_argument_fault(DISMISS, true, 17) == -22, "rings by number");
+    demand(wulgach_argument_fault(RESTRICT, false, 999) == 0 && wulgach_argument_fault(9, true, 1) == -22, "restrictions, and what isn't served");
+    demand(wulgach_probed(1) == 1 && wulgach_probed(49) == 49 && wulgach_probed(256) == 49, "rows of a probe");
+}
+
+static void read_contents(void)
+{
+    struct wulgach_content none = {0};
+    demand(wulgach_content_fault(FILES2, false, &none) == -14 && CONTENT(FILES2, 0) == -22 && CONTENT(FILES2, .nr = 1) == 0, "files");
+    demand(CONTENT(FILES2, .nr = 1, .flags = 2) == -22 && CONTENT(BUFFERS2, .nr = 1, .flags = 1) == 0 && CONTENT(BUFFERS2, .nr = 1, .flags = 1, .has_data = true) == -22, "sparse ones");
+    demand(CONTENT(UPDATE, .nr = 1) == 0 && CONTENT(UPDATE, .nr = 1, .has_reserved = true) == -22 && CONTENT(14, 0) == -22, "updates");
+    demand(CONTENT(CANCEL, 0) == 0 && CONTENT(CANCEL, .flags = 16) == -22 && CONTENT(CANCEL, .flags = 6) == -22 && CONTENT(CANCEL, .flags = 11) == 0, "a cancel");
+    demand(CONTENT(PROBE, 0) == 0 && CONTENT(PROBE, .has_reserved = true) == -22 && CONTENT(9, 0) == -22, "a probe");
+}
+
+static void note_threads(void)
+{
+    struct wulgach_issuer issuer;
+    wulgach_issuer_begin(&issuer, 7, SINGLE, false);
+    demand(!wulgach_issuer_is_another(&issuer, 8), "a layer that isn't strict");
+    wulgach_issuer_begin(&issuer, 7, SINGLE, true);
+    demand(wulgach_issuer_is_another(&issuer, 8) && !wulgach_issuer_is_another(&issuer, 7), "one that is");
+    demand(wulgach_issuer_refuses_enter(&issuer, 8, 1, false) && !wulgach_issuer_refuses_enter(&issuer, 8, 0, true) && !wulgach_issuer_refuses_enter(&issuer, 7, 1, true), "submissions");
+    wulgach_issuer_begin(&issuer, 7, SINGLE | SQPOLL, true);
+    demand(wulgach_issuer_is_another(&issuer, 8) && !wulgach_issuer_refuses_enter(&issuer, 8, 1, true), "a ring with a thread");
+    wulgach_issuer_begin(&issuer, 7, SINGLE | DEFER | R_DISABLED, false);
+    demand(!wulgach_issuer_is_another(&issuer, 8), "a disabled ring");
+    wulgach_issuer_enable(&issuer, 8);
+    wulgach_issuer_enable(&issuer, 7);
+    demand(wulgach_issuer_is_another(&issuer, 7) && !wulgach_issuer_is_another(&issuer, 8), "who enabled it");
+    demand(wulgach_issuer_refuses_enter(&issuer, 7, 1, false) && wulgach_issuer_refuses_enter(&issuer, 7, 0, true) && !wulgach_issuer_refuses_enter(&issuer, 7, 0, false), "deferred work");
+}
+
+static void tell_eventfds(void)
+{
+    struct wulgach_eventfd eventfd;
+    wulgach_eventfd_begin(&eventfd);
+    demand(!wulgach_eventfd_tells(&eventfd, 0) && wulgach_eventfd_may_leave(&eventfd, false) && !wulgach_eventfd_may_leave(&eventfd, true) && wulgach_eventfd_unregistering_fault(&eventfd) == -6, "no eventfd");
+    demand(wulgach_eventfd_registering_fault(&eventfd, false, false, false) == -14 && wulgach_eventfd_registering_fault(&eventfd, true, false, false) == -9 && wulgach_eventfd_registering_fault(&eventfd, true, true, false) == -22 && wulgach_eventfd_registering_fault(&eventfd, true, true, true) == 0, "what is none");
+    wulgach_eventfd_register(&eventfd, true);
+    demand(eventfd.is_async && wulgach_eventfd_tells(&eventfd, 0) && !wulgach_eventfd_tells(&eventfd, 1) && !wulgach_eventfd_may_leave(&eventfd, false), "one");
+    demand(wulgach_eventfd_registering_fault(&eventfd, false, false, false) == -16 && wulgach_eventfd_unregistering_fault(&eventfd) == 0, "a second one");
+    wulgach_eventfd_unregister(&eventfd);
+    demand(!eventfd.is_registered && !eventfd.is_async, "none again");
+}
+
+static void enroll_rings(void)
+{
+    uint64_t rows[16], fd = 99;
+    uint32_t row = 99;
+    wulgach_enrolled_begin(rows, 16);
+    demand(wulgach_enrolled_named(rows, 16, 0, &fd) == -9 && wulgach_enrolled_named(rows, 16, 16, &fd) == -22 && fd == 99, "no rings");
+    demand(wulgach_enrolling_fault(16, false, false, false) == -22 && wulgach_enrolling_fault(3, true, true, true) == -22 && wulgach_enrolling_fault(UINT32_MAX, false, false, false) == -9 && wulgach_enrolling_fault(3, false, true, false) == -95 && wulgach_enrolling_fault(15, false, true, true) == 0, "faults");
+    demand(wulgach_enrolled_place(rows, 16, 3, &row) == 0 && row == 3, "a row");
+    wulgach_enroll(rows, 16, 3, 0);
+    demand(wulgach_enrolled_named(rows, 16, 3, &fd) == 0 && fd == 0 && wulgach_enrolled_place(rows, 16, 3, &row) == -16 && row == 3, "one that is taken");
+    for (uint32_t i = 0; i < 15; i++) {
+        demand(wulgach_enrolled_place(rows, 16, UINT32_MAX, &row) == 0 && row == (i < 3 ? i : i + 1), "any");
+        wulgach_enroll(rows, 16, row, 100 + row);
+    }
+    demand(wulgach_enrolled_place(rows, 16, UINT32_MAX, &row) == -16 && wulgach_enrolled_named(rows, 16, 15, &fd) == 0 && fd == 115, "all");
+    demand(wulgach_dismissing_fault(16, false, false) == -22 && wulgach_dismissing_fault(3, true, false) == -22 && wulgach_dismissing_fault(3, false, true) == -22 && wulgach_dismissing_fault(15, false, false) == 0, "dismissing");
+    wulgach_dismiss(rows, 16, 9);
+    demand(wulgach_enrolled_named(rows, 16, 9, &fd) == -9 && wulgach_enrolled_place(rows, 16, UINT32_MAX, &row) == 0 && row == 9, "one that was dismissed");
+}
+
 int main(void)
 {
     make_rings();
     refuse_flags();
+    make_calls();
+    read_contents();
+    note_threads();
+    tell_eventfds();
+    enroll_rings();
     take_rows();
     give_slots();
     change_tables();

@@ -78,7 +78,7 @@ static bool store_shown(struct ring *ring)
             break;
         const struct wulgach_posted *posted = posted_at(completions, store.place);
         store_completion(&ring->memory, posted, store.position);
-        is_told |= wulgach_tells(posted, ring->is_eventfd_async);
+        is_told |= wulgach_tells(posted, ring->telling.is_async);
     }
     store_word(&ring->memory.cq->tail, store.position);
     return is_told;

@@ -1,10 +1,12 @@
 /* The table is a thread's own, as in the kernel. A ring in it stays open whatever is closed: it has a descriptor of the layer's
- * own, under a high number, which is closed when the thread ends.
+ * own, under a high number, which is closed when the thread ends. Which row a ring gets, what a number names and what is refused is the
+ * library's decision.
  */
 #define _GNU_SOURCE
 #include "enrolling.h"
 #include "copying.h"
 #include "descriptors.h"
+#include "wulgach_register.h"
 
 #include <errno.h>
 #include <fcntl.h>
@@ -13,19 +15,19 @@
 #include <stdlib.h>
 #include <unistd.h>
 
-enum { MOST = 16, HIGH_NUMBER = 512, NONE = 0, ANY = -1 };
+enum { MOST = 16, HIGH_NUMBER = 512 };
 
-/* Descriptors, each with one added to it: 0 is none. */
-static __thread int *table;
+/* The library's words of a thread that has rows. */
+static __thread uint64_t *table;
 static pthread_key_t key;
 static pthread_once_t once = PTHREAD_ONCE_INIT;
 
 static void close_table(void *argument)
 {
-    int *rows = argument;
-    for (int i = 0; i < MOST; i++)
-        if (rows[i] != NONE)
-            close_descriptor(rows[i] - 1);
+    uint64_t *rows = argument, fd;
+    for (uint32_t i = 0; i < MOST; i++)
+        if (wulgach_enrolled_named(rows, MOST, i, &fd) == 0)
+            close_descriptor((int)fd);
     free(rows);
 }
 
@@ -39,37 +41,31 @@ static int make_table(void)
     pthread_once(&once, make_key);
     if (!table) {
         table = calloc(MOST, sizeof *table);
+        if (table)
+            wulgach_enrolled_begin(table, MOST);
         pthread_setspecific(key, table);
     }
     return table ? 0 : -ENOMEM;
 }
 
-/* Puts a ring into the first row from `start` on that is free. Returns its number. */
-static int enroll(int fd, uint32_t start, uint32_t end)
+/* Puts a ring into the row that it gets. */
+static int enroll(int fd, uint32_t row)
 {
-    while (start < end && table[start] != NONE)
-        start++;
-    if (start == end)
-        return -EBUSY;
-    if (fcntl(fd, F_GETFD) < 0)
-        return -EBADF;
-    if (!is_ring(fd))
-        return -EOPNOTSUPP;
     int copy = fcntl(fd, F_DUPFD_CLOEXEC, HIGH_NUMBER);
     if (copy < 0)
         copy = fcntl(fd, F_DUPFD_CLOEXEC, 0);
     if (copy < 0)
         return -errno;
-    table[start] = copy + 1;
-    return (int)start;
+    wulgach_enroll(table, MOST, row, (uint32_t)copy);
+    return 0;
 }
 
-static void dismiss(uint32_t number)
+static void dismiss(uint32_t row)
 {
-    if (table && table[number] != NONE) {
-        close(table[number] - 1);
-        table[number] = NONE;
-    }
+    uint64_t fd;
+    if (wulgach_enrolled_named(table, MOST, row, &fd) == 0)
+        close((int)fd);
+    wulgach_dismiss(table, MOST, row);
 }
 
 static int enroll_row(uint64_t at)
@@ -77,16 +73,20 @@ static int enroll_row(uint64_t at)
     struct io_uring_rsrc_update asked;
     if (copy_in(&asked, at, sizeof asked) < 0)
         return -EFAULT;
-    bool is_any = asked.offset == (uint32_t)ANY;
-    if (asked.resv || (!is_any && asked.offset >= MOST))
-        return -EINVAL;
-    int number = enroll((int)asked.data, is_any ? 0 : asked.offset, is_any ? MOST : asked.offset + 1);
-    if (number < 0)
-        return number;
-    asked.offset = (uint32_t)number;
+    int fd = (int)asked.data;
+    bool is_open = fcntl(fd, F_GETFD) >= 0;
+    uint32_t row;
+    int result = wulgach_enrolling_fault(asked.offset, asked.resv, is_open, is_open && is_ring(fd));
+    if (result == 0)
+        result = wulgach_enrolled_place(table, MOST, asked.offset, &row);
+    if (result == 0)
+        result = enroll(fd, row);
+    if (result < 0)
+        return result;
+    asked.offset = row;
     if (copy_out(at, &asked, sizeof asked) == 0)
         return 0;
-    dismiss((uint32_t)number);
+    dismiss(row);
     return -EFAULT;
 }
 
@@ -95,22 +95,22 @@ static int dismiss_row(uint64_t at)
     struct io_uring_rsrc_update asked;
     if (copy_in(&asked, at, sizeof asked) < 0)
         return -EFAULT;
-    if (asked.resv || asked.data || asked.offset >= MOST)
-        return -EINVAL;
-    dismiss(asked.offset);
-    return 0;
+    int result = wulgach_dismissing_fault(asked.offset, asked.resv, asked.data);
+    if (result == 0)
+        dismiss(asked.offset);
+    return result;
 }
 
 /* Ends at the first row that can't be done: those before it stay so. */
 static int for_each_row(int (*change)(uint64_t at), uint64_t list, uint32_t count)
 {
-    int result = count == 0 || count > MOST ? -EINVAL : make_table();
+    int result = make_table();
     uint32_t done = 0;
     while (result == 0 && done < count) {
         result = change(list + done * sizeof(struct io_uring_rsrc_update));
         done += result == 0;
     }
-    return done > 0 ? (int)done : result;
+    return wulgach_updated(done, result);
 }
 
 int enroll_rings(uint64_t list, uint32_t count)
@@ -125,7 +125,8 @@ int dismiss_rings(uint64_t list, uint32_t count)
 
 int enrolled_fd(uint32_t number)
 {
-    if (!table || number >= MOST)
-        return -EINVAL;
-    return table[number] == NONE ? -EBADF : table[number] - 1;
+    static const uint64_t none[MOST];
+    uint64_t fd;
+    int result = wulgach_enrolled_named(table ? table : none, MOST, number, &fd);
+    return result < 0 ? result : (int)fd;
 }

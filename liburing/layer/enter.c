@@ -10,6 +10,7 @@
 #include "outlook.h"
 #include "pipes.h"
 #include "policy.h"
+#include "process.h"
 #include "progress.h"
 #include "readiness.h"
 #include "restrictions.h"
@@ -194,7 +195,7 @@ static int carry_call_out(struct ring *ring, struct waiting *waiting, uint32_t f
         .policy = policy_of_call(has_thread, gets),
         .gets = gets,
         /* One with an eventfd may sleep on it. */
-        .may_leave = ring->eventfd < 0 && !has_thread,
+        .may_leave = wulgach_eventfd_may_leave(&ring->telling, has_thread),
     };
     struct wulgach_enter call;
     struct wulgach_command command;
@@ -214,7 +215,7 @@ static int enter_ring(struct ring *ring, uint32_t flags, struct waiting *waiting
 {
     if (ring->is_disabled)
         return -EBADFD;
-    if (is_submission_of_another(ring, waiting->to_submit))
+    if (wulgach_issuer_refuses_enter(&ring->issuer, (uint32_t)this_thread(), waiting->to_submit, flags & IORING_ENTER_GETEVENTS))
         return -EEXIST;
     ring->call_number++;
     ring->moment++;

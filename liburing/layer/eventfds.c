@@ -1,5 +1,5 @@
 /* The layer has no thread that could tell an eventfd of what goes on while no call is made. So a ring that has one goes on
- * in each call until nothing can without waiting.
+ * in each call until nothing can without waiting. That, what is refused, and whether one is told is the library's decision.
  */
 #define _GNU_SOURCE
 #include "eventfds.h"
@@ -23,44 +23,38 @@ static bool is_eventfd(int fd)
     return strcmp(link, "anon_inode:[eventfd]") == 0;
 }
 
-int register_eventfd(struct ring *ring, uint64_t at, uint32_t count, bool is_async)
+int register_eventfd(struct ring *ring, uint64_t at, bool is_async)
 {
     int fd;
-    if (count != 1)
-        return -EINVAL;
-    if (ring->eventfd >= 0)
-        return -EBUSY;
-    if (copy_in(&fd, at, sizeof fd) < 0)
-        return -EFAULT;
-    if (fcntl(fd, F_GETFD) < 0)
-        return -EBADF;
-    if (!is_eventfd(fd))
-        return -EINVAL;
+    bool is_read = !ring->telling.is_registered && copy_in(&fd, at, sizeof fd) == 0;
+    bool is_open = is_read && fcntl(fd, F_GETFD) >= 0;
+    int result = wulgach_eventfd_registering_fault(&ring->telling, is_read, is_open, is_open && is_eventfd(fd));
+    if (result < 0)
+        return result;
     int copy = fcntl(fd, F_DUPFD_CLOEXEC, HIGH_NUMBER);
     if (copy < 0)
         copy = fcntl(fd, F_DUPFD_CLOEXEC, 0);
     if (copy < 0)
         return -errno;
     ring->eventfd = copy;
-    ring->is_eventfd_async = is_async;
+    wulgach_eventfd_register(&ring->telling, is_async);
     return 0;
 }
 
-int unregister_eventfd(struct ring *ring, uint64_t argument, uint32_t count)
+int unregister_eventfd(struct ring *ring)
 {
-    if (argument || count)
-        return -EINVAL;
-    if (ring->eventfd < 0)
-        return -ENXIO;
+    int result = wulgach_eventfd_unregistering_fault(&ring->telling);
+    if (result < 0)
+        return result;
     close(ring->eventfd);
-    ring->eventfd = -1;
+    wulgach_eventfd_unregister(&ring->telling);
     return 0;
 }
 
 void tell_eventfd(struct ring *ring)
 {
     static const uint64_t one = 1;
-    if (ring->eventfd < 0 || load_word(&ring->memory.cq->flags) & IORING_CQ_EVENTFD_DISABLED)
+    if (!wulgach_eventfd_tells(&ring->telling, load_word(&ring->memory.cq->flags)))
         return;
     ssize_t written = write(ring->eventfd, &one, sizeof one);
     (void)written;

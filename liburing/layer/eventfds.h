@@ -8,8 +8,8 @@
 struct ring;
 
 /* The calls of io_uring_register(2). Each returns 0 or the negative of an error number. */
-int register_eventfd(struct ring *ring, uint64_t fd, uint32_t count, bool is_async);
-int unregister_eventfd(struct ring *ring, uint64_t argument, uint32_t count);
+int register_eventfd(struct ring *ring, uint64_t fd, bool is_async);
+int unregister_eventfd(struct ring *ring);
 
 /* Completions have come into the ring. */
 void tell_eventfd(struct ring *ring);

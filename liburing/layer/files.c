@@ -224,12 +224,10 @@ int update_files(struct ring *ring, uint32_t offset, uint64_t fds, uint64_t tags
     return wulgach_updated(done, result);
 }
 
-int register_range(struct ring *ring, uint64_t range, uint32_t count)
+int register_range(struct ring *ring, uint64_t range)
 {
     struct io_uring_file_index_range asked;
     struct files *files = &ring->files;
-    if (!range || count)
-        return -EINVAL;
     if (copy_in(&asked, range, sizeof asked) < 0)
         return -EFAULT;
     pthread_mutex_lock(&files->lock);

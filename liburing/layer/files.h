@@ -35,7 +35,7 @@ void free_files(struct ring *ring);
 int register_files(struct ring *ring, uint64_t fds, uint64_t tags, uint32_t count);
 int unregister_files(struct ring *ring, bool has_argument);
 int update_files(struct ring *ring, uint32_t offset, uint64_t fds, uint64_t tags, uint32_t count);
-int register_range(struct ring *ring, uint64_t range, uint32_t count);
+int register_range(struct ring *ring, uint64_t range);
 
 /* Puts each of these descriptors into a slot that is free, and tells which ones in their place. */
 int place_files(struct ring *ring, uint64_t fds, uint32_t count);

@@ -1,4 +1,6 @@
-/* io_uring_register(2): the probe of operations, registered files, buffers, rings and an eventfd, and restrictions. */
+/* io_uring_register(2): the probe of operations, registered files, buffers, rings and an eventfd, and restrictions. Which calls there are, and
+ * what is refused of their arguments and of what they read, is the library's decision.
+ */
 #define _GNU_SOURCE
 #include "cancels.h"
 #include "copying.h"
@@ -6,8 +8,10 @@
 #include "enrolling.h"
 #include "enter.h"
 #include "eventfds.h"
+#include "fault.h"
 #include "groups.h"
 #include "operations.h"
+#include "process.h"
 #include "progress.h"
 #include "ring.h"
 
@@ -17,123 +21,120 @@
 
 enum { MOST_PROBED = 256 };
 
-static int probe(uint64_t at, uint32_t count)
+_Static_assert(sizeof(struct io_uring_rsrc_register) == 32 && sizeof(struct io_uring_rsrc_update2) == 32, "the library's sizes of structures");
+
+static bool is_zero(const void *bytes, size_t size)
 {
     static const unsigned char none[sizeof(struct io_uring_probe) + MOST_PROBED * sizeof(struct io_uring_probe_op)];
+    return memcmp(bytes, none, size) == 0;
+}
+
+static int probe(uint32_t code, uint64_t at, uint32_t count)
+{
     union {
         struct io_uring_probe probe;
-        unsigned char bytes[sizeof none];
+        unsigned char bytes[sizeof(struct io_uring_probe) + MOST_PROBED * sizeof(struct io_uring_probe_op)];
     } copy;
-    if (count > MOST_PROBED)
-        return -EINVAL;
+    count = wulgach_probed(count);
     size_t size = sizeof copy.probe + count * sizeof *copy.probe.ops;
-    if (copy_in(&copy, at, size) < 0)
-        return -EFAULT;
-    if (memcmp(&copy, none, size) != 0)
-        return -EINVAL;
-    if (count > IORING_OP_LAST)
-        count = IORING_OP_LAST;
+    bool is_read = copy_in(&copy, at, size) == 0;
+    struct wulgach_content content = {.has_reserved = is_read && !is_zero(&copy, size)};
+    int result = wulgach_content_fault(code, is_read, &content);
+    if (result < 0)
+        return result;
     copy.probe.last_op = IORING_OP_LAST - 1;
     copy.probe.ops_len = (uint8_t)count;
-    for (uint32_t code = 0; code < count; code++) {
-        copy.probe.ops[code].op = (uint8_t)code;
-        copy.probe.ops[code].flags = wulgach_is_served((uint8_t)code) ? IO_URING_OP_SUPPORTED : 0;
+    for (uint32_t operation = 0; operation < count; operation++) {
+        copy.probe.ops[operation].op = (uint8_t)operation;
+        copy.probe.ops[operation].flags = wulgach_is_served((uint8_t)operation) ? IO_URING_OP_SUPPORTED : 0;
     }
     return copy_out(at, &copy, size);
 }
 
-/* The structures of the calls that came later say their own sizes. */
-static int read_sized(void *to, uint64_t from, uint32_t size, size_t expected)
+static int register_resources(struct ring *ring, uint32_t code, uint64_t at, bool is_of_files)
 {
-    return size != expected ? -EINVAL : copy_in(to, from, size);
-}
-
-static int register_resources(struct ring *ring, uint64_t at, uint32_t size, bool is_of_files)
-{
-    struct io_uring_rsrc_register asked;
-    int result = read_sized(&asked, at, size, sizeof asked);
+    struct io_uring_rsrc_register asked = {0};
+    bool is_read = copy_in(&asked, at, sizeof asked) == 0;
+    struct wulgach_content content = {.nr = asked.nr, .flags = asked.flags, .has_reserved = asked.resv2, .has_data = asked.data};
+    int result = wulgach_content_fault(code, is_read, &content);
     if (result < 0)
         return result;
-    bool is_sparse = asked.flags & IORING_RSRC_REGISTER_SPARSE;
-    if (!asked.nr || asked.resv2 || asked.flags & ~IORING_RSRC_REGISTER_SPARSE || (is_sparse && asked.data))
-        return -EINVAL;
     return is_of_files ? register_files(ring, asked.data, asked.tags, asked.nr) : register_buffers(ring, asked.data, asked.tags, asked.nr);
 }
 
-static int update_resources(struct ring *ring, uint64_t at, uint32_t size, bool is_of_files)
+static int update_resources(struct ring *ring, uint32_t code, uint64_t at, bool is_of_files)
 {
-    struct io_uring_rsrc_update2 asked;
-    int result = read_sized(&asked, at, size, sizeof asked);
+    struct io_uring_rsrc_update2 asked = {0};
+    bool is_read = copy_in(&asked, at, sizeof asked) == 0;
+    struct wulgach_content content = {.nr = asked.nr, .has_reserved = asked.resv || asked.resv2};
+    int result = wulgach_content_fault(code, is_read, &content);
     if (result < 0)
         return result;
-    if (!asked.nr || asked.resv || asked.resv2)
-        return -EINVAL;
     return is_of_files ? update_files(ring, asked.offset, asked.data, asked.tags, asked.nr) : update_buffers(ring, asked.offset, asked.data, asked.tags, asked.nr);
 }
 
-static int update_files_at(struct ring *ring, uint64_t at, uint32_t count)
+static int update_files_at(struct ring *ring, uint32_t code, uint64_t at, uint32_t count)
 {
-    struct io_uring_files_update asked;
-    if (!count)
-        return -EINVAL;
-    if (copy_in(&asked, at, sizeof asked) < 0)
-        return -EFAULT;
-    return asked.resv ? -EINVAL : update_files(ring, asked.offset, asked.fds, 0, count);
+    struct io_uring_files_update asked = {0};
+    bool is_read = copy_in(&asked, at, sizeof asked) == 0;
+    struct wulgach_content content = {.nr = count, .has_reserved = asked.resv};
+    int result = wulgach_content_fault(code, is_read, &content);
+    return result < 0 ? result : update_files(ring, asked.offset, asked.fds, 0, count);
 }
 
 /* A cancel that returns once what it found has ended. */
-static int cancel_at_once(struct ring *ring, uint64_t at, uint32_t count)
+static int cancel_at_once(struct ring *ring, uint32_t code, uint64_t at)
 {
-    struct io_uring_sync_cancel_reg asked;
-    if (count != 1)
-        return -EINVAL;
-    if (copy_in(&asked, at, sizeof asked) < 0)
-        return -EFAULT;
+    struct io_uring_sync_cancel_reg asked = {0};
+    bool is_read = copy_in(&asked, at, sizeof asked) == 0;
+    struct wulgach_content content = {.flags = asked.flags, .has_reserved = !is_zero(asked.pad, sizeof asked.pad)};
+    int result = wulgach_content_fault(code, is_read, &content);
+    if (result < 0)
+        return result;
     struct request cancel = {.entry = {.opcode = IORING_OP_ASYNC_CANCEL, .addr = asked.addr, .fd = asked.fd, .cancel_flags = asked.flags}};
-    if (asked.pad[0] || asked.pad[1] || asked.pad[2] || asked.pad[3] || form_of(&cancel.entry, 0, true, &cancel.fault) == REFUSED)
-        return -EINVAL;
-    int result = act_on_others(ring, &cancel);
+    result = act_on_others(ring, &cancel);
     end_cancelled(ring);
     show(ring);
     return result;
 }
 
-static int call_registered(struct ring *ring, uint32_t code, uint64_t at, uint32_t count)
+/* A call that the library has let pass. */
+static int make_call(struct ring *ring, uint32_t code, uint64_t at, uint32_t count)
 {
     switch (code) {
     case IORING_REGISTER_PROBE:
-        return probe(at, count);
+        return probe(code, at, count);
     case IORING_REGISTER_FILES:
-        return at ? register_files(ring, at, 0, count) : -EFAULT;
+        return register_files(ring, at, 0, count);
     case IORING_REGISTER_FILES2:
-        return register_resources(ring, at, count, true);
+        return register_resources(ring, code, at, true);
     case IORING_UNREGISTER_FILES:
-        return unregister_files(ring, at || count);
+        return unregister_files(ring, false);
     case IORING_REGISTER_FILES_UPDATE:
-        return update_files_at(ring, at, count);
+        return update_files_at(ring, code, at, count);
     case IORING_REGISTER_FILES_UPDATE2:
-        return update_resources(ring, at, count, true);
+        return update_resources(ring, code, at, true);
     case IORING_REGISTER_FILE_ALLOC_RANGE:
-        return register_range(ring, at, count);
+        return register_range(ring, at);
     case IORING_REGISTER_BUFFERS:
-        return at ? register_buffers(ring, at, 0, count) : -EFAULT;
+        return register_buffers(ring, at, 0, count);
     case IORING_REGISTER_BUFFERS2:
-        return register_resources(ring, at, count, false);
+        return register_resources(ring, code, at, false);
     case IORING_UNREGISTER_BUFFERS:
-        return unregister_buffers(ring, at || count);
+        return unregister_buffers(ring, false);
     case IORING_REGISTER_BUFFERS_UPDATE:
-        return update_resources(ring, at, count, false);
+        return update_resources(ring, code, at, false);
     case IORING_REGISTER_EVENTFD:
     case IORING_REGISTER_EVENTFD_ASYNC:
-        return register_eventfd(ring, at, count, code == IORING_REGISTER_EVENTFD_ASYNC);
+        return register_eventfd(ring, at, code == IORING_REGISTER_EVENTFD_ASYNC);
     case IORING_UNREGISTER_EVENTFD:
-        return unregister_eventfd(ring, at, count);
+        return unregister_eventfd(ring);
     case IORING_REGISTER_PBUF_RING:
         return register_buffer_ring(ring, at, count);
     case IORING_UNREGISTER_PBUF_RING:
         return unregister_buffer_ring(ring, at, count);
     case IORING_REGISTER_SYNC_CANCEL:
-        return cancel_at_once(ring, at, count);
+        return cancel_at_once(ring, code, at);
     case IORING_REGISTER_RING_FDS:
         return enroll_rings(at, count);
     case IORING_UNREGISTER_RING_FDS:
@@ -141,20 +142,27 @@ static int call_registered(struct ring *ring, uint32_t code, uint64_t at, uint32
     case IORING_REGISTER_RESTRICTIONS:
         return register_restrictions(ring, at, count);
     case IORING_REGISTER_ENABLE_RINGS:
-        return enable_ring(ring, at, count);
+        return enable_ring(ring);
     default:
-        return -EINVAL;
+        stop_program("the library lets a call pass that there isn't");
     }
 }
 
 int register_at(int fd, uint32_t code, void *argument, uint32_t count)
 {
-    if (fcntl(fd, F_GETFD) < 0)
-        return -EBADF;
-    struct ring *ring = lock_ring(fd);
-    if (!ring)
-        return -EOPNOTSUPP;
-    int result = is_of_another(ring) ? -EEXIST : allows_call(ring, code) ? call_registered(ring, code, (uintptr_t)argument, count) : -EACCES;
-    unlock_ring(ring);
+    struct wulgach_caller caller = {.fd = fd, .is_open = fcntl(fd, F_GETFD) >= 0};
+    struct ring *ring = caller.is_open ? lock_ring(fd) : NULL;
+    if (ring) {
+        caller.is_ring = true;
+        caller.is_another = wulgach_issuer_is_another(&ring->issuer, (uint32_t)this_thread());
+        caller.is_allowed = allows_call(ring, code);
+    }
+    int result = wulgach_calling_fault(code, &caller);
+    if (result == 0)
+        result = wulgach_argument_fault(code, argument, count);
+    if (result == 0)
+        result = make_call(ring, code, (uintptr_t)argument, count);
+    if (ring)
+        unlock_ring(ring);
     return result;
 }

@@ -5,7 +5,6 @@
 #include "copying.h"
 #include "process.h"
 #include "ring.h"
-#include "strict.h"
 
 #include <errno.h>
 #include <unistd.h>
@@ -27,31 +26,13 @@ int register_restrictions(struct ring *ring, uint64_t list, uint32_t count)
     return result;
 }
 
-void note_issuer(struct ring *ring)
+int enable_ring(struct ring *ring)
 {
-    bool is_one = ring->flags & IORING_SETUP_DEFER_TASKRUN || (is_strict() && ring->flags & IORING_SETUP_SINGLE_ISSUER);
-    if (is_one && !ring->is_disabled)
-        ring->issuer = this_thread();
-}
-
-bool is_of_another(const struct ring *ring)
-{
-    return ring->issuer && ring->issuer != this_thread();
-}
-
-bool is_submission_of_another(const struct ring *ring, uint32_t to_submit)
-{
-    bool is_any_call = ring->flags & IORING_SETUP_DEFER_TASKRUN, has_thread = ring->flags & IORING_SETUP_SQPOLL;
-    return is_of_another(ring) && (is_any_call || (to_submit > 0 && !has_thread));
-}
-
-int enable_ring(struct ring *ring, uint64_t argument, uint32_t count)
-{
-    int result = wulgach_enabling_fault(ring->is_disabled, argument || count);
+    int result = wulgach_enabling_fault(ring->is_disabled, false);
     if (result < 0)
         return result;
     ring->is_disabled = false;
-    note_issuer(ring);
+    wulgach_issuer_enable(&ring->issuer, (uint32_t)this_thread());
     return 0;
 }
 

@@ -72,10 +72,10 @@ struct ring {
     struct inbox inbox;
     uint32_t head;                      /* the submission ring's, as the application was told it */
     uint32_t own_positions;             /* how many positions of the core's submission ring were the layer's own */
-    int eventfd;                        /* registered: one of the layer's own; or negative */
-    bool is_eventfd_async;              /* it is told only of what ends behind the call that submitted it */
+    struct wulgach_eventfd telling;     /* whether an eventfd is registered, and of what it is told; */
+    int eventfd;                        /* then one of the layer's own */
     uint64_t call_number;               /* how many calls of enter were made */
-    pid_t issuer;                       /* of SINGLE_ISSUER: the one thread that may call, or submit, or 0 */
+    struct wulgach_issuer issuer;       /* the one thread that may call, or submit, if there is one */
     bool has_skipped;                   /* where the layer is strict: an entry that skips its success was submitted */
     bool is_disabled;                   /* until it is enabled */
     struct wulgach_restrictions restrictions;

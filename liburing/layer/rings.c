@@ -42,7 +42,7 @@ void free_ring(struct ring *ring)
     free_buffers(ring);
     free_groups(ring);
     free_inbox(&ring->inbox);
-    unregister_eventfd(ring, 0, 0);
+    unregister_eventfd(ring);
     free(ring->ways);
     free(ring->timeouts);
     close_trace(ring);
@@ -112,7 +112,7 @@ static int make_ring(struct ring **made, uint32_t entries, struct io_uring_param
     wulgach_shown_begin(&ring->completions.at);
     wulgach_drains_begin(&ring->drains);
     ring->ready_fd = -1;
-    ring->eventfd = -1;
+    wulgach_eventfd_begin(&ring->telling);
     ring->is_disabled = params->flags & IORING_SETUP_R_DISABLED;
     ring->fd = fill_ring(ring, &sizes, params, is_polled);
     if (ring->fd < 0) {
@@ -123,7 +123,7 @@ static int make_ring(struct ring **made, uint32_t entries, struct io_uring_param
     ring->process = this_process();
     start_clock(ring);
     ring->flags = params->flags;
-    note_issuer(ring);
+    wulgach_issuer_begin(&ring->issuer, (uint32_t)this_thread(), ring->flags, is_strict());
     params->features = wulgach_features(is_polled);
     show(ring);
     *made = ring;

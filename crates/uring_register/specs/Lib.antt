@@ -2,3 +2,10 @@ pub mod Tables
 pub mod TableLaws
 pub mod Registering
 pub mod Restricting
+pub mod Issuing
+pub mod IssuingLaws
+pub mod Telling
+pub mod Enrolling
+pub mod EnrollingLaws
+pub mod Calling
+pub mod CallingLaws

@@ -43,11 +43,11 @@ unregistering_fault log has_argument =
     if has_argument then error 22 else
     if is_registered log then pos 0 else error 6
 
--- -75 (EOVERFLOW) of slots that end past 32 bits, -22 of those that end past the table
+-- -75 (EOVERFLOW) of slots that end past 32 bits, also where there is no table, and -22 of those that end past the table: Linux 6.18 was seen to say so
 abbrev pub updating_fault : List Filing → ℕ → ℕ → ℤ
 updating_fault log from count =
-    if not (is_registered log) then error 6 else
     if nat_le (2 ^ 32) (from + count) then error 75 else
+    if not (is_registered log) then error 6 else
     if nat_lt (size log) (from + count) then error 22 else pos 0
 
 -- -9 (EBADF) of a slot that is free

@@ -106,12 +106,15 @@ impl Table {
         ensures { (log : List Filing) (rows : List ℕ) → KeepsTable log self.now rows
             → result ≡ spec.updating_fault log from count }
     {
+        let Some(end) = from.checked_add(count) else {
+            return -75;
+        };
         if !self.is_registered {
-            return -6;
-        }
-        match from.checked_add(count) {
-            None => -75,
-            Some(end) => { if end > self.count { -22 } else { 0 } }
+            -6
+        } else if end > self.count {
+            -22
+        } else {
+            0
         }
     }
 

@@ -141,7 +141,7 @@ fn hint_behind(before: u64, slot: u32, word: u64, hint: u32) -> u32
 }
 
 /// The first free one of the slots from one on to another.
-fn first_free(rows: &[u64], from: u32, end: u32) -> Option<u32>
+pub(crate) fn first_free(rows: &[u64], from: u32, end: u32) -> Option<u32>
     ensures { MatchOption result (NoneIsFree (λ slot. slice_index_or rows.now slot 0) from end)
         (IsFirstFree (λ slot. slice_index_or rows.now slot 0) from end) }
 {
@@ -154,7 +154,7 @@ fn first_free(rows: &[u64], from: u32, end: u32) -> Option<u32>
 }
 
 /// The word of a slot. 0 behind the last.
-fn word_at(rows: &[u64], slot: u32) -> u64
+pub(crate) fn word_at(rows: &[u64], slot: u32) -> u64
     ensures { result ≡ slice_index_or rows.now slot 0 }
 {
     match rows.get(slot as usize) {

@@ -1,0 +1,54 @@
+-- Which rings a thread has by number, by what has happened, the newest first. io_uring_register(2), IORING_REGISTER_RING_FDS and IORING_UNREGISTER_RING_FDS; io_uring_enter(2), IORING_ENTER_REGISTERED_RING. The order of faults is what Linux 6.18 was seen to do.
+use Rattle.std.specs.Prelude.{◌≡◌, ℕ, ℤ, pos, ◌+◌, ◌<◌, ◌≤◌, Bool, not, ◌&&◌, ◌||◌, ◌==◌, nat_le, min, length, slice_index_or, List, [], ◌∷◌, if◌then◌else◌}
+use Rattle.uring_register.specs.Tables.{IsFirstFree, NoneIsFree}
+pub use Rattle.uring_entry.specs.Errors.{error, is_below}
+
+-- a thread has 16 rows
+pub data Enrolling : Type 0 where
+  -- this row got this descriptor
+  Enrolled : ℕ → ℕ → Enrolling
+  -- this row was emptied
+  Dismissed : ℕ → Enrolling
+
+-- what a row holds: one more than a descriptor, or 0 if it is free
+abbrev pub content : List Enrolling → ℕ → ℕ
+content [] number = 0
+content (Enrolled row descriptor ∷ earlier) number = if number == row then descriptor + 1 else content earlier number
+content (Dismissed row ∷ earlier) number = if number == row then 0 else content earlier number
+
+-- of a row of a list: -22 (EINVAL) of a reserved field that isn't 0, and of a number past the last row, unless it asks for any (2^32 - 1); -9 (EBADF) if its descriptor isn't open, -95 (EOPNOTSUPP) if it is no ring
+abbrev pub enrolling_fault : ℕ → Bool → Bool → Bool → ℤ
+enrolling_fault asked reserved is_open is_ring =
+    if reserved || (nat_le 16 asked && not (asked == 4294967295)) then error 22 else
+    if not is_open then error 9 else
+    if not is_ring then error 95 else pos 0
+
+-- it gets the first free row of those that it asks for: of all, or of one
+abbrev pub asked_from : ℕ → ℕ
+asked_from asked = if asked == 4294967295 then 0 else asked
+
+abbrev pub asked_end : ℕ → ℕ
+asked_end asked = if asked == 4294967295 then 16 else min 16 (asked + 1)
+
+abbrev pub IsEnrolledAt : List Enrolling → ℕ → ℕ → Type 0
+IsEnrolledAt log asked row = IsFirstFree (content log) (asked_from asked) (asked_end asked) row
+
+-- or none, if each of these holds a ring: -16 (EBUSY)
+abbrev pub HasNoRow : List Enrolling → ℕ → Type 0
+HasNoRow log asked = NoneIsFree (content log) (asked_from asked) (asked_end asked)
+
+-- a row that is to be emptied says no more than its number
+abbrev pub dismissing_fault : ℕ → Bool → Bool → ℤ
+dismissing_fault row reserved has_data =
+    if reserved || has_data || nat_le 16 row then error 22 else pos 0
+
+-- a number past the last row is -22, and one of a free row -9. Linux says -22 of each number to a thread that has set up no ring and called on none
+abbrev pub naming_fault : List Enrolling → ℕ → ℤ
+naming_fault log number =
+    if nat_le 16 number then error 22 else
+    if content log number == 0 then error 9 else pos 0
+
+-- glue: the rows' words after all this
+pub record KeepsEnrolled (log : List Enrolling) (rows : List ℕ) : Type 0 where
+  pub within : 16 ≤ length rows
+  pub words : (number : ℕ) → number < 16 → slice_index_or rows number 0 ≡ content log number

@@ -1,0 +1,23 @@
+-- What holds of every thread's rings by number. io_uring_register(2), IORING_REGISTER_RING_FDS.
+use Rattle.std.specs.Prelude.{◌≡◌, ◌≢◌, ℕ, ◌+◌, ◌<◌, List, ◌∷◌, pos}
+use Rattle.uring_register.specs.Enrolling.{Enrolling, Enrolled, Dismissed, content, naming_fault, IsEnrolledAt}
+
+-- a number names what was put there last
+abbrev pub NamesTheLast : Type 0
+NamesTheLast = (log : List Enrolling) (row descriptor : ℕ) → row < 16
+    → (naming_fault (Enrolled row descriptor ∷ log) row ≡ pos 0) × (content (Enrolled row descriptor ∷ log) row ≡ descriptor + 1)
+
+-- what is put into a row, or emptied, changes no other
+abbrev pub KeepsOtherRows : Type 0
+KeepsOtherRows = (log : List Enrolling) (row descriptor number : ℕ) → number ≢ row
+    → (content (Enrolled row descriptor ∷ log) number ≡ content log number) × (content (Dismissed row ∷ log) number ≡ content log number)
+
+-- a ring takes no other's row
+abbrev pub TakesNoOthersRow : Type 0
+TakesNoOthersRow = (log : List Enrolling) (asked row : ℕ) → IsEnrolledAt log asked row
+    → (content log row ≡ 0) × (row < 16)
+
+-- a ring that is taken back at once, since its number can't be written, leaves all as it was
+abbrev pub TakesBack : Type 0
+TakesBack = (log : List Enrolling) (asked row descriptor number : ℕ) → IsEnrolledAt log asked row
+    → content (Dismissed row ∷ Enrolled row descriptor ∷ log) number ≡ content log number

@@ -1,0 +1,13 @@
+-- What holds of the one thread that may call on a ring. io_uring_setup(2), IORING_SETUP_SINGLE_ISSUER.
+use Rattle.std.specs.Prelude.{◌≡◌, ◌≢◌, ℕ, true, false, List, ◌∷◌, Some}
+use Rattle.uring_register.specs.Issuing.{Doing, Enabled, Called, issuer, is_of_another}
+
+-- no call makes another thread the issuer of a ring that has one
+abbrev pub KeepsItsIssuer : Type 0
+KeepsItsIssuer = (log : List Doing) (first thread : ℕ) → issuer log ≡ Some first
+    → (issuer (Enabled thread ∷ log) ≡ Some first) × (issuer (Called thread ∷ log) ≡ Some first)
+
+-- the issuer is never another, and each other thread is
+abbrev pub KnowsItsIssuer : Type 0
+KnowsItsIssuer = (log : List Doing) (first thread : ℕ) → issuer log ≡ Some first
+    → (is_of_another log first ≡ false) × (thread ≢ first → is_of_another log thread ≡ true)
