@@ -5,3 +5,5 @@ pub mod Restricting
 pub mod Uses
 pub mod UseLaws
 pub mod Bytes
+pub mod Provided
+pub mod ProvidedLaws

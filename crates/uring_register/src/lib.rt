@@ -1,7 +1,10 @@
-//! What is registered with a ring by io_uring_register(2): its restrictions, and what the slots of its tables of files and buffers hold. Whoever keeps the files and the buffers asks here what each call changes, and with which error it is refused.
+//! What is registered with a ring by io_uring_register(2), and provided to it: its restrictions, what the slots of its tables of files and buffers hold and when that is gone, and which provided buffer an operation takes. Whoever keeps the files and the buffers asks here what each call changes, and with which error it is refused.
 #![tactic(auto)]
 
 mod bytes;
+mod group;
+mod group_laws;
+mod group_rows;
 mod registering;
 mod restrictions;
 mod table;
@@ -10,6 +13,12 @@ mod use_laws;
 mod uses;
 
 pub use bytes::{bytes_fault, flags_of, part_of};
+pub use group::{Buffer, Buffers, Group};
+pub use group_laws::{
+    gives_what_was_provided, keeps_what_was_provided, takes_cells_in_turn, takes_in_order,
+    takes_no_more,
+};
+pub use group_rows::{argument_fault, ring_fault};
 pub use registering::{Row, buffer_row, file_row, updated};
 pub use restrictions::{Restriction, Restrictions, enabling_fault, restricting_fault};
 pub use table::Table;
