@@ -40,14 +40,16 @@ struct wulgach_group {
 
 void wulgach_group_begin(struct wulgach_group *group);
 
-/* The fault of providing so many buffers with numbers from one on, or 0: -7 (E2BIG) if these end past 65,536, -22 (EINVAL) of a ring. */
-int32_t wulgach_group_providing_fault(const struct wulgach_group *group, uint64_t id, uint32_t count);
+/* The fault of providing so many buffers of so many bytes, from an address on and with numbers from one on, or 0: -75 (EOVERFLOW) if they
+ * don't end before 2^64, -7 (E2BIG) if the first number is past 65,535, -22 (EINVAL) if the last one is, or of a ring, and -75 of a list
+ * that has 65,535 buffers. */
+int32_t wulgach_group_providing_fault(const struct wulgach_group *group, uint64_t address, uint32_t size, uint32_t count, uint64_t id);
 
 /* How many rows a list wants for so many buffers more, where it has `room`: as many, or if these are too few twice what it needs. */
 uint64_t wulgach_group_room(const struct wulgach_group *group, uint32_t more, uint64_t room);
 
-/* A list has these buffers too, behind all others, which may be moved to the first rows. False: there is no room for them, and nothing
- * changes. */
+/* A list has these buffers too, behind all others, which may be moved to the first rows: the first of them, up to 65,535 with the others.
+ * False: there are too few rows for them, and nothing changes. */
 bool wulgach_group_provide(struct wulgach_group *group, struct wulgach_buffer *rows, size_t room, const struct wulgach_buffers *asked);
 
 /* The fault of removing buffers, or 0: -2 (ENOENT) of no group, -22 of a ring. And then the first so many are gone, or all if there are
@@ -65,13 +67,12 @@ bool wulgach_group_cell(const struct wulgach_group *group, uint16_t tail, uint16
 void wulgach_group_take(struct wulgach_group *group);
 
 /* The fault of the argument of a call that registers a ring or unregisters one, or 0: -22 unless there is one argument, -14 (EFAULT) if it
- * can't be read, -22 if what is reserved isn't 0. And of the ring itself: -14 of no address, -22 if that isn't a page's first byte, or if
- * its entries aren't a power of two up to 32,768. */
-int32_t wulgach_group_argument_fault(uint32_t count, bool is_read, bool has_reserved);
-int32_t wulgach_group_ring_fault(uint64_t address, uint32_t entries, uint64_t page);
+ * can't be read, -22 if what is reserved isn't 0. */
+int32_t wulgach_group_argument_fault(uint32_t count, bool has_argument, bool is_read, bool has_reserved);
 
-/* The fault of registering a ring for a group, or 0: -17 (EEXIST) if it has one, or buffers. And that is done. */
-int32_t wulgach_group_registering_fault(const struct wulgach_group *group);
+/* The fault of registering a ring for a group, or 0: -22 if its entries aren't a power of two up to 32,768, -17 (EEXIST) if the group has
+ * one, or buffers, -14 of no address, -22 if that isn't a page's first byte. And that is done. */
+int32_t wulgach_group_registering_fault(const struct wulgach_group *group, uint64_t address, uint32_t entries, uint64_t page);
 void wulgach_group_register(struct wulgach_group *group, uint16_t entries);
 
 /* The fault of unregistering a group's ring, or 0: -2 of no group, -22 of a list. And that is done: then there is no group. */

@@ -80,18 +80,23 @@ static void take_at_random(void)
     }
 }
 
+static int32_t register_fault(uint64_t address, uint32_t entries)
+{
+    return wulgach_group_registering_fault(&group, address, entries, 4096);
+}
+
 static void take_from_a_ring(void)
 {
     uint16_t cell = 999;
     wulgach_group_begin(&group);
-    demand(wulgach_group_registering_fault(&group) == 0 && wulgach_group_unregistering_fault(&group) == -2, "no group");
+    demand(register_fault(4096, 4) == 0 && wulgach_group_unregistering_fault(&group) == -2, "no group");
     room = MOST;
     provide(1, 1);
-    demand(wulgach_group_registering_fault(&group) == -17 && wulgach_group_unregistering_fault(&group) == -22 && taken() == 1, "a list");
-    demand(wulgach_group_registering_fault(&group) == 0, "an empty list");
+    demand(register_fault(4096, 4) == -17 && wulgach_group_unregistering_fault(&group) == -22 && taken() == 1, "a list");
+    demand(register_fault(4096, 4) == 0, "an empty list");
     wulgach_group_register(&group, 4);
-    demand(wulgach_group_registering_fault(&group) == -17 && wulgach_group_unregistering_fault(&group) == 0, "a ring");
-    demand(wulgach_group_providing_fault(&group, 0, 1) == -22 && wulgach_group_removing_fault(&group) == -22, "a ring is no list");
+    demand(register_fault(4096, 4) == -17 && wulgach_group_unregistering_fault(&group) == 0, "a ring");
+    demand(wulgach_group_providing_fault(&group, 8, 8, 1, 0) == -22 && wulgach_group_removing_fault(&group) == -22, "a ring is no list");
     demand(!wulgach_group_cell(&group, 0, &cell) && cell == 999, "an empty ring");
     for (uint32_t i = 0; i < 200000; i++) {
         demand(wulgach_group_cell(&group, (uint16_t)(i + 1), &cell) && cell == i % 4, "the next cell");
@@ -104,15 +109,28 @@ static void take_from_a_ring(void)
     demand(wulgach_group_cell(&group, 1, &cell) && cell == 0 && !wulgach_group_cell(&group, 0, &cell), "another ring");
 }
 
+static int32_t provide_fault(uint64_t address, uint32_t size, uint32_t count, uint64_t id)
+{
+    return wulgach_group_providing_fault(&group, address, size, count, id);
+}
+
+/* The answers of a real ring of Linux 6.18 to the same. */
 static void refuse(void)
 {
+    static struct wulgach_buffer many[65536];
+    struct wulgach_buffers asked = {.address = 4096, .length = 1, .count = 65536};
     wulgach_group_begin(&group);
-    demand(wulgach_group_providing_fault(&group, 0, 65536) == 0 && wulgach_group_providing_fault(&group, 1, 65536) == -7, "too many");
-    demand(wulgach_group_providing_fault(&group, 65535, 1) == 0 && wulgach_group_providing_fault(&group, UINT64_MAX, 1) == -7, "numbers that are too high");
-    demand(wulgach_group_argument_fault(0, false, false) == -22 && wulgach_group_argument_fault(2, true, false) == -22, "one argument");
-    demand(wulgach_group_argument_fault(1, false, true) == -14 && wulgach_group_argument_fault(1, true, true) == -22 && wulgach_group_argument_fault(1, true, false) == 0, "what it is");
-    demand(wulgach_group_ring_fault(0, 3, 4096) == -14 && wulgach_group_ring_fault(4096, 3, 4096) == -22 && wulgach_group_ring_fault(4096, 0, 4096) == -22, "sizes");
-    demand(wulgach_group_ring_fault(4096, 65536, 4096) == -22 && wulgach_group_ring_fault(4096, 32768, 4096) == 0 && wulgach_group_ring_fault(4097, 4, 4096) == -22 && wulgach_group_ring_fault(8192, 1, 4096) == 0, "places");
+    demand(provide_fault(8, 1, 2, 65535) == -22 && provide_fault(8, 1, 65536, 1) == -22 && provide_fault(8, 1, 65536, 0) == 0, "too many numbers");
+    demand(provide_fault(8, 1, 1, 65536) == -7 && provide_fault(8, 1, 1, UINT64_MAX) == -7 && provide_fault(8, 1, 1, 65535) == 0, "numbers that are too high");
+    demand(provide_fault(UINT64_MAX - 5, 4096, 2, 0) == -75 && provide_fault(UINT64_MAX - 8, 4, 2, 0) == 0 && provide_fault(UINT64_MAX - 7, 4, 2, 65536) == -75, "addresses that wrap");
+    demand(wulgach_group_provide(&group, many, 65536, &asked) && group.count == 65535 && provide_fault(8, 1, 1, 0) == -75, "as many as a list may have");
+    demand(wulgach_group_remove(&group, 65536) == 65535 && provide_fault(8, 1, 1, 0) == 0, "and none");
+    demand(wulgach_group_argument_fault(0, true, false, false) == -22 && wulgach_group_argument_fault(2, true, true, false) == -22 && wulgach_group_argument_fault(1, false, false, false) == -22, "one argument");
+    demand(wulgach_group_argument_fault(1, true, false, true) == -14 && wulgach_group_argument_fault(1, true, true, true) == -22 && wulgach_group_argument_fault(1, true, true, false) == 0, "what it is");
+    demand(register_fault(0, 3) == -22 && register_fault(0, 4) == -14 && register_fault(4096, 3) == -22 && register_fault(4096, 0) == -22, "sizes");
+    demand(register_fault(4096, 65536) == -22 && register_fault(4096, 32768) == 0 && register_fault(4104, 8) == -22 && register_fault(8192, 1) == 0, "places");
+    wulgach_group_register(&group, 8);
+    demand(register_fault(4096, 3) == -22 && register_fault(4104, 8) == -17 && register_fault(0, 8) == -17, "a second ring");
 }
 
 static void end_operations(void)

@@ -81,7 +81,7 @@ int32_t provide_buffers(struct ring *ring, const struct io_uring_sqe *entry)
 {
     struct wulgach_buffers asked = {.address = entry->addr, .length = entry->len, .count = (uint32_t)entry->fd, .id = (uint16_t)entry->off};
     struct wulgach_group kept = kept_of(ring, entry->buf_group);
-    int32_t fault = wulgach_group_providing_fault(&kept, entry->off, asked.count);
+    int32_t fault = wulgach_group_providing_fault(&kept, asked.address, asked.length, asked.count, entry->off);
     if (fault < 0)
         return fault;
     struct group *group = any_group(ring, entry->buf_group);
@@ -100,26 +100,24 @@ int32_t remove_buffers(struct ring *ring, const struct io_uring_sqe *entry)
 /* Reads the argument of a call for rings: 0, or its fault. */
 static int read_ring(struct io_uring_buf_reg *asked, uint64_t at, uint32_t count)
 {
-    bool is_read = count == 1 && copy_in(asked, at, sizeof *asked) == 0;
+    bool is_read = at && count == 1 && copy_in(asked, at, sizeof *asked) == 0;
     bool has_reserved = is_read && (asked->pad || asked->resv[0] || asked->resv[1] || asked->resv[2]);
-    return wulgach_group_argument_fault(count, is_read, has_reserved);
+    return wulgach_group_argument_fault(count, at != 0, is_read, has_reserved);
 }
 
 int register_buffer_ring(struct ring *ring, uint64_t at, uint32_t count)
 {
     struct io_uring_buf_reg asked;
     int result = read_ring(&asked, at, count);
-    if (result == 0)
-        result = wulgach_group_ring_fault(asked.ring_addr, asked.ring_entries, (uint64_t)sysconf(_SC_PAGESIZE));
+    if (result < 0)
+        return result;
+    struct wulgach_group kept = kept_of(ring, asked.bgid);
+    result = wulgach_group_registering_fault(&kept, asked.ring_addr, asked.ring_entries, (uint64_t)sysconf(_SC_PAGESIZE));
     if (result < 0)
         return result;
     struct iovec cells = {(void *)(uintptr_t)asked.ring_addr, asked.ring_entries * sizeof(struct io_uring_buf)};
     if (!is_there(&cells))
         return -EFAULT;
-    struct wulgach_group kept = kept_of(ring, asked.bgid);
-    result = wulgach_group_registering_fault(&kept);
-    if (result < 0)
-        return result;
     struct group *group = any_group(ring, asked.bgid);
     if (!group)
         return -ENOMEM;

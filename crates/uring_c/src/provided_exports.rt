@@ -4,7 +4,7 @@ ghost use Rattle.uring_register.specs.declared.group.Buffer.{Buffer};
 ghost use Rattle.uring_register.specs.Provided.{Change, Provided, Removed, Took, Registered, Unregistered, KeepsGroup, IsTold, left};
 ghost use Rattle.uring_register.specs.Provided as spec;
 
-use uring_register::{Buffer, Buffers, Group, argument_fault, ring_fault};
+use uring_register::{Buffer, Buffers, Group, argument_fault};
 
 /// There is no group.
 #[unsafe(no_mangle)]
@@ -14,13 +14,19 @@ pub extern "C" fn wulgach_group_begin(group: &mut Group)
     *group = Group::begin();
 }
 
-/// The fault of providing so many buffers with numbers from one on, or 0.
+/// The fault of providing so many buffers of so many bytes, from an address on and with numbers from one on, or 0.
 #[unsafe(no_mangle)]
-pub extern "C" fn wulgach_group_providing_fault(group: &Group, id: u64, count: u32) -> i32
+pub extern "C" fn wulgach_group_providing_fault(
+    group: &Group,
+    address: u64,
+    size: u32,
+    count: u32,
+    id: u64,
+) -> i32
     ensures { (log : List Change) (rows : List Buffer) → KeepsGroup log group.now rows
-        → result ≡ spec.providing_fault log id count }
+        → result ≡ spec.providing_fault log address size count id }
 {
-    group.providing_fault(id, count)
+    group.providing_fault(address, size, count, id)
 }
 
 /// How many rows the list wants for so many buffers more, where it has so many.
@@ -32,7 +38,7 @@ pub extern "C" fn wulgach_group_room(group: &Group, more: u32, room: u64) -> u64
     group.room_for(more, room)
 }
 
-/// The list has these buffers too, behind all others. `false`: there is no room for them, and nothing changes.
+/// The list has these buffers too, behind all others, as many as it may have. `false`: there are too few rows, and nothing changes.
 #[unsafe(no_mangle)]
 pub extern "C" fn wulgach_group_provide(
     group: &mut Group,
@@ -40,9 +46,9 @@ pub extern "C" fn wulgach_group_provide(
     asked: &Buffers,
 ) -> bool
     ensures room { (log : List Change) → KeepsGroup log group.old rows.old
-        → result ≡ nat_le (left log + asked.now.count) (min (length rows.old) (2 ^ 32 - 1)) }
+        → result ≡ nat_le (left log + (spec.taken_up log asked.now).count) (min (length rows.old) (2 ^ 32 - 1)) }
     ensures after { (log : List Change) → KeepsGroup log group.old rows.old → result ≡ true
-        → KeepsGroup (Provided asked.now ∷ log) group.new rows.new }
+        → KeepsGroup (Provided (spec.taken_up log asked.now) ∷ log) group.new rows.new }
     ensures kept { result ≡ false → (group.new ≡ group.old) × (rows.new ≡ rows.old) }
 {
     group.provide(rows, asked)
@@ -108,13 +114,18 @@ pub extern "C" fn wulgach_group_take(group: &mut Group)
     group.take();
 }
 
-/// The fault of registering a ring for a group, or 0.
+/// The fault of registering a ring for a group, at an address, of so many entries, where a page has so many bytes; or 0.
 #[unsafe(no_mangle)]
-pub extern "C" fn wulgach_group_registering_fault(group: &Group) -> i32
+pub extern "C" fn wulgach_group_registering_fault(
+    group: &Group,
+    address: u64,
+    entries: u32,
+    page: u64,
+) -> i32
     ensures { (log : List Change) (rows : List Buffer) → KeepsGroup log group.now rows
-        → result ≡ spec.registering_fault log }
+        → result ≡ spec.registering_fault log address entries page }
 {
-    group.registering_fault()
+    group.registering_fault(address, entries, page)
 }
 
 /// A group has a ring of so many entries.
@@ -148,18 +159,11 @@ pub extern "C" fn wulgach_group_unregister(group: &mut Group)
 #[unsafe(no_mangle)]
 pub extern "C" fn wulgach_group_argument_fault(
     count: u32,
+    has_argument: bool,
     is_read: bool,
     has_reserved: bool,
 ) -> i32
-    ensures { result ≡ spec.argument_fault count is_read has_reserved }
+    ensures { result ≡ spec.argument_fault count has_argument is_read has_reserved }
 {
-    argument_fault(count, is_read, has_reserved)
-}
-
-/// The fault of a ring of buffers at an address, of so many entries, where a page has so many bytes; or 0.
-#[unsafe(no_mangle)]
-pub extern "C" fn wulgach_group_ring_fault(address: u64, entries: u32, page: u64) -> i32
-    ensures { result ≡ spec.ring_fault address entries page }
-{
-    ring_fault(address, entries, page)
+    argument_fault(count, has_argument, is_read, has_reserved)
 }

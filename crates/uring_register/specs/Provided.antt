@@ -1,4 +1,4 @@
--- Which buffers a group has that the application provides, by what has happened to it, the newest first, and which one an operation takes. Those of a list count from 0, in the order in which they were provided. io_uring_enter(2), IORING_OP_PROVIDE_BUFFERS, IORING_OP_REMOVE_BUFFERS and IOSQE_BUFFER_SELECT; io_uring_register(2), IORING_REGISTER_PBUF_RING; the order of faults is our own rule.
+-- Which buffers a group has that the application provides, by what has happened to it, the newest first, and which one an operation takes. Those of a list count from 0, in the order in which they were provided. io_uring_enter(2), IORING_OP_PROVIDE_BUFFERS, IORING_OP_REMOVE_BUFFERS and IOSQE_BUFFER_SELECT; io_uring_register(2), IORING_REGISTER_PBUF_RING; faults and their order are what Linux 6.18 does.
 use Rattle.std.specs.Prelude.{◌≡◌, ℕ, ℤ, pos, ◌+◌, ◌-◌, ◌*◌, ◌%◌, ◌^◌, ◌<◌, ◌≤◌, Bool, true, false, not, ◌&&◌, ◌||◌, ◌==◌, nat_lt, nat_le, min, length, slice_index_or, Option, Some, None, List, [], ◌∷◌, if◌then◌else◌}
 use Rattle.std.specs.Int.{is_power_of_two}
 use Rattle.uring_register.specs.declared.group.Buffer.{Buffer}
@@ -91,11 +91,17 @@ IsTold log tail n = (n % 2 ^ 16 ≡ tail) × (taken log ≤ n) × (n < taken log
 abbrev pub cell_of : List Change → ℕ → Option ℕ
 cell_of log n = if n == taken log then None else Some (taken log % 2 ^ 16 % entries log)
 
--- -7 (E2BIG) of numbers past 16 bits, -22 (EINVAL) of a ring
-abbrev pub providing_fault : List Change → ℕ → ℕ → ℤ
-providing_fault log id count =
-    if nat_lt (2 ^ 16) (id + count) then error 7 else
-    if is_ring log then error 22 else pos 0
+-- a list has no more than 2^16 - 1 buffers at once: of what is provided the first are taken up, so many as there is room for
+abbrev pub taken_up : List Change → Buffers → Buffers
+taken_up log asked = record asked { count = min asked.count (2 ^ 16 - 1 - left log) }
+
+-- -75 (EOVERFLOW) of addresses that don't end before 2^64, and of a list with as many as it may have, -7 (E2BIG) of a first number past 16 bits, -22 (EINVAL) of a last one, and of a ring
+abbrev pub providing_fault : List Change → ℕ → ℕ → ℕ → ℕ → ℤ
+providing_fault log address size count id =
+    if nat_le (2 ^ 64) (address + count * size) then error 75 else
+    if nat_le (2 ^ 16) id then error 7 else
+    if nat_lt (2 ^ 16) (id + count) || is_ring log then error 22 else
+    if nat_le (2 ^ 16 - 1) (left log) then error 75 else pos 0
 
 -- -2 (ENOENT) of no group
 abbrev pub removing_fault : List Change → ℤ
@@ -107,34 +113,33 @@ removing_fault log =
 abbrev pub removed : List Change → ℕ → ℕ
 removed log count = min count (left log)
 
--- -17 (EEXIST) of a ring, and of a list with buffers
-abbrev pub registering_fault : List Change → ℤ
-registering_fault log = if is_ring log || nat_lt 0 (left log) then error 17 else pos 0
+-- a ring has a power of two entries, at most 2^15
+abbrev pub is_size : ℕ → Bool
+is_size count = is_power_of_two count && nat_le count (2 ^ 15)
+
+-- and stands at a page's first byte
+abbrev pub is_aligned : ℕ → ℕ → Bool
+is_aligned address page = not (page == 0) && address % page == 0
+
+-- -17 (EEXIST) of a group with a ring, or with buffers, -14 (EFAULT) of no address
+abbrev pub registering_fault : List Change → ℕ → ℕ → ℕ → ℤ
+registering_fault log address count page =
+    if not (is_size count) then error 22 else
+    if is_ring log || nat_lt 0 (left log) then error 17 else
+    if address == 0 then error 14 else
+    if is_aligned address page then pos 0 else error 22
 
 abbrev pub unregistering_fault : List Change → ℤ
 unregistering_fault log =
     if not (is_there log) then error 2 else
     if is_ring log then pos 0 else error 22
 
--- of both calls for rings: one argument, which can be read (-14, EFAULT), with nothing in what is reserved
-abbrev pub argument_fault : ℕ → Bool → Bool → ℤ
-argument_fault count is_read reserved =
-    if not (count == 1) then error 22 else
+-- of both calls for rings: there is one argument, it can be read (-14), and what is reserved in it is 0
+abbrev pub argument_fault : ℕ → Bool → Bool → Bool → ℤ
+argument_fault count has_argument is_read reserved =
+    if not (has_argument && count == 1) then error 22 else
     if not is_read then error 14 else
     if reserved then error 22 else pos 0
-
--- a ring has a power of two entries, at most 2^15
-abbrev pub is_size : ℕ → Bool
-is_size count = is_power_of_two count && nat_le count (2 ^ 15)
-
-abbrev pub is_aligned : ℕ → ℕ → Bool
-is_aligned address page = not (page == 0) && address % page == 0
-
--- and is there, from a page's first byte on
-abbrev pub ring_fault : ℕ → ℕ → ℕ → ℤ
-ring_fault address count page =
-    if address == 0 then error 14 else
-    if is_aligned address page && is_size count then pos 0 else error 22
 
 -- how many rows a list wants that has so many: as it has, if these are enough, else twice what it needs. Our own rule
 abbrev pub room_for : ℕ → ℕ → ℕ → ℕ

@@ -66,15 +66,19 @@ impl Group {
         }
     }
 
-    /// The fault of providing so many buffers with numbers from one on, or 0.
-    pub fn providing_fault(&self, id: u64, count: u32) -> i32
+    /// The fault of providing so many buffers of so many bytes, from an address on and with numbers from one on, or 0.
+    pub fn providing_fault(&self, address: u64, size: u32, count: u32, id: u64) -> i32
         ensures { (log : List Change) (rows : List Buffer) → KeepsGroup log self.now rows
-            → result ≡ spec.providing_fault log id count }
+            → result ≡ spec.providing_fault log address size count id }
     {
-        if id > 0x1_0000 || id + count as u64 > 0x1_0000 {
+        if address.checked_add(count as u64 * size as u64).is_none() {
+            -75
+        } else if id > 0xffff {
             -7
-        } else if self.entries != 0 {
+        } else if id + count as u64 > 0x1_0000 || self.entries != 0 {
             -22
+        } else if self.count >= 0xffff {
+            -75
         } else {
             0
         }
@@ -89,14 +93,16 @@ impl Group {
         if needed <= room { room } else { 2 * needed }
     }
 
-    /// The list has these buffers too, behind all others. `false`: there is no room for them, and nothing changes.
+    /// The list has these buffers too, behind all others, as many as it may have. `false`: there are too few rows, and nothing changes.
     pub fn provide(&mut self, rows: &mut [Buffer], asked: &Buffers) -> bool
         ensures room { (log : List Change) → KeepsGroup log self.old rows.old
-            → result ≡ nat_le (left log + asked.now.count) (min (length rows.old) (2 ^ 32 - 1)) }
+            → result ≡ nat_le (left log + (spec.taken_up log asked.now).count) (min (length rows.old) (2 ^ 32 - 1)) }
         ensures after { (log : List Change) → KeepsGroup log self.old rows.old → result ≡ true
-            → KeepsGroup (Provided asked.now ∷ log) self.new rows.new }
+            → KeepsGroup (Provided (spec.taken_up log asked.now) ∷ log) self.new rows.new }
         ensures kept { result ≡ false → (self.new ≡ self.old) × (rows.new ≡ rows.old) }
     {
+        let count = asked.count.min((0xffff as u32).saturating_sub(self.count));
+        let asked = Buffers { count, ..*asked };
         let room = rows.len().min(0xffff_ffff);
         let needed = self.count as usize + asked.count as usize;
         let end = self.first as usize + self.count as usize;
@@ -107,7 +113,7 @@ impl Group {
             move_down(rows, self.first as usize, self.count as usize);
             self.first = 0;
         }
-        append(rows, self.first as usize + self.count as usize, *asked);
+        append(rows, self.first as usize + self.count as usize, asked);
         self.count = needed as u32;
         self.is_there = true;
         true
@@ -178,15 +184,21 @@ impl Group {
         }
     }
 
-    /// The fault of registering a ring for it, or 0.
-    pub fn registering_fault(&self) -> i32
+    /// The fault of registering a ring for it, at an address, of so many entries, where a page has so many bytes; or 0.
+    pub fn registering_fault(&self, address: u64, entries: u32, page: u64) -> i32
         ensures { (log : List Change) (rows : List Buffer) → KeepsGroup log self.now rows
-            → result ≡ spec.registering_fault log }
+            → result ≡ spec.registering_fault log address entries page }
     {
-        if self.entries != 0 || self.count > 0 {
+        if !entries.is_power_of_two() || entries > 0x8000 {
+            -22
+        } else if self.entries != 0 || self.count > 0 {
             -17
-        } else {
+        } else if address == 0 {
+            -14
+        } else if page != 0 && address % page == 0 {
             0
+        } else {
+            -22
         }
     }
 

@@ -1,4 +1,4 @@
-//! The rows of a list of buffers that are provided, and what the calls that register a ring of them refuse by their arguments alone.
+//! The rows of a list of buffers that are provided, and what the calls for rings of them refuse by their arguments alone.
 
 ghost use Rattle.std.specs.Prelude.{◌≡◌, ◌+◌, ◌<◌, ◌≤◌, length, slice_index_or, ℕ};
 ghost use Rattle.uring_register.specs.Provided.{made, nothing};
@@ -43,10 +43,10 @@ pub fn move_down(rows: &mut [Buffer], from: usize, count: usize)
 }
 
 /// The fault of the argument of a call that registers a ring of buffers or unregisters one, or 0.
-pub fn argument_fault(count: u32, is_read: bool, has_reserved: bool) -> i32
-    ensures { result ≡ spec.argument_fault count is_read has_reserved }
+pub fn argument_fault(count: u32, has_argument: bool, is_read: bool, has_reserved: bool) -> i32
+    ensures { result ≡ spec.argument_fault count has_argument is_read has_reserved }
 {
-    if count != 1 {
+    if !has_argument || count != 1 {
         -22
     } else if !is_read {
         -14
@@ -54,18 +54,5 @@ pub fn argument_fault(count: u32, is_read: bool, has_reserved: bool) -> i32
         -22
     } else {
         0
-    }
-}
-
-/// The fault of a ring at an address, of so many entries, where a page has so many bytes; or 0.
-pub fn ring_fault(address: u64, entries: u32, page: u64) -> i32
-    ensures { result ≡ spec.ring_fault address entries page }
-{
-    if address == 0 {
-        -14
-    } else if page != 0 && address % page == 0 && entries.is_power_of_two() && entries <= 0x8000 {
-        0
-    } else {
-        -22
     }
 }

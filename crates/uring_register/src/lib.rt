@@ -18,7 +18,7 @@ pub use group_laws::{
     gives_what_was_provided, keeps_what_was_provided, takes_cells_in_turn, takes_in_order,
     takes_no_more,
 };
-pub use group_rows::{argument_fault, ring_fault};
+pub use group_rows::argument_fault;
 pub use registering::{Row, buffer_row, file_row, updated};
 pub use restrictions::{Restriction, Restrictions, enabling_fault, restricting_fault};
 pub use table::Table;
