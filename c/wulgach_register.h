@@ -208,6 +208,9 @@ int32_t wulgach_table_place(const struct wulgach_table *table, const uint64_t *w
 /* A slot gets this word, which is written. Returns the one that it had, or 0 where there is no such slot: then nothing changes. */
 uint64_t wulgach_table_fill(struct wulgach_table *table, uint64_t *words, size_t count, uint32_t slot, uint64_t word);
 
+/* What a slot holds: 0 if it is free, or where there is no such slot. */
+uint64_t wulgach_table_content(const struct wulgach_table *table, const uint64_t *words, size_t count, uint32_t slot);
+
 /* What a row of a list does with its slot. */
 enum wulgach_row {
     WULGACH_ROW_KEEPS = 0,

@@ -1,6 +1,6 @@
 /* Registered buffers. The kernel pins their pages; here they are asked for once, so that what can't be written is told
  * where the kernel tells it. A request that is started keeps its buffer, whatever becomes of the slot: its tag waits. What slots hold,
- * what a row of a list does and what is refused is the library's decision.
+ * what a row of a list does, what is refused, when a buffer is gone and which bytes are its is the library's decision.
  */
 #define _GNU_SOURCE
 #include "buffers.h"
@@ -26,10 +26,13 @@ bool is_there(const struct iovec *buffer)
 
 void release_buffer(struct buffer *buffer)
 {
-    if (!buffer || --buffer->uses > 0)
+    uint32_t ending = buffer ? wulgach_uses_release(&buffer->uses) : WULGACH_STAYS;
+    if (ending == WULGACH_STAYS)
         return;
-    if (buffer->tag)
+    if (ending == WULGACH_TELLS)
         put_message(buffer->told, buffer->tag);
+    else
+        free(buffer->tag);
     free(buffer);
 }
 
@@ -59,7 +62,8 @@ static int make_buffer(struct ring *ring, uint64_t *word, const struct iovec *by
         free(message);
         return -ENOMEM;
     }
-    *buffer = (struct buffer){.bytes = *bytes, .uses = 1, .told = &ring->inbox, .tag = message};
+    *buffer = (struct buffer){.bytes = *bytes, .told = &ring->inbox, .tag = message};
+    wulgach_uses_begin(&buffer->uses, message != NULL);
     *word = (uintptr_t)buffer;
     return 0;
 }
@@ -80,13 +84,9 @@ static int make_row(struct ring *ring, uint64_t *word, uint64_t vectors, uint64_
 /* Of a table that isn't registered after all, no tag is told. */
 static void drop_tags(const uint64_t *words, uint32_t count)
 {
-    for (uint32_t i = 0; i < count; i++) {
-        struct buffer *buffer = buffer_of(words[i]);
-        if (buffer) {
-            free(buffer->tag);
-            buffer->tag = NULL;
-        }
-    }
+    for (uint32_t i = 0; i < count; i++)
+        if (words[i])
+            wulgach_uses_drop_tag(&buffer_of(words[i])->uses);
 }
 
 static void free_words(uint64_t *words, uint32_t count)
@@ -148,14 +148,14 @@ int update_buffers(struct ring *ring, uint32_t offset, uint64_t vectors, uint64_
 
 int use_buffer(struct ring *ring, uint32_t index, const struct iovec *bytes, struct buffer **used)
 {
-    struct buffer *buffer = index < ring->buffers.table.count ? buffer_of(ring->buffers.words[index]) : NULL;
-    uintptr_t from = (uintptr_t)bytes->iov_base, end;
-    if (!buffer || __builtin_add_overflow(from, bytes->iov_len, &end))
+    struct buffers *buffers = &ring->buffers;
+    struct buffer *buffer = buffer_of(wulgach_table_content(&buffers->table, buffers->words, buffers->table.count, index));
+    if (!buffer)
         return -EFAULT;
-    uintptr_t start = (uintptr_t)buffer->bytes.iov_base;
-    if (from < start || end > start + buffer->bytes.iov_len)
-        return -EFAULT;
-    buffer->uses++;
+    int fault = wulgach_bytes_fault((uintptr_t)buffer->bytes.iov_base, buffer->bytes.iov_len, (uintptr_t)bytes->iov_base, bytes->iov_len);
+    if (fault < 0)
+        return fault;
+    wulgach_uses_take(&buffer->uses);
     *used = buffer;
     return 0;
 }

@@ -2,6 +2,7 @@
 #ifndef BUFFERS_H
 #define BUFFERS_H
 
+#include "wulgach_buffers.h"
 #include "wulgach_register.h"
 
 #include <stdbool.h>
@@ -14,7 +15,7 @@ struct message;
 /* A registered buffer. It is gone once no slot and no request has it. */
 struct buffer {
     struct iovec bytes;
-    uint32_t uses;
+    struct wulgach_uses uses;       /* when that is, is the library's decision */
     struct inbox *told;             /* who is told its tag then, */
     struct message *tag;            /* or NULL: it has none */
 };

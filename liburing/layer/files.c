@@ -1,9 +1,11 @@
 /* A registered file stays open however the application closes its descriptor, so the layer has one of its own, under a
  * high number. A request that is started keeps its file, whatever becomes of the slot. What slots hold, which one a file gets, what
- * a row of a list does and what is refused is the library's decision.
+ * a row of a list does, what is refused and when a file is gone is the library's decision.
  *
  * Another ring's thread may put a file here: so the table is looked at and changed under a lock of its own, which isn't
- * held while any other but an inbox's is taken.
+ * held while any other but an inbox's is taken. The file that it takes the place of may be a request's too, which gives it back without
+ * that lock: so the library is given the count as it stands, and what it makes of it is put in its place by an exchange that fails if
+ * another thread was faster.
  */
 #define _GNU_SOURCE
 #include "files.h"
@@ -30,13 +32,39 @@ static struct file *file_of(uint64_t word)
     return (struct file *)(uintptr_t)word;
 }
 
+/* Puts the count of these uses in the place of what it was, unless that has changed: then says no, and what it is. */
+static bool exchange(struct file *file, uint32_t *count, const struct wulgach_uses *uses)
+{
+    return __atomic_compare_exchange_n(&file->uses.count, count, uses->count, false, __ATOMIC_ACQ_REL, __ATOMIC_ACQUIRE);
+}
+
+static void take_file(struct file *file)
+{
+    uint32_t count = __atomic_load_n(&file->uses.count, __ATOMIC_ACQUIRE);
+    struct wulgach_uses uses;
+    do {
+        uses = (struct wulgach_uses){count, file->uses.has_tag};
+        wulgach_uses_take(&uses);
+    } while (!exchange(file, &count, &uses));
+}
+
 void release_file(struct file *file)
 {
-    if (!file || __atomic_sub_fetch(&file->uses, 1, __ATOMIC_ACQ_REL) > 0)
+    if (!file)
+        return;
+    uint32_t count = __atomic_load_n(&file->uses.count, __ATOMIC_ACQUIRE), ending;
+    struct wulgach_uses uses;
+    do {
+        uses = (struct wulgach_uses){count, file->uses.has_tag};
+        ending = wulgach_uses_release(&uses);
+    } while (!exchange(file, &count, &uses));
+    if (ending == WULGACH_STAYS)
         return;
     close(file->fd);
-    if (file->tag)
+    if (ending == WULGACH_TELLS)
         put_message(file->told, file->tag);
+    else
+        free(file->tag);
     free(file);
 }
 
@@ -44,9 +72,9 @@ struct file *use_file(struct ring *ring, uint32_t index)
 {
     struct files *files = &ring->files;
     pthread_mutex_lock(&files->lock);
-    struct file *file = index < files->table.count ? file_of(files->words[index]) : NULL;
+    struct file *file = file_of(wulgach_table_content(&files->table, files->words, files->table.count, index));
     if (file)
-        __atomic_add_fetch(&file->uses, 1, __ATOMIC_RELAXED);
+        take_file(file);
     pthread_mutex_unlock(&files->lock);
     return file;
 }
@@ -59,8 +87,9 @@ static int high_copy_of(int fd)
     return copy < 0 ? -errno : copy;
 }
 
-/* A registered file of a descriptor that stays the application's. A ring can't be one. */
-static int make_file_of(struct file **made, int fd)
+/* A registered file of a descriptor that stays the application's, with a tag, which its ring is told once it is gone, or NULL. A ring
+ * can't be one. */
+static int make_file_with(struct file **made, int fd, struct inbox *told, struct message *tag)
 {
     int copy = fd < 0 || is_ring(fd) ? -EBADF : high_copy_of(fd);
     if (copy < 0)
@@ -70,24 +99,26 @@ static int make_file_of(struct file **made, int fd)
         close(copy);
         return -ENOMEM;
     }
-    **made = (struct file){.fd = copy, .uses = 1};
+    **made = (struct file){.fd = copy, .told = told, .tag = tag};
+    wulgach_uses_begin(&(*made)->uses, tag != NULL);
     return 0;
 }
 
-/* The same with a tag, which its ring is told once the file isn't used any more. 0 is none. */
+static int make_file_of(struct file **made, int fd)
+{
+    return make_file_with(made, fd, NULL, NULL);
+}
+
+/* The same with a tag. 0 is none. */
 static int make_tagged_file(struct ring *ring, struct file **made, int fd, uint64_t tag)
 {
     struct message *message = tag ? make_message_of(tag, 0) : NULL;
     if (tag && !message)
         return -ENOMEM;
-    int result = make_file_of(made, fd);
-    if (result < 0) {
+    int result = make_file_with(made, fd, &ring->inbox, message);
+    if (result < 0)
         free(message);
-        return result;
-    }
-    (*made)->told = &ring->inbox;
-    (*made)->tag = message;
-    return 0;
+    return result;
 }
 
 struct file *hold_file(int fd)
@@ -106,13 +137,9 @@ static void free_words(uint64_t *words, uint32_t count)
 /* Of a table that isn't put after all, no tag is told. */
 static void drop_words(uint64_t *words, uint32_t count)
 {
-    for (uint32_t i = 0; i < count; i++) {
-        struct file *file = file_of(words[i]);
-        if (file) {
-            free(file->tag);
-            file->tag = NULL;
-        }
-    }
+    for (uint32_t i = 0; i < count; i++)
+        if (words[i])
+            wulgach_uses_drop_tag(&file_of(words[i])->uses);
     free_words(words, count);
 }
 

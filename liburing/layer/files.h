@@ -2,6 +2,7 @@
 #ifndef FILES_H
 #define FILES_H
 
+#include "wulgach_buffers.h"
 #include "wulgach_register.h"
 
 #include <pthread.h>
@@ -14,7 +15,7 @@ struct message;
 /* A registered file. It is closed once no slot and no request has it. */
 struct file {
     int fd;
-    uint32_t uses;
+    struct wulgach_uses uses;       /* when that is, is the library's decision; each change of the count is one exchange */
     struct inbox *told;             /* who is told its tag then, */
     struct message *tag;            /* or NULL: it has none */
 };

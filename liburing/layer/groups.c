@@ -1,4 +1,5 @@
-/* A group is a list that requests fill, or a ring in memory of the application's. Of a ring the head is the layer's. */
+/* A group is a list that requests fill, or a ring in memory of the application's. Which buffer comes next, what is left and what is refused
+ * is the library's decision. */
 #include "groups.h"
 #include "copying.h"
 #include "ring.h"
@@ -6,18 +7,15 @@
 #include <errno.h>
 #include <stddef.h>
 #include <stdlib.h>
-#include <string.h>
 #include <unistd.h>
-
-enum { MOST_PROVIDED = 65536, MOST_IN_RING = 32768 };
 
 struct group {
     struct group *next;
     uint16_t id;
-    uint64_t ring;                  /* where the application's ring is, or 0: it is a list */
-    uint16_t mask, head;            /* of a ring */
-    struct provided *list;          /* the next first */
-    uint32_t count, room;
+    struct wulgach_group kept;      /* what becomes of it is the library's: */
+    struct wulgach_buffer *rows;    /* a list's buffers, */
+    uint32_t room;                  /* and for how many there is room */
+    uint64_t ring;                  /* where the application's ring is */
 };
 
 static struct group *find_group(struct ring *ring, uint16_t id)
@@ -28,14 +26,26 @@ static struct group *find_group(struct ring *ring, uint16_t id)
     return group;
 }
 
-static struct group *make_group(struct ring *ring, uint16_t id)
+/* The group of a number. Where there is none yet, one is made that isn't there for the library; NULL: out of memory. */
+static struct group *any_group(struct ring *ring, uint16_t id)
 {
-    struct group *group = calloc(1, sizeof *group);
-    if (group) {
-        *group = (struct group){.next = ring->groups, .id = id};
-        ring->groups = group;
-    }
+    struct group *group = find_group(ring, id);
+    if (group || !(group = calloc(1, sizeof *group)))
+        return group;
+    group->next = ring->groups;
+    group->id = id;
+    wulgach_group_begin(&group->kept);
+    ring->groups = group;
     return group;
+}
+
+/* What the library keeps of a group, or of none. */
+static struct wulgach_group kept_of(struct ring *ring, uint16_t id)
+{
+    const struct group *group = find_group(ring, id);
+    struct wulgach_group none;
+    wulgach_group_begin(&none);
+    return group ? group->kept : none;
 }
 
 static void drop_group(struct ring *ring, struct group *group)
@@ -44,7 +54,7 @@ static void drop_group(struct ring *ring, struct group *group)
     while (*at != group)
         at = &(*at)->next;
     *at = group->next;
-    free(group->list);
+    free(group->rows);
     free(group);
 }
 
@@ -56,129 +66,103 @@ void free_groups(struct ring *ring)
 
 static bool make_room(struct group *group, uint32_t more)
 {
-    if (group->count + more <= group->room)
+    uint64_t room = wulgach_group_room(&group->kept, more, group->room);
+    if (room == group->room)
         return true;
-    uint32_t room = 2 * (group->count + more);
-    struct provided *list = realloc(group->list, room * sizeof *list);
-    if (!list)
+    struct wulgach_buffer *rows = realloc(group->rows, room * sizeof *rows);
+    if (!rows)
         return false;
-    group->list = list;
-    group->room = room;
+    group->rows = rows;
+    group->room = (uint32_t)room;
     return true;
 }
 
 int32_t provide_buffers(struct ring *ring, const struct io_uring_sqe *entry)
 {
-    struct group *group = find_group(ring, entry->buf_group);
-    uint32_t count = (uint32_t)entry->fd;
-    if (group && group->ring)
-        return -EINVAL;
-    if (entry->off + count > MOST_PROVIDED)
-        return -E2BIG;
-    if (!group)
-        group = make_group(ring, entry->buf_group);
-    if (!group || !make_room(group, count))
-        return -ENOMEM;
-    for (uint32_t i = 0; i < count; i++)
-        group->list[group->count++] = (struct provided){entry->addr + (uint64_t)i * entry->len, entry->len, (uint16_t)(entry->off + i)};
-    return 0;
-}
-
-static void drop_first(struct group *group, uint32_t count)
-{
-    group->count -= count;
-    memmove(group->list, group->list + count, group->count * sizeof *group->list);
+    struct wulgach_buffers asked = {.address = entry->addr, .length = entry->len, .count = (uint32_t)entry->fd, .id = (uint16_t)entry->off};
+    struct wulgach_group kept = kept_of(ring, entry->buf_group);
+    int32_t fault = wulgach_group_providing_fault(&kept, asked.address, asked.length, asked.count, entry->off);
+    if (fault < 0)
+        return fault;
+    struct group *group = any_group(ring, entry->buf_group);
+    bool is_provided = group && make_room(group, asked.count) && wulgach_group_provide(&group->kept, group->rows, group->room, &asked);
+    return is_provided ? 0 : -ENOMEM;
 }
 
 int32_t remove_buffers(struct ring *ring, const struct io_uring_sqe *entry)
 {
     struct group *group = find_group(ring, entry->buf_group);
-    if (!group)
-        return -ENOENT;
-    if (group->ring)
-        return -EINVAL;
-    uint32_t count = (uint32_t)entry->fd < group->count ? (uint32_t)entry->fd : group->count;
-    drop_first(group, count);
-    return (int32_t)count;
+    struct wulgach_group kept = kept_of(ring, entry->buf_group);
+    int32_t fault = wulgach_group_removing_fault(&kept);
+    return fault < 0 ? fault : (int32_t)wulgach_group_remove(&group->kept, (uint32_t)entry->fd);
+}
+
+/* Reads the argument of a call for rings: 0, or its fault. */
+static int read_ring(struct io_uring_buf_reg *asked, uint64_t at, uint32_t count)
+{
+    bool is_read = at && count == 1 && copy_in(asked, at, sizeof *asked) == 0;
+    bool has_reserved = is_read && (asked->pad || asked->resv[0] || asked->resv[1] || asked->resv[2]);
+    return wulgach_group_argument_fault(count, at != 0, is_read, has_reserved);
 }
 
 int register_buffer_ring(struct ring *ring, uint64_t at, uint32_t count)
 {
     struct io_uring_buf_reg asked;
-    if (count != 1)
-        return -EINVAL;
-    if (copy_in(&asked, at, sizeof asked) < 0)
-        return -EFAULT;
-    if (asked.pad || asked.resv[0] || asked.resv[1] || asked.resv[2])
-        return -EINVAL;
-    if (!asked.ring_addr)
-        return -EFAULT;
-    uint64_t page = (uint64_t)sysconf(_SC_PAGESIZE);
-    bool is_power = asked.ring_entries && !(asked.ring_entries & (asked.ring_entries - 1));
-    if (asked.ring_addr % page || !is_power || asked.ring_entries > MOST_IN_RING)
-        return -EINVAL;
+    int result = read_ring(&asked, at, count);
+    if (result < 0)
+        return result;
+    struct wulgach_group kept = kept_of(ring, asked.bgid);
+    result = wulgach_group_registering_fault(&kept, asked.ring_addr, asked.ring_entries, (uint64_t)sysconf(_SC_PAGESIZE));
+    if (result < 0)
+        return result;
     struct iovec cells = {(void *)(uintptr_t)asked.ring_addr, asked.ring_entries * sizeof(struct io_uring_buf)};
     if (!is_there(&cells))
         return -EFAULT;
-    struct group *group = find_group(ring, asked.bgid);
-    if (group && (group->ring || group->count > 0))
-        return -EEXIST;
-    if (!group)
-        group = make_group(ring, asked.bgid);
+    struct group *group = any_group(ring, asked.bgid);
     if (!group)
         return -ENOMEM;
     group->ring = asked.ring_addr;
-    group->mask = (uint16_t)(asked.ring_entries - 1);
+    wulgach_group_register(&group->kept, (uint16_t)asked.ring_entries);
     return 0;
 }
 
 int unregister_buffer_ring(struct ring *ring, uint64_t at, uint32_t count)
 {
     struct io_uring_buf_reg asked;
-    if (count != 1)
-        return -EINVAL;
-    if (copy_in(&asked, at, sizeof asked) < 0)
-        return -EFAULT;
-    if (asked.pad || asked.resv[0] || asked.resv[1] || asked.resv[2])
-        return -EINVAL;
+    int result = read_ring(&asked, at, count);
+    if (result < 0)
+        return result;
     struct group *group = find_group(ring, asked.bgid);
-    if (!group)
-        return -ENOENT;
-    if (!group->ring)
-        return -EINVAL;
+    struct wulgach_group kept = kept_of(ring, asked.bgid);
+    result = wulgach_group_unregistering_fault(&kept);
+    if (result < 0)
+        return result;
+    wulgach_group_unregister(&group->kept);
     drop_group(ring, group);
     return 0;
 }
 
-static bool find_in_ring(const struct group *group, struct provided *found)
+static bool find_in_ring(const struct group *group, struct wulgach_buffer *found)
 {
-    uint16_t tail;
+    uint16_t tail, cell;
     struct io_uring_buf buffer;
-    if (copy_in(&tail, group->ring + offsetof(struct io_uring_buf_ring, tail), sizeof tail) < 0 || tail == group->head)
+    if (copy_in(&tail, group->ring + offsetof(struct io_uring_buf_ring, tail), sizeof tail) < 0 || !wulgach_group_cell(&group->kept, tail, &cell))
         return false;
-    if (copy_in(&buffer, group->ring + (uint64_t)(group->head & group->mask) * sizeof buffer, sizeof buffer) < 0)
+    if (copy_in(&buffer, group->ring + cell * sizeof buffer, sizeof buffer) < 0)
         return false;
-    *found = (struct provided){buffer.addr, buffer.len, buffer.bid};
+    *found = (struct wulgach_buffer){buffer.addr, buffer.len, buffer.bid};
     return true;
 }
 
-bool find_provided(struct ring *ring, uint16_t id, struct provided *found)
+bool find_provided(struct ring *ring, uint16_t id, struct wulgach_buffer *found)
 {
     const struct group *group = find_group(ring, id);
     if (!group)
         return false;
-    if (group->ring)
-        return find_in_ring(group, found);
-    if (group->count > 0)
-        *found = group->list[0];
-    return group->count > 0;
+    return group->kept.entries ? find_in_ring(group, found) : wulgach_group_next(&group->kept, group->rows, group->room, found);
 }
 
 void take_provided(struct ring *ring, uint16_t id)
 {
-    struct group *group = find_group(ring, id);
-    if (group->ring)
-        group->head++;
-    else
-        drop_first(group, 1);
+    wulgach_group_take(&find_group(ring, id)->kept);
 }

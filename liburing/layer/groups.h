@@ -3,19 +3,13 @@
 #define GROUPS_H
 
 #include "requests.h"
+#include "wulgach_buffers.h"
 
 #include <stdbool.h>
 #include <stdint.h>
 
 struct group;
 struct ring;
-
-/* A buffer that was chosen. */
-struct provided {
-    uint64_t address;
-    uint32_t length;
-    uint16_t id;
-};
 
 /* The operations. Each returns its result. */
 int32_t provide_buffers(struct ring *ring, const struct io_uring_sqe *entry);
@@ -26,7 +20,7 @@ int register_buffer_ring(struct ring *ring, uint64_t at, uint32_t count);
 int unregister_buffer_ring(struct ring *ring, uint64_t at, uint32_t count);
 
 /* The next buffer of a group, which stays there; false if there is none. */
-bool find_provided(struct ring *ring, uint16_t id, struct provided *found);
+bool find_provided(struct ring *ring, uint16_t id, struct wulgach_buffer *found);
 
 /* Takes the next buffer out. There is one. */
 void take_provided(struct ring *ring, uint16_t id);

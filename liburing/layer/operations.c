@@ -102,7 +102,7 @@ static bool is_selecting(const struct request *request)
 
 bool lacks_buffer(struct ring *ring, const struct request *request)
 {
-    struct provided buffer;
+    struct wulgach_buffer buffer;
     return is_selecting(request) && !goes_on(request) && !find_provided(ring, request->entry.buf_group, &buffer);
 }
 
@@ -301,24 +301,22 @@ bool can_have(const struct request *request, enum injection fault)
     return false;
 }
 
-/* Carries out what takes a buffer: one is taken if the operation succeeds, and not if a socket has no more to give. */
+/* Carries out what takes a buffer. Whether it has taken it, by its result, is the library's decision. */
 static int32_t call_with_buffer(struct ring *ring, struct request *request, enum injection fault)
 {
-    struct provided buffer;
+    struct wulgach_buffer buffer;
     request->flags = 0;
     if (!find_provided(ring, request->entry.buf_group, &buffer))
         return -ENOBUFS;
-    uint64_t asked = request->wanted;
-    *request->vectors = (struct iovec){(void *)(uintptr_t)buffer.address, asked && asked < buffer.length ? asked : buffer.length};
+    *request->vectors = (struct iovec){(void *)(uintptr_t)buffer.address, wulgach_buffer_part(request->wanted, buffer.length)};
     request->length = request->vectors->iov_len;
     request->done = 0;
     if (fault == FAULT_SHORT)
         shorten(request);
     int32_t res = call_or_wait(ring, request);
-    if (res > 0 || (res == 0 && is_transfer(request))) {
+    request->flags = wulgach_buffer_flags(res, is_transfer(request), buffer.id);
+    if (request->flags)
         take_provided(ring, request->entry.buf_group);
-        request->flags = IORING_CQE_F_BUFFER | (uint32_t)buffer.id << IORING_CQE_BUFFER_SHIFT;
-    }
     return res;
 }
 

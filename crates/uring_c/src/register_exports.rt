@@ -213,6 +213,16 @@ pub extern "C" fn wulgach_table_fill(
     table.fill(rows, slot, word).unwrap_or(0)
 }
 
+/// What a slot holds; 0 if it is free, or if there is no such slot.
+#[unsafe(no_mangle)]
+pub extern "C" fn wulgach_table_content(table: &Table, rows: &[u64], slot: u32) -> u64
+    ensures there { (log : List Filing) → KeepsTable log table.now rows.now → slot < size log
+        → result ≡ content log slot }
+    ensures none { (log : List Filing) → KeepsTable log table.now rows.now → size log ≤ slot → result ≡ 0 }
+{
+    table.content(rows, slot)
+}
+
 /// Returns what a row with this descriptor and this tag does, and writes its fault, or 0.
 #[unsafe(no_mangle)]
 pub extern "C" fn wulgach_file_row(fd: i32, tag: u64, is_update: bool, fault: &mut i32) -> u32

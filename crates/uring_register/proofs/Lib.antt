@@ -1,2 +1,5 @@
 mod TableRuns
 mod TableLaws
+mod UseRuns
+mod GroupRuns
+mod GroupKept

@@ -9,3 +9,8 @@ pub mod Enrolling
 pub mod EnrollingLaws
 pub mod Calling
 pub mod CallingLaws
+pub mod Uses
+pub mod UseLaws
+pub mod Bytes
+pub mod Provided
+pub mod ProvidedLaws

@@ -1,18 +1,25 @@
-//! What is registered with a ring by io_uring_register(2): its restrictions, and what the slots of its tables of files and buffers hold. Whoever keeps the files and the buffers asks here what each call changes, and with which error it is refused.
+//! What is registered with a ring by io_uring_register(2), and provided to it: its restrictions, what the slots of its tables of files and buffers hold and when that is gone, and which provided buffer an operation takes. Whoever keeps the files and the buffers asks here what each call changes, and with which error it is refused.
 #![tactic(auto)]
 
+mod bytes;
 mod call;
 mod call_laws;
 mod enrolled;
 mod enrolled_laws;
 mod eventfd;
+mod group;
+mod group_laws;
+mod group_rows;
 mod issuer;
 mod issuer_laws;
 mod registering;
 mod restrictions;
 mod table;
 mod table_laws;
+mod use_laws;
+mod uses;
 
+pub use bytes::{bytes_fault, flags_of, part_of};
 pub use call::{
     Call, Caller, Content, argument_fault, call_of, calling_fault, content_fault, probed,
 };
@@ -22,9 +29,17 @@ pub use enrolled::{
 };
 pub use enrolled_laws::{keeps_other_rows, names_the_last, takes_back, takes_no_others_row};
 pub use eventfd::Eventfd;
+pub use group::{Buffer, Buffers, Group};
+pub use group_laws::{
+    gives_what_was_provided, keeps_what_was_provided, takes_cells_in_turn, takes_in_order,
+    takes_no_more,
+};
+pub use group_rows::group_argument_fault;
 pub use issuer::Issuer;
 pub use issuer_laws::{keeps_its_issuer, knows_its_issuer};
 pub use registering::{Row, buffer_row, file_row, updated};
 pub use restrictions::{Restriction, Restrictions, enabling_fault, restricting_fault};
 pub use table::Table;
 pub use table_laws::{gives_free_slots, gives_what_is_free, keeps_others};
+pub use use_laws::{goes_when_free, is_gone_once};
+pub use uses::{Ending, Uses};

@@ -100,6 +100,18 @@ impl Table {
         Some(before)
     }
 
+    /// What a slot holds. 0: it is free, or there is no such slot.
+    pub fn content(&self, rows: &[u64], slot: u32) -> u64
+        ensures there { (log : List Filing) → KeepsTable log self.now rows.now → slot < size log
+            → result ≡ content log slot }
+        ensures none { (log : List Filing) → KeepsTable log self.now rows.now → size log ≤ slot → result ≡ 0 }
+    {
+        if slot >= self.count {
+            return 0;
+        }
+        word_at(rows, slot)
+    }
+
     /// The slot that a file gets which asks for any, if one is free.
     pub fn free_slot(&self, rows: &[u64]) -> Option<u32>
         ensures { (log : List Filing) → KeepsTable log self.now rows.now → MatchOption result (GivesNone log) (IsGiven log) }

@@ -1,0 +1,169 @@
+//! Groups of buffers that the application provides, for C: functions of `c/wulgach_buffers.h`. The rows of a list are the caller's memory.
+ghost use Rattle.std.specs.Prelude.{◌≡◌, ◌+◌, ◌-◌, ◌^◌, ◌≤◌, min, length, nat_le, ℕ, true, false, List, [], ◌∷◌, MatchOption};
+ghost use Rattle.uring_register.specs.declared.group.Buffer.{Buffer};
+ghost use Rattle.uring_register.specs.Provided.{Change, Provided, Removed, Took, Registered, Unregistered, KeepsGroup, IsTold, left};
+ghost use Rattle.uring_register.specs.Provided as spec;
+
+use uring_register::{Buffer, Buffers, Group, group_argument_fault};
+
+/// There is no group.
+#[unsafe(no_mangle)]
+pub extern "C" fn wulgach_group_begin(group: &mut Group)
+    ensures { (rows : List Buffer) → KeepsGroup [] group.new rows }
+{
+    *group = Group::begin();
+}
+
+/// The fault of providing so many buffers of so many bytes, from an address on and with numbers from one on, or 0.
+#[unsafe(no_mangle)]
+pub extern "C" fn wulgach_group_providing_fault(
+    group: &Group,
+    address: u64,
+    size: u32,
+    count: u32,
+    id: u64,
+) -> i32
+    ensures { (log : List Change) (rows : List Buffer) → KeepsGroup log group.now rows
+        → result ≡ spec.providing_fault log address size count id }
+{
+    group.providing_fault(address, size, count, id)
+}
+
+/// How many rows the list wants for so many buffers more, where it has so many.
+#[unsafe(no_mangle)]
+pub extern "C" fn wulgach_group_room(group: &Group, more: u32, room: u64) -> u64
+    ensures { (log : List Change) (rows : List Buffer) → KeepsGroup log group.now rows
+        → result ≡ spec.room_for (left log) more room }
+{
+    group.room_for(more, room)
+}
+
+/// The list has these buffers too, behind all others, as many as it may have. `false`: there are too few rows, and nothing changes.
+#[unsafe(no_mangle)]
+pub extern "C" fn wulgach_group_provide(
+    group: &mut Group,
+    rows: &mut [Buffer],
+    asked: &Buffers,
+) -> bool
+    ensures room { (log : List Change) → KeepsGroup log group.old rows.old
+        → result ≡ nat_le (left log + (spec.taken_up log asked.now).count) (min (length rows.old) (2 ^ 32 - 1)) }
+    ensures after { (log : List Change) → KeepsGroup log group.old rows.old → result ≡ true
+        → KeepsGroup (Provided (spec.taken_up log asked.now) ∷ log) group.new rows.new }
+    ensures kept { result ≡ false → (group.new ≡ group.old) × (rows.new ≡ rows.old) }
+{
+    group.provide(rows, asked)
+}
+
+/// The fault of removing buffers, or 0.
+#[unsafe(no_mangle)]
+pub extern "C" fn wulgach_group_removing_fault(group: &Group) -> i32
+    ensures { (log : List Change) (rows : List Buffer) → KeepsGroup log group.now rows
+        → result ≡ spec.removing_fault log }
+{
+    group.removing_fault()
+}
+
+/// The first so many, or all, are gone. Returns how many.
+#[unsafe(no_mangle)]
+pub extern "C" fn wulgach_group_remove(group: &mut Group, count: u32) -> u32
+    ensures { (log : List Change) (rows : List Buffer) → KeepsGroup log group.old rows → length rows ≤ 4294967295
+        → (result ≡ spec.removed log count) × KeepsGroup (Removed count ∷ log) group.new rows }
+{
+    group.remove(count)
+}
+
+/// Writes the next buffer of a list, which stays there. `false`: there is none, and nothing is written.
+#[unsafe(no_mangle)]
+pub extern "C" fn wulgach_group_next(group: &Group, rows: &[Buffer], buffer: &mut Buffer) -> bool
+    ensures { (log : List Change) → KeepsGroup log group.now rows.now
+        → MatchOption (spec.next_of log) ((result ≡ false) × (buffer.new ≡ buffer.old))
+        (λ next. (result ≡ true) × (buffer.new ≡ next)) }
+{
+    match group.next(rows) {
+        Some(next) => {
+            *buffer = next;
+            true
+        }
+        None => false,
+    }
+}
+
+/// Writes the cell of the next buffer of a ring whose tail is this. `false`: there is none, and nothing is written.
+#[unsafe(no_mangle)]
+pub extern "C" fn wulgach_group_cell(group: &Group, tail: u16, cell: &mut u16) -> bool
+    ensures { (log : List Change) (rows : List Buffer) (n : ℕ) → KeepsGroup log group.now rows
+        → spec.is_ring log ≡ true → IsTold log tail n
+        → MatchOption (spec.cell_of log n) ((result ≡ false) × (cell.new ≡ cell.old))
+        (λ next. (result ≡ true) × (cell.new ≡ next)) }
+{
+    match group.cell(tail) {
+        Some(next) => {
+            *cell = next;
+            true
+        }
+        None => false,
+    }
+}
+
+/// An operation has taken the next buffer.
+#[unsafe(no_mangle)]
+pub extern "C" fn wulgach_group_take(group: &mut Group)
+    ensures { (log : List Change) (rows : List Buffer) → KeepsGroup log group.old rows → length rows ≤ 4294967295
+        → KeepsGroup (Took ∷ log) group.new rows }
+{
+    group.take();
+}
+
+/// The fault of registering a ring for a group, at an address, of so many entries, where a page has so many bytes; or 0.
+#[unsafe(no_mangle)]
+pub extern "C" fn wulgach_group_registering_fault(
+    group: &Group,
+    address: u64,
+    entries: u32,
+    page: u64,
+) -> i32
+    ensures { (log : List Change) (rows : List Buffer) → KeepsGroup log group.now rows
+        → result ≡ spec.registering_fault log address entries page }
+{
+    group.registering_fault(address, entries, page)
+}
+
+/// A group has a ring of so many entries.
+#[unsafe(no_mangle)]
+pub extern "C" fn wulgach_group_register(group: &mut Group, entries: u16)
+    ensures { (log : List Change) (rows : List Buffer) → KeepsGroup log group.old rows
+        → KeepsGroup (Registered entries ∷ log) group.new rows }
+{
+    group.register(entries);
+}
+
+/// The fault of unregistering the ring of a group, or 0.
+#[unsafe(no_mangle)]
+pub extern "C" fn wulgach_group_unregistering_fault(group: &Group) -> i32
+    ensures { (log : List Change) (rows : List Buffer) → KeepsGroup log group.now rows
+        → result ≡ spec.unregistering_fault log }
+{
+    group.unregistering_fault()
+}
+
+/// A group's ring is gone, and so is the group.
+#[unsafe(no_mangle)]
+pub extern "C" fn wulgach_group_unregister(group: &mut Group)
+    ensures { (log : List Change) (rows : List Buffer) → KeepsGroup log group.old rows
+        → KeepsGroup (Unregistered ∷ log) group.new rows }
+{
+    group.unregister();
+}
+
+/// The fault of the argument of a call that registers or unregisters a ring of buffers, or 0.
+#[unsafe(no_mangle)]
+pub extern "C" fn wulgach_group_argument_fault(
+    count: u32,
+    has_argument: bool,
+    is_read: bool,
+    has_reserved: bool,
+) -> i32
+    ensures { result ≡ spec.argument_fault count has_argument is_read has_reserved }
+{
+    group_argument_fault(count, has_argument, is_read, has_reserved)
+}

@@ -1,0 +1,80 @@
+//! When registered files and buffers are gone, and what an operation has of a buffer, for C: functions of `c/wulgach_buffers.h`.
+ghost use Rattle.std.specs.Prelude.{◌≡◌, ◌<◌, ◌-◌, ◌^◌, Bool, List, [], ◌∷◌};
+ghost use Rattle.uring_register.specs.Uses.{Use, Put, Lost, Taken, Given, Dropped, KeepsUses, slots, requests, ending_of};
+ghost use Rattle.uring_register.specs.Bytes as spec;
+ghost use Rattle.uring_c.specs.UsesForm.{word_of_ending};
+
+use uring_register::{Ending, Uses, bytes_fault, flags_of, part_of};
+
+/// One has a file or buffer, with a tag or without: a slot that is to get it, or a request.
+#[unsafe(no_mangle)]
+pub extern "C" fn wulgach_uses_begin(uses: &mut Uses, has_tag: bool)
+    ensures slot { KeepsUses has_tag (Put ∷ []) uses.new }
+    ensures request { KeepsUses has_tag (Taken ∷ []) uses.new }
+{
+    *uses = Uses::begin(has_tag);
+}
+
+/// One more has it: a slot, or a request.
+#[unsafe(no_mangle)]
+pub extern "C" fn wulgach_uses_take(uses: &mut Uses)
+    ensures slot { (tag : Bool) (log : List Use) → KeepsUses tag log uses.old → uses.old.count < 2 ^ 32 - 1
+        → KeepsUses tag (Put ∷ log) uses.new }
+    ensures request { (tag : Bool) (log : List Use) → KeepsUses tag log uses.old → uses.old.count < 2 ^ 32 - 1
+        → KeepsUses tag (Taken ∷ log) uses.new }
+{
+    uses.take();
+}
+
+/// Its table isn't registered after all.
+#[unsafe(no_mangle)]
+pub extern "C" fn wulgach_uses_drop_tag(uses: &mut Uses)
+    ensures { (tag : Bool) (log : List Use) → KeepsUses tag log uses.old → KeepsUses tag (Dropped ∷ log) uses.new }
+{
+    uses.drop_tag();
+}
+
+/// A slot has lost it, or a request has given it back. Returns what becomes of it.
+#[unsafe(no_mangle)]
+pub extern "C" fn wulgach_uses_release(uses: &mut Uses) -> u32
+    ensures lost { (tag : Bool) (log : List Use) → KeepsUses tag log uses.old → 0 < slots log
+        → KeepsUses tag (Lost ∷ log) uses.new × (result ≡ word_of_ending (ending_of tag (Lost ∷ log))) }
+    ensures given { (tag : Bool) (log : List Use) → KeepsUses tag log uses.old → 0 < requests log
+        → KeepsUses tag (Given ∷ log) uses.new × (result ≡ word_of_ending (ending_of tag (Given ∷ log))) }
+{
+    ending_word(uses.release())
+}
+
+fn ending_word(ending: Ending) -> u32
+    ensures { result ≡ word_of_ending ending }
+{
+    match ending {
+        Ending::Stays => 0,
+        Ending::Goes => 1,
+        Ending::Tells => 2,
+    }
+}
+
+/// The fault of so many bytes from there on, as a part of a registered buffer, or 0.
+#[unsafe(no_mangle)]
+pub extern "C" fn wulgach_bytes_fault(start: u64, size: u64, from: u64, count: u64) -> i32
+    ensures { result ≡ spec.bytes_fault start size from count }
+{
+    bytes_fault(start, size, from, count)
+}
+
+/// How many bytes an operation that wants so many has of a provided buffer of this length.
+#[unsafe(no_mangle)]
+pub extern "C" fn wulgach_buffer_part(wanted: u64, length: u32) -> u32
+    ensures { result ≡ spec.part_of wanted length }
+{
+    part_of(wanted, length)
+}
+
+/// The flags of the completion of an operation that had the provided buffer of this number: 0 if it hasn't taken it.
+#[unsafe(no_mangle)]
+pub extern "C" fn wulgach_buffer_flags(res: i32, is_transfer: bool, id: u16) -> u32
+    ensures { result ≡ spec.flags_of res is_transfer id }
+{
+    flags_of(res, is_transfer, id)
+}

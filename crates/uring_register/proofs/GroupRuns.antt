@@ -1,0 +1,70 @@
+-- The laws of provided buffers.
+use Rattle.std.proofs.Common.{◌≡◌, ℕ, ◌+◌, ◌-◌, ◌%◌, ◌^◌, ◌<◌, ◌≤◌, inl, inr, refl, List, [], ◌∷◌, ◌++◌, ◌∙◌, sym, subst, arith}
+use Rattle.std.proofs.lemmas.Bool.{cases_lt}
+use Rattle.std.proofs.Math.Pow.{mod-mod-pow}
+use Rattle.uring_register.specs.Provided.{Change, Provided, Removed, Took, Registered, Unregistered, provided, gone, nth}
+use Rattle.uring_register.specs.ProvidedLaws.{IsProvided, GivesWhatWasProvided, KeepsWhatWasProvided, TakesNoMore, TakesInOrder, TakesCellsInTurn}
+
+pub takes_no_more : TakesNoMore
+takes_no_more [] = omega arith
+takes_no_more (Provided asked ∷ earlier) = let before = takes_no_more earlier in omega (arith, before)
+takes_no_more (Removed count ∷ earlier) = let before = takes_no_more earlier in grind (arith, before)
+takes_no_more (Took ∷ earlier) = let before = takes_no_more earlier in grind (arith, before)
+takes_no_more (Registered count ∷ earlier) = takes_no_more earlier
+takes_no_more (Unregistered ∷ earlier) = takes_no_more earlier
+
+grows : (next : Change) (log : List Change) → gone log ≤ gone (next ∷ log)
+grows (Provided asked) log = omega arith
+grows (Removed count) log = omega arith
+grows Took log = grind arith
+grows (Registered count) log = omega arith
+grows Unregistered log = omega arith
+
+pub takes_in_order : TakesInOrder
+takes_in_order [] log list some = grind (arith, list, some)
+takes_in_order (next ∷ later) log list some =
+    let before = takes_in_order later log list some in
+    let more = grows next (later ++ Took ∷ log) in
+    omega (arith, before, more)
+
+pub takes_cells_in_turn : TakesCellsInTurn
+takes_cells_in_turn k n fits =
+    let whole : (16 - k) + k ≡ 16 = omega arith in
+    let P : ℕ → Type 0 = λ w. n % 2 ^ w % 2 ^ k ≡ n % 2 ^ k in
+    subst P whole (mod-mod-pow n (16 - k) k)
+
+provided_grows : (next : Change) (log : List Change) → provided log ≤ provided (next ∷ log)
+provided_grows (Provided asked) log = omega arith
+provided_grows (Removed count) log = omega arith
+provided_grows Took log = omega arith
+provided_grows (Registered count) log = omega arith
+provided_grows Unregistered log = omega arith
+
+stays : (next : Change) (log : List Change) (n : ℕ) → n < provided log → nth (next ∷ log) n ≡ nth log n
+stays (Provided asked) log n low = grind (arith, low)
+stays (Removed count) log n low = refl
+stays Took log n low = refl
+stays (Registered count) log n low = refl
+stays Unregistered log n low = refl
+
+all_stay : (later log : List Change) (n : ℕ) → n < provided log
+    → (n < provided (later ++ log)) × (nth (later ++ log) n ≡ nth log n)
+all_stay [] log n low = (low, refl)
+all_stay (next ∷ later) log n low =
+    let before = all_stay later log n low in
+    let more = provided_grows next (later ++ log) in
+    (omega (arith, before.0, more), stays next (later ++ log) n before.0 ∙ before.1)
+
+pub keeps_what_was_provided : KeepsWhatWasProvided
+keeps_what_was_provided later log n low = (all_stay later log n low).1
+
+pub gives_what_was_provided : GivesWhatWasProvided
+gives_what_was_provided [] n low = grind (arith, low)
+gives_what_was_provided (Provided asked ∷ earlier) n low = elim (cases_lt n (provided earlier)) [
+  | inl before ↦ inl (subst (λ b. IsProvided earlier b) (sym (stays (Provided asked) earlier n before)) (gives_what_was_provided earlier n before))
+  | inr behind ↦ inr (n - provided earlier, omega (arith, low, behind), grind (arith, behind))
+]
+gives_what_was_provided (Removed count ∷ earlier) n low = gives_what_was_provided earlier n low
+gives_what_was_provided (Took ∷ earlier) n low = gives_what_was_provided earlier n low
+gives_what_was_provided (Registered count ∷ earlier) n low = gives_what_was_provided earlier n low
+gives_what_was_provided (Unregistered ∷ earlier) n low = gives_what_was_provided earlier n low

@@ -1,0 +1,29 @@
+-- The laws of registered files and buffers.
+use Rattle.std.proofs.Common.{◌≡◌, true, List, [], ◌∷◌, ◌++◌, arith}
+use Rattle.uring_register.specs.Uses.{Use, Put, Lost, Taken, Given, Dropped, is_gone}
+use Rattle.uring_register.specs.UseLaws.{IsUsing, IsGoneOnce}
+
+-- nothing happens to what no one has any more
+last : (next : Use) (log : List Use) → IsUsing (next ∷ log) → is_gone log ≡ true → ⊥
+last Put [] run gone = grind (arith, gone)
+last Put (e ∷ log) run gone = grind (arith, gone, run.1)
+last Taken [] run gone = grind (arith, gone)
+last Taken (e ∷ log) run gone = grind (arith, gone, run.1)
+last Lost [] run gone = grind (arith, gone)
+last Lost (e ∷ log) run gone = grind (arith, gone, run.1)
+last Given [] run gone = grind (arith, gone)
+last Given (e ∷ log) run gone = grind (arith, gone, run.1)
+last Dropped [] run gone = grind (arith, gone)
+last Dropped (e ∷ log) run gone = grind (arith, gone, run.1)
+
+-- what a run has behind so much is a run
+earlier_runs : (next : Use) (log : List Use) → IsUsing (next ∷ log) → IsUsing log
+earlier_runs Put log run = run.0
+earlier_runs Taken log run = run.0
+earlier_runs Lost log run = run.0
+earlier_runs Given log run = run.0
+earlier_runs Dropped log run = run.0
+
+pub is_gone_once : IsGoneOnce
+is_gone_once [] next log run gone = last next log run gone
+is_gone_once (e ∷ later) next log run gone = is_gone_once later next log (earlier_runs e (later ++ next ∷ log) run) gone

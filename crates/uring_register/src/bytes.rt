@@ -1,0 +1,41 @@
+//! What an operation has of a registered buffer or of one that was provided, and what its completion says of it.
+
+ghost use Rattle.std.specs.Prelude.{◌≡◌};
+ghost use Rattle.uring_register.specs.Bytes as spec;
+
+/// The fault of so many bytes from there on, as a part of a registered buffer with `size` bytes from `start` on: -14 (EFAULT) if they aren't all its, or 0.
+pub fn bytes_fault(start: u64, size: u64, from: u64, count: u64) -> i32
+    ensures { result ≡ spec.bytes_fault start size from count }
+{
+    if from < start {
+        return -14;
+    }
+    let skipped = from - start;
+    if skipped <= size && count <= size - skipped {
+        0
+    } else {
+        -14
+    }
+}
+
+/// How many bytes an operation that wants so many has of a provided buffer of this length. 0 wants all.
+pub fn part_of(wanted: u64, length: u32) -> u32
+    ensures { result ≡ spec.part_of wanted length }
+{
+    if wanted == 0 {
+        length
+    } else {
+        wanted.min(length as u64) as u32
+    }
+}
+
+/// The flags of the completion of an operation that had the provided buffer of this number, by its result: 0 if it hasn't taken it.
+pub fn flags_of(res: i32, is_transfer: bool, id: u16) -> u32
+    ensures { result ≡ spec.flags_of res is_transfer id }
+{
+    if res > 0 || (res == 0 && is_transfer) {
+        1 + id as u32 * 0x1_0000
+    } else {
+        0
+    }
+}
