@@ -19,34 +19,35 @@
 #include "ways.h"
 
 
-bool can_finish(struct ring *ring, struct request *request)
+/* Finds out what the library wants to know of this moment. */
+static void look_for_one(struct ring *ring, struct request *request, uint32_t wanted, struct wulgach_moment *known)
 {
-    if (request->has_to_wait)
-        return false;
-    if (request->course.is_cancelled)
-        return true;
-    if (is_timeout(request))
-        return has_counted(ring, request);
-    if (goes_on(request) && !can_post_extra(ring))
-        return false;
-    return !request->is_stream || lacks_buffer(ring, request) || is_found_ready(ring, request);
+    switch (wanted) {
+    case WULGACH_ASK_COUNT:
+        known->has_counted = has_counted(ring, request);
+        known->knows_count = true;
+        return;
+    case WULGACH_ASK_POSTING:
+        known->may_post = can_post_extra(ring);
+        known->knows_posting = true;
+        return;
+    case WULGACH_ASK_BUFFER:
+        known->has_buffer = finds_buffer(ring, request);
+        known->knows_buffer = true;
+        return;
+    default:
+        known->is_ready = is_found_ready(ring, request);
+        known->knows_readiness = true;
+    }
 }
 
-/* Whether carrying a request out can make a descriptor ready, or unready. */
-static bool can_make_ready(const struct request *request)
+bool can_finish(struct ring *ring, struct request *request)
 {
-    switch (request->entry.opcode) {
-    case IORING_OP_NOP:
-    case IORING_OP_POLL_ADD:
-    case IORING_OP_POLL_REMOVE:
-    case IORING_OP_TIMEOUT:
-    case IORING_OP_TIMEOUT_REMOVE:
-    case IORING_OP_LINK_TIMEOUT:
-    case IORING_OP_ASYNC_CANCEL:
-        return false;
-    default:
-        return true;
-    }
+    struct wulgach_moment known = {0};
+    uint32_t look;
+    while ((look = wulgach_can_finish(&request->standing, &request->needs, &request->course, &known)) > WULGACH_LOOK_FINISHES)
+        look_for_one(ring, request, look, &known);
+    return look == WULGACH_LOOK_FINISHES;
 }
 
 /* Whether a request that goes on does so behind this result. */
@@ -71,14 +72,14 @@ static bool try_operation(struct ring *ring, struct request *request, int32_t *r
     log_carrying(ring, request);
     *res = carry_out(ring, request, injected(ring, request));
     log_carried(ring, request, *res);
-    if (can_make_ready(request))
+    if (request->needs.can_make_ready)
         ring->moment++;
     if (*res == WOULD_WAIT) {
         note_fact(request, WULGACH_FACT_WAITS, 0);
         note_wait(ring, request);
         return false;
     }
-    if (goes_on(request) && goes_on_behind(ring, request, *res)) {
+    if (request->needs.goes_on && goes_on_behind(ring, request, *res)) {
         note_fact(request, WULGACH_FACT_WENT_ON, 0);
         post_extra(ring, request->entry.user_data, *res, request->flags | IORING_CQE_F_MORE);
         return false;
@@ -134,7 +135,7 @@ static void start(struct ring *ring, struct request *request)
         request->started = start_poll(request);
     arm_linked_timeout(ring, request);
     ring->counting += has_count(request);
-    if (request->is_stream)
+    if (request->standing.is_stream)
         look_at(ring, request);
 }
 

@@ -6,12 +6,8 @@
 
 struct ring;
 
-/* Whether an operation is one of these, and what is waited for on its descriptor. */
+/* Whether an operation is one of these. */
 bool is_of_sockets(uint8_t code);
-short events_of_socket(const struct request *request);
-
-/* Whether its entry has flags of a message: one of them asks it not to wait. */
-bool has_message_flags(uint8_t code);
 
 /* One buffer becomes a message of a single vector. Returns 0 or -ENOMEM. */
 int make_message(struct request *request);

@@ -21,3 +21,4 @@ pub mod EntryForm
 pub mod TakingForm
 pub mod RegisterForm
 pub mod UsesForm
+pub mod WaitForm

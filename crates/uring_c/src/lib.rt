@@ -55,6 +55,8 @@ mod volume_calls;
 mod volume_exports;
 mod volume_memory;
 mod volume_place;
+mod wait_exports;
+mod wait_words;
 mod whole_call_exports;
 mod whole_call_memory;
 mod whole_calls;

@@ -21,6 +21,11 @@ pub mod Clocks
 pub mod SocketForms
 pub mod Forms
 pub mod Pieces
+pub mod Needs
+pub mod Descriptors
+pub mod Readiness
+pub mod Tries
+pub mod CallTries
 pub mod Copies
 pub mod Shots
 pub mod Takings

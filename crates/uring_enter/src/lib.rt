@@ -11,15 +11,18 @@ mod command;
 mod copying;
 mod course;
 mod course_laws;
+mod descriptor;
 mod drains;
 mod enter;
 mod form;
 mod laws;
 mod member;
+mod needs;
 mod outcome;
 mod piece;
 mod posted;
 mod posting_laws;
+mod ready;
 mod reply;
 mod search;
 mod shot;
@@ -32,48 +35,123 @@ mod time_laws;
 mod timeout;
 mod timeout_rows;
 mod times;
+mod transfer;
 mod update;
 mod wait;
+mod waiting_call;
 mod ways;
 
-pub use act::{Act, Fact};
-pub use asked::{Asked, Policy};
-pub use asked_ring::{AskedRing, features, set_up};
-pub use cancel::{Cancel, Outstanding, Sought};
-pub use cancel_laws::{
-    asks_what_matters, cancels_all_that_fit, cancels_the_oldest, cancels_what_fits,
-};
-pub use chain_laws::{chains_end, chains_hold, limits_one_at_most, limits_the_one_before};
+pub use act::Act;
+pub use act::Fact;
+pub use asked::Asked;
+pub use asked::Policy;
+pub use asked_ring::AskedRing;
+pub use asked_ring::features;
+pub use asked_ring::set_up;
+pub use cancel::Cancel;
+pub use cancel::Outstanding;
+pub use cancel::Sought;
+pub use cancel_laws::asks_what_matters;
+pub use cancel_laws::cancels_all_that_fit;
+pub use cancel_laws::cancels_the_oldest;
+pub use cancel_laws::cancels_what_fits;
+pub use chain_laws::chains_end;
+pub use chain_laws::chains_hold;
+pub use chain_laws::limits_one_at_most;
+pub use chain_laws::limits_the_one_before;
 pub use command::Command;
-pub use copying::{Copying, next_piece};
+pub use copying::Copying;
+pub use copying::next_piece;
 pub use course::Course;
-pub use course_laws::{
-    carries_out_once, carries_out_what_runs, ends_for_good, ends_with_its_result, tries_once,
+pub use course_laws::carries_out_once;
+pub use course_laws::carries_out_what_runs;
+pub use course_laws::ends_for_good;
+pub use course_laws::ends_with_its_result;
+pub use course_laws::tries_once;
+pub use descriptor::{
+    Finding, Kind, Known, Nature, Question, Trial, asks_once, finds_the_kind, next_finding,
 };
 pub use drains::Drains;
-pub use enter::{Before, Enter, WrongReply};
-pub use form::{Form, Rule, core_flags, form_of, rule_of};
-pub use laws::{ends_for_a_reason, gives_up_in_vain, sleeps_in_vain, submits_once};
-pub use member::{Entry, Member};
-pub use outcome::{EndedEarly, Success, is_success, looks_for_running, shown_of};
-pub use piece::{Piece, What, message_fault, room_fault, time_fault};
-pub use posted::{Completion, Posted, WrongEnd};
-pub use posting_laws::{shows_each_once, shows_the_cores};
-pub use reply::{Reply, Sight};
+pub use enter::Before;
+pub use enter::Enter;
+pub use enter::WrongReply;
+pub use form::Form;
+pub use form::Rule;
+pub use form::core_flags;
+pub use form::form_of;
+pub use form::rule_of;
+pub use laws::ends_for_a_reason;
+pub use laws::gives_up_in_vain;
+pub use laws::sleeps_in_vain;
+pub use laws::submits_once;
+pub use member::Entry;
+pub use member::Member;
+pub use needs::Needs;
+pub use needs::needs_of;
+pub use outcome::EndedEarly;
+pub use outcome::Success;
+pub use outcome::is_success;
+pub use outcome::looks_for_running;
+pub use outcome::shown_of;
+pub use piece::Piece;
+pub use piece::What;
+pub use piece::message_fault;
+pub use piece::room_fault;
+pub use piece::time_fault;
+pub use posted::Completion;
+pub use posted::Posted;
+pub use posted::WrongEnd;
+pub use posting_laws::shows_each_once;
+pub use posting_laws::shows_the_cores;
+pub use ready::{
+    Look, Moment, Patience, Standing, Wanted, finishes_what_can, is_impatient, looks_once, next_look,
+};
+pub use reply::Reply;
+pub use reply::Sight;
 pub use search::Search;
 pub use shot::Shot;
-pub use showing::{Shown, Store};
-pub use showing_laws::{shows_what_was_posted, stands_apart};
+pub use showing::Shown;
+pub use showing::Store;
+pub use showing_laws::shows_what_was_posted;
+pub use showing_laws::stands_apart;
 pub use submission::Submission;
-pub use taking::{Item, Onward, Submitting, Taking};
-pub use time_laws::{
-    ends_alone, ends_in_time, ends_once, never_goes_back, passes_none_over, runs_apart,
+pub use taking::Item;
+pub use taking::Onward;
+pub use taking::Submitting;
+pub use taking::Taking;
+pub use time_laws::ends_alone;
+pub use time_laws::ends_in_time;
+pub use time_laws::ends_once;
+pub use time_laws::never_goes_back;
+pub use time_laws::passes_none_over;
+pub use time_laws::runs_apart;
+pub use timeout::Clock;
+pub use timeout::Start;
+pub use timeout::Timeout;
+pub use timeout::are_timeout_flags;
+pub use timeout::clock_of;
+pub use timeout::lasts;
+pub use timeout::later;
+pub use timeout::left_until;
+pub use timeout::linked_outcome;
+pub use timeout::nanoseconds_of;
+pub use times::NoRoom;
+pub use times::Times;
+pub use transfer::{
+    How, Step, Task, Transfer, loses_nothing, next_step, offset_of, sleeps_never, tells_what_came,
 };
-pub use timeout::{
-    Clock, Start, Timeout, are_timeout_flags, clock_of, lasts, later, left_until, linked_outcome,
-    nanoseconds_of,
+pub use update::Poll;
+pub use update::Removal;
+pub use update::poll_removal;
+pub use update::timeout_removal;
+pub use update::updated_flags;
+pub use update::updated_poll;
+pub use wait::Wait;
+pub use wait::WakeSources;
+pub use wait::Woken;
+pub use waiting_call::{
+    Call, Doing, Turn, accepts_what_came, ends_with_what_came, loses_no_bytes, next_turn, poll_result,
 };
-pub use times::{NoRoom, Times};
-pub use update::{Poll, Removal, poll_removal, timeout_removal, updated_flags, updated_poll};
-pub use wait::{Wait, WakeSources, Woken};
-pub use ways::{Way, Ways, names_the_ways};
+pub use ways::Way;
+pub use ways::Ways;
+pub use ways::names_the_ways;
