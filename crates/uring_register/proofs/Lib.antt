@@ -1,2 +1,3 @@
 mod TableRuns
 mod TableLaws
+mod IssuingLaws

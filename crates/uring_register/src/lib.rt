@@ -23,7 +23,7 @@ pub use enrolled::{
 pub use enrolled_laws::{keeps_other_rows, names_the_last, takes_back, takes_no_others_row};
 pub use eventfd::Eventfd;
 pub use issuer::Issuer;
-pub use issuer_laws::{keeps_its_issuer, knows_its_issuer};
+pub use issuer_laws::{disabled_has_none, keeps_its_issuer, knows_its_issuer};
 pub use registering::{Row, buffer_row, file_row, updated};
 pub use restrictions::{Restriction, Restrictions, enabling_fault, restricting_fault};
 pub use table::Table;
