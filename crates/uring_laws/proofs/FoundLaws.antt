@@ -27,10 +27,10 @@ target_some r n m e =
     record { below = least.below; holds = least.holds; least = least.before }
 
 -- what is found, and what the cancel ends with
-found_as : (r : Requests) (n : ℕ) (o : Option ℕ) → target_of r n ≡ o
+target_found : (r : Requests) (n : ℕ) (o : Option ℕ) → target_of r n ≡ o
     → IsFound r n (found_as r o) × (result_for r o ≡ ends_with (found_as r o))
-found_as r n None e = (target_none r n e, refl)
-found_as r n (Some m) e = go (is_running r m) refl
+target_found r n None e = (target_none r n e, refl)
+target_found r n (Some m) e = go (is_running r m) refl
   where
     go : (b : Bool) → is_running r m ≡ b → IsFound r n (if b then Running m else Chosen m) × ((if b then neg_ℤ EALREADY else pos 0) ≡ ends_with (if b then Running m else Chosen m))
     go true runs = ((target_some r n m e, runs), refl)
@@ -39,7 +39,7 @@ found_as r n (Some m) e = go (is_running r m) refl
 found_one : (r : Requests) (n : ℕ) (f : Found) → is_cancel_all (entry_of r n) ≡ false
     → found_as r (target_of r n) ≡ f → IsFound r n f × (cancel_result r n ≡ ends_with f)
 found_one r n f one is =
-    let so = found_as r n (target_of r n) refl in
+    let so = target_found r n (target_of r n) refl in
     subst (λ x. IsFound r n x × (cancel_result r n ≡ ends_with x)) is
     (so.0, ap (λ b. if b then count_result (length (targets_of r n)) else result_for r (target_of r n)) one ∙ so.1)
 

@@ -1,5 +1,6 @@
 -- Glue. What callers see of an end of the submission ring's table, and what its fields are between two calls.
 use Rattle.std.specs.Prelude.{◌≡◌, ℕ, ◌+◌, ◌<◌, ◌≤◌, true, List, [], ◌∷◌, ◌++◌, drop, length}
+use Rattle.std.specs.Int.{IsPowerOfTwo}
 use Rattle.atomic_table.specs.Seated.{TableId}
 use Rattle.uring_entry.specs.IndexWords.{word_of}
 use Rattle.uring_ports.specs.declared.item.Item.{Item}
@@ -48,6 +49,19 @@ pub record IsWriter (seat table : TableId) (v : View AppSide KernelSide) (held :
 abbrev pub WriterRests : AppSide → Type 0
 WriterRests a = AreWhole a.published
 
+-- the index word of the place that is so many behind the last one published
+abbrev pub tail_behind : Holder → ℕ → ℕ
+tail_behind h count = word_of h.0.app.start (length h.0.app.published + count)
+
+-- The places that an application's seat holds are so many at least, whatever stands there, in a ring of this size; the index word of the first of them.
+pub record HoldsRoom (h : Holder) (size tail count : ℕ) : Type 0 where
+  pub sized : h.0.app.size ≡ size
+  pub power : IsPowerOfTwo size
+  pub tail_word : tail ≡ word_of h.0.app.start (length h.0.app.published)
+  pub blank : List Position
+  pub holds : h.1 ≡ held_from h.0.app.start h.0.app.size (length h.0.app.published) blank
+  pub many : count ≤ length blank
+
 -- It loaded the head, above which fewer than so many places are free.
 pub record LooksInVain (before after : End) (count : ℕ) : Type 0 where
   pub looked : before.knows.app.looks < after.knows.app.looks
@@ -72,6 +86,17 @@ pub record IsReader (seat table : TableId) (v : View AppSide KernelSide) (held :
 pub record ReaderRests (d : KernelSide) : Type 0 where
   pub known : AreWhole (d.taken ++ d.known)
   pub whole : AreWhole d.taken
+
+-- the positions that a dispatcher's seat knows to be there
+abbrev pub known_of : Holder → List Position
+known_of h = h.0.kernel.known
+
+-- The places that a dispatcher's seat holds are those of the positions that it knows, in a ring of this size; the index word of the first of them.
+pub record HoldsKnown (h : Holder) (size head : ℕ) : Type 0 where
+  pub sized : h.0.kernel.size ≡ size
+  pub power : IsPowerOfTwo size
+  pub head_word : head ≡ word_of h.0.kernel.start (length h.0.kernel.taken)
+  pub holds : h.1 ≡ held_from h.0.kernel.start h.0.kernel.size (length h.0.kernel.taken) (known_of h)
 
 -- the positions that were read if this was pulled
 abbrev pub AreRead : Pulled → List Item → List Position → Type 0

@@ -89,7 +89,7 @@ impl CompletionWriter {
     /// Gives back the cells that it holds, and ends: its seat, which holds none.
     pub(super) fn give_all(self) -> Seat
         ensures table { result.table_id ≡ self.table }
-        ensures side { result.me.0.is_kernel ≡ true }
+        ensures side { self.knows.is_kernel ≡ true }
         ensures knows { result.me ≡ (record self.knows { kernel = all_given self.knows.kernel }, []) }
     {
         let CompletionWriter {

@@ -1,12 +1,9 @@
 //! The dispatcher's end of the submission ring: it pulls one whole call, the close mark, or nothing.
 ghost use Rattle.std.specs.Prelude.{◌≡◌, ◌≢◌, ◌+◌, ◌<◌, ◌≤◌, true, false, List, [], ◌∷◌, ◌++◌, length, vec_capacity, vec_len};
-ghost use Rattle.std.specs.Int.{IsPowerOfTwo};
 ghost use Rattle.atomic_table.specs.Table.{rest, turned};
-ghost use Rattle.uring_entry.specs.IndexWords.{word_of};
 ghost use Rattle.uring_ports.specs.Ports.{LeavesItems, Pulls};
-ghost use Rattle.uring_words.specs.Slots.{held_from};
 ghost use Rattle.uring_words.specs.Submission.Calls.{items_of, put_of, has_close_mark, AreWhole};
-ghost use Rattle.uring_words.specs.Submission.Ends.{kernel_knows, FindsNone, ReadsCall, ReaderRests, WriterRests};
+ghost use Rattle.uring_words.specs.Submission.Ends.{kernel_knows, known_of, FindsNone, HoldsKnown, ReadsCall, ReaderRests, WriterRests};
 ghost use Rattle.uring_words.specs.declared.submission.view.Position.{Position};
 
 use crate::submission::table::{BothSides, HEAD, LoadTail, Ring, Seat, StoreHead, TAIL, Words};
@@ -64,13 +61,9 @@ fn read_call(
     items: &mut Vec<Item>,
 ) -> (Pulled, u32)
     requires table { seat.old.table_id ≡ words.now.table_id }
-    requires size { (seat.old.me.0.kernel.size ≡ size) × IsPowerOfTwo size }
-    requires head { head
-        ≡ word_of seat.old.me.0.kernel.start (length seat.old.me.0.kernel.taken) }
-    requires known { (known ≡ length seat.old.me.0.kernel.known) × (known ≤ size) }
-    requires holds { seat.old.me.1
-        ≡ held_from seat.old.me.0.kernel.start seat.old.me.0.kernel.size (length seat.old.me.0.kernel.taken) seat.old.me.0.kernel.known }
-    requires whole { AreWhole seat.old.me.0.kernel.known }
+    requires held { HoldsKnown seat.old.me size head }
+    requires known { (known ≡ length (known_of seat.old.me)) × (known ≤ size) }
+    requires whole { AreWhole (known_of seat.old.me) }
     requires some { 0 < known }
     requires empty { items.old.items ≡ [] }
     requires room { size ≤ vec_capacity items.old }
@@ -104,14 +97,10 @@ fn read_items(
     items: &mut Vec<Item>,
 )
     requires table { seat.old.table_id ≡ words.now.table_id }
-    requires size { (seat.old.me.0.kernel.size ≡ size) × IsPowerOfTwo size }
-    requires head { head
-        ≡ word_of seat.old.me.0.kernel.start (length seat.old.me.0.kernel.taken) }
-    requires known { known ≡ length seat.old.me.0.kernel.known }
-    requires holds { seat.old.me.1
-        ≡ held_from seat.old.me.0.kernel.start seat.old.me.0.kernel.size (length seat.old.me.0.kernel.taken) seat.old.me.0.kernel.known }
+    requires held { HoldsKnown seat.old.me size head }
+    requires known { known ≡ length (known_of seat.old.me) }
     requires room { vec_len items.old + known ≤ vec_capacity items.old }
-    ensures { items.new.items ≡ items.old.items ++ items_of seat.old.me.0.kernel.known }
+    ensures { items.new.items ≡ items.old.items ++ items_of (known_of seat.old.me) }
 {
     let mut next = head;
     for _ in 0..known {

@@ -1,12 +1,9 @@
 //! The application's end of the submission ring: it puts one call or the close mark, all or nothing.
 ghost use Rattle.std.specs.Prelude.{◌≡◌, ◌+◌, ◌<◌, ◌≤◌, true, false, List, [], ◌∷◌, ◌++◌, drop, length, MatchBool};
-ghost use Rattle.std.specs.Int.{IsPowerOfTwo};
 ghost use Rattle.atomic_table.specs.Table.{rest};
-ghost use Rattle.uring_entry.specs.IndexWords.{word_of};
 ghost use Rattle.uring_ports.specs.Ports.{places_of, with_call, with_close};
-ghost use Rattle.uring_words.specs.Slots.{held_from};
 ghost use Rattle.uring_words.specs.Submission.Calls.{all_more, put_of, has_close_mark, AreWhole};
-ghost use Rattle.uring_words.specs.Submission.Ends.{app_knows, WriterRests, LooksInVain, Writes};
+ghost use Rattle.uring_words.specs.Submission.Ends.{app_knows, tail_behind, HoldsRoom, WriterRests, LooksInVain, Writes};
 ghost use Rattle.uring_words.specs.Submission.Steps.{all_given, head_loaded, tail_stored};
 ghost use Rattle.uring_words.specs.declared.submission.view.Position.{Position};
 
@@ -55,17 +52,10 @@ fn write_first(words: &Words, seat: &mut Seat, place: usize, position: Position)
 /// Writes items that others of their call follow, from the place of this index word on, which are this seat's. The index word of the place behind them.
 fn write_front(words: &Words, seat: &mut Seat, size: u32, tail: u32, items: &[Item]) -> u32
     requires table { seat.old.table_id ≡ words.now.table_id }
-    requires size { (seat.old.me.0.app.size ≡ size) × IsPowerOfTwo size }
-    requires tail { tail
-        ≡ word_of seat.old.me.0.app.start (length seat.old.me.0.app.published) }
-    requires room { (blank : List Position)
-        × (seat.old.me.1
-        ≡ held_from seat.old.me.0.app.start seat.old.me.0.app.size (length seat.old.me.0.app.published) blank)
-        × (length items.now ≤ length blank) }
+    requires held { HoldsRoom seat.old.me size tail (length items.now) }
     ensures table { seat.new.table_id ≡ seat.old.table_id }
     ensures written { Writes seat.old.me seat.new.me (all_more items.now) }
-    ensures tail { result
-        ≡ word_of seat.old.me.0.app.start (length seat.old.me.0.app.published + length items.now) }
+    ensures tail { result ≡ tail_behind seat.old.me (length items.now) }
 {
     let mut next = tail;
     for item in items {
@@ -179,7 +169,7 @@ impl CallWriter {
     /// Gives back all its places, and ends: its seat, which holds none.
     pub(super) fn give_all(self) -> Seat
         ensures table { result.table_id ≡ self.table }
-        ensures side { result.me.0.is_app ≡ true }
+        ensures side { self.knows.is_app ≡ true }
         ensures knows { result.me ≡ (record self.knows { app = all_given self.knows.app }, []) }
     {
         let CallWriter {

@@ -10,7 +10,7 @@ read_first-position-requires-clause-first c =
     let d = c.args.seat.now.me.0.kernel in
     let k : ℕ = c.loop.counter in
     let inv = c.loop.invariant in
-    let at = at_place d.start c.args.size d.size (length d.taken + k) c.loop.next c.requires.size.0 c.requires.size.1 inv.next in
+    let at = at_place d.start c.args.size d.size (length d.taken + k) c.loop.next c.requires.held.sized c.requires.held.power inv.next in
     stands_first d.start d.size (length d.taken) k (c.loop.next % c.args.size) d.known (take k d.known) c.loop.seat.me c.args.seat.now.me.0 inv.read (omega (arith, c.loop-test.true, c.requires.known.0)) at.0
 
 pub returns-in-Last-clause-read : goal.returns-in-Last-clause-read
@@ -19,7 +19,7 @@ returns-in-Last-clause-read c =
     let d = b.0.kernel in
     let k : ℕ = c.loop.counter in
     let inv = c.loop.invariant in
-    let at = at_place d.start c.args.size d.size (length d.taken + k) c.loop.next c.requires.size.0 c.requires.size.1 inv.next in
+    let at = at_place d.start c.args.size d.size (length d.taken + k) c.loop.next c.requires.held.sized c.requires.held.power inv.next in
     let r = c.read_first-position.ensures in
     reads_last b k (c.loop.next % c.args.size) c.loop.seat.me c.read_first-position.new.seat.me c.read_first-position.result inv.read (omega (arith, c.loop-test.true, c.requires.known.0)) at.0 r.read r.turned c.loop.items.items inv.goes_on c.in-Last.item c.push_reserved-in-Last.new.self.items _ c.in-Last.is c.push_reserved-in-Last.ensures.items (omega (arith, inv.next))
 
@@ -29,7 +29,7 @@ returns-in-Close-clause-read c =
     let d = b.0.kernel in
     let k : ℕ = c.loop.counter in
     let inv = c.loop.invariant in
-    let at = at_place d.start c.args.size d.size (length d.taken + k) c.loop.next c.requires.size.0 c.requires.size.1 inv.next in
+    let at = at_place d.start c.args.size d.size (length d.taken + k) c.loop.next c.requires.held.sized c.requires.held.power inv.next in
     let r = c.read_first-position.ensures in
     reads_close b k (c.loop.next % c.args.size) c.loop.seat.me c.read_first-position.new.seat.me c.read_first-position.result inv.read (omega (arith, c.loop-test.true, c.requires.known.0)) at.0 r.read r.turned c.loop.items.items inv.goes_on _ c.in-Close.is c.requires.whole (omega (arith, inv.next))
 
@@ -39,7 +39,7 @@ loop-preserved c =
     let d = b.0.kernel in
     let k : ℕ = c.loop.counter in
     let inv = c.loop.invariant in
-    let at = at_place d.start c.args.size d.size (length d.taken + k) c.loop.next c.requires.size.0 c.requires.size.1 inv.next in
+    let at = at_place d.start c.args.size d.size (length d.taken + k) c.loop.next c.requires.held.sized c.requires.held.power inv.next in
     let r = c.read_first-position.ensures in
     let place : ℕ = c.loop.next % c.args.size in
     let below : k < length d.known = omega (arith, c.loop-test.true, c.requires.known.0) in

@@ -12,7 +12,7 @@ read_first-position-requires-clause-first c =
     let d = c.args.seat.now.me.0.kernel in
     let k : ℕ = c.loop.counter in
     let inv = c.loop.invariant in
-    let at = at_place d.start c.args.size d.size (length d.taken + k) c.loop.next c.requires.size.0 c.requires.size.1 inv.next in
+    let at = at_place d.start c.args.size d.size (length d.taken + k) c.loop.next c.requires.held.sized c.requires.held.power inv.next in
     stands_first d.start d.size (length d.taken) k (c.loop.next % c.args.size) d.known (take k d.known) c.loop.seat.me c.args.seat.now.me.0 inv.read (omega (arith, c.loop-test.true, c.requires.known)) at.0
 
 longer : (old new first more added part : List Item) → old ≡ first ++ part → new ≡ old ++ added → more ≡ part ++ added
@@ -26,7 +26,7 @@ loop-preserved c =
     let d = b.0.kernel in
     let k : ℕ = c.loop.counter in
     let inv = c.loop.invariant in
-    let at = at_place d.start c.args.size d.size (length d.taken + k) c.loop.next c.requires.size.0 c.requires.size.1 inv.next in
+    let at = at_place d.start c.args.size d.size (length d.taken + k) c.loop.next c.requires.held.sized c.requires.held.power inv.next in
     let r = c.read_first-position.ensures in
     let x = c.read_first-position.result in
     let place : ℕ = c.loop.next % c.args.size in

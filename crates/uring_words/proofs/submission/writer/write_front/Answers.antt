@@ -12,9 +12,9 @@ pub write_first-requires-clause-first : goal.write_first-requires-clause-first
 write_first-requires-clause-first c =
     let a = c.args.seat.now.me.0.app in
     let inv = c.loop-item.invariant in
-    let room = c.requires.room in
-    let at = at_place a.start c.args.size a.size (length a.published + c.loop-item.item-index) c.loop-item.next c.requires.size.0 c.requires.size.1 inv.next in
-    stands_first a.start a.size (length a.published) c.loop-item.item-index (c.loop-item.next % c.args.size) room.0 (all_more (take c.loop-item.item-index c.args.items.now)) c.loop-item.seat.me c.args.seat.now.me.0 (inv.written room.0 room.1) (omega (arith, room.2, c.loop-item-test.true)) at.0
+    let room = c.requires.held in
+    let at = at_place a.start c.args.size a.size (length a.published + c.loop-item.item-index) c.loop-item.next c.requires.held.sized c.requires.held.power inv.next in
+    stands_first a.start a.size (length a.published) c.loop-item.item-index (c.loop-item.next % c.args.size) room.blank (all_more (take c.loop-item.item-index c.args.items.now)) c.loop-item.seat.me c.args.seat.now.me.0 (inv.written room.blank room.holds) (omega (arith, room.many, c.loop-item-test.true)) at.0
 
 pub loop-item-preserved : goal.loop-item-preserved
 loop-item-preserved c =
@@ -23,17 +23,17 @@ loop-item-preserved c =
     let k : ℕ = c.loop-item.item-index in
     let items = c.args.items.now in
     let inv = c.loop-item.invariant in
-    let room = c.requires.room in
+    let room = c.requires.held in
     let x = c.item-item.result in
-    let at = at_place a.start c.args.size a.size (n + k) c.loop-item.next c.requires.size.0 c.requires.size.1 inv.next in
+    let at = at_place a.start c.args.size a.size (n + k) c.loop-item.next c.requires.held.sized c.requires.held.power inv.next in
     let many : k ≡ length (all_more (take k items)) = sym (more_length (take k items) ∙ length-take-le k items (omega (arith, c.loop-item-test.true))) in
     let longer : all_more (take k items) ++ position.More x ∷ [] ≡ all_more (take (k + 1) items) = sym (ap all_more (take_more items k x c.loop-item-test.true ∙ ap (λ y. take k items ++ y ∷ []) (sym c.item-item.is)) ∙ more_append (take k items) (x ∷ [])) in
     record {
       table = c.write_first.ensures.table ∙ inv.table;
       next = omega (arith, inv.next);
       written = λ blank holds.
-          let all : length room.0 ≡ length blank = sym (held-length a.start a.size n room.0) ∙ ap length (sym room.1 ∙ holds) ∙ held-length a.start a.size n blank in
-          goes_behind a.start a.size n k (c.loop-item.next % c.args.size) blank (all_more (take k items)) c.loop-item.seat.me c.args.seat.now.me.0 (inv.written blank holds) (omega (arith, room.2, c.loop-item-test.true)) at.0 (position.More x) c.write_first.new.seat.me many c.write_first.ensures.written
+          let all : length room.blank ≡ length blank = sym (held-length a.start a.size n room.blank) ∙ ap length (sym room.holds ∙ holds) ∙ held-length a.start a.size n blank in
+          goes_behind a.start a.size n k (c.loop-item.next % c.args.size) blank (all_more (take k items)) c.loop-item.seat.me c.args.seat.now.me.0 (inv.written blank holds) (omega (arith, room.many, c.loop-item-test.true)) at.0 (position.More x) c.write_first.new.seat.me many c.write_first.ensures.written
           ∙ ap (λ ps. (c.args.seat.now.me.0, part_done a.start a.size n (k + 1) blank ps)) longer;
     }
 

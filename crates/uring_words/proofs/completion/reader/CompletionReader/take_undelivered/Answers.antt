@@ -9,4 +9,4 @@ join_seat-requires c =
     let i = c.self.invariant in
     let given = c.give_all-kernel_seat.ensures in
     let same = given.table ∙ sym c.requires.table ∙ sym (ap (λ (e : End). e.table) c.self.view_is) in
-    rw c.deref.ensures (i.fits.same_table, same ∙ i.fits.same_table, ap (λ (me : Holder). me.1) given.knows, omega (arith, i.fits.many), app_joins _ _ _ _ _ _ i.is_app given.side)
+    rw c.deref.ensures (i.fits.same_table, same ∙ i.fits.same_table, ap (λ (me : Holder). me.1) given.knows, omega (arith, i.fits.many), app_joins _ _ _ _ _ _ i.is_app (ap (λ (me : Holder). me.0.is_kernel) given.knows ∙ given.side))

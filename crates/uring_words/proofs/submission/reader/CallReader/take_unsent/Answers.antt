@@ -11,7 +11,7 @@ join_seat-requires c =
     let i = c.self.invariant in
     let given = c.give_all-app_seat.ensures in
     let same = given.table ∙ c.requires.table ∙ sym (ap (λ (e : End). e.table) c.self.view_is) in
-    rw c.deref.ensures (i.fits.same_table, same ∙ i.fits.same_table, ap (λ (me : Holder). me.1) given.knows, omega (arith, i.fits.many), kernel_joins _ _ _ _ _ _ i.is_kernel given.side)
+    rw c.deref.ensures (i.fits.same_table, same ∙ i.fits.same_table, ap (λ (me : Holder). me.1) given.knows, omega (arith, i.fits.many), kernel_joins _ _ _ _ _ _ i.is_kernel (ap (λ (me : Holder). me.0.is_app) given.knows ∙ given.side))
 
 pub returns : goal.returns
 returns c =
