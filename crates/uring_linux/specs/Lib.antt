@@ -1,8 +1,10 @@
 pub mod Drains
 pub mod LinuxRequests
 pub mod Issues
+pub mod Issuable
 pub mod Laws
 pub mod Window
 pub mod Members
 pub mod KeptDrains
 pub mod LinuxDispatch
+pub mod Counts

@@ -7,7 +7,7 @@ ghost use Rattle.uring_entry.specs.Flags.{skip_success};
 ghost use Rattle.uring_entry.specs.Layout.{has};
 ghost use Rattle.uring_entry.specs.Groups.{first_member};
 ghost use Rattle.uring_linux.specs.Issues as issues;
-ghost use Rattle.uring_linux.specs.Window.{at, end_of, passes, said, Tells, Shows, IsWithin};
+ghost use Rattle.uring_linux.specs.Window.{at, end_of, unended_among, running_among, passes, said, Tells, Shows, IsWithin};
 
 use crate::request::{Request, Test};
 use std::alloc::{AllocError, Global};
@@ -154,8 +154,9 @@ impl Window {
     /// Says anew what is kept of request `n`.
     pub(crate) fn write(&mut self, n: u64, request: Request)
         requires { IsWithin self.old n }
-        ensures { self.new
+        ensures written { self.new
             ≡ record self.old { items = slice_set self.old.items (n - self.old.first) request } }
+        ensures limit { end_of self.new < 2 ^ 63 }
     {
         put(&mut self.items, (n - self.first) as usize, request);
     }
@@ -166,6 +167,8 @@ impl Window {
         ensures first { self.new.first ≡ self.old.first }
         ensures end { end_of self.new ≡ end_of self.old }
         ensures room { self.new.room ≡ self.old.room }
+        ensures outstanding { unended_among self.new.items ≡ unended_among self.old.items }
+        ensures running { running_among self.new.items ≡ running_among self.old.items }
     {
         let end = self.end();
         if end <= self.first {
