@@ -5,3 +5,6 @@ pub mod WindowCounts
 pub mod Dispatches
 pub mod Tallies
 pub mod Standings
+pub mod Deferring
+pub mod Reaching
+pub mod GoingOn

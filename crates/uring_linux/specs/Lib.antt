@@ -2,6 +2,7 @@ pub mod Drains
 pub mod LinuxRequests
 pub mod Issues
 pub mod Issuable
+pub mod Happenings
 pub mod Laws
 pub mod Window
 pub mod Members
