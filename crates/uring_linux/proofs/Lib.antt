@@ -3,6 +3,7 @@ pub mod MemberLemmas
 pub mod WindowEvents
 pub mod WindowCounts
 pub mod Dispatches
+pub mod LettingGo
 pub mod Tallies
 pub mod Standings
 pub mod Deferring

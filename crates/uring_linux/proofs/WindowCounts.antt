@@ -88,7 +88,7 @@ running_some xs i lt = go (runs (slice_get xs i)) refl
 
 -- What is kept shows how many are outstanding and running.
 
-there : (xs : List Request) (i : ℕ) → i < length xs → (q : Request) × (slice_get xs i ≡ Some q)
+pub there : (xs : List Request) (i : ℕ) → i < length xs → (q : Request) × (slice_get xs i ≡ Some q)
 there xs i lt =
     elim (slice_get_cases xs i).1 [
       | inl inside ↦ (inside.0, inside.2)
@@ -105,7 +105,7 @@ among_shown p P xs first told none =
     (λ k lt. let q = there xs k lt in ap p q.1 ∙ told k q.0 q.1) in
     omega arith
 
-at_place : (s : Window) (k : ℕ) (q : Request) → slice_get s.items k ≡ Some q → at s (s.first + k) ≡ Some q
+pub at_place : (s : Window) (k : ℕ) (q : Request) → slice_get s.items k ≡ Some q → at s (s.first + k) ≡ Some q
 at_place s k q e =
     let place : (s.first + k) - s.first ≡ k = omega arith in
     at_high s (s.first + k) (omega arith) ∙ ap (slice_get s.items) place ∙ e

@@ -101,3 +101,10 @@ pub record Shows (s : Window) (r : Requests) : Type 0 where
   pub gone : (n : ℕ) → n < s.first → has_ended r n ≡ true
   pub begins : (k : ℕ) → suc k ≡ s.first → is_last r k ≡ true
   pub later : (n : ℕ) → length r.accepted ≤ n → IsNew r n
+
+-- what is kept before this number has ended, in whole groups
+pub record IsOver (s : Window) (to : ℕ) : Type 0 where
+  pub low : s.first ≤ to
+  pub high : to ≤ end_of s
+  pub ended : (n : ℕ) (q : Request) → n < to → at s n ≡ Some q → q.has_ended ≡ true
+  pub last : (n : ℕ) (q : Request) → suc n ≡ to → at s n ≡ Some q → q.is_last ≡ true

@@ -23,7 +23,7 @@ use uring_memory::Memory;
 
 /// The requests that were accepted, numbered from 0 in the order of their acceptance, with what was made of them, by the rules of Linux 6.18.
 ///
-/// A submission call gives its entries one by one to `accept` and ends with `end_call`; every other call is made between submission calls. It keeps all requests that were accepted, and searches go over them one after the other.
+/// A submission call gives its entries one by one to `accept` and ends with `end_call`; every other call is made between submission calls. It keeps the requests from the first group on of which one is outstanding at a call's end, and searches go over them one after the other.
 #[derive(Drop)]
 pub struct LinuxDispatch {
     pub(crate) window: Window,
@@ -158,6 +158,7 @@ impl LinuxDispatch {
     {
         self.window.close();
         self.drains.end_call(&self.window);
+        self.window.let_go();
         self.is_between_calls = true;
     }
 
