@@ -154,6 +154,7 @@ impl LinuxDispatch {
         ensures shows { (l : LinuxRequests) → ShowsRequests self.old l
             → ShowsRequests self.new (with_cut l) }
         ensures counts { IsSameCount self.old self.new }
+        ensures room { self.new.room ≡ self.old.room }
         ensures between { self.new.is_between_calls ≡ true }
     {
         self.window.close();
