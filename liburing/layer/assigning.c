@@ -11,46 +11,6 @@
 #include <errno.h>
 #include <fcntl.h>
 
-/* Whether an operation is carried out on a descriptor that may be a registered file. */
-static bool needs_file(uint8_t code)
-{
-    switch (code) {
-    case IORING_OP_READ:
-    case IORING_OP_READV:
-    case IORING_OP_READ_FIXED:
-    case IORING_OP_WRITE:
-    case IORING_OP_WRITEV:
-    case IORING_OP_WRITE_FIXED:
-    case IORING_OP_FSYNC:
-    case IORING_OP_SYNC_FILE_RANGE:
-    case IORING_OP_FALLOCATE:
-    case IORING_OP_FADVISE:
-    case IORING_OP_POLL_ADD:
-    case IORING_OP_SENDMSG:
-    case IORING_OP_SEND_ZC:
-    case IORING_OP_SENDMSG_ZC:
-    case IORING_OP_RECVMSG:
-    case IORING_OP_SEND:
-    case IORING_OP_RECV:
-    case IORING_OP_ACCEPT:
-    case IORING_OP_CONNECT:
-    case IORING_OP_SHUTDOWN:
-    case IORING_OP_SPLICE:
-    case IORING_OP_TEE:
-    case IORING_OP_FSETXATTR:
-    case IORING_OP_FGETXATTR:
-        return true;
-    default:
-        return false;
-    }
-}
-
-static bool uses_buffer(const struct io_uring_sqe *entry)
-{
-    bool is_transfer = entry->opcode == IORING_OP_READ_FIXED || entry->opcode == IORING_OP_WRITE_FIXED;
-    return is_transfer || (entry->opcode == IORING_OP_SEND_ZC && entry->ioprio & IORING_RECVSEND_FIXED_BUF);
-}
-
 /* Whether a transfer's descriptor is open for its direction: at a pipe's other end nothing would ever come. */
 static bool is_open_for(const struct request *request)
 {
@@ -79,16 +39,19 @@ void find_kind(struct request *request)
 void assign(struct ring *ring, struct request *request)
 {
     const struct io_uring_sqe *entry = &request->entry;
+    struct wulgach_needs *needs = &request->needs;
     request->is_assigned = true;
     request->fd = entry->fd;
-    if (request->mapping != TOKEN || !needs_file(entry->opcode))
+    if (request->mapping == TOKEN)
+        wulgach_needs_of(submission_of(entry), needs);
+    if (!needs->needs_file)
         return;
-    request->fd = find_fd(ring, entry->fd, entry->flags & IOSQE_FIXED_FILE, &request->file);
-    if (is_splice(request))
-        request->second_fd = find_fd(ring, entry->splice_fd_in, entry->splice_flags & SPLICE_F_FD_IN_FIXED, &request->second_file);
-    if (request->fd < 0 || (is_splice(request) && request->second_fd < 0) || (is_poll(request) && fcntl(request->fd, F_GETFD) < 0))
+    request->fd = find_fd(ring, entry->fd, needs->is_registered, &request->file);
+    if (needs->needs_second)
+        request->second_fd = find_fd(ring, entry->splice_fd_in, needs->is_second_registered, &request->second_file);
+    if (request->fd < 0 || (needs->needs_second && request->second_fd < 0) || (is_poll(request) && fcntl(request->fd, F_GETFD) < 0))
         request->started = -EBADF;
-    else if (uses_buffer(entry))
+    else if (needs->uses_buffer)
         request->started = use_buffer(ring, entry->buf_index, request->vectors, &request->buffer);
     if (request->started < 0)
         return;

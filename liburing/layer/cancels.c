@@ -133,6 +133,7 @@ static int32_t change_poll(struct ring *ring, struct request *poll, const struct
     poll->entry.user_data = changed.user_data;
     poll->entry.poll32_events = changed.events;
     poll->entry.len = changed.is_multishot ? IORING_POLL_ADD_MULTI : 0;
+    wulgach_needs_of(submission_of(&poll->entry), &poll->needs);
     poll->has_to_wait = false;
     poll->looked_at = UINT64_MAX;
     return poll->course.has_started ? start_poll(poll) : 0;

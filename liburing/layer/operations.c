@@ -79,31 +79,10 @@ bool is_stream(struct request *request)
     return !request->is_tried && (S_ISCHR(status.st_mode) || !has_offsets(request));
 }
 
-bool goes_on(const struct request *request)
-{
-    switch (request->entry.opcode) {
-    case IORING_OP_POLL_ADD:
-        return request->entry.len & IORING_POLL_ADD_MULTI;
-    case IORING_OP_ACCEPT:
-        return request->entry.ioprio & IORING_ACCEPT_MULTISHOT;
-    case IORING_OP_RECV:
-    case IORING_OP_RECVMSG:
-        return request->entry.ioprio & IORING_RECV_MULTISHOT;
-    default:
-        return false;
-    }
-}
-
-/* Whether it takes a provided buffer when it is carried out. */
-static bool is_selecting(const struct request *request)
-{
-    return request->entry.flags & IOSQE_BUFFER_SELECT;
-}
-
 bool lacks_buffer(struct ring *ring, const struct request *request)
 {
     struct provided buffer;
-    return is_selecting(request) && !goes_on(request) && !find_provided(ring, request->entry.buf_group, &buffer);
+    return request->needs.selects && !request->needs.goes_on && !find_provided(ring, request->entry.buf_group, &buffer);
 }
 
 struct pollfd poll_of(const struct request *request)
@@ -112,8 +91,7 @@ struct pollfd poll_of(const struct request *request)
         return poll_of_poll(request);
     if (is_splice(request))
         return poll_of_splice(request);
-    short events = is_of_sockets(request->entry.opcode) ? events_of_socket(request) : is_read(request) ? POLLIN : POLLOUT;
-    return (struct pollfd){.fd = request->fd, .events = events};
+    return (struct pollfd){.fd = request->fd, .events = (short)request->needs.events};
 }
 
 /* One that is asked not to wait, or for nothing, doesn't wait. */
@@ -128,7 +106,7 @@ bool is_impatient(const struct request *request)
     /* A splice looks for its faults before it waits. */
     if (is_splice(request))
         return !request->done;
-    return is_transfer(request) && (request->entry.rw_flags & RWF_NOWAIT || (request->length == 0 && !is_selecting(request)));
+    return is_transfer(request) && (request->entry.rw_flags & RWF_NOWAIT || (request->length == 0 && !request->needs.selects));
 }
 
 bool is_ready(const struct request *request)
@@ -343,9 +321,9 @@ int32_t carry_out(struct ring *ring, struct request *request, enum injection fau
         return -EIO;
     if (fault == FAULT_ENOSPC)
         return -ENOSPC;
-    if (fault == FAULT_SHORT && !is_selecting(request))
+    if (fault == FAULT_SHORT && !request->needs.selects)
         shorten(request);
-    int32_t res = is_selecting(request) ? call_with_buffer(ring, request, fault) : call_or_wait(ring, request);
+    int32_t res = request->needs.selects ? call_with_buffer(ring, request, fault) : call_or_wait(ring, request);
     if (res == -EFBIG)
         take_back_signal();
     return res;

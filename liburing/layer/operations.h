@@ -29,9 +29,6 @@ bool is_splice(const struct request *request);
  * a poll, a splice, or a call of sockets. A file is to be tried first, where that is allowed. */
 bool is_stream(struct request *request);
 
-/* Whether a request can end with more than one completion: a poll, an accept or a receive that goes on. */
-bool goes_on(const struct request *request);
-
 /* Whether it doesn't wait whatever its descriptor is: it is asked not to, or for nothing. */
 bool is_impatient(const struct request *request);
 

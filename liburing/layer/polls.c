@@ -17,14 +17,14 @@ bool is_poll(const struct request *request)
 
 static short events_of(const struct request *request)
 {
-    return (short)request->entry.poll32_events;
+    return (short)request->needs.events;
 }
 
 int start_poll(struct request *request)
 {
     request->is_of_pipe = is_poll_of_pipe(request);
     struct epoll_event event = {.events = (uint16_t)events_of(request) | EPOLLET};
-    if (!goes_on(request))
+    if (!request->needs.goes_on)
         return 0;
     if (request->epoll >= 0)
         close(request->epoll);

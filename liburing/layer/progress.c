@@ -27,26 +27,9 @@ bool can_finish(struct ring *ring, struct request *request)
         return true;
     if (is_timeout(request))
         return has_counted(ring, request);
-    if (goes_on(request) && !can_post_extra(ring))
+    if (request->needs.goes_on && !can_post_extra(ring))
         return false;
     return !request->is_stream || lacks_buffer(ring, request) || is_found_ready(ring, request);
-}
-
-/* Whether carrying a request out can make a descriptor ready, or unready. */
-static bool can_make_ready(const struct request *request)
-{
-    switch (request->entry.opcode) {
-    case IORING_OP_NOP:
-    case IORING_OP_POLL_ADD:
-    case IORING_OP_POLL_REMOVE:
-    case IORING_OP_TIMEOUT:
-    case IORING_OP_TIMEOUT_REMOVE:
-    case IORING_OP_LINK_TIMEOUT:
-    case IORING_OP_ASYNC_CANCEL:
-        return false;
-    default:
-        return true;
-    }
 }
 
 /* Whether a request that goes on does so behind this result. */
@@ -71,14 +54,14 @@ static bool try_operation(struct ring *ring, struct request *request, int32_t *r
     log_carrying(ring, request);
     *res = carry_out(ring, request, injected(ring, request));
     log_carried(ring, request, *res);
-    if (can_make_ready(request))
+    if (request->needs.can_make_ready)
         ring->moment++;
     if (*res == WOULD_WAIT) {
         note_fact(request, WULGACH_FACT_WAITS, 0);
         note_wait(ring, request);
         return false;
     }
-    if (goes_on(request) && goes_on_behind(ring, request, *res)) {
+    if (request->needs.goes_on && goes_on_behind(ring, request, *res)) {
         note_fact(request, WULGACH_FACT_WENT_ON, 0);
         post_extra(ring, request->entry.user_data, *res, request->flags | IORING_CQE_F_MORE);
         return false;

@@ -2,7 +2,7 @@
 #ifndef REQUESTS_H
 #define REQUESTS_H
 
-#include "wulgach_form.h"
+#include "wulgach_waits.h"
 
 #include <linux/io_uring.h>
 #include <stdbool.h>
@@ -31,6 +31,7 @@ struct request {
     struct file *second_file;       /* of a splice: where it reads */
     int second_fd;
     struct buffer *buffer;          /* the registered buffer that it uses, or NULL */
+    struct wulgach_needs needs;     /* what its operation needs: as zeros, until its file is looked for */
     bool is_assigned;               /* these are known: when it is accepted, or, behind a link or beside a drain, when it starts */
     bool is_stream;                 /* it may have to wait for a descriptor: a transfer on what has no offset or on a device, a poll, a call of sockets */
     bool is_tried;                  /* that isn't known: it is tried first, */

@@ -59,11 +59,6 @@ static bool is_sending(const struct request *request)
     return request->entry.opcode == IORING_OP_SEND || request->entry.opcode == IORING_OP_SENDMSG || is_zero_copy(request);
 }
 
-short events_of_socket(const struct request *request)
-{
-    return is_sending(request) || request->entry.opcode == IORING_OP_CONNECT ? POLLOUT : POLLIN;
-}
-
 int make_message(struct request *request)
 {
     struct addressed *addressed = request->value = calloc(1, sizeof *addressed);
@@ -259,7 +254,7 @@ int32_t call_socket(struct ring *ring, struct request *request)
     case IORING_OP_CONNECT:
         return connect_socket(request);
     default:
-        return request->entry.opcode == IORING_OP_RECVMSG && goes_on(request) ? receive_into_buffer(request) : move_all(request);
+        return request->entry.opcode == IORING_OP_RECVMSG && request->needs.goes_on ? receive_into_buffer(request) : move_all(request);
     }
 }
 

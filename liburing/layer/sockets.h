@@ -6,9 +6,8 @@
 
 struct ring;
 
-/* Whether an operation is one of these, and what is waited for on its descriptor. */
+/* Whether an operation is one of these. */
 bool is_of_sockets(uint8_t code);
-short events_of_socket(const struct request *request);
 
 /* Whether its entry has flags of a message: one of them asks it not to wait. */
 bool has_message_flags(uint8_t code);

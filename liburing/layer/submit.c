@@ -112,8 +112,9 @@ static void note_chains(struct ring *ring, size_t first)
         for (end = first + 1; end < ring->requests.count && rows[end]->member.chain == rows[first]->member.chain;)
             end++;
         mark_draining(ring, first, end);
-        if (ring->drains.outstanding == 0)
-            assign(ring, rows[first]);
+        for (size_t i = first; i < end; i++)
+            if (wulgach_drains_find_file(&ring->drains, &rows[i]->member))
+                assign(ring, rows[i]);
     }
 }
 

@@ -28,6 +28,7 @@ mod machine_calls;
 mod machine_exports;
 mod machine_memory;
 mod machine_place;
+mod needs_exports;
 mod operation_words;
 mod outcome_list;
 mod outcomes_calls;

@@ -2,10 +2,10 @@
 ghost use Rattle.std.specs.Prelude.{◌≡◌, ◌+◌, ◌<◌, ◌^◌, false, List, [], ◌∷◌};
 ghost use Rattle.uring_enter.specs.Takings.{KeepsTaking, most, next_of, has_ended};
 ghost use Rattle.uring_enter.specs.Ways.{way_of, count_of};
-ghost use Rattle.uring_enter.specs.Drainings.{Drainage, Accepted, Ended, KeepsDrains, outstanding, may_post};
+ghost use Rattle.uring_enter.specs.Drainings.{Drainage, Accepted, Ended, KeepsDrains, finds_file, outstanding, may_post};
 ghost use Rattle.uring_c.specs.TakingForm.{word_of_next, cell_of_next, word_of_way, place_of_way};
 
-use uring_enter::{Drains, Item, Onward, Submitting, Taking, Way, Ways};
+use uring_enter::{Drains, Item, Member, Onward, Submitting, Taking, Way, Ways};
 
 /// Begins a call that has taken nothing, and writes the cell of its first position. Returns how many it takes at most: where that is 0, the cell stays as it was.
 #[unsafe(no_mangle)]
@@ -131,4 +131,13 @@ pub extern "C" fn wulgach_drains_may_post(drains: &Drains, staged: u64) -> bool
     ensures { (log : List Drainage) → KeepsDrains log drains.now → result ≡ may_post log staged }
 {
     drains.may_post(staged)
+}
+
+/// Whether the call that has taken a request just now finds its files and its buffer.
+#[unsafe(no_mangle)]
+pub extern "C" fn wulgach_drains_find_file(drains: &Drains, request: &Member) -> bool
+    ensures { (log : List Drainage) → KeepsDrains log drains.now
+        → result ≡ finds_file log request.now }
+{
+    drains.finds_file(request)
 }

@@ -1,6 +1,7 @@
 -- Which outstanding requests drain, by what has happened, the newest first. io_uring_enter(2), IOSQE_IO_DRAIN. That a completion which belongs to no end of a request waits behind them is our own rule: it is a request of its own to the core, and so would wait.
-use Rattle.std.specs.Prelude.{◌≡◌, ℕ, ◌+◌, ◌-◌, Bool, ◌&&◌, ◌==◌, List, [], ◌∷◌, if◌then◌else◌}
+use Rattle.std.specs.Prelude.{◌≡◌, ℕ, ◌+◌, ◌-◌, Bool, not, ◌&&◌, ◌==◌, List, [], ◌∷◌, if◌then◌else◌}
 use Rattle.uring_enter.specs.declared.drains.Drains.{Drains}
+use Rattle.uring_enter.specs.declared.member.Member.{Member}
 
 pub data Drainage : Type 0 where
   -- a chain of so many requests was accepted, of which one has IOSQE_IO_DRAIN or none
@@ -19,6 +20,10 @@ outstanding (Ended drains ∷ earlier) =
 -- whether such a completion may be posted: nothing that drains is outstanding, and nothing is staged that no call has taken
 abbrev pub may_post : List Drainage → ℕ → Bool
 may_post log staged = outstanding log == 0 && staged == 0
+
+-- whether the call that takes a request finds its files and its buffer: nothing links it, and nothing that drains is outstanding, itself among that. Another finds them when it starts, and so may use a file that those before it open. What the kernel does
+abbrev pub finds_file : List Drainage → Member → Bool
+finds_file log request = outstanding log == 0 && not request.is_linked
 
 -- glue: what is kept is that of a ring to which this has happened
 pub record KeepsDrains (log : List Drainage) (d : Drains) : Type 0 where

@@ -21,6 +21,7 @@ pub mod Clocks
 pub mod SocketForms
 pub mod Forms
 pub mod Pieces
+pub mod Needs
 pub mod Copies
 pub mod Shots
 pub mod Takings

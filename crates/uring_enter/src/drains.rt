@@ -1,7 +1,9 @@
 //! Which outstanding requests drain, and so whether a completion that belongs to no end of a request may be posted.
 
 ghost use Rattle.std.specs.Prelude.{◌≡◌, ◌+◌, ◌<◌, ◌^◌, List, [], ◌∷◌};
-ghost use Rattle.uring_enter.specs.Drainings.{Drainage, Accepted, Ended, KeepsDrains, outstanding, may_post};
+ghost use Rattle.uring_enter.specs.Drainings.{Drainage, Accepted, Ended, KeepsDrains, finds_file, outstanding, may_post};
+
+use crate::member::Member;
 
 /// How many requests are outstanding that drain.
 #[repr(C)]
@@ -38,6 +40,14 @@ impl Drains {
         if drains {
             self.outstanding = self.outstanding.saturating_sub(1);
         }
+    }
+
+    /// Whether the call that has taken a request just now finds its files and its buffer; else they are found when it starts.
+    pub fn finds_file(&self, request: &Member) -> bool
+        ensures { (log : List Drainage) → KeepsDrains log self.now
+            → result ≡ finds_file log request.now }
+    {
+        self.outstanding == 0 && !request.is_linked
     }
 
     /// Whether a completion may be posted that belongs to no end of a request, where so many positions are staged and not taken.

@@ -1,0 +1,79 @@
+-- What carrying out an operation needs, by lists of operations. io_uring_enter(2), at each operation; the numbers are those of <linux/io_uring.h>.
+use Rattle.std.specs.Prelude.{ℕ, Bool, not, ◌&&◌, ◌||◌, ◌==◌, if◌then◌else◌}
+use Rattle.std.specs.Int.RustNames.{bit_and}
+use Rattle.uring_enter.specs.declared.submission.Submission.{Submission}
+use Rattle.uring_enter.specs.declared.needs.Needs.{Needs}
+use Rattle.uring_enter.specs.Clocks.{has_some}
+
+-- READV, READ_FIXED and READ
+abbrev pub is_read : ℕ → Bool
+is_read code = code == 1 || code == 4 || code == 22
+
+-- WRITEV, WRITE_FIXED and WRITE
+abbrev pub is_write : ℕ → Bool
+is_write code = code == 2 || code == 5 || code == 23
+
+abbrev pub is_transfer : ℕ → Bool
+is_transfer code = is_read code || is_write code
+
+-- SENDMSG, SEND, SEND_ZC and SENDMSG_ZC
+abbrev pub is_send : ℕ → Bool
+is_send code = code == 9 || code == 26 || code == 47 || code == 48
+
+-- RECVMSG and RECV
+abbrev pub is_receive : ℕ → Bool
+is_receive code = code == 10 || code == 27
+
+-- these, ACCEPT and CONNECT
+abbrev pub is_of_sockets : ℕ → Bool
+is_of_sockets code = is_send code || is_receive code || code == 13 || code == 16
+
+-- SPLICE and TEE, which read from a second descriptor
+abbrev pub is_splice : ℕ → Bool
+is_splice code = code == 30 || code == 33
+
+-- POLL_ADD
+abbrev pub is_poll : ℕ → Bool
+is_poll code = code == 6
+
+-- an operation that acts on an open file, which its entry may name by the slot of a table: also FSYNC, SYNC_FILE_RANGE, FALLOCATE, FADVISE, SHUTDOWN, FSETXATTR and FGETXATTR. IOSQE_FIXED_FILE
+abbrev pub needs_file : ℕ → Bool
+needs_file code =
+    is_transfer code || is_of_sockets code || is_splice code || is_poll code
+    || code == 3 || code == 8 || code == 17 || code == 24 || code == 34 || code == 41 || code == 43
+
+-- READ_FIXED and WRITE_FIXED; a SEND_ZC with IORING_RECVSEND_FIXED_BUF (4)
+abbrev pub uses_buffer : Submission → Bool
+uses_buffer e = e.opcode == 4 || e.opcode == 5 || e.opcode == 47 && has_some e.ioprio 4
+
+-- it has more than one completion: IORING_POLL_ADD_MULTI is 1, IORING_ACCEPT_MULTISHOT 1 and IORING_RECV_MULTISHOT 2
+abbrev pub goes_on : Submission → Bool
+goes_on e =
+    is_poll e.opcode && has_some e.len 1 || e.opcode == 13 && has_some e.ioprio 1
+    || is_receive e.opcode && has_some e.ioprio 2
+
+-- NOP, POLL_ADD, POLL_REMOVE, TIMEOUT, TIMEOUT_REMOVE, ASYNC_CANCEL and LINK_TIMEOUT do nothing to a descriptor. Our own rule: whatever another does may make one ready, or unready
+abbrev pub can_make_ready : ℕ → Bool
+can_make_ready code =
+    not (code == 0 || code == 6 || code == 7 || code == 11 || code == 12 || code == 14 || code == 15)
+
+-- the events for which its descriptor is polled: those that a poll names in 16 bits; POLLIN (1) of what takes something from it, POLLOUT (4) of what gives it something. poll(2)
+abbrev pub events_of : Submission → ℕ
+events_of e =
+    if is_poll e.opcode then bit_and e.op_flags 65535 else
+    if is_read e.opcode || is_receive e.opcode || e.opcode == 13 then 1 else
+    if needs_file e.opcode then 4 else 0
+
+-- IOSQE_FIXED_FILE is 1, SPLICE_F_FD_IN_FIXED 2^31 and IOSQE_BUFFER_SELECT 32
+abbrev pub needs_of : Submission → Needs
+needs_of e = record {
+  needs_file = needs_file e.opcode;
+  is_registered = has_some e.flags 1;
+  needs_second = is_splice e.opcode;
+  is_second_registered = has_some e.op_flags 2147483648;
+  uses_buffer = uses_buffer e;
+  selects = has_some e.flags 32;
+  goes_on = goes_on e;
+  can_make_ready = can_make_ready e.opcode;
+  events = events_of e;
+}

@@ -1,0 +1,132 @@
+//! What carrying out an operation needs: a file, a second one, a registered or a provided buffer; and whether it goes on. io_uring_enter(2), at each operation.
+
+ghost use Rattle.std.specs.Prelude.{◌≡◌};
+ghost use Rattle.uring_enter.specs.Needs as spec;
+
+use crate::submission::Submission;
+
+/// What an operation needs.
+#[repr(C)]
+#[derive(Clone, Copy, Drop)]
+pub struct Needs {
+    /// It is carried out on an open file.
+    pub needs_file: bool,
+
+    /// Its entry names that by the slot of a table. IOSQE_FIXED_FILE.
+    pub is_registered: bool,
+
+    /// It reads from a second file.
+    pub needs_second: bool,
+
+    /// Which is named by the slot of a table. SPLICE_F_FD_IN_FIXED.
+    pub is_second_registered: bool,
+
+    /// It moves the bytes of a registered buffer.
+    pub uses_buffer: bool,
+
+    /// It takes a provided buffer when it is carried out. IOSQE_BUFFER_SELECT.
+    pub selects: bool,
+
+    /// It can have more than one completion.
+    pub goes_on: bool,
+
+    /// Carrying it out can make a descriptor ready, or unready.
+    pub can_make_ready: bool,
+
+    /// The events for which its file is polled, as poll(2) has them.
+    pub events: u32,
+}
+
+/// What the operation of an entry needs.
+pub fn needs_of(entry: &Submission) -> Needs
+    ensures { result ≡ spec.needs_of entry.now }
+{
+    Needs {
+        needs_file: needs_file(entry.opcode),
+        is_registered: entry.flags & 1 != 0,
+        needs_second: is_splice(entry.opcode),
+        is_second_registered: entry.op_flags & 0x8000_0000 != 0,
+        uses_buffer: uses_buffer(entry),
+        selects: entry.flags & 32 != 0,
+        goes_on: goes_on(entry),
+        can_make_ready: can_make_ready(entry.opcode),
+        events: events_of(entry),
+    }
+}
+
+/// READV, READ_FIXED and READ.
+pub(crate) fn is_read(code: u8) -> bool
+    ensures { result ≡ spec.is_read code }
+{
+    matches!(code, 1 | 4 | 22)
+}
+
+/// These, and the writes of their kind.
+pub(crate) fn is_transfer(code: u8) -> bool
+    ensures { result ≡ spec.is_transfer code }
+{
+    matches!(code, 1 | 2 | 4 | 5 | 22 | 23)
+}
+
+/// RECVMSG and RECV.
+fn is_receive(code: u8) -> bool
+    ensures { result ≡ spec.is_receive code }
+{
+    matches!(code, 10 | 27)
+}
+
+/// Sends, receives, ACCEPT and CONNECT.
+pub(crate) fn is_of_sockets(code: u8) -> bool
+    ensures { result ≡ spec.is_of_sockets code }
+{
+    matches!(code, 9 | 10 | 13 | 16 | 26 | 27 | 47 | 48)
+}
+
+/// SPLICE and TEE.
+pub(crate) fn is_splice(code: u8) -> bool
+    ensures { result ≡ spec.is_splice code }
+{
+    matches!(code, 30 | 33)
+}
+
+fn needs_file(code: u8) -> bool
+    ensures { result ≡ spec.needs_file code }
+{
+    matches!(
+        code,
+        1..=6 | 8..=10 | 13 | 16 | 17 | 22..=24 | 26 | 27 | 30 | 33 | 34 | 41 | 43 | 47 | 48
+    )
+}
+
+fn uses_buffer(entry: &Submission) -> bool
+    ensures { result ≡ spec.uses_buffer entry.now }
+{
+    matches!(entry.opcode, 4 | 5) || entry.opcode == 47 && entry.ioprio & 4 != 0
+}
+
+fn goes_on(entry: &Submission) -> bool
+    ensures { result ≡ spec.goes_on entry.now }
+{
+    match entry.opcode {
+        6 => entry.len & 1 != 0,
+        13 => entry.ioprio & 1 != 0,
+        10 | 27 => entry.ioprio & 2 != 0,
+        _ => false,
+    }
+}
+
+fn can_make_ready(code: u8) -> bool
+    ensures { result ≡ spec.can_make_ready code }
+{
+    !matches!(code, 0 | 6 | 7 | 11 | 12 | 14 | 15)
+}
+
+fn events_of(entry: &Submission) -> u32
+    ensures { result ≡ spec.events_of entry.now }
+{
+    match entry.opcode {
+        6 => entry.op_flags & 0xffff,
+        1 | 4 | 10 | 13 | 22 | 27 => 1,
+        code => { if needs_file(code) { 4 } else { 0 } }
+    }
+}
