@@ -12,3 +12,4 @@ mod CourseRuns
 mod PostingRuns
 mod ChainRuns
 mod WayRuns
+mod DescriptorRuns

@@ -22,6 +22,7 @@ pub mod SocketForms
 pub mod Forms
 pub mod Pieces
 pub mod Needs
+pub mod Descriptors
 pub mod Copies
 pub mod Shots
 pub mod Takings

@@ -11,6 +11,7 @@ mod command;
 mod copying;
 mod course;
 mod course_laws;
+mod descriptor;
 mod drains;
 mod enter;
 mod form;
@@ -64,6 +65,9 @@ pub use course_laws::carries_out_what_runs;
 pub use course_laws::ends_for_good;
 pub use course_laws::ends_with_its_result;
 pub use course_laws::tries_once;
+pub use descriptor::{
+    Finding, Kind, Known, Nature, Question, Trial, asks_once, finds_the_kind, next_finding,
+};
 pub use drains::Drains;
 pub use enter::Before;
 pub use enter::Enter;

@@ -1,0 +1,98 @@
+-- Whether an operation may have to wait for its descriptor, by what that is. io_uring_enter(2), at each operation; open(2), O_NONBLOCK; what the kernel does, but where our own rule is named.
+use Rattle.std.specs.Prelude.{◌≡◌, ◌-◌, ◌^◌, ℕ, Bool, true, false, not, ◌&&◌, ◌||◌, ◌==◌, if◌then◌else◌}
+use Rattle.uring_enter.specs.declared.submission.Submission.{Submission}
+use Rattle.uring_enter.specs.declared.descriptor.Nature.{Nature}
+use Rattle.uring_enter.specs.declared.descriptor.Known.{Known}
+use Rattle.uring_enter.specs.declared.descriptor.Trial.{Trial}
+use Rattle.uring_enter.specs.declared.descriptor.Kind.{Kind}
+use Rattle.uring_enter.specs.declared.descriptor.Kind.TheVariants.{Never, AtOnce, Tried, Stream, Wrong}
+use Rattle.uring_enter.specs.declared.descriptor.Question.{Question}
+use Rattle.uring_enter.specs.declared.descriptor.Question.TheVariants.{Status, Offsets, Access}
+use Rattle.uring_enter.specs.declared.descriptor.Finding.{Finding}
+use Rattle.uring_enter.specs.declared.descriptor.Finding.TheVariants.{Asks, Is}
+use Rattle.uring_enter.specs.Clocks.{has_some}
+use Rattle.uring_enter.specs.Needs.{is_read, is_transfer, is_of_sockets, is_splice, is_poll}
+
+-- whether a transfer may be made before its descriptor is asked whether it may have to wait: it moves something, at an offset, with no flags and no provided buffer; it wasn't tried before, and no choice rests on the answer. Our own rule
+abbrev pub may_be_tried : Submission → Trial → Bool
+may_be_tried e t =
+    is_transfer e.opcode && not (e.off == 2 ^ 64 - 1) && e.op_flags == 0 && not (has_some e.flags 32)
+    && not (t.length == 0) && not t.was_tried && not t.is_asked_before
+
+-- whether nothing at all is asked before: it is a read by the number of what was a file, which is asked not to wait
+abbrev pub is_tried_at_once : Submission → Trial → Bool
+is_tried_at_once e t = is_read e.opcode && t.was_file && may_be_tried e t
+
+-- whether a descriptor is open for a transfer's direction
+abbrev pub is_open_for : ℕ → Nature → Bool
+is_open_for code d = if is_read code then d.can_read else d.can_write
+
+-- a transfer waits on what has no offsets, as a pipe, and on a device; what isn't open for it never gets ready, and so it fails. A file never waits
+abbrev pub transfer_on : Submission → Trial → Nature → Kind
+transfer_on e t d =
+    if d.is_file && may_be_tried e t then Tried else
+    if not d.is_device && d.has_offsets then Never else
+    if is_open_for e.opcode d then Stream else Wrong
+
+-- an operation of sockets waits on a socket; on anything else it fails at once. What isn't open fails too
+abbrev pub kind_on : Submission → Trial → Nature → Kind
+kind_on e t d =
+    if not d.is_open then Never else
+    if is_transfer e.opcode then transfer_on e t d else
+    if d.is_socket then Stream else Never
+
+-- whether an operation may have to wait, on a descriptor that is this: a poll and a splice may, whatever it is, and others never do
+abbrev pub kind_of : Submission → Trial → Nature → Kind
+kind_of e t d =
+    if is_poll e.opcode || is_splice e.opcode then Stream else
+    if is_tried_at_once e t then AtOnce else
+    if is_transfer e.opcode || is_of_sockets e.opcode then kind_on e t d else Never
+
+-- what is asked next of a transfer's descriptor that is open, or what it is
+abbrev pub asks_of_transfer : Submission → Trial → Known → Finding
+asks_of_transfer e t k =
+    if k.nature.is_file && may_be_tried e t then Is Tried else
+    if not k.nature.is_device && not k.offsets then Asks Offsets else
+    if not k.nature.is_device && k.nature.has_offsets then Is Never else
+    if not k.access then Asks Access else
+    if is_open_for e.opcode k.nature then Is Stream else Is Wrong
+
+-- the same of a descriptor of which it was asked what it is
+abbrev pub asks_behind_status : Submission → Trial → Known → Finding
+asks_behind_status e t k =
+    if not k.nature.is_open then Is Never else
+    if is_transfer e.opcode then asks_of_transfer e t k else
+    if k.nature.is_socket then Is Stream else Is Never
+
+-- what is asked next, or what the request is: nothing is asked that doesn't matter. Our own rule
+abbrev pub next_of : Submission → Trial → Known → Finding
+next_of e t k =
+    if is_poll e.opcode || is_splice e.opcode then Is Stream else
+    if is_tried_at_once e t then Is AtOnce else
+    if not (is_transfer e.opcode || is_of_sockets e.opcode) then Is Never else
+    if not k.status then Asks Status else asks_behind_status e t k
+
+-- what was asked of a descriptor is what it is
+pub record Fits (k : Known) (d : Nature) : Type 0 where
+  pub opened : k.status ≡ true → k.nature.is_open ≡ d.is_open
+  pub file : k.status ≡ true → k.nature.is_file ≡ d.is_file
+  pub device : k.status ≡ true → k.nature.is_device ≡ d.is_device
+  pub socket : k.status ≡ true → k.nature.is_socket ≡ d.is_socket
+  pub offsets : k.offsets ≡ true → k.nature.has_offsets ≡ d.has_offsets
+  pub reads : k.access ≡ true → k.nature.can_read ≡ d.can_read
+  pub writes : k.access ≡ true → k.nature.can_write ≡ d.can_write
+
+-- whatever was asked before, what is told is what the request is by all that its descriptor is
+abbrev pub FindsTheKind : Type 0
+FindsTheKind = (e : Submission) (t : Trial) (k : Known) (d : Nature) (kind : Kind) → Fits k d
+    → next_of e t k ≡ Is kind → kind ≡ kind_of e t d
+
+abbrev pub was_asked : Question → Known → Bool
+was_asked Status k = k.status
+was_asked Offsets k = k.offsets
+was_asked Access k = k.access
+
+-- nothing is asked twice
+abbrev pub AsksOnce : Type 0
+AsksOnce = (e : Submission) (t : Trial) (k : Known) (question : Question)
+    → next_of e t k ≡ Asks question → was_asked question k ≡ false

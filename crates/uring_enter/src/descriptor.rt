@@ -1,0 +1,197 @@
+//! Whether an operation may have to wait for its descriptor, by what that is; and what is asked of it before. io_uring_enter(2), at each operation.
+
+ghost use Rattle.std.specs.Prelude.{◌≡◌};
+ghost use Rattle.uring_enter.specs.Descriptors as spec;
+ghost use Rattle.uring_enter.specs.Descriptors.{AsksOnce, FindsTheKind};
+
+use crate::needs::{is_of_sockets, is_read, is_splice, is_transfer};
+use crate::submission::Submission;
+
+/// What a descriptor is.
+#[repr(C)]
+#[derive(Clone, Copy, Drop)]
+pub struct Nature {
+    /// There is such a descriptor.
+    pub is_open: bool,
+
+    /// It is a regular file.
+    pub is_file: bool,
+
+    /// It is a character device.
+    pub is_device: bool,
+
+    pub is_socket: bool,
+
+    /// It can be read or written at an offset.
+    pub has_offsets: bool,
+
+    /// It is open for reading.
+    pub can_read: bool,
+
+    /// It is open for writing.
+    pub can_write: bool,
+}
+
+/// What is known of a descriptor, as far as it was asked.
+#[repr(C)]
+#[derive(Clone, Copy, Drop)]
+pub struct Known {
+    /// It was asked what it is: a file, a device, a socket, or nothing that is open.
+    pub status: bool,
+
+    /// It was asked whether it has offsets.
+    pub offsets: bool,
+
+    /// It was asked for what it is open.
+    pub access: bool,
+
+    pub nature: Nature,
+}
+
+/// Whether a request may be tried before its descriptor is asked whether it may have to wait.
+#[repr(C)]
+#[derive(Clone, Copy, Drop)]
+pub struct Trial {
+    /// How many bytes its vectors have.
+    pub length: u64,
+
+    /// It was tried before.
+    pub was_tried: bool,
+
+    /// Its descriptor's number was that of a file that could be asked not to wait, when that was last asked.
+    pub was_file: bool,
+
+    /// A choice rests on whether it may have to wait.
+    pub is_asked_before: bool,
+}
+
+/// What a request is on its descriptor.
+#[derive(Clone, Copy, Drop)]
+pub enum Kind {
+    /// It never has to wait.
+    Never,
+
+    /// It is made at once, asked not to wait, before its descriptor is asked anything.
+    AtOnce,
+
+    /// Its descriptor is a file: it is made at its offset, before more is asked.
+    Tried,
+
+    /// It may have to wait.
+    Stream,
+
+    /// Its descriptor isn't open for it: it fails.
+    Wrong,
+}
+
+/// What a descriptor is asked.
+#[derive(Clone, Copy, Drop)]
+pub enum Question {
+    /// What it is.
+    Status,
+
+    /// Whether it has offsets.
+    Offsets,
+
+    /// For what it is open.
+    Access,
+}
+
+/// What is to be asked, or what was found.
+#[derive(Clone, Copy, Drop)]
+pub enum Finding {
+    Asks(Question),
+
+    Is(Kind),
+}
+
+/// What is to be asked next of the descriptor of an entry's request, or what the request is.
+pub fn next_finding(entry: &Submission, trial: &Trial, known: &Known) -> Finding
+    ensures { result ≡ spec.next_of entry.now trial.now known.now }
+{
+    if entry.opcode == 6 || is_splice(entry.opcode) {
+        return Finding::Is(Kind::Stream);
+    }
+    if is_tried_at_once(entry, trial) {
+        return Finding::Is(Kind::AtOnce);
+    }
+    if !is_transfer(entry.opcode) && !is_of_sockets(entry.opcode) {
+        return Finding::Is(Kind::Never);
+    }
+    if known.status {
+        behind_status(entry, trial, known)
+    } else {
+        Finding::Asks(Question::Status)
+    }
+}
+
+/// Whether a transfer may be made before its descriptor is asked whether it may have to wait.
+fn may_be_tried(entry: &Submission, trial: &Trial) -> bool
+    ensures { result ≡ spec.may_be_tried entry.now trial.now }
+{
+    let is_plain = entry.off != u64::MAX && entry.op_flags == 0 && entry.flags & 32 == 0;
+    let is_asked = trial.length == 0 || trial.was_tried || trial.is_asked_before;
+    is_transfer(entry.opcode) && is_plain && !is_asked
+}
+
+fn is_tried_at_once(entry: &Submission, trial: &Trial) -> bool
+    ensures { result ≡ spec.is_tried_at_once entry.now trial.now }
+{
+    trial.was_file && is_read(entry.opcode) && may_be_tried(entry, trial)
+}
+
+/// What is to be asked of a descriptor of which it is known what it is.
+fn behind_status(entry: &Submission, trial: &Trial, known: &Known) -> Finding
+    ensures { result ≡ spec.asks_behind_status entry.now trial.now known.now }
+{
+    if !known.nature.is_open {
+        Finding::Is(Kind::Never)
+    } else if is_transfer(entry.opcode) {
+        of_transfer(entry, trial, known)
+    } else if known.nature.is_socket {
+        Finding::Is(Kind::Stream)
+    } else {
+        Finding::Is(Kind::Never)
+    }
+}
+
+/// What is to be asked of the descriptor of a transfer, which is open.
+fn of_transfer(entry: &Submission, trial: &Trial, known: &Known) -> Finding
+    ensures { result ≡ spec.asks_of_transfer entry.now trial.now known.now }
+{
+    let nature = known.nature;
+    if nature.is_file && may_be_tried(entry, trial) {
+        Finding::Is(Kind::Tried)
+    } else if !nature.is_device && !known.offsets {
+        Finding::Asks(Question::Offsets)
+    } else if !nature.is_device && nature.has_offsets {
+        Finding::Is(Kind::Never)
+    } else if !known.access {
+        Finding::Asks(Question::Access)
+    } else if is_open_for(entry.opcode, &nature) {
+        Finding::Is(Kind::Stream)
+    } else {
+        Finding::Is(Kind::Wrong)
+    }
+}
+
+/// Whether a descriptor is open for the direction of a transfer.
+fn is_open_for(code: u8, nature: &Nature) -> bool
+    ensures { result ≡ spec.is_open_for code nature.now }
+{
+    if is_read(code) {
+        nature.can_read
+    } else {
+        nature.can_write
+    }
+}
+
+/// What is told of a request is what it is by all that its descriptor is, whatever was asked before.
+pub fn finds_the_kind()
+    ensures { FindsTheKind }
+{}
+
+/// A descriptor is asked nothing twice.
+pub fn asks_once()
+    ensures { AsksOnce }
+{}
