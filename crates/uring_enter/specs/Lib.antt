@@ -23,6 +23,7 @@ pub mod Forms
 pub mod Pieces
 pub mod Needs
 pub mod Descriptors
+pub mod Readiness
 pub mod Copies
 pub mod Shots
 pub mod Takings

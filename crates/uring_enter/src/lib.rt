@@ -22,6 +22,7 @@ mod outcome;
 mod piece;
 mod posted;
 mod posting_laws;
+mod ready;
 mod reply;
 mod search;
 mod shot;
@@ -100,6 +101,9 @@ pub use posted::Posted;
 pub use posted::WrongEnd;
 pub use posting_laws::shows_each_once;
 pub use posting_laws::shows_the_cores;
+pub use ready::{
+    Look, Moment, Patience, Standing, Wanted, finishes_what_can, is_impatient, looks_once, next_look,
+};
 pub use reply::Reply;
 pub use reply::Sight;
 pub use search::Search;

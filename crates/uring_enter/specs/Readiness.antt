@@ -1,0 +1,89 @@
+-- When a request that runs can be finished without waiting. io_uring_enter(2), at each operation; but where our own rule is named.
+use Rattle.std.specs.Prelude.{◌≡◌, ℕ, Bool, true, false, not, ◌&&◌, ◌||◌, ◌==◌, List, if◌then◌else◌}
+use Rattle.uring_enter.specs.declared.submission.Submission.{Submission}
+use Rattle.uring_enter.specs.declared.needs.Needs.{Needs}
+use Rattle.uring_enter.specs.declared.ready.Standing.{Standing}
+use Rattle.uring_enter.specs.declared.ready.Moment.{Moment}
+use Rattle.uring_enter.specs.declared.ready.Patience.{Patience}
+use Rattle.uring_enter.specs.declared.ready.Wanted.{Wanted}
+use Rattle.uring_enter.specs.declared.ready.Wanted.TheVariants.{Count, Posting, Buffer, Readiness}
+use Rattle.uring_enter.specs.declared.ready.Look.{Look}
+use Rattle.uring_enter.specs.declared.ready.Look.TheVariants.{Asks, Waits, Finishes}
+use Rattle.uring_enter.specs.Clocks.{has_some}
+use Rattle.uring_enter.specs.Needs.{is_transfer, is_of_sockets, is_splice}
+
+-- one that goes on waits until its completions can be posted. One that is to take a provided buffer and finds none ends so, whatever its descriptor has; but one that goes on waits for its descriptor
+abbrev pub finds_what_it_wants : Needs → Moment → Bool
+finds_what_it_wants n m = n.selects && not n.goes_on && not m.has_buffer || m.is_ready
+
+-- whether a request that runs, which a cancel has found or not, can be finished: one that would have waited waits until another has ended, which is our own rule; a timeout until its count is reached, since its time ends it by itself; any other, until its completion may be posted if it goes on, and its descriptor is ready if it may have to wait for that
+abbrev pub can_finish : Standing → Needs → Bool → Moment → Bool
+can_finish s n is_cancelled m =
+    if s.has_to_wait then false else
+    if is_cancelled then true else
+    if s.is_timeout then m.has_counted else
+    if n.goes_on && not m.may_post then false else
+    if s.is_stream then finds_what_it_wants n m else true
+
+-- what is known of the moment: what was asked of it
+abbrev pub was_asked : Wanted → Moment → Bool
+was_asked Count m = m.knows_count
+was_asked Posting m = m.knows_posting
+was_asked Buffer m = m.knows_buffer
+was_asked Readiness m = m.knows_readiness
+
+abbrev pub told : Bool → Look
+told finishes = if finishes then Finishes else Waits
+
+abbrev pub look_at_count : Moment → Look
+look_at_count m = if m.knows_count then told m.has_counted else Asks Count
+
+abbrev pub look_at_descriptor : Needs → Moment → Look
+look_at_descriptor n m =
+    if n.selects && not n.goes_on && not m.knows_buffer then Asks Buffer else
+    if n.selects && not n.goes_on && not m.has_buffer then Finishes else
+    if not m.knows_readiness then Asks Readiness else told m.is_ready
+
+-- what is asked next, or whether it can be finished: nothing is asked that doesn't matter. Our own rule
+abbrev pub look_of : Standing → Needs → Bool → Moment → Look
+look_of s n is_cancelled m =
+    if s.has_to_wait then Waits else
+    if is_cancelled then Finishes else
+    if s.is_timeout then look_at_count m else
+    if n.goes_on && not m.knows_posting then Asks Posting else
+    if n.goes_on && not m.may_post then Waits else
+    if s.is_stream then look_at_descriptor n m else Finishes
+
+-- what was asked of a moment is so
+pub record Fits (known m : Moment) : Type 0 where
+  pub counted : known.knows_count ≡ true → known.has_counted ≡ m.has_counted
+  pub posting : known.knows_posting ≡ true → known.may_post ≡ m.may_post
+  pub buffer : known.knows_buffer ≡ true → known.has_buffer ≡ m.has_buffer
+  pub ready : known.knows_readiness ≡ true → known.is_ready ≡ m.is_ready
+
+-- whatever was asked before, what is told is whether the request can be finished by all that is so
+abbrev pub FinishesWhatCan : Type 0
+FinishesWhatCan = (s : Standing) (n : Needs) (is_cancelled : Bool) (known m : Moment) → Fits known m
+    → (look_of s n is_cancelled known ≡ Finishes → can_finish s n is_cancelled m ≡ true)
+    × (look_of s n is_cancelled known ≡ Waits → can_finish s n is_cancelled m ≡ false)
+
+-- nothing is asked twice
+abbrev pub LooksOnce : Type 0
+LooksOnce = (s : Standing) (n : Needs) (is_cancelled : Bool) (known : Moment) (wanted : Wanted)
+    → look_of s n is_cancelled known ≡ Asks wanted → was_asked wanted known ≡ false
+
+-- what has flags of a message: an operation of sockets, but ACCEPT (13) and CONNECT (16)
+abbrev pub has_message_flags : ℕ → Bool
+has_message_flags code = is_of_sockets code && not (code == 13) && not (code == 16)
+
+-- a transfer is asked not to wait by RWF_NOWAIT (8), or for nothing, unless it takes a provided buffer
+abbrev pub is_impatient_transfer : Submission → ℕ → Bool
+is_impatient_transfer e length = has_some e.op_flags 8 || length == 0 && not (has_some e.flags 32)
+
+-- one that doesn't wait whatever its descriptor has: it has failed when it started, it is a transfer as above, or it is asked not to wait by MSG_DONTWAIT (64). A connect and a splice are begun before they wait, so that their faults are found at once
+abbrev pub is_impatient : Submission → Patience → Bool
+is_impatient e p =
+    p.has_failed
+    || (e.opcode == 16 || is_splice e.opcode) && not p.has_begun
+    || has_message_flags e.opcode && has_some e.op_flags 64
+    || is_transfer e.opcode && is_impatient_transfer e p.length

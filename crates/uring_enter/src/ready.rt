@@ -1,0 +1,175 @@
+//! When a request that runs can be finished without waiting, and what is asked before that is told. io_uring_enter(2), at each operation.
+
+ghost use Rattle.std.specs.Prelude.{◌≡◌, List};
+ghost use Rattle.uring_enter.specs.declared.act.Fact.{Fact};
+ghost use Rattle.uring_enter.specs.Courses.{KeepsCourse, is_cancelled};
+ghost use Rattle.uring_enter.specs.Readiness as spec;
+ghost use Rattle.uring_enter.specs.Readiness.{FinishesWhatCan, LooksOnce};
+
+use crate::course::Course;
+use crate::needs::{Needs, is_of_sockets, is_splice, is_transfer};
+use crate::submission::Submission;
+
+/// What a request that runs is.
+#[repr(C)]
+#[derive(Clone, Copy, Drop)]
+pub struct Standing {
+    /// It was carried out and would have waited, and nothing has ended since.
+    pub has_to_wait: bool,
+
+    /// It is a timeout, and no linked one.
+    pub is_timeout: bool,
+
+    /// It may have to wait for its descriptor.
+    pub is_stream: bool,
+}
+
+/// What is so at a moment, as far as it was asked.
+#[repr(C)]
+#[derive(Clone, Copy, Drop)]
+pub struct Moment {
+    pub knows_count: bool,
+
+    /// Of a timeout: its count is reached.
+    pub has_counted: bool,
+
+    pub knows_posting: bool,
+
+    /// A completion may be posted before the request's end.
+    pub may_post: bool,
+
+    pub knows_buffer: bool,
+
+    /// There is a buffer in the group of which it takes one.
+    pub has_buffer: bool,
+
+    pub knows_readiness: bool,
+
+    /// Its descriptor was found ready, or it doesn't wait for that.
+    pub is_ready: bool,
+}
+
+/// What is asked of a moment.
+#[derive(Clone, Copy, Drop)]
+pub enum Wanted {
+    Count,
+
+    Posting,
+
+    Buffer,
+
+    Readiness,
+}
+
+/// Whether a request can be finished, or what is to be asked.
+#[derive(Clone, Copy, Drop)]
+pub enum Look {
+    Asks(Wanted),
+
+    Waits,
+
+    Finishes,
+}
+
+/// How far a request that may have to wait has come.
+#[repr(C)]
+#[derive(Clone, Copy, Drop)]
+pub struct Patience {
+    /// How many bytes its vectors have.
+    pub length: u64,
+
+    /// It has failed when it started.
+    pub has_failed: bool,
+
+    /// Of a connect or a splice: it was begun.
+    pub has_begun: bool,
+}
+
+/// What is to be asked next of a request that runs, or whether it can be finished.
+pub fn next_look(standing: &Standing, needs: &Needs, course: &Course, known: &Moment) -> Look
+    ensures { (log : List Fact) → KeepsCourse log course.now
+        → result ≡ spec.look_of standing.now needs.now (is_cancelled log) known.now }
+{
+    if standing.has_to_wait {
+        Look::Waits
+    } else if course.is_cancelled {
+        Look::Finishes
+    } else if standing.is_timeout {
+        look_at_count(known)
+    } else if needs.goes_on && !known.knows_posting {
+        Look::Asks(Wanted::Posting)
+    } else if needs.goes_on && !known.may_post {
+        Look::Waits
+    } else if standing.is_stream {
+        look_at_descriptor(needs, known)
+    } else {
+        Look::Finishes
+    }
+}
+
+fn told(finishes: bool) -> Look
+    ensures { result ≡ spec.told finishes }
+{
+    if finishes {
+        Look::Finishes
+    } else {
+        Look::Waits
+    }
+}
+
+fn look_at_count(known: &Moment) -> Look
+    ensures { result ≡ spec.look_at_count known.now }
+{
+    if known.knows_count {
+        told(known.has_counted)
+    } else {
+        Look::Asks(Wanted::Count)
+    }
+}
+
+fn look_at_descriptor(needs: &Needs, known: &Moment) -> Look
+    ensures { result ≡ spec.look_at_descriptor needs.now known.now }
+{
+    let takes_one = needs.selects && !needs.goes_on;
+    if takes_one && !known.knows_buffer {
+        Look::Asks(Wanted::Buffer)
+    } else if takes_one && !known.has_buffer {
+        Look::Finishes
+    } else if known.knows_readiness {
+        told(known.is_ready)
+    } else {
+        Look::Asks(Wanted::Readiness)
+    }
+}
+
+/// Whether a request doesn't wait, whatever its descriptor has: it is asked not to, or for nothing.
+pub fn is_impatient(entry: &Submission, patience: &Patience) -> bool
+    ensures { result ≡ spec.is_impatient entry.now patience.now }
+{
+    if patience.has_failed {
+        true
+    } else if entry.opcode == 16 || is_splice(entry.opcode) {
+        !patience.has_begun
+    } else if is_transfer(entry.opcode) {
+        entry.op_flags & 8 != 0 || patience.length == 0 && entry.flags & 32 == 0
+    } else {
+        has_message_flags(entry.opcode) && entry.op_flags & 64 != 0
+    }
+}
+
+/// Whether the flags of an operation are those of a message.
+pub(crate) fn has_message_flags(code: u8) -> bool
+    ensures { result ≡ spec.has_message_flags code }
+{
+    is_of_sockets(code) && code != 13 && code != 16
+}
+
+/// What is told of a request is whether it can be finished by all that is so, whatever was asked before.
+pub fn finishes_what_can()
+    ensures { FinishesWhatCan }
+{}
+
+/// Nothing is asked twice of a moment.
+pub fn looks_once()
+    ensures { LooksOnce }
+{}
