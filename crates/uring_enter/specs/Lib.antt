@@ -24,6 +24,7 @@ pub mod Pieces
 pub mod Needs
 pub mod Descriptors
 pub mod Readiness
+pub mod Tries
 pub mod Copies
 pub mod Shots
 pub mod Takings

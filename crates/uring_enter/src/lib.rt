@@ -35,6 +35,7 @@ mod time_laws;
 mod timeout;
 mod timeout_rows;
 mod times;
+mod transfer;
 mod update;
 mod wait;
 mod ways;
@@ -135,6 +136,9 @@ pub use timeout::linked_outcome;
 pub use timeout::nanoseconds_of;
 pub use times::NoRoom;
 pub use times::Times;
+pub use transfer::{
+    How, Step, Task, Transfer, loses_nothing, next_step, offset_of, sleeps_never, tells_what_came,
+};
 pub use update::Poll;
 pub use update::Removal;
 pub use update::poll_removal;
