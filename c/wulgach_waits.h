@@ -22,6 +22,7 @@ struct wulgach_needs {
     bool uses_buffer;           /* a registered buffer */
     bool selects;               /* a provided buffer, when it is carried out: IOSQE_BUFFER_SELECT */
     bool goes_on;               /* it can have more than one completion: a poll, an accept or a receive */
+    bool is_timeout;            /* it ends when its count is reached, or its time is over */
     bool can_make_ready;        /* carrying it out can make a descriptor ready, or unready */
     uint32_t events;            /* for which its file is polled, as poll(2) has them; or 0 */
 };
@@ -32,6 +33,128 @@ void wulgach_needs_of(const struct wulgach_submission *entry, struct wulgach_nee
 /* Whether the call that has taken a request just now finds its files and its buffer: nothing links it, and nothing that drains is
  * outstanding, itself among that. Those of another are found when it starts, and may be what those before it open. */
 bool wulgach_drains_find_file(const struct wulgach_drains *drains, const struct wulgach_member *request);
+
+/* ---- whether it may have to wait for its descriptor ---- */
+
+/* What a descriptor is. */
+struct wulgach_nature {
+    bool is_open;               /* there is such a descriptor */
+    bool is_file;               /* a regular file */
+    bool is_device;             /* a character device */
+    bool is_socket;
+    bool has_offsets;           /* it can be read or written at an offset */
+    bool can_read;              /* it is open for reading, */
+    bool can_write;             /* for writing */
+};
+
+/* What is known of a descriptor: what was asked is so, and the rest counts for nothing. */
+struct wulgach_known {
+    bool status;                /* it was asked what it is: the first four, */
+    bool offsets;               /* whether it has offsets, */
+    bool access;                /* for what it is open */
+    struct wulgach_nature nature;
+};
+
+/* What else says whether a transfer may be tried before its descriptor is asked. */
+struct wulgach_trial {
+    uint64_t length;            /* the bytes of its vectors */
+    bool was_tried;
+    bool was_file;              /* its descriptor's number was that of a file that could be asked not to wait, when that was last asked */
+    bool is_asked_before;       /* a choice rests on whether it may have to wait */
+};
+
+/* What is asked of a descriptor next, or what a request is on it. */
+enum wulgach_kind {
+    WULGACH_KIND_NEVER = 0,     /* it never has to wait */
+    WULGACH_KIND_AT_ONCE = 1,   /* a read that is made at once, asked not to wait: nothing was asked */
+    WULGACH_KIND_TRIED = 2,     /* a transfer on a file, made at its offset before more is asked */
+    WULGACH_KIND_STREAM = 3,    /* it may have to wait */
+    WULGACH_KIND_WRONG = 4,     /* its descriptor isn't open for it, and would never get ready: it fails with -9 (EBADF) */
+    WULGACH_ASK_STATUS = 5,
+    WULGACH_ASK_OFFSETS = 6,
+    WULGACH_ASK_ACCESS = 7
+};
+
+/* Returns what is asked next of the descriptor of an entry's request, or what the request is on it (enum wulgach_kind). Nothing is asked
+ * twice, and nothing that doesn't matter. A poll and a splice may have to wait whatever their descriptors are, an operation of sockets on a
+ * socket, and a transfer on a device or on what has no offsets; others never do. */
+uint32_t wulgach_find_kind(const struct wulgach_submission *entry, const struct wulgach_trial *trial, const struct wulgach_known *known);
+
+/* ---- whether it can be finished ---- */
+
+/* How a request stands that runs. */
+struct wulgach_standing {
+    bool has_to_wait;           /* it was carried out and would have waited, and nothing has ended since */
+    bool is_stream;             /* it may have to wait for its descriptor */
+};
+
+/* What is so at a moment, as far as it was asked. */
+struct wulgach_moment {
+    bool knows_count, has_counted;      /* of a timeout: its count is reached */
+    bool knows_posting, may_post;       /* a completion may be posted before its end */
+    bool knows_buffer, has_buffer;      /* there is a buffer in the group of which it takes one */
+    bool knows_readiness, is_ready;     /* its descriptor was found ready, or it doesn't wait for that */
+};
+
+enum wulgach_look {
+    WULGACH_LOOK_WAITS = 0,
+    WULGACH_LOOK_FINISHES = 1,
+    WULGACH_ASK_COUNT = 2,
+    WULGACH_ASK_POSTING = 3,
+    WULGACH_ASK_BUFFER = 4,
+    WULGACH_ASK_READINESS = 5
+};
+
+/* Returns whether a request that runs can be finished, or what is asked next (enum wulgach_look). One that would have waited can't until
+ * another has ended; one that a cancel has found can; a timeout if its count is reached; another if its completion may be posted, where it
+ * goes on, and if its descriptor is ready, or it finds no provided buffer, where it may have to wait. */
+uint32_t wulgach_can_finish(const struct wulgach_standing *standing, const struct wulgach_needs *needs, const struct wulgach_course *course, const struct wulgach_moment *known);
+
+/* How far a request has come. */
+struct wulgach_patience {
+    uint64_t length;            /* the bytes of its vectors */
+    bool has_failed;            /* when it started */
+    bool has_begun;             /* of a connect or a splice */
+};
+
+/* Whether a request doesn't wait, whatever its descriptor has: it has failed, or is asked not to wait, or for nothing; a connect and a splice
+ * until they are begun, which finds their faults. */
+bool wulgach_is_impatient(const struct wulgach_submission *entry, const struct wulgach_patience *patience);
+
+/* ---- what becomes of a transfer ---- */
+
+/* A transfer that is carried out. */
+struct wulgach_transfer {
+    uint64_t length;            /* the bytes of its vectors */
+    int32_t fault;              /* what it ends with, if it failed when it started, else 0 */
+    bool is_at_once;            /* what it is on its descriptor (enum wulgach_kind), */
+    bool is_tried;
+    bool is_stream;
+    bool is_impatient;          /* and if it may have to wait: it doesn't, */
+    bool has_offsets;           /* its descriptor has offsets, */
+    bool is_not_to_wait;        /* and isn't to wait: O_NONBLOCK */
+};
+
+enum wulgach_try {
+    WULGACH_TRY_ENDS = 0,          /* it ends */
+    WULGACH_TRY_WAITS = 1,         /* it would have to wait */
+    WULGACH_TRY_FINDS = 2,         /* what it is on its descriptor is found out, as of one that was tried */
+    WULGACH_TRY_POLLS = 3,         /* its descriptor is polled: 0 if it isn't ready */
+    WULGACH_CALL_AT_ONCE = 4,       /* the call is made, with RWF_NOWAIT, */
+    WULGACH_CALL_TRIED = 5,         /* as the entry says, on a file, */
+    WULGACH_CALL_PLAIN = 6,         /* as the entry says, */
+    WULGACH_CALL_NONBLOCKING = 7,   /* with RWF_NOWAIT beside the entry's flags, */
+    WULGACH_CALL_UNWILLING = 8,     /* as the entry says, on a descriptor that isn't to wait, */
+    WULGACH_CALL_READY = 9          /* or on one that was polled */
+};
+
+/* Returns what is next of a transfer (enum wulgach_try), behind what was done last, which came to `res`, and writes what it ends with, if it
+ * ends. `last` is 0 at first; behind WULGACH_TRY_FINDS the transfer is as was found, and `res` that of the call before. No call is made that
+ * may sleep; a transfer ends with what the last call came to, or with its fault; and what a stream gave is told. */
+uint32_t wulgach_transfer_next(const struct wulgach_transfer *transfer, uint32_t last, int32_t res, int32_t *end);
+
+/* The offset at which a transfer is made whose entry has this one: of what has no offsets it is 2^64 - 1, which is none. */
+uint64_t wulgach_transfer_offset(const struct wulgach_transfer *transfer, uint64_t offset);
 
 #ifdef __cplusplus
 }

@@ -4,19 +4,14 @@
 #define _GNU_SOURCE
 #include "files.h"
 #include "operations.h"
+#include "passing.h"
 #include "polls.h"
 #include "ring.h"
 #include "trying.h"
 
 #include <errno.h>
 #include <fcntl.h>
-
-/* Whether a transfer's descriptor is open for its direction: at a pipe's other end nothing would ever come. */
-static bool is_open_for(const struct request *request)
-{
-    int mode = fcntl(request->fd, F_GETFL) & O_ACCMODE;
-    return mode == O_RDWR || mode == (is_read(request) ? O_RDONLY : O_WRONLY);
-}
+#include <sys/stat.h>
 
 /* A descriptor, or that of a registered file, which is kept. Negative if there is none. */
 static int find_fd(struct ring *ring, int fd, bool is_registered, struct file **file)
@@ -27,13 +22,61 @@ static int find_fd(struct ring *ring, int fd, bool is_registered, struct file **
     return *file ? (*file)->fd : -1;
 }
 
+/* Asks a descriptor what it is: nothing, if it isn't open. */
+static void ask_status(const struct request *request, struct wulgach_nature *nature)
+{
+    struct stat status;
+    nature->is_open = pass(SYS_fstat, request->fd, (long)&status, 0, 0, 0, 0) >= 0;
+    if (!nature->is_open)
+        return;
+    nature->is_file = S_ISREG(status.st_mode);
+    nature->is_device = S_ISCHR(status.st_mode);
+    nature->is_socket = S_ISSOCK(status.st_mode);
+    note_kind(request->fd, nature->is_file);
+}
+
+static void ask_access(const struct request *request, struct wulgach_nature *nature)
+{
+    int mode = fcntl(request->fd, F_GETFL) & O_ACCMODE;
+    nature->can_read = mode == O_RDWR || mode == O_RDONLY;
+    nature->can_write = mode == O_RDWR || mode == O_WRONLY;
+}
+
+/* Asks a descriptor what the library wants to know of it. */
+static void ask(const struct request *request, uint32_t question, struct wulgach_known *known)
+{
+    switch (question) {
+    case WULGACH_ASK_STATUS:
+        ask_status(request, &known->nature);
+        known->status = true;
+        return;
+    case WULGACH_ASK_OFFSETS:
+        known->nature.has_offsets = has_offsets(request);
+        known->offsets = true;
+        return;
+    default:
+        ask_access(request, &known->nature);
+        known->access = true;
+    }
+}
+
 void find_kind(struct request *request)
 {
-    request->is_stream = is_stream(request);
-    if (request->is_stream && is_transfer(request) && !is_open_for(request)) {
+    struct wulgach_trial trial = {
+        .length = request->length,
+        .was_tried = request->was_tried,
+        .was_file = was_file(request->fd),
+        .is_asked_before = is_asked_before(),
+    };
+    struct wulgach_known known = {0};
+    uint32_t kind;
+    while ((kind = wulgach_find_kind(submission_of(&request->entry), &trial, &known)) >= WULGACH_ASK_STATUS)
+        ask(request, kind, &known);
+    request->is_tried = kind == WULGACH_KIND_TRIED;
+    request->is_tried_at_once = kind == WULGACH_KIND_AT_ONCE;
+    request->standing.is_stream = kind == WULGACH_KIND_STREAM;
+    if (kind == WULGACH_KIND_WRONG)
         request->started = -EBADF;
-        request->is_stream = false;
-    }
 }
 
 void assign(struct ring *ring, struct request *request)
@@ -55,7 +98,5 @@ void assign(struct ring *ring, struct request *request)
         request->started = use_buffer(ring, entry->buf_index, request->vectors, &request->buffer);
     if (request->started < 0)
         return;
-    request->is_tried = request->is_tried_at_once = is_tried_at_once(request);
-    if (!request->is_tried)
-        find_kind(request);
+    find_kind(request);
 }

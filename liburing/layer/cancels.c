@@ -18,7 +18,7 @@
 
 bool is_cancellable(const struct request *request)
 {
-    return request->is_stream || request->entry.opcode == IORING_OP_TIMEOUT;
+    return request->standing.is_stream || request->entry.opcode == IORING_OP_TIMEOUT;
 }
 
 /* One that was passed over is looked at again. */
@@ -34,7 +34,7 @@ void cancel_request(struct ring *ring, struct request *request)
     if (is_timeout(request))
         stop_timeout(ring, request);
     note_fact(request, WULGACH_FACT_CANCELLED, 0);
-    request->has_to_wait = false;
+    request->standing.has_to_wait = false;
 }
 
 /* A request as a cancel sees it, but for whether it could start now. */
@@ -134,7 +134,7 @@ static int32_t change_poll(struct ring *ring, struct request *poll, const struct
     poll->entry.poll32_events = changed.events;
     poll->entry.len = changed.is_multishot ? IORING_POLL_ADD_MULTI : 0;
     wulgach_needs_of(submission_of(&poll->entry), &poll->needs);
-    poll->has_to_wait = false;
+    poll->standing.has_to_wait = false;
     poll->looked_at = UINT64_MAX;
     return poll->course.has_started ? start_poll(poll) : 0;
 }

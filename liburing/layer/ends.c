@@ -12,7 +12,7 @@
 
 void note_wait(struct ring *ring, struct request *request)
 {
-    request->has_to_wait = true;
+    request->standing.has_to_wait = true;
     ring->have_to_wait = true;
 }
 
@@ -20,7 +20,7 @@ void note_wait(struct ring *ring, struct request *request)
 static void forget_waits(struct ring *ring)
 {
     for (size_t i = 0; ring->have_to_wait && i < ring->running.count; i++)
-        ring->running.rows[i]->has_to_wait = false;
+        ring->running.rows[i]->standing.has_to_wait = false;
     ring->have_to_wait = false;
 }
 

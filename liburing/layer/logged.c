@@ -18,7 +18,7 @@ static bool is_write(const struct request *request)
 /* Most requests aren't, and are passed over at once. */
 static bool may_be_logged(const struct request *request)
 {
-    bool is_of_file = (is_write(request) && !request->is_stream) || request->entry.opcode == IORING_OP_FSYNC;
+    bool is_of_file = (is_write(request) && !request->standing.is_stream) || request->entry.opcode == IORING_OP_FSYNC;
     return is_of_file && request->mapping == TOKEN && is_logging();
 }
 

@@ -55,34 +55,17 @@ static int32_t result_of(long result)
     return result < 0 ? -errno : (int32_t)result;
 }
 
-/* Whether a transfer's descriptor has offsets: a transfer of no vectors says so, and does nothing else. */
-static bool has_offsets(const struct request *request)
+/* (A transfer of no vectors says so, and does nothing else.) */
+bool has_offsets(const struct request *request)
 {
     int fd = request->fd;
     return (is_read(request) ? preadv(fd, NULL, 0, 0) : pwritev(fd, NULL, 0, 0)) >= 0 || errno != ESPIPE;
 }
 
-bool is_stream(struct request *request)
-{
-    struct stat status;
-    bool is_socket_call = is_of_sockets(request->entry.opcode);
-    if (is_poll(request) || is_splice(request))
-        return true;
-    if ((!is_transfer(request) && !is_socket_call) || pass(SYS_fstat, request->fd, (long)&status, 0, 0, 0, 0) < 0)
-        return false;
-    /* A call of sockets on anything else fails at once. */
-    if (is_socket_call)
-        return S_ISSOCK(status.st_mode);
-    bool is_file = S_ISREG(status.st_mode);
-    note_kind(request->fd, is_file);
-    request->is_tried = is_file && may_be_tried(request);
-    return !request->is_tried && (S_ISCHR(status.st_mode) || !has_offsets(request));
-}
-
-bool lacks_buffer(struct ring *ring, const struct request *request)
+bool finds_buffer(struct ring *ring, const struct request *request)
 {
     struct provided buffer;
-    return request->needs.selects && !request->needs.goes_on && !find_provided(ring, request->entry.buf_group, &buffer);
+    return find_provided(ring, request->entry.buf_group, &buffer);
 }
 
 struct pollfd poll_of(const struct request *request)
@@ -94,25 +77,22 @@ struct pollfd poll_of(const struct request *request)
     return (struct pollfd){.fd = request->fd, .events = (short)request->needs.events};
 }
 
-/* One that is asked not to wait, or for nothing, doesn't wait. */
 bool is_impatient(const struct request *request)
 {
-    if (request->started < 0)
-        return true;
-    if (request->entry.opcode == IORING_OP_CONNECT)
-        return !request->done;
-    if (has_message_flags(request->entry.opcode))
-        return request->entry.msg_flags & MSG_DONTWAIT;
-    /* A splice looks for its faults before it waits. */
-    if (is_splice(request))
-        return !request->done;
-    return is_transfer(request) && (request->entry.rw_flags & RWF_NOWAIT || (request->length == 0 && !request->needs.selects));
+    struct wulgach_patience patience = {.length = request->length, .has_failed = request->started < 0, .has_begun = request->done > 0};
+    return wulgach_is_impatient(submission_of(&request->entry), &patience);
+}
+
+/* Whether its descriptor is ready. */
+static bool is_polled(const struct request *request)
+{
+    struct pollfd at = poll_of(request);
+    return poll(&at, 1, 0) != 0;
 }
 
 bool is_ready(const struct request *request)
 {
-    struct pollfd at = poll_of(request);
-    return is_impatient(request) || poll(&at, 1, 0) != 0;
+    return is_impatient(request) || is_polled(request);
 }
 
 /* Cuts the vectors to half their bytes. */
@@ -127,37 +107,70 @@ static void shorten(struct request *request)
     }
 }
 
-static int32_t transfer(const struct request *request, off_t offset, int flags)
+/* Whether a descriptor isn't to wait. */
+bool is_not_to_wait(const struct request *request)
 {
-    int count = (int)request->vector_count, fd = request->fd;
-    return result_of(is_read(request) ? preadv2(fd, request->vectors, count, offset, flags) : pwritev2(fd, request->vectors, count, offset, flags));
+    int flags = fcntl(request->fd, F_GETFL);
+    return flags >= 0 && flags & O_NONBLOCK;
 }
 
-/* Asked not to wait, a stream gives what it has. One that can't be asked so is polled before. What the descriptor says of
- * waiting doesn't matter, as in the kernel. */
-static int32_t transfer_on_stream(const struct request *request)
+/* Reads by the kernel's call itself, which is quicker than the C library's: that is one at which threads are cancelled. */
+static int32_t move(const struct request *request, uint64_t offset, int flags)
 {
-    off_t offset = has_offsets(request) ? (off_t)request->entry.off : -1;
-    int flags = request->entry.rw_flags, own = fcntl(request->fd, F_GETFL);
-    if (is_impatient(request))
-        return transfer(request, offset, flags);
-    bool is_asked = own >= 0 && own & O_NONBLOCK;
-    int32_t res = transfer(request, offset, is_asked ? flags : flags | RWF_NOWAIT);
-    if (res == -EAGAIN)
-        return WOULD_WAIT;
-    if (res != -EOPNOTSUPP)
-        return res;
-    return is_ready(request) ? transfer(request, offset, flags) : WOULD_WAIT;
+    if (is_read(request))
+        return (int32_t)pass(SYS_preadv2, request->fd, (long)request->vectors, (long)request->vector_count, (long)offset, 0, flags);
+    return result_of(pwritev2(request->fd, request->vectors, (int)request->vector_count, (off_t)offset, flags));
+}
+
+/* The transfer as the library is told of it. */
+static struct wulgach_transfer transfer_of(const struct request *request)
+{
+    struct wulgach_transfer transfer = {
+        .length = request->length,
+        .fault = request->started,
+        .is_at_once = request->is_tried_at_once,
+        .is_tried = request->is_tried,
+        .is_stream = request->standing.is_stream,
+    };
+    if (!transfer.is_stream)
+        return transfer;
+    transfer.is_impatient = is_impatient(request);
+    transfer.has_offsets = has_offsets(request);
+    transfer.is_not_to_wait = is_not_to_wait(request);
+    return transfer;
+}
+
+/* Makes the call in the way that the library said. */
+static int32_t call_transfer(const struct request *request, const struct wulgach_transfer *transfer, uint32_t way)
+{
+    bool is_asked = way == WULGACH_CALL_AT_ONCE || way == WULGACH_CALL_NONBLOCKING;
+    int32_t res = move(request, wulgach_transfer_offset(transfer, request->entry.off), request->entry.rw_flags | (is_asked ? RWF_NOWAIT : 0));
+    if (way == WULGACH_CALL_AT_ONCE && res == -EOPNOTSUPP)
+        note_slow(request->fd);
+    return res;
+}
+
+/* One that was tried is asked about, and never tried again. */
+static void find_untried(struct request *request)
+{
+    request->was_tried = true;
+    find_kind(request);
 }
 
 static int32_t carry_transfer_out(struct request *request)
 {
-    int32_t res = request->is_tried ? try_transfer(request) : NOT_MOVED;
-    if (res != NOT_MOVED)
-        return res;
-    if (request->started < 0)
-        return request->started;
-    return request->is_stream ? transfer_on_stream(request) : transfer(request, (off_t)request->entry.off, request->entry.rw_flags);
+    struct wulgach_transfer transfer = transfer_of(request);
+    uint32_t step = 0;
+    int32_t res = 0;
+    while ((step = wulgach_transfer_next(&transfer, step, res, &res)) > WULGACH_TRY_WAITS) {
+        if (step == WULGACH_TRY_FINDS) {
+            find_untried(request);
+            transfer = transfer_of(request);
+        } else {
+            res = step == WULGACH_TRY_POLLS ? is_polled(request) : call_transfer(request, &transfer, step);
+        }
+    }
+    return step == WULGACH_TRY_WAITS ? WOULD_WAIT : res;
 }
 
 static int32_t close_file(struct ring *ring, const struct request *request)
@@ -274,7 +287,7 @@ bool can_have(const struct request *request, enum injection fault)
         return is_write(request) || request->entry.opcode == IORING_OP_FALLOCATE;
     case FAULT_SHORT:
         /* One on a stream may have to wait, and be tried again. */
-        return is_transfer(request) && !request->is_stream && request->length > 1;
+        return is_transfer(request) && !request->standing.is_stream && request->length > 1;
     }
     return false;
 }

@@ -18,22 +18,22 @@ int copy_behind(struct request *request, const struct request *before);
 /* Finds out what a request is carried out on: its file, its buffer, and whether it may have to wait. */
 void assign(struct ring *ring, struct request *request);
 
-/* Asks whether it may have to wait for its descriptor. At the wrong end of a pipe it ends with -9. */
+/* Asks its descriptor what the library wants to know, and so finds out whether it may have to wait for that. */
 void find_kind(struct request *request);
 
 bool is_read(const struct request *request);
 bool is_transfer(const struct request *request);
 bool is_splice(const struct request *request);
 
-/* Whether it may have to wait for a descriptor: a transfer on what has no offset, as a pipe or an eventfd, or on a device,
- * a poll, a splice, or a call of sockets. A file is to be tried first, where that is allowed. */
-bool is_stream(struct request *request);
+/* Whether a transfer's descriptor has offsets, and whether a descriptor isn't to wait. */
+bool has_offsets(const struct request *request);
+bool is_not_to_wait(const struct request *request);
 
 /* Whether it doesn't wait whatever its descriptor is: it is asked not to, or for nothing. */
 bool is_impatient(const struct request *request);
 
-/* Whether it is to take a provided buffer and there is none: it ends so, whatever its descriptor has. One that goes on waits. */
-bool lacks_buffer(struct ring *ring, const struct request *request);
+/* Whether the group of which it takes a provided buffer has one. */
+bool finds_buffer(struct ring *ring, const struct request *request);
 
 /* Whether one that may have to wait wouldn't wait now. */
 bool is_ready(const struct request *request);

@@ -13,7 +13,7 @@
 static bool is_plain(const struct request *request)
 {
     const struct io_uring_sqe *entry = &request->entry;
-    if (request->mapping != TOKEN || request->is_stream || entry->flags & (IOSQE_FIXED_FILE | IOSQE_BUFFER_SELECT))
+    if (request->mapping != TOKEN || request->standing.is_stream || entry->flags & (IOSQE_FIXED_FILE | IOSQE_BUFFER_SELECT))
         return false;
     switch (entry->opcode) {
     case IORING_OP_NOP:

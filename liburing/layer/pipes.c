@@ -130,7 +130,7 @@ static bool tell_of_write(struct ring *ring, int watch)
             is_gone = poll(&at, 1, 0) == 0;
         is_known = true;
         request->is_told |= is_gone;
-        request->has_to_wait &= !is_gone;
+        request->standing.has_to_wait &= !is_gone;
     }
     ring->moment += is_gone;
     return is_gone;

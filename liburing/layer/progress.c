@@ -19,17 +19,35 @@
 #include "ways.h"
 
 
+/* Finds out what the library wants to know of this moment. */
+static void look_for_one(struct ring *ring, struct request *request, uint32_t wanted, struct wulgach_moment *known)
+{
+    switch (wanted) {
+    case WULGACH_ASK_COUNT:
+        known->has_counted = has_counted(ring, request);
+        known->knows_count = true;
+        return;
+    case WULGACH_ASK_POSTING:
+        known->may_post = can_post_extra(ring);
+        known->knows_posting = true;
+        return;
+    case WULGACH_ASK_BUFFER:
+        known->has_buffer = finds_buffer(ring, request);
+        known->knows_buffer = true;
+        return;
+    default:
+        known->is_ready = is_found_ready(ring, request);
+        known->knows_readiness = true;
+    }
+}
+
 bool can_finish(struct ring *ring, struct request *request)
 {
-    if (request->has_to_wait)
-        return false;
-    if (request->course.is_cancelled)
-        return true;
-    if (is_timeout(request))
-        return has_counted(ring, request);
-    if (request->needs.goes_on && !can_post_extra(ring))
-        return false;
-    return !request->is_stream || lacks_buffer(ring, request) || is_found_ready(ring, request);
+    struct wulgach_moment known = {0};
+    uint32_t look;
+    while ((look = wulgach_can_finish(&request->standing, &request->needs, &request->course, &known)) > WULGACH_LOOK_FINISHES)
+        look_for_one(ring, request, look, &known);
+    return look == WULGACH_LOOK_FINISHES;
 }
 
 /* Whether a request that goes on does so behind this result. */
@@ -117,7 +135,7 @@ static void start(struct ring *ring, struct request *request)
         request->started = start_poll(request);
     arm_linked_timeout(ring, request);
     ring->counting += has_count(request);
-    if (request->is_stream)
+    if (request->standing.is_stream)
         look_at(ring, request);
 }
 

@@ -73,7 +73,7 @@ static size_t list_watched(const struct ring *ring, struct watched *watched)
         watched[count++] = (struct watched){.fd = ring->pipes.inotify, .events = EPOLLIN};
     for (size_t i = 0; i < ring->running.count; i++) {
         const struct request *request = ring->running.rows[i];
-        if (!request->is_stream)
+        if (!request->standing.is_stream)
             continue;
         struct pollfd polled = poll_of(request);
         watched[count++] = (struct watched){.fd = polled.fd, .events = (uint16_t)polled.events, .number = request->number};

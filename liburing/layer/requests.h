@@ -23,7 +23,7 @@ struct request {
     enum mapping mapping;           /* what the core was told of it */
     uint64_t looked_at;             /* of one that may have to wait: the moment at which its descriptor was last looked at, */
     bool is_found_ready;            /* and whether it was ready */
-    bool has_to_wait;               /* it was carried out and would have waited, and nothing has ended since */
+    struct wulgach_standing standing;   /* whether it would have waited, and nothing has ended since; and whether it may have to wait for a descriptor */
     int32_t fault;                  /* of a refused entry: what it ends with */
     bool is_draining;               /* a member of its chain drains, or it does: those behind wait until all of them have ended */
     struct file *file;              /* the registered file that it is carried out on, if it is one */
@@ -33,8 +33,7 @@ struct request {
     struct buffer *buffer;          /* the registered buffer that it uses, or NULL */
     struct wulgach_needs needs;     /* what its operation needs: as zeros, until its file is looked for */
     bool is_assigned;               /* these are known: when it is accepted, or, behind a link or beside a drain, when it starts */
-    bool is_stream;                 /* it may have to wait for a descriptor: a transfer on what has no offset or on a device, a poll, a call of sockets */
-    bool is_tried;                  /* that isn't known: it is tried first, */
+    bool is_tried;                  /* whether it may have to wait isn't known: it is tried first, */
     bool is_tried_at_once;          /* and nothing was asked of its descriptor, */
     bool was_tried;                 /* or it was */
     uint64_t wanted;                /* of one that takes a provided buffer: how many bytes at most, or 0 */

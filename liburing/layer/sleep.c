@@ -39,8 +39,8 @@ static nfds_t list_streams(const struct ring *ring, struct pollfd *streams)
     nfds_t count = 0;
     for (size_t i = 0; i < ring->running.count; i++) {
         struct request *request = ring->running.rows[i];
-        if (request->is_stream) {
-            request->has_to_wait = false;
+        if (request->standing.is_stream) {
+            request->standing.has_to_wait = false;
             streams[count++] = poll_of(request);
         }
     }

@@ -44,11 +44,6 @@ bool is_of_sockets(uint8_t code)
     }
 }
 
-bool has_message_flags(uint8_t code)
-{
-    return is_of_sockets(code) && code != IORING_OP_ACCEPT && code != IORING_OP_CONNECT;
-}
-
 bool is_zero_copy(const struct request *request)
 {
     return request->entry.opcode == IORING_OP_SEND_ZC || request->entry.opcode == IORING_OP_SENDMSG_ZC;
@@ -117,12 +112,6 @@ int copy_address(struct request *request, uint64_t from, size_t size)
     addressed->message.msg_name = &addressed->address;
     addressed->message.msg_namelen = (socklen_t)size;
     return copy_in(&addressed->address, from, size);
-}
-
-static bool is_not_to_wait(const struct request *request)
-{
-    int flags = fcntl(request->fd, F_GETFL);
-    return flags >= 0 && flags & O_NONBLOCK;
 }
 
 /* Moves the vectors on by what was moved. */
@@ -209,7 +198,7 @@ static int32_t accept_one_socket(struct ring *ring, const struct request *reques
 {
     const struct io_uring_sqe *entry = &request->entry;
     struct pollfd at = poll_of(request);
-    if (request->is_stream && poll(&at, 1, 0) == 0)
+    if (request->standing.is_stream && poll(&at, 1, 0) == 0)
         return is_not_to_wait(request) ? -EAGAIN : WOULD_WAIT;
     int fd = accept4(request->fd, (struct sockaddr *)(uintptr_t)entry->addr, (socklen_t *)(uintptr_t)entry->addr2, (int)entry->accept_flags);
     if (fd < 0)

@@ -9,9 +9,6 @@ struct ring;
 /* Whether an operation is one of these. */
 bool is_of_sockets(uint8_t code);
 
-/* Whether its entry has flags of a message: one of them asks it not to wait. */
-bool has_message_flags(uint8_t code);
-
 /* One buffer becomes a message of a single vector. Returns 0 or -ENOMEM. */
 int make_message(struct request *request);
 

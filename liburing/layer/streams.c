@@ -18,7 +18,7 @@ void look_at(const struct ring *ring, struct request *request)
 
 static bool is_to_be_looked_at(const struct ring *ring, const struct request *request)
 {
-    return request->is_stream && request->looked_at != ring->moment;
+    return request->standing.is_stream && request->looked_at != ring->moment;
 }
 
 /* The row of the running request to look at from this one on. */
@@ -73,7 +73,7 @@ void hold_files(struct ring *ring)
 {
     for (size_t i = 0; i < ring->running.count; i++) {
         struct request *request = ring->running.rows[i];
-        if (!request->is_stream || request->file || request->epoll >= 0)
+        if (!request->standing.is_stream || request->file || request->epoll >= 0)
             continue;
         request->file = hold_file(request->fd);
         if (request->file)

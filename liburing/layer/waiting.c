@@ -29,7 +29,7 @@ static void fire(struct ring *ring, const struct wulgach_timeout *timeout)
 static bool is_streaming(const struct ring *ring)
 {
     for (size_t i = 0; i < ring->running.count; i++)
-        if (ring->running.rows[i]->is_stream)
+        if (ring->running.rows[i]->standing.is_stream)
             return true;
     return false;
 }

@@ -20,3 +20,4 @@ pub mod CourseForm
 pub mod EntryForm
 pub mod TakingForm
 pub mod RegisterForm
+pub mod WaitForm

@@ -25,6 +25,7 @@ pub mod Needs
 pub mod Descriptors
 pub mod Readiness
 pub mod Tries
+pub mod CallTries
 pub mod Copies
 pub mod Shots
 pub mod Takings

@@ -64,7 +64,7 @@ events_of e =
     if is_read e.opcode || is_receive e.opcode || e.opcode == 13 then 1 else
     if needs_file e.opcode then 4 else 0
 
--- IOSQE_FIXED_FILE is 1, SPLICE_F_FD_IN_FIXED 2^31 and IOSQE_BUFFER_SELECT 32
+-- TIMEOUT is 11; IOSQE_FIXED_FILE is 1, SPLICE_F_FD_IN_FIXED 2^31 and IOSQE_BUFFER_SELECT 32
 abbrev pub needs_of : Submission → Needs
 needs_of e = record {
   needs_file = needs_file e.opcode;
@@ -74,6 +74,7 @@ needs_of e = record {
   uses_buffer = uses_buffer e;
   selects = has_some e.flags 32;
   goes_on = goes_on e;
+  is_timeout = e.opcode == 11;
   can_make_ready = can_make_ready e.opcode;
   events = events_of e;
 }

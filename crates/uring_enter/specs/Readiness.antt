@@ -21,7 +21,7 @@ abbrev pub can_finish : Standing → Needs → Bool → Moment → Bool
 can_finish s n is_cancelled m =
     if s.has_to_wait then false else
     if is_cancelled then true else
-    if s.is_timeout then m.has_counted else
+    if n.is_timeout then m.has_counted else
     if n.goes_on && not m.may_post then false else
     if s.is_stream then finds_what_it_wants n m else true
 
@@ -49,7 +49,7 @@ abbrev pub look_of : Standing → Needs → Bool → Moment → Look
 look_of s n is_cancelled m =
     if s.has_to_wait then Waits else
     if is_cancelled then Finishes else
-    if s.is_timeout then look_at_count m else
+    if n.is_timeout then look_at_count m else
     if n.goes_on && not m.knows_posting then Asks Posting else
     if n.goes_on && not m.may_post then Waits else
     if s.is_stream then look_at_descriptor n m else Finishes

@@ -38,6 +38,7 @@ mod times;
 mod transfer;
 mod update;
 mod wait;
+mod waiting_call;
 mod ways;
 
 pub use act::Act;
@@ -148,6 +149,9 @@ pub use update::updated_poll;
 pub use wait::Wait;
 pub use wait::WakeSources;
 pub use wait::Woken;
+pub use waiting_call::{
+    Call, Doing, Turn, accepts_what_came, ends_with_what_came, loses_no_bytes, next_turn, poll_result,
+};
 pub use ways::Way;
 pub use ways::Ways;
 pub use ways::names_the_ways;

@@ -30,6 +30,9 @@ pub struct Needs {
     /// It can have more than one completion.
     pub goes_on: bool,
 
+    /// It ends when its count is reached, or its time is over. IORING_OP_TIMEOUT.
+    pub is_timeout: bool,
+
     /// Carrying it out can make a descriptor ready, or unready.
     pub can_make_ready: bool,
 
@@ -49,6 +52,7 @@ pub fn needs_of(entry: &Submission) -> Needs
         uses_buffer: uses_buffer(entry),
         selects: entry.flags & 32 != 0,
         goes_on: goes_on(entry),
+        is_timeout: entry.opcode == 11,
         can_make_ready: can_make_ready(entry.opcode),
         events: events_of(entry),
     }

@@ -17,9 +17,6 @@ pub struct Standing {
     /// It was carried out and would have waited, and nothing has ended since.
     pub has_to_wait: bool,
 
-    /// It is a timeout, and no linked one.
-    pub is_timeout: bool,
-
     /// It may have to wait for its descriptor.
     pub is_stream: bool,
 }
@@ -94,7 +91,7 @@ pub fn next_look(standing: &Standing, needs: &Needs, course: &Course, known: &Mo
         Look::Waits
     } else if course.is_cancelled {
         Look::Finishes
-    } else if standing.is_timeout {
+    } else if needs.is_timeout {
         look_at_count(known)
     } else if needs.goes_on && !known.knows_posting {
         Look::Asks(Wanted::Posting)

@@ -1,0 +1,63 @@
+-- Whether a request has to wait, and what becomes of a try, in words that C can read.
+use Rattle.std.specs.Prelude.{ℕ, ℤ, ◌==◌, Option, Some, None, if◌then◌else◌}
+use Rattle.uring_enter.specs.declared.descriptor.Kind.TheVariants.{Never, AtOnce, Tried, Stream, Wrong}
+use Rattle.uring_enter.specs.declared.descriptor.Question.TheVariants.{Status, Offsets, Access}
+use Rattle.uring_enter.specs.declared.descriptor.Finding.{Finding}
+use Rattle.uring_enter.specs.declared.descriptor.Finding.TheVariants as finding
+use Rattle.uring_enter.specs.declared.ready.Wanted.TheVariants.{Count, Posting, Buffer, Readiness}
+use Rattle.uring_enter.specs.declared.ready.Look.{Look}
+use Rattle.uring_enter.specs.declared.ready.Look.TheVariants as look
+use Rattle.uring_enter.specs.declared.transfer.How.TheVariants as how
+use Rattle.uring_enter.specs.declared.transfer.Task.{Task}
+use Rattle.uring_enter.specs.declared.transfer.Task.TheVariants.{Calls, Finds, Polls}
+use Rattle.uring_enter.specs.declared.transfer.Step.{Step}
+use Rattle.uring_enter.specs.declared.transfer.Step.TheVariants.{Does, Waits, Ends}
+
+-- kinds count in the order of `Kind`, from 0, and questions in the order of `Question` behind them. Our own rule
+abbrev pub word_of_finding : Finding → ℕ
+word_of_finding (finding.Is Never) = 0
+word_of_finding (finding.Is AtOnce) = 1
+word_of_finding (finding.Is Tried) = 2
+word_of_finding (finding.Is Stream) = 3
+word_of_finding (finding.Is Wrong) = 4
+word_of_finding (finding.Asks Status) = 5
+word_of_finding (finding.Asks Offsets) = 6
+word_of_finding (finding.Asks Access) = 7
+
+-- 0 and 1 say whether it can be finished, and what is asked counts in the order of `Wanted` behind them. Our own rule
+abbrev pub word_of_look : Look → ℕ
+word_of_look look.Waits = 0
+word_of_look look.Finishes = 1
+word_of_look (look.Asks Count) = 2
+word_of_look (look.Asks Posting) = 3
+word_of_look (look.Asks Buffer) = 4
+word_of_look (look.Asks Readiness) = 5
+
+-- an end is 0, a wait 1, and what is done counts from 2, calls in the order of `How` from 4. Our own rule
+abbrev pub word_of_step : Step → ℕ
+word_of_step (Ends _) = 0
+word_of_step Waits = 1
+word_of_step (Does Finds) = 2
+word_of_step (Does Polls) = 3
+word_of_step (Does (Calls how.AtOnce)) = 4
+word_of_step (Does (Calls how.Tried)) = 5
+word_of_step (Does (Calls how.Plain)) = 6
+word_of_step (Does (Calls how.Nonblocking)) = 7
+word_of_step (Does (Calls how.Unwilling)) = 8
+word_of_step (Does (Calls how.Ready)) = 9
+
+abbrev pub end_of_step : Step → ℤ → ℤ
+end_of_step (Ends res) old = res
+end_of_step _ old = old
+
+-- the task of a word, by the same numbers; none of another
+abbrev pub task_of : ℕ → Option Task
+task_of word =
+    if word == 2 then Some Finds else
+    if word == 3 then Some Polls else
+    if word == 4 then Some (Calls how.AtOnce) else
+    if word == 5 then Some (Calls how.Tried) else
+    if word == 6 then Some (Calls how.Plain) else
+    if word == 7 then Some (Calls how.Nonblocking) else
+    if word == 8 then Some (Calls how.Unwilling) else
+    if word == 9 then Some (Calls how.Ready) else None

@@ -1,0 +1,77 @@
+//! What carrying out an operation needs, whether it has to wait, and what becomes of a try, for C: functions of `c/wulgach_waits.h`.
+ghost use Rattle.std.specs.Prelude.{◌≡◌, List};
+ghost use Rattle.uring_enter.specs.declared.act.Fact.{Fact};
+ghost use Rattle.uring_enter.specs.Courses.{KeepsCourse, is_cancelled};
+ghost use Rattle.uring_enter.specs.Needs as needed;
+ghost use Rattle.uring_enter.specs.Descriptors as found;
+ghost use Rattle.uring_enter.specs.Readiness as ready;
+ghost use Rattle.uring_enter.specs.Tries as tried;
+ghost use Rattle.uring_c.specs.WaitForm.{word_of_finding, word_of_look, word_of_step, end_of_step, task_of};
+
+use crate::wait_words::{finding_word, look_word, step_end, step_word, task};
+use uring_enter::{
+    Course, Known, Moment, Needs, Patience, Standing, Submission, Transfer, Trial, is_impatient,
+    needs_of, next_finding, next_look, next_step, offset_of,
+};
+
+/// Writes what the operation of an entry needs.
+#[unsafe(no_mangle)]
+pub extern "C" fn wulgach_needs_of(entry: &Submission, needs: &mut Needs)
+    ensures { needs.new ≡ needed.needs_of entry.now }
+{
+    *needs = needs_of(entry);
+}
+
+/// Returns what is to be asked next of a descriptor, or what the request of an entry is on it.
+#[unsafe(no_mangle)]
+pub extern "C" fn wulgach_find_kind(entry: &Submission, trial: &Trial, known: &Known) -> u32
+    ensures { result ≡ word_of_finding (found.next_of entry.now trial.now known.now) }
+{
+    finding_word(next_finding(entry, trial, known))
+}
+
+/// Returns whether a request that runs can be finished, or what is to be asked next.
+#[unsafe(no_mangle)]
+pub extern "C" fn wulgach_can_finish(
+    standing: &Standing,
+    needs: &Needs,
+    course: &Course,
+    known: &Moment,
+) -> u32
+    ensures { (log : List Fact) → KeepsCourse log course.now
+        → result ≡ word_of_look (ready.look_of standing.now needs.now (is_cancelled log) known.now) }
+{
+    look_word(next_look(standing, needs, course, known))
+}
+
+/// Whether a request doesn't wait, whatever its descriptor has.
+#[unsafe(no_mangle)]
+pub extern "C" fn wulgach_is_impatient(entry: &Submission, patience: &Patience) -> bool
+    ensures { result ≡ ready.is_impatient entry.now patience.now }
+{
+    is_impatient(entry, patience)
+}
+
+/// Returns what is next of a transfer, behind what was done last, which came to `res`, and writes what it ends with, if it ends.
+#[unsafe(no_mangle)]
+pub extern "C" fn wulgach_transfer_next(
+    transfer: &Transfer,
+    last: u32,
+    res: i32,
+    end: &mut i32,
+) -> u32
+    ensures next { result ≡ word_of_step (tried.next_of transfer.now (task_of last) res) }
+    ensures end { end.new ≡ end_of_step (tried.next_of transfer.now (task_of last) res) end.old }
+{
+    let step = next_step(transfer, task(last), res);
+    *end = step_end(step, *end);
+    step_word(step)
+}
+
+/// The offset at which a transfer is made whose entry has this one.
+#[unsafe(no_mangle)]
+pub extern "C" fn wulgach_transfer_offset(transfer: &Transfer, offset: u64) -> u64
+    ensures { result ≡ tried.offset_of transfer.now offset }
+{
+    offset_of(transfer, offset)
+}

@@ -1,0 +1,96 @@
+-- What becomes of an operation of sockets, of a splice and of a poll that is carried out: which call is made, and behind each what is done next. io_uring_enter(2), at each of them; recv(2), MSG_WAITALL; but where our own rule is named.
+use Rattle.std.specs.Prelude.{◌≡◌, ℕ, ℤ, pos, negsuc, Bool, true, false, not, ◌&&◌, ◌||◌, ◌==◌, nat_lt, Option, Some, None, ◌⊎◌, if◌then◌else◌}
+use Rattle.std.specs.Ordering.{int_eq}
+use Rattle.std.specs.Int.RustNames.{bit_and}
+use Rattle.uring_enter.specs.declared.submission.Submission.{Submission}
+use Rattle.uring_enter.specs.declared.waiting_call.Call.{Call}
+use Rattle.uring_enter.specs.declared.waiting_call.Doing.{Doing}
+use Rattle.uring_enter.specs.declared.waiting_call.Doing.TheVariants.{Calls, Polls, AsksWill, AsksType, AsksError}
+use Rattle.uring_enter.specs.declared.waiting_call.Turn.{Turn}
+use Rattle.uring_enter.specs.declared.waiting_call.Turn.TheVariants.{Does, Waits, Ends, EndsWithDone}
+use Rattle.uring_enter.specs.Clocks.{has_some}
+use Rattle.uring_enter.specs.Needs.{is_splice}
+use Rattle.uring_enter.specs.Readiness.{has_message_flags}
+use Rattle.uring_entry.specs.Errors.{error, is_below}
+
+-- an ACCEPT (13) might sleep, and a CONNECT (16) that was begun goes on by itself: their descriptors are polled first. Every other call is made so that it doesn't wait
+abbrev pub polls_first : Submission → Call → Bool
+polls_first e c = e.opcode == 13 && c.is_stream || e.opcode == 16 && c.has_begun
+
+abbrev pub begins : Submission → Call → Turn
+begins e c = if polls_first e c then Does Polls else Does Calls
+
+-- a message ends with what it has moved, if that is something
+abbrev pub ends_with : Submission → Call → ℤ → Turn
+ends_with e c res = if has_message_flags e.opcode && not (c.done == 0) then EndsWithDone else Ends res
+
+-- the entry asks it not to wait: MSG_DONTWAIT (64), SPLICE_F_NONBLOCK (2)
+abbrev pub is_asked : Submission → Bool
+is_asked e =
+    has_message_flags e.opcode && has_some e.op_flags 64 || is_splice e.opcode && has_some e.op_flags 2
+
+-- what would have had to wait ends so (-11, EAGAIN) if the entry asks for that; else a splice waits, and an operation of sockets unless its descriptor isn't to wait (O_NONBLOCK)
+abbrev pub would_wait : Submission → Call → Turn
+would_wait e c =
+    if is_asked e then ends_with e c (error 11) else
+    if is_splice e.opcode then Waits else Does AsksWill
+
+-- with MSG_WAITALL (256) a message goes on until all is moved, on a socket that is a stream
+abbrev pub waits_for_all : Submission → Call → Bool
+waits_for_all e c = has_some e.op_flags 256 && not (has_some e.op_flags 64) && nat_lt c.done c.length
+
+-- a message that came to its end (0) waits for no more
+abbrev pub behind_message : Submission → Call → ℤ → Turn
+behind_message e c (negsuc below) = ends_with e c (negsuc below)
+behind_message e c (pos n) = if not (n == 0) && waits_for_all e c then Does AsksType else EndsWithDone
+
+-- a connect that was begun (-115, EINPROGRESS) waits
+abbrev pub behind_call : Submission → Call → ℤ → Turn
+behind_call e c res =
+    if e.opcode == 16 then (if int_eq res (error 115) || int_eq res (error 11) then Waits else Ends res) else
+    if int_eq res (error 11) then would_wait e c else
+    if has_message_flags e.opcode then behind_message e c res else Ends res
+
+abbrev pub behind_poll : Submission → Bool → Turn
+behind_poll e is_ready =
+    if e.opcode == 16 then (if is_ready then Does AsksError else Waits) else
+    if is_ready then Does Calls else Does AsksWill
+
+-- what is done next, behind what was done last, which came to `res`: a question to a number that is 0 for no. Behind a call, `done` has what it has moved too
+abbrev pub behind : Submission → Call → Doing → ℤ → Turn
+behind e c Calls res = behind_call e c res
+behind e c Polls res = behind_poll e (not (int_eq res (pos 0)))
+behind e c AsksWill res = if int_eq res (pos 0) then Waits else ends_with e c (error 11)
+behind e c AsksType res = if int_eq res (pos 0) then EndsWithDone else Waits
+behind e c AsksError res = Ends res
+
+abbrev pub next_of : Submission → Call → Option Doing → ℤ → Turn
+next_of e c None res = begins e c
+next_of e c (Some doing) res = behind e c doing res
+
+-- a descriptor was found ready
+abbrev pub was_ready : Option Doing → ℤ → Bool
+was_ready (Some Polls) res = not (int_eq res (pos 0))
+was_ready _ res = false
+
+-- a connection is accepted only right behind its socket was found ready, and a connect is begun once
+abbrev pub AcceptsWhatCame : Type 0
+AcceptsWhatCame = (e : Submission) (c : Call) (last : Option Doing) (res : ℤ) → polls_first e c ≡ true
+    → next_of e c last res ≡ Does Calls → (was_ready last res ≡ true) × (e.opcode == 16 ≡ false)
+
+-- a call ends with what came last, or with -11
+abbrev pub EndsWithWhatCame : Type 0
+EndsWithWhatCame = (e : Submission) (c : Call) (last : Option Doing) (res end : ℤ)
+    → next_of e c last res ≡ Ends end → (end ≡ res) ⊎ (end ≡ error 11)
+
+-- bytes that a message has moved are told: it ends with no error
+abbrev pub LosesNoBytes : Type 0
+LosesNoBytes = (e : Submission) (c : Call) (last : Option Doing) (res end : ℤ)
+    → has_message_flags e.opcode ≡ true → c.done == 0 ≡ false → next_of e c last res ≡ Ends end
+    → last ≡ Some AsksError
+
+-- what a poll ends with, for the events that it names, where these are there (none: 0): with them, or -9 (EBADF) of what isn't open (POLLNVAL, 32); of a pipe also with POLLIN (1) and POLLRDNORM (64), where something was written that is gone. None: it waits. poll(2)
+abbrev pub poll_result : ℕ → ℕ → Bool → Option ℤ
+poll_result events present was_told =
+    if present == 0 then (if was_told then Some (pos (bit_and events 65)) else None) else
+    if has_some present 32 then Some (error 9) else Some (pos present)
