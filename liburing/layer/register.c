@@ -42,7 +42,7 @@ static int probe(uint32_t code, uint64_t at, uint32_t count)
     int result = wulgach_content_fault(code, is_read, &content);
     if (result < 0)
         return result;
-    copy.probe.last_op = IORING_OP_LAST - 1;
+    copy.probe.last_op = (uint8_t)(wulgach_probed(MOST_PROBED) - 1);
     copy.probe.ops_len = (uint8_t)count;
     for (uint32_t operation = 0; operation < count; operation++) {
         copy.probe.ops[operation].op = (uint8_t)operation;

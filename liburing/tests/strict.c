@@ -167,7 +167,7 @@ static void ask_calls(void)
 
 static void ask_who_calls(void)
 {
-    static const unsigned codes[] = {IORING_REGISTER_PROBE, 35, 36, 1000};
+    static const unsigned codes[] = {IORING_REGISTER_PROBE, 34, 36, 1000};
     struct ring ring;
     int ends[2];
     check(pipe(ends) == 0);
