@@ -3,6 +3,7 @@
 #include "operations.h"
 #include "cancels.h"
 #include "descriptors.h"
+#include "enter.h"
 #include "extras.h"
 #include "files.h"
 #include "groups.h"
@@ -66,6 +67,7 @@ bool is_stream(struct request *request)
 {
     struct stat status;
     bool is_socket_call = is_of_sockets(request->entry.opcode);
+    block_before_waiting();
     if (is_poll(request) || is_splice(request))
         return true;
     if ((!is_transfer(request) && !is_socket_call) || pass(SYS_fstat, request->fd, (long)&status, 0, 0, 0, 0) < 0)
@@ -177,6 +179,7 @@ static int32_t carry_transfer_out(struct request *request)
     int32_t res = request->is_tried ? try_transfer(request) : NOT_MOVED;
     if (res != NOT_MOVED)
         return res;
+    block_before_waiting();
     if (request->started < 0)
         return request->started;
     return request->is_stream ? transfer_on_stream(request) : transfer(request, (off_t)request->entry.off, request->entry.rw_flags);
@@ -339,6 +342,8 @@ int32_t carry_out(struct ring *ring, struct request *request, enum injection fau
         return request->started;
     if (request->entry.opcode == IORING_OP_NOP)
         return 0;
+    if (!request->is_tried_at_once)
+        block_before_waiting();
     if (fault == FAULT_EIO)
         return -EIO;
     if (fault == FAULT_ENOSPC)

@@ -5,6 +5,7 @@
  * the stack finds the program's function.
  */
 #define _GNU_SOURCE
+#include "deferring.h"
 #include "rewriting.h"
 #include "run.h"
 
@@ -12,7 +13,7 @@
 #include <errno.h>
 #include <string.h>
 
-long wulgach_blocked_enter(const long words[6], const sigset_t *signals);
+long wulgach_blocked_enter(const long words[6], const sigset_t *signals, void (*block)(void));
 long enter_bypassed(const long words[6]);
 extern const uint8_t bypass_all[];
 __thread uintptr_t bypass_stack;
@@ -22,21 +23,26 @@ __thread uintptr_t bypass_stack;
 enum { VECTORS = 0xe7, ROOM = 2560 };
 uint32_t bypassed_vectors __attribute__((visibility("hidden")));
 
-/* All signals are blocked as in the trap, and may come as it ends. */
+/* All signals are put off, or blocked as in the trap, and may come as it ends. */
 __attribute__((used)) long enter_bypassed(const long words[6])
 {
     int kept = errno;
     sigset_t before;
     sigemptyset(&before);
-    set_mask(~OPEN_IN_TRAP, &before);
-    long result = wulgach_blocked_enter(words, &before);
-    put_mask_back(&before);
+    block_function *block = begin_deferring(&before);
+    if (!block)
+        set_mask(~OPEN_IN_TRAP, &before);
+    long result = wulgach_blocked_enter(words, &before, block);
+    if (block)
+        end_deferring();
+    else
+        put_mask_back(&before);
     errno = kept;
     return result;
 }
 
-/* On the stack stand the end of the call and the program's 128 bytes. The flags are put as a handler has them: a program that is stepped
- * through isn't while signals are blocked. */
+/* On the stack stand the end of the call and the program's 128 bytes. The flags are put as a handler has them, as far as that matters here: a
+ * program that is stepped through isn't in the layer, nor is alignment checked there. */
 __asm__(".text\n"
         ".hidden bypass_all\n"
         ".globl bypass_all\n"
@@ -46,8 +52,12 @@ __asm__(".text\n"
         ".cfi_def_cfa %rsp, 136\n\t"
         ".cfi_offset %rip, -136\n\t"
         "pushfq\n\t"
+        "cld\n\t"
+        "testl $0x40100, (%rsp)\n\t"
+        "jz 1f\n\t"
         "pushq $0x202\n\t"
-        "popfq\n\t"
+        "popfq\n"
+        "1:\n\t"
         "mov bypass_stack@gottpoff(%rip), %rax\n\t"
         "mov %fs:(%rax), %rcx\n\t"
         "movq $0, %fs:(%rax)\n\t"
