@@ -138,15 +138,20 @@ static void fill_vectors(bool is_whole, uint64_t salt)
         seen.vectors[i / 4][i % 4] = is_whole || i % 4 < 2 ? 0x9e3779b97f4a7c15u * (i + salt) : 0;
 }
 
+/* Of one call in two the upper halves are in use. */
 static void __attribute__((noinline)) want_registers(const struct ring *ring, uint64_t salt)
 {
     static const uint64_t others[] = {112, 113, 114, 115, 116, 117, 1, 1};
     const uint64_t arguments[6] = {(uint64_t)ring->fd, 1, 1, IORING_ENTER_GETEVENTS, 0, 8};
-    bool is_whole = __builtin_cpu_supports("avx");
+    bool has_whole = __builtin_cpu_supports("avx"), is_whole = has_whole && salt % 2;
     memcpy(seen.arguments, arguments, sizeof arguments);
+    memset(seen.vectors_behind, 0, sizeof seen.vectors_behind);
     fill_vectors(is_whole, salt);
     publish(ring, (struct io_uring_sqe){.opcode = IORING_OP_NOP, .user_data = salt});
-    call_with_registers(is_whole);
+    if (is_whole)
+        call_with_registers(true);
+    else
+        call_with_halves(has_whole);
     WANT(memcmp(seen.behind, arguments, sizeof arguments) == 0 && seen.behind[6] == seen.frame && memcmp(seen.behind + 7, others, sizeof others) == 0);
     WANT(memcmp(seen.vectors, seen.vectors_behind, sizeof seen.vectors) == 0);
     WANT(reap(ring) == salt);
@@ -166,11 +171,35 @@ static void want_words(const struct ring *ring)
     WANT(behind == 0 && (flags & 0x400) && (wanted & 0x400) && later == rounding && reap(ring) == 1);
 }
 
+#define WHOLES(move) move(16, 0) move(17, 1) move(18, 2) move(19, 3) move(20, 4) move(21, 5) move(22, 6) move(23, 7) move(24, 8) move(25, 9) move(26, 10) move(27, 11) move(28, 12) move(29, 13) move(30, 14) move(31, 15)
+#define MASKS(move) move(0) move(1) move(2) move(3) move(4) move(5) move(6) move(7)
+#define GET(n, at) "vmovdqu64 64*" #at "(%%rbx), %%zmm" #n "\n\t"
+#define PUT(n, at) "vmovdqu64 %%zmm" #n ", 64*" #at "(%[behind])\n\t"
+#define GET_MASK(n) "kmovq 1024+8*" #n "(%%rbx), %%k" #n "\n\t"
+#define PUT_MASK(n) "kmovq %%k" #n ", 1024+8*" #n "(%[behind])\n\t"
+
+/* The other 16 vectors, of 64 bytes, and the masks, where there are any. */
+static void want_long(const struct ring *ring, uint64_t salt)
+{
+    static uint64_t before[17][8], behind[17][8];
+    for (unsigned i = 0; i < sizeof before / 8; i++)
+        before[i / 8][i % 8] = 0x9e3779b97f4a7c15u * (i + salt);
+    publish(ring, (struct io_uring_sqe){.opcode = IORING_OP_NOP, .user_data = salt});
+    register long r10 __asm__("r10") = IORING_ENTER_GETEVENTS, r8 __asm__("r8") = 0, r9 __asm__("r9") = 8;
+    __asm__ volatile("vzeroupper\n\t" WHOLES(GET) MASKS(GET_MASK) "mov $426, %%eax\n\tsyscall\n\t" WHOLES(PUT) MASKS(PUT_MASK)
+                     :
+                     : "b"(before), [behind] "r"(behind), "D"((long)ring->fd), "S"(1L), "d"(1L), "r"(r10), "r"(r8), "r"(r9)
+                     : "rax", "rcx", "r11", "memory", "cc");
+    WANT(memcmp(before, behind, sizeof before) == 0 && reap(ring) == salt);
+}
+
 static void registers(void)
 {
     struct ring ring = set_up();
-    for (uint64_t i = 1; i <= OFTEN; i++)
+    for (uint64_t i = 1; i <= 2 * OFTEN; i++)
         want_registers(&ring, i);
+    for (uint64_t i = 1; i <= OFTEN && __builtin_cpu_supports("avx512bw"); i++)
+        want_long(&ring, i);
     WANT((count_rewritten((const uint8_t *)(uintptr_t)want_registers, 4096) > 0) == !is_none_wanted);
     for (int i = 0; i < OFTEN; i++)
         want_words(&ring);
