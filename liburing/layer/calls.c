@@ -1,7 +1,8 @@
 /* What a program calls in the place of the C library's syscall(), mmap() and close(): the layer answers the three calls of
  * io_uring, and hands on all others. liburing's sources call wulgach_polled_syscall, wulgach_mmap and wulgach_close. A program
  * that maps its rings by mmap itself calls wulgach_syscall: its descriptors are memory, and don't poll. Where a call was trapped,
- * all signals are blocked already: wulgach_blocked_enter is told which the thread has blocked else.
+ * all signals are blocked already, and where it is rewritten they are put off: wulgach_blocked_enter is told which the thread has blocked
+ * else, and how to block them before anything that may wait.
  */
 #define _GNU_SOURCE
 #include "callers.h"
@@ -18,7 +19,7 @@
 #define SEEN __attribute__((visibility("default")))
 SEEN long wulgach_syscall(long call, ...);
 SEEN long wulgach_polled_syscall(long call, ...);
-SEEN long wulgach_blocked_enter(const long words[6], const sigset_t *signals);
+SEEN long wulgach_blocked_enter(const long words[6], const sigset_t *signals, block_function *block);
 SEEN void *wulgach_mmap(void *at, size_t size, int protection, int flags, int fd, off_t offset);
 SEEN int wulgach_close(int fd);
 
@@ -58,7 +59,7 @@ static long call_enter(va_list arguments)
     uint32_t min_complete = va_arg(arguments, uint32_t);
     uint32_t flags = va_arg(arguments, uint32_t);
     const void *argument = va_arg(arguments, const void *);
-    return enter(fd, to_submit, min_complete, flags, argument, va_arg(arguments, size_t), NULL);
+    return enter(fd, to_submit, min_complete, flags, argument, va_arg(arguments, size_t), NULL, NULL);
 }
 
 static long call_register(va_list arguments)
@@ -119,11 +120,11 @@ long wulgach_polled_syscall(long call, ...)
     return result;
 }
 
-long wulgach_blocked_enter(const long words[6], const sigset_t *signals)
+long wulgach_blocked_enter(const long words[6], const sigset_t *signals, block_function *block)
 {
     note_caller(__builtin_return_address(0));
     int before = forbid_cancellation();
-    long result = enter((int)words[0], (uint32_t)words[1], (uint32_t)words[2], (uint32_t)words[3], (const void *)words[4], (size_t)words[5], signals);
+    long result = enter((int)words[0], (uint32_t)words[1], (uint32_t)words[2], (uint32_t)words[3], (const void *)words[4], (size_t)words[5], signals, block);
     allow_cancellation(before);
     return result;
 }

@@ -7,6 +7,7 @@
 #include "descriptors.h"
 #include "enrolling.h"
 #include "fault.h"
+#include "log.h"
 #include "outlook.h"
 #include "pipes.h"
 #include "policy.h"
@@ -128,6 +129,7 @@ static enum wulgach_reply_kind go_on_fully(struct ring *ring)
 
 static enum wulgach_reply_kind sleep_on(struct ring *ring, const struct waiting *waiting, struct wulgach_reply *reply)
 {
+    block_before_waiting();
     if (watch_pipes(ring))
         return WULGACH_WOKEN;
     show_readiness(ring);
@@ -239,8 +241,27 @@ static void block_signals(sigset_t *before)
     pthread_sigmask(SIG_BLOCK, &all, before);
 }
 
-int enter(int fd, uint32_t to_submit, uint32_t min_complete, uint32_t flags, const void *argument, size_t size, const sigset_t *signals)
+/* How this thread's call blocks them before it waits, if it hasn't. */
+static __thread block_function *to_block;
+
+void block_before_waiting(void)
 {
+    block_function *block = to_block;
+    to_block = NULL;
+    if (block)
+        block();
+}
+
+/* Whether a call makes no calls of the kernel's that a signal ends, but those before which they are blocked: nothing is left of calls
+ * before, nobody is told of what it does, and nothing is chosen or written down. */
+static bool begins_unblocked(const struct ring *ring)
+{
+    return ring->requests.count == 0 && ring->eventfd < 0 && !is_traced(ring) && !is_logging() && (policy() == IN_ORDER || policy() == LAZY) && !is_recording_ways();
+}
+
+int enter(int fd, uint32_t to_submit, uint32_t min_complete, uint32_t flags, const void *argument, size_t size, const sigset_t *signals, block_function *block)
+{
+    to_block = block;
     if (flags & ~(uint32_t)SERVED_FLAGS)
         return -EINVAL;
     if (flags & IORING_ENTER_REGISTERED_RING && (fd = enrolled_fd((uint32_t)fd)) < 0)
@@ -253,6 +274,8 @@ int enter(int fd, uint32_t to_submit, uint32_t min_complete, uint32_t flags, con
     struct waiting waiting = {.to_submit = to_submit, .min_complete = min_complete, .is_looking = flags & IORING_ENTER_GETEVENTS && min_complete == 0, .signals = signals ? signals : &own};
     if (!signals)
         block_signals(&own);
+    if (!begins_unblocked(ring))
+        block_before_waiting();
     int result = read_waiting(&waiting, &given, flags, argument, size);
     if (result == 0)
         result = enter_ring(ring, flags, &waiting);
