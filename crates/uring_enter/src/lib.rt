@@ -17,6 +17,7 @@ mod enter;
 mod form;
 mod laws;
 mod member;
+mod message;
 mod needs;
 mod outcome;
 mod piece;
@@ -39,6 +40,7 @@ mod transfer;
 mod update;
 mod wait;
 mod waiting_call;
+mod watched;
 mod ways;
 
 pub use act::Act;
@@ -86,6 +88,7 @@ pub use laws::sleeps_in_vain;
 pub use laws::submits_once;
 pub use member::Entry;
 pub use member::Member;
+pub use message::{Message, Receiver, Sending, sending_of, told_of};
 pub use needs::Needs;
 pub use needs::needs_of;
 pub use outcome::EndedEarly;
@@ -152,6 +155,7 @@ pub use wait::Woken;
 pub use waiting_call::{
     Call, Doing, Turn, accepts_what_came, ends_with_what_came, loses_no_bytes, next_turn, poll_result,
 };
+pub use watched::{Watch, Watched, watch_of};
 pub use ways::Way;
 pub use ways::Ways;
 pub use ways::names_the_ways;
