@@ -103,6 +103,40 @@ int32_t wulgach_time_fault(int64_t seconds, int64_t nanoseconds);
 int32_t wulgach_message_fault(uint64_t vectors);
 int32_t wulgach_room_fault(const struct wulgach_submission *entry, uint32_t name, uint64_t control);
 
+/* ---- messages between rings ---- */
+
+/* The ring that a message goes to, as its sender finds it. */
+struct wulgach_receiver {
+    bool is_open;       /* the entry names an open file, */
+    bool is_ring;       /* which is a ring, */
+    bool is_sender;     /* the sender's own, */
+    bool is_disabled;   /* or one that was set up disabled, and isn't enabled */
+};
+
+/* What a message does. */
+enum wulgach_sending {
+    WULGACH_SENDS_NOTHING = 0,  /* it ends with an error */
+    WULGACH_SENDS_DATA = 1,     /* it ends with 0 */
+    WULGACH_SENDS_FILE = 2      /* a registered file is passed to the other ring's table: it ends with what comes of that */
+};
+
+/* A completion that is posted to another ring. */
+struct wulgach_message {
+    uint64_t user_data;
+    int32_t res;
+    uint32_t flags;
+};
+
+/* Returns what a message to this ring does (enum wulgach_sending), and writes its error, or 0. The first of these counts: -9 (EBADF) to what
+ * isn't open; -77 (EBADFD) to what is no ring; -22 (EINVAL) of data with what belongs to files (`addr3`, IORING_MSG_RING_CQE_SKIP, and
+ * without IORING_MSG_RING_FLAGS_PASS `file_index`), of a file with a length or to the sender itself, and of what is neither; -77 to a ring
+ * that is disabled. Of `addr` and `addr3` 32 bits count. */
+uint32_t wulgach_sending_of(const struct wulgach_submission *entry, const struct wulgach_receiver *to, int32_t *fault);
+
+/* Writes what the other ring is told where a message does what it does with this result (a file's is its slot, 0, or an error): its data, or
+ * that result. False: nothing, of what has failed or has IORING_MSG_RING_CQE_SKIP. */
+bool wulgach_told_of(const struct wulgach_submission *entry, int32_t res, struct wulgach_message *message);
+
 /* The flags of an entry that the core is told, whatever fault it has. */
 uint8_t wulgach_form_flags(uint8_t flags);
 
