@@ -68,7 +68,7 @@ enum wulgach_what {
     WULGACH_VECTORS = 1,
     WULGACH_PATH = 2,
     WULGACH_SECOND_PATH = 3,    /* or the name of an attribute */
-    WULGACH_HOW = 4,            /* of an open: struct open_how */
+    WULGACH_HOW = 4,            /* of an open: struct open_how, and what is newer than its 24 bytes */
     WULGACH_TIME = 5,
     WULGACH_VALUE = 6,          /* bytes that the operation reads */
     WULGACH_MESSAGE = 7,        /* and behind it its vectors */
@@ -92,7 +92,7 @@ struct wulgach_copied {
 };
 
 /* Writes the piece that is copied next of an entry when it is submitted, and returns 1. Else nothing more is copied, and it returns the fault
- * of the entry, or 0. That is the first of those of its pieces, in their order, where one that is too long (an address, a value) isn't
+ * of the entry, or 0. That is the first of those of its pieces, in their order, where one that is too long (an address, a value, a structure) isn't
  * copied; -22 (EINVAL) if it takes a provided buffer and hasn't one vector; and -22 of a linked timeout, but behind an entry that links it
  * and is none itself. */
 int32_t wulgach_next_piece(const struct wulgach_submission *entry, const struct wulgach_copied *copied, struct wulgach_piece *piece);
@@ -102,6 +102,11 @@ int32_t wulgach_next_piece(const struct wulgach_submission *entry, const struct 
 int32_t wulgach_time_fault(int64_t seconds, int64_t nanoseconds);
 int32_t wulgach_message_fault(uint64_t vectors);
 int32_t wulgach_room_fault(const struct wulgach_submission *entry, uint32_t name, uint64_t control);
+
+/* The fault of how a file is opened, -7 (E2BIG) if what is newer isn't all 0; and of an open by that, with these flags, behind its path: -22
+ * if it goes to a slot and has O_CLOEXEC. Each is 0 if there is none. */
+int32_t wulgach_how_fault(bool is_rest_zero);
+int32_t wulgach_open_fault(const struct wulgach_submission *entry, uint64_t flags);
 
 /* ---- messages between rings ---- */
 

@@ -41,12 +41,12 @@ static void look_at_fields(void)
 
 static void look_at_more_fields(void)
 {
-    demand(FORM(.opcode = 18, .file_index = 1) == 0 && FORM(.opcode = 18, .file_index = 1, .op_flags = 0x80000) == -22 && FORM(.opcode = 28, .buf_index = 1) == -22, "opens");
+    demand(FORM(.opcode = 18, .file_index = 1) == 0 && FORM(.opcode = 18, .file_index = 1, .op_flags = 0x80000) == -22 && FORM(.opcode = 28, .len = 24) == 0 && FORM(.opcode = 28, .len = 23) == -22 && FORM(.opcode = 28, .len = 24, .buf_index = 1) == -22, "opens");
     demand(FORM(.opcode = 19, .fd = 3) == 0 && FORM(.opcode = 19, .file_index = 1) == 0 && FORM(.opcode = 19, .fd = 3, .file_index = 1) == -22, "a close");
     demand(FORM(.opcode = 20, .len = 1) == 0 && FORM(.opcode = 20) == -22 && FORM(.opcode = 20, .len = 1, .flags = 1) == -22, "an update of files");
     demand(FORM(.opcode = 31, .fd = 65536, .len = 1, .off = 65535) == 0 && FORM(.opcode = 31, .fd = 65537, .len = 1) == -22 && FORM(.opcode = 31, .fd = -1, .len = 1) == -22 && FORM(.opcode = 31, .fd = 1, .len = 1, .off = 65536) == -22, "provided buffers");
     demand(FORM(.opcode = 32, .fd = 1) == 0 && FORM(.opcode = 32, .fd = 0) == -22 && FORM(.opcode = 32, .fd = 1, .len = 1) == -22, "their removal");
-    demand(FORM(.opcode = 40, .op_flags = 1) == 0 && FORM(.opcode = 40, .op_flags = 2) == -22 && FORM(.opcode = 34, .len = 2) == 0 && FORM(.opcode = 34, .off = 1) == -22, "a message, a shutdown");
+    demand(FORM(.opcode = 40, .op_flags = 3) == 0 && FORM(.opcode = 40, .op_flags = 4) == -22 && FORM(.opcode = 34, .len = 2) == 0 && FORM(.opcode = 34, .off = 1) == -22, "a message, a shutdown");
     demand(FORM(.opcode = 45, .off = 0x80000) == 0 && FORM(.opcode = 45, .off = 0x80000, .file_index = 1) == -22, "a socket");
     demand(FORM(.opcode = 30, .off = 5, .op_flags = 0x8000000f) == 0 && FORM(.opcode = 30, .op_flags = 16) == -22 && FORM(.opcode = 33, .off = 5) == -22, "a splice, a tee");
 }
