@@ -35,3 +35,5 @@ pub mod Updates
 pub mod SettingUp
 pub mod Messages
 pub mod Watching
+pub mod Strictness
+pub mod Layouts
