@@ -108,6 +108,23 @@ int32_t wulgach_room_fault(const struct wulgach_submission *entry, uint32_t name
 int32_t wulgach_how_fault(bool is_rest_zero);
 int32_t wulgach_open_fault(const struct wulgach_submission *entry, uint64_t flags);
 
+/* Writes how many bytes of a message have room in a buffer of this size, of a RECVMSG that goes on, behind what stands in front: 16 bytes,
+ * and room for so many of an address and of control data; and returns true. False: that has no room itself. */
+bool wulgach_room_for(uint32_t name, uint64_t control, uint64_t size, uint64_t *room);
+
+/* ---- a strict ring, which goes by a kernel ---- */
+
+struct wulgach_strict {
+    bool has_skipped;   /* an entry had IOSQE_CQE_SKIP_SUCCESS, and wasn't refused for that */
+};
+
+/* Begins one that has seen no entry. */
+void wulgach_strict_begin(struct wulgach_strict *strict);
+
+/* Returns the error with which it refuses the next entry, with these flags, or 0: -22 (EINVAL) of an operation, or of
+ * IOSQE_CQE_SKIP_SUCCESS, that the kernel hasn't; -95 (EOPNOTSUPP) of a drain once an entry has skipped its success, for good. */
+int32_t wulgach_strict_refusal(struct wulgach_strict *strict, uint8_t flags, bool is_served, bool knows_skip);
+
 /* ---- messages between rings ---- */
 
 /* The ring that a message goes to, as its sender finds it. */

@@ -111,6 +111,22 @@ static void open_files(void)
     demand(wulgach_open_fault(&slot, 0x80000) == -22 && wulgach_open_fault(&slot, 2) == 0 && wulgach_open_fault(&none, 0x80000) == 0, "a slot");
 }
 
+static void be_strict(void)
+{
+    struct wulgach_strict strict;
+    wulgach_strict_begin(&strict);
+    demand(wulgach_strict_refusal(&strict, 2, true, true) == 0 && wulgach_strict_refusal(&strict, 0, false, true) == -22, "a drain, an unknown operation");
+    demand(wulgach_strict_refusal(&strict, 64, true, false) == -22 && wulgach_strict_refusal(&strict, 2, true, true) == 0, "a flag that isn't known");
+    demand(wulgach_strict_refusal(&strict, 66, true, true) == -95 && wulgach_strict_refusal(&strict, 2, true, true) == -95 && wulgach_strict_refusal(&strict, 64, true, true) == 0, "a drain behind a skip");
+}
+
+static void have_room(void)
+{
+    uint64_t room = 9;
+    demand(wulgach_room_for(4, 8, 30, &room) && room == 2 && wulgach_room_for(4, 8, 28, &room) && room == 0, "a buffer");
+    demand(!wulgach_room_for(4, 8, 27, &room) && !wulgach_room_for(0, UINT64_MAX, 64, &room) && room == 0, "one that is too small");
+}
+
 int main(void)
 {
     look_at_fields();
@@ -120,6 +136,8 @@ int main(void)
     send();
     tell();
     open_files();
+    be_strict();
+    have_room();
     printf("form: as called for\n");
     return 0;
 }

@@ -75,7 +75,7 @@ struct ring {
     int eventfd;                        /* then one of the layer's own */
     uint64_t call_number;               /* how many calls of enter were made */
     struct wulgach_issuer issuer;       /* the one thread that may call, or submit, if there is one */
-    bool has_skipped;                   /* where the layer is strict: an entry that skips its success was submitted */
+    struct wulgach_strict strict;       /* where the layer is strict: what it has seen of its entries */
     bool is_disabled;                   /* until it is enabled */
     struct wulgach_restrictions restrictions;
     uint64_t accepted;                  /* how many requests were accepted so far, */

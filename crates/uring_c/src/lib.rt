@@ -47,6 +47,7 @@ mod shown_exports;
 mod slot;
 mod state_words;
 mod step_words;
+mod strict_exports;
 mod taking_exports;
 mod time_exports;
 mod time_words;
