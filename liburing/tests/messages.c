@@ -110,6 +110,11 @@ static void test_faults(void)
         check(result_of_one(&ring, 1) == rows[i].res);
     }
     check(next_of(&other).res == 7 && count_ready(&other) == 0);
+    /* (IORING_MSG_RING_FLAGS_PASS) */
+    struct io_uring_sqe *entry = put_plain(&ring, IORING_OP_MSG_RING, 0, other.fd);
+    entry->msg_ring_flags = 2;
+    entry->file_index = 6;
+    check(result_of_one(&ring, 1) == 0 && next_of(&other).flags == 6);
     close(file);
     close_ring(&ring);
     close_ring(&other);

@@ -7,11 +7,7 @@ use uring_enter::{Message, Receiver, Sending, Submission, sending_of, told_of};
 
 /// Returns what a message to this ring does, and writes its error, or 0.
 #[unsafe(no_mangle)]
-pub extern "C" fn wulgach_sending_of(
-    entry: &Submission,
-    to: &Receiver,
-    fault: &mut i32,
-) -> u32
+pub extern "C" fn wulgach_sending_of(entry: &Submission, to: &Receiver, fault: &mut i32) -> u32
     ensures sending { result ≡ word_of_sending (spec.sending_of entry.now to.now) }
     ensures fault { fault.new ≡ fault_of_sending (spec.sending_of entry.now to.now) }
 {

@@ -91,7 +91,11 @@ pub use laws::submits_once;
 pub use layout::room_for;
 pub use member::Entry;
 pub use member::Member;
-pub use message::{Message, Receiver, Sending, sending_of, told_of};
+pub use message::Message;
+pub use message::Receiver;
+pub use message::Sending;
+pub use message::sending_of;
+pub use message::told_of;
 pub use needs::Needs;
 pub use needs::needs_of;
 pub use outcome::EndedEarly;
@@ -161,7 +165,9 @@ pub use wait::Woken;
 pub use waiting_call::{
     Call, Doing, Turn, accepts_what_came, ends_with_what_came, loses_no_bytes, next_turn, poll_result,
 };
-pub use watched::{Watch, Watched, watch_of};
+pub use watched::Watch;
+pub use watched::Watched;
+pub use watched::watch_of;
 pub use ways::Way;
 pub use ways::Ways;
 pub use ways::names_the_ways;

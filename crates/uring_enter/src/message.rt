@@ -106,13 +106,25 @@ pub fn told_of(entry: &Submission, res: i32) -> Option<Message>
     } else if entry.addr & 0xffff_ffff == 0 {
         Some(message_of(entry))
     } else {
-        Some(Message { user_data: entry.off, res, flags: 0 })
+        Some(Message {
+            user_data: entry.off,
+            res,
+            flags: 0,
+        })
     }
 }
 
 fn message_of(entry: &Submission) -> Message
     ensures { result ≡ spec.message_of entry.now }
 {
-    let flags = if entry.op_flags & 2 != 0 { entry.file_index } else { 0 };
-    Message { user_data: entry.off, res: entry.len.cast_signed(), flags }
+    let flags = if entry.op_flags & 2 != 0 {
+        entry.file_index
+    } else {
+        0
+    };
+    Message {
+        user_data: entry.off,
+        res: entry.len.cast_signed(),
+        flags,
+    }
 }

@@ -173,7 +173,11 @@ pub fn how_fault(is_rest_zero: bool) -> i32
 pub fn open_fault(entry: &Submission, flags: u64) -> i32
     ensures { result ≡ spec.open_fault entry.now flags }
 {
-    if entry.file_index != 0 && flags & 0x80000 != 0 { -22 } else { 0 }
+    if entry.file_index != 0 && flags & 0x80000 != 0 {
+        -22
+    } else {
+        0
+    }
 }
 
 /// The fault of a message with so many vectors, which comes before these are copied, or 0.

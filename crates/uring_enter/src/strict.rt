@@ -31,6 +31,10 @@ impl Strict {
             return -22;
         }
         self.has_skipped = self.has_skipped || skips;
-        if self.has_skipped && flags & 2 != 0 { -95 } else { 0 }
+        if self.has_skipped && flags & 2 != 0 {
+            -95
+        } else {
+            0
+        }
     }
 }

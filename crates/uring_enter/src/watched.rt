@@ -35,7 +35,10 @@ impl Watched {
     pub fn begin() -> Watched
         ensures { KeepsWatched [] result }
     {
-        Watched { events: 0, begun: 0 }
+        Watched {
+            events: 0,
+            begun: 0,
+        }
     }
 
     /// A request waits for these events too, and began to at this count.
