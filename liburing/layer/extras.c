@@ -111,7 +111,7 @@ static struct ring *find_receiver(struct ring *ring, const struct io_uring_sqe *
     to->is_open = target || fcntl(entry->fd, F_GETFD) >= 0;
     to->is_ring = target;
     to->is_sender = target == ring;
-    to->is_disabled = target && target->is_disabled;
+    to->is_disabled = target && target->issuer.is_disabled;
     return target;
 }
 

@@ -74,9 +74,8 @@ struct ring {
     struct wulgach_eventfd telling;     /* whether an eventfd is registered, and of what it is told; */
     int eventfd;                        /* then one of the layer's own */
     uint64_t call_number;               /* how many calls of enter were made */
-    struct wulgach_issuer issuer;       /* the one thread that may call, or submit, if there is one */
+    struct wulgach_issuer issuer;       /* the one thread that may call, or submit, if there is one; and whether the ring is disabled */
     struct wulgach_strict strict;       /* where the layer is strict: what it has seen of its entries */
-    bool is_disabled;                   /* until it is enabled */
     struct wulgach_restrictions restrictions;
     uint64_t accepted;                  /* how many requests were accepted so far, */
     uint64_t begun;                     /* and how many have started */
