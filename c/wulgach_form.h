@@ -68,7 +68,7 @@ enum wulgach_what {
     WULGACH_VECTORS = 1,
     WULGACH_PATH = 2,
     WULGACH_SECOND_PATH = 3,    /* or the name of an attribute */
-    WULGACH_HOW = 4,            /* of an open: struct open_how */
+    WULGACH_HOW = 4,            /* of an open: struct open_how, and what is newer than its 24 bytes */
     WULGACH_TIME = 5,
     WULGACH_VALUE = 6,          /* bytes that the operation reads */
     WULGACH_MESSAGE = 7,        /* and behind it its vectors */
@@ -92,7 +92,7 @@ struct wulgach_copied {
 };
 
 /* Writes the piece that is copied next of an entry when it is submitted, and returns 1. Else nothing more is copied, and it returns the fault
- * of the entry, or 0. That is the first of those of its pieces, in their order, where one that is too long (an address, a value) isn't
+ * of the entry, or 0. That is the first of those of its pieces, in their order, where one that is too long (an address, a value, a structure) isn't
  * copied; -22 (EINVAL) if it takes a provided buffer and hasn't one vector; and -22 of a linked timeout, but behind an entry that links it
  * and is none itself. */
 int32_t wulgach_next_piece(const struct wulgach_submission *entry, const struct wulgach_copied *copied, struct wulgach_piece *piece);
@@ -102,6 +102,62 @@ int32_t wulgach_next_piece(const struct wulgach_submission *entry, const struct 
 int32_t wulgach_time_fault(int64_t seconds, int64_t nanoseconds);
 int32_t wulgach_message_fault(uint64_t vectors);
 int32_t wulgach_room_fault(const struct wulgach_submission *entry, uint32_t name, uint64_t control);
+
+/* The fault of how a file is opened, -7 (E2BIG) if what is newer isn't all 0; and of an open by that, with these flags, behind its path: -22
+ * if it goes to a slot and has O_CLOEXEC. Each is 0 if there is none. */
+int32_t wulgach_how_fault(bool is_rest_zero);
+int32_t wulgach_open_fault(const struct wulgach_submission *entry, uint64_t flags);
+
+/* Writes how many bytes of a message have room in a buffer of this size, of a RECVMSG that goes on, behind what stands in front: 16 bytes,
+ * and room for so many of an address and of control data; and returns true. False: that has no room itself. */
+bool wulgach_room_for(uint32_t name, uint64_t control, uint64_t size, uint64_t *room);
+
+/* ---- a strict ring, which goes by a kernel ---- */
+
+struct wulgach_strict {
+    bool has_skipped;   /* an entry had IOSQE_CQE_SKIP_SUCCESS, and wasn't refused for that */
+};
+
+/* Begins one that has seen no entry. */
+void wulgach_strict_begin(struct wulgach_strict *strict);
+
+/* Returns the error with which it refuses the next entry, with these flags, or 0: -22 (EINVAL) of an operation, or of
+ * IOSQE_CQE_SKIP_SUCCESS, that the kernel hasn't; -95 (EOPNOTSUPP) of a drain once an entry has skipped its success, for good. */
+int32_t wulgach_strict_refusal(struct wulgach_strict *strict, uint8_t flags, bool is_served, bool knows_skip);
+
+/* ---- messages between rings ---- */
+
+/* The ring that a message goes to, as its sender finds it. */
+struct wulgach_receiver {
+    bool is_open;       /* the entry names an open file, */
+    bool is_ring;       /* which is a ring, */
+    bool is_sender;     /* the sender's own, */
+    bool is_disabled;   /* or one that was set up disabled, and isn't enabled */
+};
+
+/* What a message does. */
+enum wulgach_sending {
+    WULGACH_SENDS_NOTHING = 0,  /* it ends with an error */
+    WULGACH_SENDS_DATA = 1,     /* it ends with 0 */
+    WULGACH_SENDS_FILE = 2      /* a registered file is passed to the other ring's table: it ends with what comes of that */
+};
+
+/* A completion that is posted to another ring. */
+struct wulgach_message {
+    uint64_t user_data;
+    int32_t res;
+    uint32_t flags;
+};
+
+/* Returns what a message to this ring does (enum wulgach_sending), and writes its error, or 0. The first of these counts: -9 (EBADF) to what
+ * isn't open; -77 (EBADFD) to what is no ring; -22 (EINVAL) of data with what belongs to files (`addr3`, IORING_MSG_RING_CQE_SKIP, and
+ * without IORING_MSG_RING_FLAGS_PASS `file_index`), of a file with a length or to the sender itself, and of what is neither; -77 to a ring
+ * that is disabled. Of `addr` and `addr3` 32 bits count. */
+uint32_t wulgach_sending_of(const struct wulgach_submission *entry, const struct wulgach_receiver *to, int32_t *fault);
+
+/* Writes what the other ring is told where a message does what it does with this result (a file's is its slot, 0, or an error): its data, or
+ * that result. False: nothing, of what has failed or has IORING_MSG_RING_CQE_SKIP. */
+bool wulgach_told_of(const struct wulgach_submission *entry, int32_t res, struct wulgach_message *message);
 
 /* The flags of an entry that the core is told, whatever fault it has. */
 uint8_t wulgach_form_flags(uint8_t flags);

@@ -61,6 +61,31 @@ bool wulgach_shown_is_readable(const struct wulgach_shown *shown, uint32_t head,
  * IORING_SQ_NEED_WAKEUP if a thread takes entries, which sleeps. */
 uint32_t wulgach_shown_flags(const struct wulgach_shown *shown, bool may_bring, bool has_thread);
 
+/* ---- a descriptor that polls ---- */
+
+/* What a ring's descriptor polls for of one descriptor for which requests wait. */
+struct wulgach_watched {
+    uint32_t events;    /* those of all of them */
+    uint64_t begun;     /* when the last of them began to wait, in a count of the ring that rises */
+};
+
+/* What is changed of that. */
+enum wulgach_watch {
+    WULGACH_WATCH_STAYS = 0,
+    WULGACH_WATCH_ADDS = 1,
+    WULGACH_WATCH_REMOVES = 2,
+    WULGACH_WATCH_RENEWS = 3    /* other events, or another request waits: the number may be another file's by now */
+};
+
+/* Begins a descriptor for which nobody waits. */
+void wulgach_watched_begin(struct wulgach_watched *watched);
+
+/* A request waits for these events too, and began to at this count. */
+void wulgach_watched_add(struct wulgach_watched *watched, uint32_t events, uint64_t begun);
+
+/* Returns what is changed (enum wulgach_watch) of a descriptor that was polled for so, or wasn't, and is to be so, or isn't. */
+uint32_t wulgach_watch_of(const struct wulgach_watched *before, bool was_watched, const struct wulgach_watched *after, bool is_watched);
+
 #ifdef __cplusplus
 }
 #endif

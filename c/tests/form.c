@@ -41,12 +41,12 @@ static void look_at_fields(void)
 
 static void look_at_more_fields(void)
 {
-    demand(FORM(.opcode = 18, .file_index = 1) == 0 && FORM(.opcode = 18, .file_index = 1, .op_flags = 0x80000) == -22 && FORM(.opcode = 28, .buf_index = 1) == -22, "opens");
+    demand(FORM(.opcode = 18, .file_index = 1) == 0 && FORM(.opcode = 18, .file_index = 1, .op_flags = 0x80000) == -22 && FORM(.opcode = 28, .len = 24) == 0 && FORM(.opcode = 28, .len = 23) == -22 && FORM(.opcode = 28, .len = 24, .buf_index = 1) == -22, "opens");
     demand(FORM(.opcode = 19, .fd = 3) == 0 && FORM(.opcode = 19, .file_index = 1) == 0 && FORM(.opcode = 19, .fd = 3, .file_index = 1) == -22, "a close");
     demand(FORM(.opcode = 20, .len = 1) == 0 && FORM(.opcode = 20) == -22 && FORM(.opcode = 20, .len = 1, .flags = 1) == -22, "an update of files");
     demand(FORM(.opcode = 31, .fd = 65536, .len = 1, .off = 65535) == 0 && FORM(.opcode = 31, .fd = 65537, .len = 1) == -22 && FORM(.opcode = 31, .fd = -1, .len = 1) == -22 && FORM(.opcode = 31, .fd = 1, .len = 1, .off = 65536) == -22, "provided buffers");
     demand(FORM(.opcode = 32, .fd = 1) == 0 && FORM(.opcode = 32, .fd = 0) == -22 && FORM(.opcode = 32, .fd = 1, .len = 1) == -22, "their removal");
-    demand(FORM(.opcode = 40, .op_flags = 1) == 0 && FORM(.opcode = 40, .op_flags = 2) == -22 && FORM(.opcode = 34, .len = 2) == 0 && FORM(.opcode = 34, .off = 1) == -22, "a message, a shutdown");
+    demand(FORM(.opcode = 40, .op_flags = 3) == 0 && FORM(.opcode = 40, .op_flags = 4) == -22 && FORM(.opcode = 34, .len = 2) == 0 && FORM(.opcode = 34, .off = 1) == -22, "a message, a shutdown");
     demand(FORM(.opcode = 45, .off = 0x80000) == 0 && FORM(.opcode = 45, .off = 0x80000, .file_index = 1) == -22, "a socket");
     demand(FORM(.opcode = 30, .off = 5, .op_flags = 0x8000000f) == 0 && FORM(.opcode = 30, .op_flags = 16) == -22 && FORM(.opcode = 33, .off = 5) == -22, "a splice, a tee");
 }
@@ -73,12 +73,71 @@ static void go_on(void)
     demand(wulgach_tells(&late, true) && wulgach_tells(&early, false) && !wulgach_tells(&early, true), "an eventfd");
 }
 
+/* The fault of a message, or 1: data, or 2: a file. */
+static int32_t sending(struct wulgach_submission entry, struct wulgach_receiver to)
+{
+    int32_t fault;
+    uint32_t sending = wulgach_sending_of(&entry, &to, &fault);
+    demand((sending == WULGACH_SENDS_NOTHING) == (fault < 0), "a message's fault");
+    return sending == WULGACH_SENDS_NOTHING ? fault : (int32_t)sending;
+}
+
+#define SENDING(to, ...) sending((struct wulgach_submission){.opcode = 40, __VA_ARGS__}, to)
+
+static void send(void)
+{
+    struct wulgach_receiver closed = {0}, file = {.is_open = true}, ring = {true, true, false, false}, own = {true, true, true, false}, disabled = {true, true, false, true};
+    demand(SENDING(closed, .addr = 9) == -9 && SENDING(file, .addr = 9) == -77 && SENDING(ring, .addr = 2) == -22, "to what it is sent");
+    demand(SENDING(ring, .len = 7) == 1 && SENDING(own, .len = 7) == 1 && SENDING(disabled, .len = 7) == -77, "data");
+    demand(SENDING(ring, .addr = 1L << 32, .addr3 = 1L << 32) == 1 && SENDING(disabled, .addr3 = 1) == -22 && SENDING(ring, .op_flags = 1) == -22, "what belongs to files");
+    demand(SENDING(ring, .file_index = 1) == -22 && SENDING(ring, .file_index = 1, .op_flags = 2) == 1, "flags that are passed");
+    demand(SENDING(ring, .addr = 1, .addr3 = 3, .file_index = 4, .op_flags = 3) == 2 && SENDING(own, .addr = 1) == -22, "a file");
+    demand(SENDING(disabled, .addr = 1) == -77 && SENDING(disabled, .addr = 1, .len = 1) == -22, "its faults");
+}
+
+static void tell(void)
+{
+    struct wulgach_submission data = {.opcode = 40, .off = 5, .len = 0x80000000, .file_index = 3, .op_flags = 2}, file = {.opcode = 40, .addr = 1, .off = 6}, silent = {.opcode = 40, .addr = 1, .op_flags = 1};
+    struct wulgach_message told = {0};
+    demand(wulgach_told_of(&data, 0, &told) && told.user_data == 5 && told.res == INT32_MIN && told.flags == 3, "data is told");
+    demand(wulgach_told_of(&file, 2, &told) && told.user_data == 6 && told.res == 2 && told.flags == 0, "a file's slot is told");
+    demand(!wulgach_told_of(&file, -23, &told) && !wulgach_told_of(&silent, 2, &told) && told.user_data == 6, "nothing is told");
+}
+
+static void open_files(void)
+{
+    struct wulgach_submission slot = {.opcode = 28, .file_index = 1}, none = {.opcode = 28};
+    demand(wulgach_how_fault(true) == 0 && wulgach_how_fault(false) == -7, "newer fields");
+    demand(wulgach_open_fault(&slot, 0x80000) == -22 && wulgach_open_fault(&slot, 2) == 0 && wulgach_open_fault(&none, 0x80000) == 0, "a slot");
+}
+
+static void be_strict(void)
+{
+    struct wulgach_strict strict;
+    wulgach_strict_begin(&strict);
+    demand(wulgach_strict_refusal(&strict, 2, true, true) == 0 && wulgach_strict_refusal(&strict, 0, false, true) == -22, "a drain, an unknown operation");
+    demand(wulgach_strict_refusal(&strict, 64, true, false) == -22 && wulgach_strict_refusal(&strict, 2, true, true) == 0, "a flag that isn't known");
+    demand(wulgach_strict_refusal(&strict, 66, true, true) == -95 && wulgach_strict_refusal(&strict, 2, true, true) == -95 && wulgach_strict_refusal(&strict, 64, true, true) == 0, "a drain behind a skip");
+}
+
+static void have_room(void)
+{
+    uint64_t room = 9;
+    demand(wulgach_room_for(4, 8, 30, &room) && room == 2 && wulgach_room_for(4, 8, 28, &room) && room == 0, "a buffer");
+    demand(!wulgach_room_for(4, 8, 27, &room) && !wulgach_room_for(0, UINT64_MAX, 64, &room) && room == 0, "one that is too small");
+}
+
 int main(void)
 {
     look_at_fields();
     look_at_more_fields();
     look_at_order();
     go_on();
+    send();
+    tell();
+    open_files();
+    be_strict();
+    have_room();
     printf("form: as called for\n");
     return 0;
 }

@@ -13,6 +13,21 @@ static void demand(bool holds, const char *what)
     }
 }
 
+static void watch(void)
+{
+    struct wulgach_watched before, after;
+    wulgach_watched_begin(&before);
+    wulgach_watched_begin(&after);
+    wulgach_watched_add(&before, 1, 4);
+    wulgach_watched_add(&before, 4, 2);
+    demand(before.events == 5 && before.begun == 4, "two wait for a descriptor");
+    wulgach_watched_add(&after, 5, 4);
+    demand(wulgach_watch_of(&before, true, &after, true) == WULGACH_WATCH_STAYS && wulgach_watch_of(&before, false, &after, false) == WULGACH_WATCH_STAYS, "nothing changes");
+    demand(wulgach_watch_of(&before, false, &after, true) == WULGACH_WATCH_ADDS && wulgach_watch_of(&before, true, &after, false) == WULGACH_WATCH_REMOVES, "one comes or goes");
+    wulgach_watched_add(&after, 1, 6);
+    demand(wulgach_watch_of(&before, true, &after, true) == WULGACH_WATCH_RENEWS, "another waits");
+}
+
 int main(void)
 {
     struct wulgach_shown shown;
@@ -40,6 +55,7 @@ int main(void)
     wulgach_shown_store(&shown, 2, &store);
     demand(store.is_cell && store.place == 1 && store.position == 1 && wulgach_shown_flags(&shown, false, true) == 1, "the last one is stored");
     demand(wulgach_shown_loads_head(&shown, 1, false, 2) && !wulgach_shown_loads_head(&shown, 0, true, 2), "the head is loaded if any was reaped");
+    watch();
     printf("shown: as called for\n");
     return 0;
 }

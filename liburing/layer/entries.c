@@ -55,6 +55,24 @@ static int copy_time(struct request *request, uint64_t from)
 _Static_assert(sizeof(struct iovec) == 16 && sizeof(struct msghdr) == 56 && sizeof(struct __kernel_timespec) == 16, "a piece is as long as it is here");
 _Static_assert(sizeof(struct open_how) == 24 && sizeof(struct epoll_event) == 12 && sizeof(struct sockaddr_storage) == 128, "a piece is as long as it is here");
 
+/* How a file is opened: at least what is known of that, and it may have more. */
+static int copy_how(struct request *request, const struct wulgach_piece *piece)
+{
+    bool is_rest_zero = true;
+    int result = copy_of((void **)&request->how, piece->from, piece->size);
+    if (result < 0)
+        return result;
+    for (size_t i = sizeof *request->how; i < piece->size; i++)
+        is_rest_zero &= ((const char *)request->how)[i] == 0;
+    return wulgach_how_fault(is_rest_zero);
+}
+
+static int copy_first_path(struct request *request, uint64_t from)
+{
+    int result = copy_path(&request->path, from);
+    return result < 0 || !request->how ? result : wulgach_open_fault(submission_of(&request->entry), request->how->flags);
+}
+
 /* Copies a piece of what the entry points to. Returns 0, its fault or -ENOMEM. */
 static int copy_piece(struct request *request, const struct wulgach_piece *piece)
 {
@@ -64,11 +82,11 @@ static int copy_piece(struct request *request, const struct wulgach_piece *piece
     case WULGACH_VECTORS:
         return copy_vectors(request, piece);
     case WULGACH_PATH:
-        return copy_path(&request->path, piece->from);
+        return copy_first_path(request, piece->from);
     case WULGACH_SECOND_PATH:
         return copy_path(&request->second_path, piece->from);
     case WULGACH_HOW:
-        return copy_of((void **)&request->how, piece->from, piece->size);
+        return copy_how(request, piece);
     case WULGACH_TIME:
         return copy_time(request, piece->from);
     case WULGACH_MESSAGE:

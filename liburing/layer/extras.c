@@ -13,6 +13,7 @@
 #include "trace.h"
 
 #include <errno.h>
+#include <fcntl.h>
 #include <stdlib.h>
 
 bool can_post_extra(struct ring *ring)
@@ -74,7 +75,7 @@ void post_messages(struct ring *ring)
 {
     struct message *message;
     while (has_messages(ring) && can_post_extra(ring) && (message = take_message(&ring->inbox))) {
-        post_extra(ring, message->user_data, message->res, 0);
+        post_extra(ring, message->user_data, message->res, message->flags);
         free(message);
     }
 }
@@ -83,7 +84,7 @@ struct message *make_message_of(uint64_t user_data, int32_t res)
 {
     struct message *message = malloc(sizeof *message);
     if (message)
-        *message = (struct message){NULL, user_data, res};
+        *message = (struct message){NULL, user_data, res, 0};
     return message;
 }
 
@@ -96,50 +97,60 @@ void put_message(struct inbox *inbox, struct message *message)
     pthread_mutex_unlock(&inbox->lock);
 }
 
-/* A message of data: without files, it has none of what belongs to them. */
-static int32_t send_data(struct ring *target, const struct io_uring_sqe *entry)
+/* The ring that an entry names, held, or NULL; and what the library is told of it. A registered file is no ring. */
+static struct ring *find_receiver(struct ring *ring, const struct io_uring_sqe *entry, struct wulgach_receiver *to)
 {
-    if (entry->addr3 || entry->file_index || entry->msg_ring_flags)
-        return -EINVAL;
-    if (target->issuer.is_disabled)
-        return -EBADFD;
-    struct message *message = make_message_of(entry->off, (int32_t)entry->len);
-    if (!message)
-        return -ENOMEM;
-    put_message(&target->inbox, message);
-    return 0;
+    *to = (struct wulgach_receiver){0};
+    if (entry->flags & IOSQE_FIXED_FILE) {
+        struct file *file = use_file(ring, (uint32_t)entry->fd);
+        to->is_open = file != NULL;
+        release_file(file);
+        return NULL;
+    }
+    struct ring *target = hold_ring(entry->fd);
+    to->is_open = target || fcntl(entry->fd, F_GETFD) >= 0;
+    to->is_ring = target;
+    to->is_sender = target == ring;
+    to->is_disabled = target && target->issuer.is_disabled;
+    return target;
 }
 
-/* A registered file goes to a slot of the other ring, which is told of it unless the sender says otherwise. */
+/* Puts a registered file into the other ring's table. */
 static int32_t send_file(struct ring *ring, struct ring *target, const struct io_uring_sqe *entry)
 {
-    if (target == ring)
-        return -EINVAL;
-    if (target->issuer.is_disabled)
-        return -EBADFD;
     struct file *file = use_file(ring, (uint32_t)entry->addr3);
-    struct message *message = file ? make_message_of(entry->off, 0) : NULL;
-    int32_t slot = !file ? -EBADF : !message ? -ENOMEM : pass_file(target, file, entry->file_index);
+    int32_t slot = file ? pass_file(target, file, entry->file_index) : -EBADF;
     release_file(file);
-    if (slot < 0 || entry->msg_ring_flags & IORING_MSG_RING_CQE_SKIP) {
-        free(message);
-        return slot;
-    }
-    message->res = slot;
-    put_message(&target->inbox, message);
     return slot;
+}
+
+/* Carries a message out that has no fault: what it is told of stands ready before. */
+static int32_t send_to(struct ring *ring, struct ring *target, const struct io_uring_sqe *entry, bool is_file)
+{
+    struct wulgach_message told;
+    struct message *message = make_message_of(0, 0);
+    if (!message)
+        return -ENOMEM;
+    int32_t res = is_file ? send_file(ring, target, entry) : 0;
+    if (!wulgach_told_of(submission_of(entry), res, &told)) {
+        free(message);
+        return res;
+    }
+    *message = (struct message){NULL, told.user_data, told.res, told.flags};
+    put_message(&target->inbox, message);
+    return res;
 }
 
 int32_t send_message(struct ring *ring, const struct io_uring_sqe *entry)
 {
-    struct ring *target = hold_ring(entry->fd);
+    struct wulgach_receiver to;
+    struct ring *target = find_receiver(ring, entry, &to);
+    int32_t result;
+    uint32_t sending = wulgach_sending_of(submission_of(entry), &to, &result);
+    if (sending != WULGACH_SENDS_NOTHING)
+        result = send_to(ring, target, entry, sending == WULGACH_SENDS_FILE);
     if (!target)
-        return -EBADFD;
-    int32_t result = -EINVAL;
-    if (entry->addr == IORING_MSG_DATA)
-        result = send_data(target, entry);
-    else if (entry->addr == IORING_MSG_SEND_FD)
-        result = send_file(ring, target, entry);
+        return result;
     if (target == ring)
         post_messages(ring);
     else if (result >= 0)

@@ -16,6 +16,7 @@ struct message {
     struct message *next;
     uint64_t user_data;
     int32_t res;
+    uint32_t flags;
 };
 
 /* Messages that aren't posted yet, of other rings and of tags: the oldest first. */

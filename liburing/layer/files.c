@@ -317,7 +317,12 @@ static int place_file(struct ring *ring, uint64_t fds, uint32_t index)
     if (result < 0)
         return result;
     int slot = put_file(ring, file, IORING_FILE_INDEX_ALLOC);
-    return slot < 0 ? slot : copy_out(fds + index * sizeof slot, &slot, sizeof slot);
+    if (slot < 0)
+        return slot;
+    result = copy_out(fds + index * sizeof slot, &slot, sizeof slot);
+    if (result < 0)
+        remove_file(ring, (uint32_t)slot);
+    return result;
 }
 
 int place_files(struct ring *ring, uint64_t fds, uint32_t count)

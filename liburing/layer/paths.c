@@ -23,8 +23,6 @@ static int32_t open_descriptor(const struct request *request)
     const struct io_uring_sqe *entry = &request->entry;
     if (entry->opcode == IORING_OP_OPENAT)
         return result_of(openat(entry->fd, request->path, (int)entry->open_flags, entry->len));
-    if (!request->how)
-        return -EINVAL;
     return result_of(syscall(SYS_openat2, entry->fd, request->path, request->how, sizeof *request->how));
 }
 

@@ -125,6 +125,7 @@ static void finish_running(struct ring *ring, struct request *request)
 static void start(struct ring *ring, struct request *request)
 {
     demand(wulgach_course_start(&request->course), "a request starts twice");
+    request->begun = ++ring->begun;
     look_again(ring, insert_request(&ring->running, request));
     if (!request->is_assigned)
         assign(ring, request);

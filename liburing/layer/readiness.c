@@ -76,51 +76,74 @@ static int by_descriptor(const void *one, const void *other)
     return (first->fd > second->fd) - (first->fd < second->fd);
 }
 
+/* Lists a descriptor for which one waits. */
+static void list_one(struct watched *watched, int fd, uint32_t events, uint64_t begun)
+{
+    *watched = (struct watched){.fd = fd};
+    wulgach_watched_begin(&watched->at);
+    wulgach_watched_add(&watched->at, events, begun);
+}
+
 /* Lists the descriptors of the running requests that wait for streams by rising number, each once. */
 static size_t list_watched(const struct ring *ring, struct watched *watched)
 {
     size_t count = 0, kept = 0;
     if (ring->pipes.count > 0)
-        watched[count++] = (struct watched){.fd = ring->pipes.inotify, .events = EPOLLIN};
+        list_one(&watched[count++], ring->pipes.inotify, EPOLLIN, 0);
     for (size_t i = 0; i < ring->running.count; i++) {
         const struct request *request = ring->running.rows[i];
         if (!request->standing.is_stream)
             continue;
         struct pollfd polled = poll_of(request);
-        watched[count++] = (struct watched){.fd = polled.fd, .events = (uint16_t)polled.events, .number = request->number};
+        list_one(&watched[count++], polled.fd, (uint16_t)polled.events, request->begun);
     }
     qsort(watched, count, sizeof *watched, by_descriptor);
     for (size_t i = 0; i < count; i++) {
-        if (kept == 0 || watched[kept - 1].fd != watched[i].fd) {
+        if (kept == 0 || watched[kept - 1].fd != watched[i].fd)
             watched[kept++] = watched[i];
-        } else {
-            watched[kept - 1].events |= watched[i].events;
-            watched[kept - 1].number += watched[i].number;
-        }
+        else
+            wulgach_watched_add(&watched[kept - 1].at, watched[i].at.events, watched[i].at.begun);
     }
     return kept;
 }
 
 static int watch(int fd, int change, const struct watched *watched)
 {
-    struct epoll_event event = {.events = watched->events};
+    struct epoll_event event = {.events = watched->at.events};
     return epoll_ctl(fd, change, watched->fd, &event);
 }
 
-/* Changes what is watched from one list to another. A number that others wait for may be another file's by now. */
+/* Changes what is watched of one descriptor, or two lists' first: NULL where one has it not. A number that is closed and opened again
+ * isn't watched. */
+static void watch_change(int fd, const struct watched *before, const struct watched *after)
+{
+    static const struct watched nothing;
+    switch (wulgach_watch_of(before ? &before->at : &nothing.at, before, after ? &after->at : &nothing.at, after)) {
+    case WULGACH_WATCH_ADDS:
+        watch(fd, EPOLL_CTL_ADD, after);
+        return;
+    case WULGACH_WATCH_REMOVES:
+        watch(fd, EPOLL_CTL_DEL, before);
+        return;
+    case WULGACH_WATCH_RENEWS:
+        if (watch(fd, EPOLL_CTL_MOD, after) < 0)
+            watch(fd, EPOLL_CTL_ADD, after);
+        return;
+    default:
+        return;
+    }
+}
+
+/* Changes what is watched from one list to another. */
 static void watch_changes(int fd, const struct watched *before, size_t before_count, const struct watched *after, size_t after_count)
 {
     size_t i = 0, j = 0;
     while (i < before_count || j < after_count) {
-        if (j == after_count || (i < before_count && before[i].fd < after[j].fd)) {
-            watch(fd, EPOLL_CTL_DEL, &before[i++]);
-        } else if (i == before_count || after[j].fd < before[i].fd) {
-            watch(fd, EPOLL_CTL_ADD, &after[j++]);
-        } else {
-            if ((before[i].events != after[j].events || before[i].number != after[j].number) && watch(fd, EPOLL_CTL_MOD, &after[j]) < 0)
-                watch(fd, EPOLL_CTL_ADD, &after[j]);
-            i++, j++;
-        }
+        bool is_before = j == after_count || (i < before_count && before[i].fd <= after[j].fd);
+        bool is_after = i == before_count || (j < after_count && after[j].fd <= before[i].fd);
+        watch_change(fd, is_before ? &before[i] : NULL, is_after ? &after[j] : NULL);
+        i += is_before;
+        j += is_after;
     }
 }
 
@@ -132,7 +155,7 @@ void unwatch(struct ring *ring, int fd)
     if (!watched)
         return;
     watch(ring->called_fd, EPOLL_CTL_DEL, watched);
-    watched->number = UINT64_MAX;
+    watched->at.begun = UINT64_MAX;
 }
 
 /* Puts the streams that are waited for in the place of those that were. If memory is refused, the next call tries. */
@@ -144,10 +167,6 @@ static void watch_streams(struct ring *ring, int fd)
     if (!watched)
         return;
     size_t count = list_watched(ring, watched);
-    if (count == ring->watched_count && (count == 0 || memcmp(watched, ring->watched, count * sizeof *watched) == 0)) {
-        free(watched);
-        return;
-    }
     watch_changes(fd, ring->watched, ring->watched_count, watched, count);
     free(ring->watched);
     ring->watched = watched;

@@ -42,6 +42,7 @@ struct request {
     uint32_t flags;                 /* those of its completion */
     uint64_t token;                 /* the user data that the core has */
     uint64_t call;                  /* the number of the call that submitted it */
+    uint64_t begun;                 /* how many had started before it, and itself */
     bool has_fired;                 /* a linked timeout: the request before it was cancelled by it */
     int epoll;                      /* what tells of the events of a poll that goes on; or negative */
     bool is_of_pipe;                /* a poll for what a pipe has to be read: */

@@ -24,11 +24,10 @@
 #include <stdio.h>
 #include <sys/types.h>
 
-/* A descriptor that a ring's descriptor polls for, and the sum of the numbers of the requests that wait for it. */
+/* A descriptor that a ring's descriptor polls for, and what the library keeps of the requests that wait for it. */
 struct watched {
     int fd;
-    uint32_t events;
-    uint64_t number;
+    struct wulgach_watched at;
 };
 
 struct ring {
@@ -76,9 +75,10 @@ struct ring {
     int eventfd;                        /* then one of the layer's own */
     uint64_t call_number;               /* how many calls of enter were made */
     struct wulgach_issuer issuer;       /* the one thread that may call, or submit, if there is one; and whether the ring is disabled */
-    bool has_skipped;                   /* where the layer is strict: an entry that skips its success was submitted */
+    struct wulgach_strict strict;       /* where the layer is strict: what it has seen of its entries */
     struct wulgach_restrictions restrictions;
-    uint64_t accepted;                  /* how many requests were accepted so far */
+    uint64_t accepted;                  /* how many requests were accepted so far, */
+    uint64_t begun;                     /* and how many have started */
     struct completions completions;     /* posted and not reaped */
     struct wulgach_times times;         /* its time, in nanoseconds, and how many timeouts run: */
     struct wulgach_timeout *timeouts;   /* these, */

@@ -122,6 +122,7 @@ static int make_ring(struct ring **made, uint32_t entries, struct io_uring_param
     ring->process = this_process();
     start_clock(ring);
     ring->flags = params->flags;
+    wulgach_strict_begin(&ring->strict);
     wulgach_issuer_begin(&ring->issuer, (uint32_t)this_thread(), ring->flags, is_strict());
     params->features = wulgach_features(is_polled);
     show(ring);

@@ -68,12 +68,6 @@ int make_message(struct request *request)
     return 0;
 }
 
-/* Of a receive that goes on: what stands in front of the bytes in each buffer. */
-static size_t size_in_front(const struct msghdr *message)
-{
-    return sizeof(struct io_uring_recvmsg_out) + message->msg_namelen + message->msg_controllen;
-}
-
 int copy_message(struct request *request, uint64_t from)
 {
     struct msghdr *message = calloc(1, sizeof *message);
@@ -163,11 +157,12 @@ static int32_t move_some(struct request *request)
 static int32_t receive_into_buffer(struct request *request, int32_t *filled)
 {
     const struct msghdr *asked = request->value;
-    size_t in_front = size_in_front(asked);
+    uint64_t room;
     char *at = request->vectors->iov_base, *name = at + sizeof(struct io_uring_recvmsg_out);
-    if (request->vectors->iov_len < in_front)
+    if (!wulgach_room_for(asked->msg_namelen, asked->msg_controllen, request->vectors->iov_len, &room))
         return -EFAULT;
-    struct iovec bytes = {at + in_front, request->vectors->iov_len - in_front};
+    size_t in_front = request->vectors->iov_len - room;
+    struct iovec bytes = {at + in_front, room};
     struct msghdr message = {
         .msg_name = asked->msg_namelen ? name : NULL,
         .msg_namelen = asked->msg_namelen,

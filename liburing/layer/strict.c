@@ -74,10 +74,5 @@ int32_t strict_fault(struct ring *ring, const struct io_uring_sqe *entry)
 {
     if (!is_on)
         return 0;
-    bool is_skipping = entry->flags & IOSQE_CQE_SKIP_SUCCESS;
-    if (!operations[entry->opcode] || (is_skipping && !(features & IORING_FEAT_CQE_SKIP)))
-        return -EINVAL;
-    /* For good: a drain couldn't tell when all before it have ended. */
-    ring->has_skipped |= is_skipping;
-    return ring->has_skipped && entry->flags & IOSQE_IO_DRAIN ? -EOPNOTSUPP : 0;
+    return wulgach_strict_refusal(&ring->strict, entry->flags, operations[entry->opcode], features & IORING_FEAT_CQE_SKIP);
 }

@@ -70,6 +70,56 @@ static void test_messages_of_files(void)
     close_ring(&other);
 }
 
+/* The faults of a message, in the kernel's order; and that only 32 bits of two fields count. */
+static void test_faults(void)
+{
+    struct ring ring, other;
+    int file = make_file(), closed = dup(file);
+    make_ring(&ring, 8, 0, 0);
+    make_ring(&other, 8, 0, 0);
+    close(closed);
+    check(register_at(ring.fd, IORING_REGISTER_FILES, &file, 1) == 0);
+    check(register_at(other.fd, IORING_REGISTER_FILES, &file, 1) == 0);
+    const struct {
+        int fd;
+        uint64_t addr, addr3;
+        uint32_t len;
+        uint8_t flags;
+        int32_t res;
+    } rows[] = {
+        {closed, IORING_MSG_DATA, 0, 7, 0, -EBADF},
+        {closed, 9, 0, 7, 0, -EBADF},
+        {file, 9, 0, 7, 0, -EBADFD},
+        {other.fd, 9, 0, 7, 0, -EINVAL},
+        {other.fd, IORING_MSG_DATA, 1, 7, 0, -EINVAL},
+        {other.fd, IORING_MSG_SEND_FD, 0, 1, 0, -EINVAL},
+        {other.fd, IORING_MSG_SEND_FD, 1, 1, 0, -EINVAL},
+        {ring.fd, IORING_MSG_SEND_FD, 1, 0, 0, -EINVAL},
+        {other.fd, IORING_MSG_SEND_FD, 1, 0, 0, -EBADF},
+        {0, IORING_MSG_DATA, 0, 7, IOSQE_FIXED_FILE, -EBADFD},
+        {other.fd, IORING_MSG_DATA, 0, 7, IOSQE_FIXED_FILE, -EBADF},
+        {other.fd, (uint64_t)1 << 32, (uint64_t)1 << 32, 7, 0, 0},
+    };
+    for (size_t i = 0; i < sizeof rows / sizeof *rows; i++) {
+        struct io_uring_sqe *entry = put_plain(&ring, IORING_OP_MSG_RING, 0, rows[i].fd);
+        entry->addr = rows[i].addr;
+        entry->addr3 = rows[i].addr3;
+        entry->len = rows[i].len;
+        entry->flags = rows[i].flags;
+        entry->file_index = rows[i].addr == IORING_MSG_SEND_FD;
+        check(result_of_one(&ring, 1) == rows[i].res);
+    }
+    check(next_of(&other).res == 7 && count_ready(&other) == 0);
+    /* (IORING_MSG_RING_FLAGS_PASS) */
+    struct io_uring_sqe *entry = put_plain(&ring, IORING_OP_MSG_RING, 0, other.fd);
+    entry->msg_ring_flags = 2;
+    entry->file_index = 6;
+    check(result_of_one(&ring, 1) == 0 && next_of(&other).flags == 6);
+    close(file);
+    close_ring(&ring);
+    close_ring(&other);
+}
+
 /* Two threads with a ring each send messages to each other's, and wait for all of them. */
 struct side {
     struct ring ring;
@@ -121,6 +171,7 @@ int main(int count, char **words)
     static const struct named tests[] = {
         {"messages", test_messages},
         {"messages of files", test_messages_of_files},
+        {"faults of messages", test_faults},
         {"messages of threads", test_messages_of_threads},
     };
     return run_tests(tests, sizeof tests / sizeof *tests, count > 1 ? words[1] : NULL);

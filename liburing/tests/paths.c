@@ -180,10 +180,40 @@ static void test_table(void)
     close_ring(&ring);
 }
 
+/* What a structure of an open may be, and an open into a slot: the kernel's faults, in its order. */
+static void test_how(void)
+{
+    struct ring ring;
+    struct io_uring_rsrc_register sparse = {.nr = 2, .flags = IORING_RSRC_REGISTER_SPARSE};
+    struct {
+        struct open_how how;
+        char more[8];
+    } large = {.how = {.flags = O_RDWR | O_CREAT | O_CLOEXEC, .mode = 0600}};
+    static const struct {
+        uint32_t size, slot;
+        bool has_path;
+        char more;
+        int32_t res;
+    } rows[] = {{23, 0, true, 0, -EINVAL}, {23, 0, false, 0, -EINVAL}, {24, 1, true, 0, -EINVAL}, {24, 1, false, 0, -EFAULT}, {32, 0, true, 1, -E2BIG}, {32, 0, false, 1, -E2BIG}, {4097, 0, true, 0, -E2BIG}, {32, 0, true, 0, 0}};
+    make_ring(&ring, 8, 0, 0);
+    check(register_at(ring.fd, IORING_REGISTER_FILES2, &sparse, sizeof sparse) == 0);
+    for (size_t i = 0; i < sizeof rows / sizeof *rows; i++) {
+        struct io_uring_sqe *entry = put_path(&ring, IORING_OP_OPENAT2, 0, rows[i].has_path ? "how" : NULL);
+        entry->off = (uintptr_t)&large;
+        entry->len = rows[i].size;
+        entry->file_index = rows[i].slot;
+        large.more[7] = rows[i].more;
+        int32_t res = result_of_one(&ring, 1);
+        check(res == rows[i].res || (rows[i].res == 0 && res > 0 && close(res) == 0 && unlinkat(root, "how", 0) == 0));
+        check(!is_there("how"));
+    }
+    close_ring(&ring);
+}
+
 int main(int count, char **words)
 {
     static const struct named tests[] = {
-        {"names", test_names}, {"chain", test_chain}, {"attributes", test_attributes}, {"epoll", test_epoll}, {"table", test_table},
+        {"names", test_names}, {"how", test_how}, {"chain", test_chain}, {"attributes", test_attributes}, {"epoll", test_epoll}, {"table", test_table},
     };
     check(mkdtemp(folder) && (root = open(folder, O_PATH | O_DIRECTORY)) >= 0);
     int status = run_tests(tests, sizeof tests / sizeof *tests, count > 1 ? words[1] : NULL);

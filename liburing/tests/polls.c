@@ -133,6 +133,54 @@ static void test_pipe(void)
     close_ring(&ring);
 }
 
+static void put_splice(struct ring *ring, uint64_t user_data, int from, int to)
+{
+    struct io_uring_sqe *entry = put(ring, IORING_OP_SPLICE, user_data, 0);
+    entry->fd = to;
+    entry->splice_fd_in = from;
+    entry->off = entry->splice_off_in = UINT64_MAX;
+    entry->len = 1;
+}
+
+/* Requests 2 and 3 wait for a number. When 5, whose number is their sum, waits for it in their place, that is another pipe's: it makes the
+ * descriptor readable too. */
+static void test_renewed(void)
+{
+    struct ring ring;
+    int first[2], second[2], other[2], out[2];
+    unsigned reaped = 0;
+    check(pipe(first) == 0 && pipe(second) == 0 && pipe(other) == 0 && pipe(out) == 0);
+    make_ring(&ring, 8, 0, 0);
+    submit_nop(&ring);
+    submit_nop(&ring);
+    while (reaped < 2)
+        reaped += reap_by_peeks(&ring);
+    put_splice(&ring, 2, first[0], out[1]);
+    put_splice(&ring, 3, first[0], out[1]);
+    struct io_uring_sqe *entry = put(&ring, IORING_OP_POLL_ADD, 4, IOSQE_IO_LINK);
+    entry->fd = other[0];
+    entry->poll32_events = POLLIN;
+    put_splice(&ring, 5, first[0], out[1]);
+    check(enter(&ring, 4, 0, 0) == 4);
+    check(enter_for(&ring, 1, 1000) == -ETIME && !is_readable(&ring, 0));
+    check(dup2(second[0], first[0]) == first[0] && write(other[1], "x", 1) == 1);
+    put(&ring, IORING_OP_ASYNC_CANCEL, 6, 0)->addr = 2;
+    put(&ring, IORING_OP_ASYNC_CANCEL, 7, 0)->addr = 3;
+    check(enter(&ring, 2, 0, 0) == 2);
+    for (reaped = 0; reaped < 5;)
+        reaped += reap_by_peeks(&ring);
+    check(enter_for(&ring, 1, 1000) == -ETIME && !is_readable(&ring, 0));
+    check(write(second[1], "x", 1) == 1 && is_readable(&ring, 1000));
+    check(enter(&ring, 0, 1, IORING_ENTER_GETEVENTS) == 0 && reap(&ring).res == 1);
+    for (int i = 0; i < 2; i++) {
+        close(first[i]);
+        close(second[i]);
+        close(other[i]);
+        close(out[i]);
+    }
+    close_ring(&ring);
+}
+
 /* What a pipe had while nobody called makes the descriptor readable too, and wakes a thread that sleeps in a call. */
 static unsigned later;
 
@@ -221,7 +269,7 @@ int main(void)
     static const struct {
         const char *name;
         void (*run)(void);
-    } tests[] = {{"refused", test_refused}, {"poll", test_poll}, {"overflow", test_overflow}, {"epoll", test_epoll}, {"pipe", test_pipe}, {"come and gone", test_come_and_gone}, {"threads", test_threads}, {"file limit", test_file_limit}};
+    } tests[] = {{"refused", test_refused}, {"poll", test_poll}, {"overflow", test_overflow}, {"epoll", test_epoll}, {"pipe", test_pipe}, {"renewed", test_renewed}, {"come and gone", test_come_and_gone}, {"threads", test_threads}, {"file limit", test_file_limit}};
     alarm(30);
     for (size_t i = 0; i < sizeof tests / sizeof *tests; i++) {
         test = tests[i].name;

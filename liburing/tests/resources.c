@@ -186,6 +186,35 @@ static void test_tags_of_files(void)
     close_ring(&ring);
 }
 
+/* A slot that can't be told is empty again. */
+static void test_untold_slots(void)
+{
+    struct ring ring;
+    struct io_uring_rsrc_register sparse = {.nr = 2, .flags = IORING_RSRC_REGISTER_SPARSE};
+    char byte;
+    int file = make_file();
+    int *list = mmap(NULL, 4096, PROT_READ | PROT_WRITE, MAP_PRIVATE | MAP_ANONYMOUS, -1, 0);
+    check(list != MAP_FAILED);
+    list[0] = list[1] = file;
+    check(mprotect(list, 4096, PROT_READ) == 0);
+    make_ring(&ring, 8, 0, 0);
+    check(register_at(ring.fd, IORING_REGISTER_FILES2, &sparse, sizeof sparse) == 0);
+    for (int i = 0; i < 3; i++) {
+        struct io_uring_sqe *entry = put_plain(&ring, IORING_OP_FILES_UPDATE, 0, -1);
+        entry->addr = (uintptr_t)list;
+        entry->len = 2;
+        entry->off = IORING_FILE_INDEX_ALLOC;
+        check(result_of_one(&ring, 1) == -EFAULT);
+    }
+    for (int slot = 0; slot < 2; slot++) {
+        put_transfer(&ring, IORING_OP_READ, 0, IOSQE_FIXED_FILE, slot, &byte, 1, 0);
+        check(result_of_one(&ring, 1) == -EBADF);
+    }
+    munmap(list, 4096);
+    close(file);
+    close_ring(&ring);
+}
+
 static void test_tags_of_buffers(void)
 {
     struct ring ring;
@@ -454,6 +483,7 @@ int main(int count, char **words)
         {"slots", test_slots},
         {"buffers", test_buffers},
         {"tags of files", test_tags_of_files},
+        {"untold slots", test_untold_slots},
         {"tags of buffers", test_tags_of_buffers},
         {"provided", test_provided},
         {"groups", test_groups},

@@ -8,8 +8,8 @@ ghost use Rattle.uring_c.specs.CourseForm.{entry_of};
 
 use crate::course_words::entry_if;
 use uring_enter::{
-    Copying, Entry, Piece, Submission, What, core_flags, message_fault, next_piece, room_fault,
-    time_fault,
+    Copying, Entry, Piece, Submission, What, core_flags, how_fault, message_fault, next_piece,
+    open_fault, room_fault, time_fault,
 };
 
 /// A piece that is copied: `struct wulgach_piece` of the header.
@@ -86,6 +86,22 @@ pub extern "C" fn wulgach_time_fault(seconds: i64, nanoseconds: i64) -> i32
     ensures { result ≡ spec.time_fault seconds nanoseconds }
 {
     time_fault(seconds, nanoseconds)
+}
+
+/// The fault of how a file is opened, or 0: whether what it has behind the fields that are known is all 0.
+#[unsafe(no_mangle)]
+pub extern "C" fn wulgach_how_fault(is_rest_zero: bool) -> i32
+    ensures { result ≡ spec.how_fault is_rest_zero }
+{
+    how_fault(is_rest_zero)
+}
+
+/// The fault of an open with these flags, behind its path, or 0.
+#[unsafe(no_mangle)]
+pub extern "C" fn wulgach_open_fault(entry: &Submission, flags: u64) -> i32
+    ensures { result ≡ spec.open_fault entry.now flags }
+{
+    open_fault(entry, flags)
 }
 
 /// The fault of a message with so many vectors, or 0.

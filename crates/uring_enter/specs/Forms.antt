@@ -118,6 +118,10 @@ is_fsync e = e.addr == 0 && e.ioprio == 0 && bit_and e.op_flags 4294967294 == 0
 abbrev pub is_open : Submission → Bool
 is_open e = has_no_buffer e && not (not (e.file_index == 0) && has_some e.op_flags 524288)
 
+-- of an open by a structure that has at least the fields of the first kernel which had it (OPEN_HOW_SIZE_VER0 is 24)
+abbrev pub is_open_how : Submission → Bool
+is_open_how e = has_no_buffer e && nat_le 24 e.len
+
 -- a close is of a descriptor or of a slot
 abbrev pub is_close : Submission → Bool
 is_close e =
@@ -128,9 +132,9 @@ abbrev pub is_files_update : Submission → Bool
 is_files_update e =
     e.ioprio == 0 && e.op_flags == 0 && e.file_index == 0 && not (e.len == 0) && not (has_some e.flags 1)
 
--- IORING_MSG_RING_CQE_SKIP is 1
+-- IORING_MSG_RING_CQE_SKIP is 1 and IORING_MSG_RING_FLAGS_PASS 2
 abbrev pub is_message : Submission → Bool
-is_message e = has_no_buffer e && bit_and e.op_flags 4294967294 == 0
+is_message e = has_no_buffer e && bit_and e.op_flags 4294967292 == 0
 
 abbrev pub is_shutdown : Submission → Bool
 is_shutdown e =
@@ -155,7 +159,7 @@ meets Cancel e = is_cancel e
 meets Poll e = is_poll e
 meets PollRemoval e = is_poll_removal e
 meets Open e = is_open e
-meets OpenHow e = has_no_buffer e
+meets OpenHow e = is_open_how e
 meets Close e = is_close e
 meets FilesUpdate e = is_files_update e
 meets Provision e = is_provision e

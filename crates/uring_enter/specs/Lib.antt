@@ -33,3 +33,7 @@ pub mod Ways
 pub mod Drainings
 pub mod Updates
 pub mod SettingUp
+pub mod Messages
+pub mod Watching
+pub mod Strictness
+pub mod Layouts

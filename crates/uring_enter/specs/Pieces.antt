@@ -36,8 +36,10 @@ first_of e =
     if e.opcode == 12 then unless (e.op_flags == 0) Time e.off 16 else
     -- CONNECT
     if e.opcode == 16 then stands Address e.addr e.off else
-    -- OPENAT, OPENAT2, RENAMEAT, UNLINKAT, MKDIRAT, SYMLINKAT and LINKAT
-    if e.opcode == 18 || e.opcode == 28 || nat_le 35 e.opcode && nat_le e.opcode 39 then stands Path e.addr 0 else
+    -- OPENAT2, whose structure says its size
+    if e.opcode == 28 then stands How e.off e.len else
+    -- OPENAT, RENAMEAT, UNLINKAT, MKDIRAT, SYMLINKAT and LINKAT
+    if e.opcode == 18 || nat_le 35 e.opcode && nat_le e.opcode 39 then stands Path e.addr 0 else
     -- STATX, which with AT_EMPTY_PATH may have none
     if e.opcode == 21 then unless (e.addr == 0) Path e.addr 0 else
     -- EPOLL_CTL, but for EPOLL_CTL_DEL
@@ -48,8 +50,8 @@ first_of e =
 -- what is copied second
 abbrev pub second_of : Submission → Option Piece
 second_of e =
-    -- OPENAT2, if the structure has the size that is known
-    if e.opcode == 28 then unless (not (e.len == 24)) How e.off 24 else
+    -- OPENAT2
+    if e.opcode == 28 then stands Path e.addr 0 else
     -- RENAMEAT, SYMLINKAT and LINKAT
     if e.opcode == 35 || e.opcode == 38 || e.opcode == 39 then stands SecondPath e.off 0 else
     -- FSETXATTR
@@ -69,10 +71,11 @@ piece_of e place =
     if place == 1 then second_of e else
     if place == 2 then third_of e else None
 
--- an address of more than 128 bytes is -22 (EINVAL), an attribute's value of more than 65,536 -7 (E2BIG), before either is copied
+-- an address of more than 128 bytes is -22 (EINVAL), an attribute's value of more than 65,536 -7 (E2BIG), and so a structure that is longer than a page, before any is copied
 abbrev pub fault_by : What → ℕ → ℤ
 fault_by Address size = if nat_le size 128 then pos 0 else error 22
 fault_by Value size = if nat_le size 65536 then pos 0 else error 7
+fault_by How size = if nat_le size 4096 then pos 0 else error 7
 fault_by _ size = pos 0
 
 abbrev pub fault_of : Piece → ℤ
@@ -82,6 +85,14 @@ fault_of p = fault_by p.what p.size
 abbrev pub time_fault : ℤ → ℤ → ℤ
 time_fault seconds nanoseconds =
     if is_below seconds || is_below nanoseconds then error 22 else pos 0
+
+-- what is newer than the 24 bytes that are known of a structure of an open has to be 0, else -7. openat2(2), EXTENSIBILITY
+abbrev pub how_fault : Bool → ℤ
+how_fault is_rest_zero = if is_rest_zero then pos 0 else error 7
+
+-- what a slot has isn't closed by exec: O_CLOEXEC is 2^19
+abbrev pub open_fault : Submission → ℕ → ℤ
+open_fault e flags = if not (e.file_index == 0) && has_some flags 524288 then error 22 else pos 0
 
 -- more than 1,024 vectors are -90 (EMSGSIZE)
 abbrev pub message_fault : ℕ → ℤ

@@ -75,8 +75,9 @@ fn first_of(entry: &Submission) -> Option<Piece>
         11 | 15 => stands(What::Time, entry.addr, 16),
         12 => unless(entry.op_flags == 0, What::Time, entry.off, 16),
         16 => stands(What::Address, entry.addr, entry.off),
-        18 | 28 | 35..=39 => stands(What::Path, entry.addr, 0),
+        18 | 35..=39 => stands(What::Path, entry.addr, 0),
         21 => unless(entry.addr == 0, What::Path, entry.addr, 0),
+        28 => stands(What::How, entry.off, entry.len as u64),
         29 => unless(entry.len == 2, What::Value, entry.addr, 12),
         41..=44 => stands(What::SecondPath, entry.addr, 0),
         _ => None,
@@ -87,7 +88,7 @@ fn second_of(entry: &Submission) -> Option<Piece>
     ensures { result ≡ spec.second_of entry.now }
 {
     match entry.opcode {
-        28 => unless(entry.len != 24, What::How, entry.off, 24),
+        28 => stands(What::Path, entry.addr, 0),
         35 | 38 | 39 => stands(What::SecondPath, entry.off, 0),
         41 => value_of(entry),
         42 | 44 => stands(What::Path, entry.addr3, 0),
@@ -144,6 +145,7 @@ impl Piece {
         match self.what {
             What::Address => { if self.size <= 128 { 0 } else { -22 } }
             What::Value => { if self.size <= 65536 { 0 } else { -7 } }
+            What::How => { if self.size <= 4096 { 0 } else { -7 } }
             _ => 0,
         }
     }
@@ -154,6 +156,24 @@ pub fn time_fault(seconds: i64, nanoseconds: i64) -> i32
     ensures { result ≡ spec.time_fault seconds nanoseconds }
 {
     if seconds < 0 || nanoseconds < 0 {
+        -22
+    } else {
+        0
+    }
+}
+
+/// The fault of how a file is opened, or 0: whether what it has behind the fields that are known is all 0.
+pub fn how_fault(is_rest_zero: bool) -> i32
+    ensures { result ≡ spec.how_fault is_rest_zero }
+{
+    if is_rest_zero { 0 } else { -7 }
+}
+
+/// The fault of an open with these flags, which comes behind its path, or 0: what a slot has isn't closed by exec.
+pub fn open_fault(entry: &Submission, flags: u64) -> i32
+    ensures { result ≡ spec.open_fault entry.now flags }
+{
+    if entry.file_index != 0 && flags & 0x80000 != 0 {
         -22
     } else {
         0

@@ -1,0 +1,51 @@
+//! What a message to another ring does, for C: functions of `c/wulgach_form.h`.
+ghost use Rattle.std.specs.Prelude.{◌≡◌, is_some, unwrap_or};
+ghost use Rattle.uring_enter.specs.Messages as spec;
+ghost use Rattle.uring_c.specs.MessageForm.{word_of_sending, fault_of_sending};
+
+use uring_enter::{Message, Receiver, Sending, Submission, sending_of, told_of};
+
+/// Returns what a message to this ring does, and writes its error, or 0.
+#[unsafe(no_mangle)]
+pub extern "C" fn wulgach_sending_of(entry: &Submission, to: &Receiver, fault: &mut i32) -> u32
+    ensures sending { result ≡ word_of_sending (spec.sending_of entry.now to.now) }
+    ensures fault { fault.new ≡ fault_of_sending (spec.sending_of entry.now to.now) }
+{
+    let sending = sending_of(entry, *to);
+    *fault = sending_fault(sending);
+    sending_word(sending)
+}
+
+fn sending_word(sending: Sending) -> u32
+    ensures { result ≡ word_of_sending sending }
+{
+    match sending {
+        Sending::Fails(_) => 0,
+        Sending::Posts => 1,
+        Sending::Passes => 2,
+    }
+}
+
+fn sending_fault(sending: Sending) -> i32
+    ensures { result ≡ fault_of_sending sending }
+{
+    match sending {
+        Sending::Fails(fault) => fault,
+        _ => 0,
+    }
+}
+
+/// Writes what the other ring is told, where a message does what it does with this result. False: nothing.
+#[unsafe(no_mangle)]
+pub extern "C" fn wulgach_told_of(entry: &Submission, res: i32, message: &mut Message) -> bool
+    ensures is_told { result ≡ is_some (spec.told_of entry.now res) }
+    ensures message { message.new ≡ unwrap_or (spec.told_of entry.now res) message.old }
+{
+    match told_of(entry, res) {
+        Some(told) => {
+            *message = told;
+            true
+        }
+        None => false,
+    }
+}

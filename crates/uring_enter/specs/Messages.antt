@@ -1,0 +1,55 @@
+-- What a message to another ring does. io_uring_enter(2), IORING_OP_MSG_RING; the order of its faults, and which bits of a field count, is what Linux 6.18 does.
+use Rattle.std.specs.Prelude.{ℕ, ℤ, Bool, not, ◌&&◌, ◌||◌, ◌==◌, Option, Some, None, if◌then◌else◌}
+use Rattle.std.specs.Int.{w32, cast_signed}
+use Rattle.std.specs.Int.RustNames.{bit_and}
+use Rattle.uring_enter.specs.declared.submission.Submission.{Submission}
+use Rattle.uring_enter.specs.declared.message.Receiver.{Receiver}
+use Rattle.uring_enter.specs.declared.message.Message.{Message}
+use Rattle.uring_enter.specs.declared.message.Sending.{Sending}
+use Rattle.uring_enter.specs.declared.message.Sending.TheVariants.{Fails, Posts, Passes}
+use Rattle.uring_enter.specs.Clocks.{has_some}
+use Rattle.uring_entry.specs.Errors.{error, is_below}
+
+-- the low 32 bits of a field
+abbrev pub low : ℕ → ℕ
+low field = bit_and field 4294967295
+
+-- what belongs to files: a slot of the sender's, IORING_MSG_RING_CQE_SKIP (1), and a slot of the other ring's. With IORING_MSG_RING_FLAGS_PASS (2) that field has the completion's flags
+abbrev pub names_file : Submission → Bool
+names_file e =
+    not (low e.addr3 == 0) || has_some e.op_flags 1 || not (e.file_index == 0) && not (has_some e.op_flags 2)
+
+-- IORING_MSG_DATA: -22 (EINVAL) with what belongs to files, -77 (EBADFD) to a ring that is disabled
+abbrev pub sending_data : Submission → Receiver → Sending
+sending_data e to =
+    if names_file e then Fails (error 22) else
+    if to.is_disabled then Fails (error 77) else Posts
+
+-- IORING_MSG_SEND_FD: -22 with a length, and to the sender itself
+abbrev pub sending_file : Submission → Receiver → Sending
+sending_file e to =
+    if not (e.len == 0) || to.is_sender then Fails (error 22) else
+    if to.is_disabled then Fails (error 77) else Passes
+
+-- -9 (EBADF) to what isn't open, -77 to what is no ring. DATA is 0 and SEND_FD 1
+abbrev pub sending_of : Submission → Receiver → Sending
+sending_of e to =
+    if not to.is_open then Fails (error 9) else
+    if not to.is_ring then Fails (error 77) else
+    if low e.addr == 0 then sending_data e to else
+    if low e.addr == 1 then sending_file e to else Fails (error 22)
+
+-- the completion of data
+abbrev pub message_of : Submission → Message
+message_of e = record {
+  user_data = e.off;
+  res = cast_signed w32 e.len;
+  flags = if has_some e.op_flags 2 then e.file_index else 0;
+}
+
+-- what the other ring is told: data, or the slot of its file; nothing of what has failed, or with IORING_MSG_RING_CQE_SKIP
+abbrev pub told_of : Submission → ℤ → Option Message
+told_of e res =
+    if is_below res || has_some e.op_flags 1 then None else
+    if low e.addr == 0 then Some (message_of e) else
+    Some (record { user_data = e.off; res = res; flags = 0 })

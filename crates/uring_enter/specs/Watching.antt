@@ -1,0 +1,33 @@
+-- What a ring's descriptor polls for, by the requests that wait for one descriptor. epoll_ctl(2): a number that is closed and opened again is another file, which isn't polled for. That a descriptor is polled for afresh once another request waits for it is our own rule.
+use Rattle.std.specs.Prelude.{◌≡◌, ℕ, max, Bool, ◌&&◌, ◌==◌, List, [], ◌∷◌, Option, Some, None, if◌then◌else◌}
+use Rattle.std.specs.Int.RustNames.{bit_or}
+use Rattle.uring_enter.specs.declared.watched.Watched.{Watched}
+use Rattle.uring_enter.specs.declared.watched.Watch.{Watch}
+use Rattle.uring_enter.specs.declared.watched.Watch.TheVariants.{Stays, Adds, Removes, Renews}
+
+pub data Waiting : Type 0 where
+  -- a request waits for these events, and began to at this count
+  Waits : ℕ → ℕ → Waiting
+
+-- the events of all
+abbrev pub events_of : List Waiting → ℕ
+events_of [] = 0
+events_of (Waits events begun ∷ others) = bit_or (events_of others) events
+
+-- when the last of them began
+abbrev pub newest_of : List Waiting → ℕ
+newest_of [] = 0
+newest_of (Waits events begun ∷ others) = max (newest_of others) begun
+
+-- glue: what is kept is that of a descriptor for which these wait
+pub record KeepsWatched (waiting : List Waiting) (w : Watched) : Type 0 where
+  pub events : w.events ≡ events_of waiting
+  pub begun : w.begun ≡ newest_of waiting
+
+-- it stays where the events are the same and nobody has begun to wait; None: nobody waits
+abbrev pub change_of : Option Watched → Option Watched → Watch
+change_of None None = Stays
+change_of None (Some after) = Adds
+change_of (Some before) None = Removes
+change_of (Some before) (Some after) =
+    if before.events == after.events && before.begun == after.begun then Stays else Renews

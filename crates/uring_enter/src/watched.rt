@@ -1,0 +1,70 @@
+//! What a ring's descriptor polls for: the descriptors that its requests wait for, each for the events of all of them. epoll_ctl(2).
+
+ghost use Rattle.std.specs.Prelude.{◌≡◌, List, [], ◌∷◌};
+ghost use Rattle.uring_enter.specs.Watching.{Waiting, Waits, KeepsWatched, change_of};
+
+/// What is polled for of one descriptor.
+#[repr(C)]
+#[derive(Clone, Copy, Drop)]
+pub struct Watched {
+    /// The events of all requests that wait for it.
+    pub events: u32,
+
+    /// When the last of them began to wait, in a count of its ring that rises.
+    pub begun: u64,
+}
+
+/// What is changed of what is polled for.
+#[derive(Clone, Copy, Drop)]
+pub enum Watch {
+    /// Nothing.
+    Stays,
+
+    /// The descriptor is polled for from now on.
+    Adds,
+
+    /// It is polled for no more.
+    Removes,
+
+    /// It is polled for afresh: it may be another file by now.
+    Renews,
+}
+
+impl Watched {
+    /// Nobody waits.
+    pub fn begin() -> Watched
+        ensures { KeepsWatched [] result }
+    {
+        Watched {
+            events: 0,
+            begun: 0,
+        }
+    }
+
+    /// A request waits for these events too, and began to at this count.
+    pub fn add(&mut self, events: u32, begun: u64)
+        ensures { (waiting : List Waiting) → KeepsWatched waiting self.old
+            → KeepsWatched (Waits events begun ∷ waiting) self.new }
+    {
+        self.events = self.events | events;
+        self.begun = self.begun.max(begun);
+    }
+}
+
+/// What is changed of a descriptor that was polled for so and is to be so. `None`: not at all.
+pub fn watch_of(before: Option<Watched>, after: Option<Watched>) -> Watch
+    ensures { result ≡ change_of before after }
+{
+    match (before, after) {
+        (None, None) => Watch::Stays,
+        (None, Some(_)) => Watch::Adds,
+        (Some(_), None) => Watch::Removes,
+        (Some(before), Some(after)) => {
+            if before.events == after.events && before.begun == after.begun {
+                Watch::Stays
+            } else {
+                Watch::Renews
+            }
+        }
+    }
+}
