@@ -11,7 +11,7 @@ use Rattle.uring_enter.specs.declared.waiting_call.Turn.TheVariants.{Does, Waits
 use Rattle.uring_enter.specs.Clocks.{has_some}
 use Rattle.uring_enter.specs.Needs.{is_splice}
 use Rattle.uring_enter.specs.Readiness.{has_message_flags}
-use Rattle.uring_entry.specs.Errors.{error, is_below}
+use Rattle.uring_entry.specs.Errors.{error}
 
 -- an ACCEPT (13) might sleep, and a CONNECT (16) that was begun goes on by itself: their descriptors are polled first. Every other call is made so that it doesn't wait
 abbrev pub polls_first : Submission → Call → Bool

@@ -1,5 +1,5 @@
 -- When a request that runs can be finished without waiting. io_uring_enter(2), at each operation; but where our own rule is named.
-use Rattle.std.specs.Prelude.{◌≡◌, ℕ, Bool, true, false, not, ◌&&◌, ◌||◌, ◌==◌, List, if◌then◌else◌}
+use Rattle.std.specs.Prelude.{◌≡◌, ℕ, Bool, true, false, not, ◌&&◌, ◌||◌, ◌==◌, if◌then◌else◌}
 use Rattle.uring_enter.specs.declared.submission.Submission.{Submission}
 use Rattle.uring_enter.specs.declared.needs.Needs.{Needs}
 use Rattle.uring_enter.specs.declared.ready.Standing.{Standing}
