@@ -33,3 +33,5 @@ pub mod Ways
 pub mod Drainings
 pub mod Updates
 pub mod SettingUp
+pub mod Arguments
+pub mod Rounds

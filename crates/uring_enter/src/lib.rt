@@ -2,6 +2,7 @@
 #![tactic(auto)]
 
 mod act;
+mod argument;
 mod asked;
 mod asked_ring;
 mod cancel;
@@ -24,6 +25,7 @@ mod posted;
 mod posting_laws;
 mod ready;
 mod reply;
+mod rounds;
 mod search;
 mod shot;
 mod showing;
@@ -43,6 +45,11 @@ mod ways;
 
 pub use act::Act;
 pub use act::Fact;
+pub use argument::Argument;
+pub use argument::argument_fault;
+pub use argument::mask_fault;
+pub use argument::reads_argument;
+pub use argument::with_fault;
 pub use asked::Asked;
 pub use asked::Policy;
 pub use asked_ring::AskedRing;
@@ -108,6 +115,8 @@ pub use ready::{
 };
 pub use reply::Reply;
 pub use reply::Sight;
+pub use rounds::Round;
+pub use rounds::Rounds;
 pub use search::Search;
 pub use shot::Shot;
 pub use showing::Shown;
@@ -140,12 +149,14 @@ pub use times::Times;
 pub use transfer::{
     How, Step, Task, Transfer, loses_nothing, next_step, offset_of, sleeps_never, tells_what_came,
 };
+pub use update::Linked;
 pub use update::Poll;
 pub use update::Removal;
 pub use update::poll_removal;
 pub use update::timeout_removal;
 pub use update::updated_flags;
 pub use update::updated_poll;
+pub use update::updates_linked;
 pub use wait::Wait;
 pub use wait::WakeSources;
 pub use wait::Woken;
