@@ -155,6 +155,12 @@ int32_t wulgach_timeout_linked_outcome(bool has_cancelled);
  * none. */
 int32_t wulgach_timeout_cancels(const struct wulgach_timeout *timeout, uint64_t *number);
 
+/* Whether a timeout cancels that request, now that its time is over: if that runs, and a cancel can end it. Else it cancels nothing. */
+bool wulgach_timeout_fires(const struct wulgach_timeout *timeout, bool runs, bool is_cancellable);
+
+/* Makes of how long a call waits at most until when it waits, from now on: no limit stays none. */
+void wulgach_times_deadline(const struct wulgach_times *times, struct wulgach_limit *limit);
+
 #ifdef __cplusplus
 }
 #endif

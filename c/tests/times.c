@@ -105,9 +105,14 @@ static void check_waits(void)
     wulgach_times_woken(&times, rows, ROOM, &soon, &woken);
     demand(woken.kind == WULGACH_WOKEN_OVER && woken.timeout.number == 3, "the timeout is");
     demand(wulgach_timeout_cancels(&woken.timeout, &limited) == 0 && limited == 2, "it cancels the request before it");
+    demand(wulgach_timeout_fires(&woken.timeout, true, true) && !wulgach_timeout_fires(&woken.timeout, true, false) && !wulgach_timeout_fires(&woken.timeout, false, true), "if that runs, and can be cancelled");
     demand(wulgach_timeout_linked_outcome(true) == -62 && wulgach_timeout_linked_outcome(false) == -125, "how a linked one ends");
     woken.timeout.is_linked = false;
-    demand(wulgach_timeout_cancels(&woken.timeout, &limited) == -2, "one that isn't linked cancels none");
+    demand(wulgach_timeout_cancels(&woken.timeout, &limited) == -2 && !wulgach_timeout_fires(&woken.timeout, true, true), "one that isn't linked cancels none");
+    struct wulgach_limit until = {.at = 5, .is_set = true}, unset = {.at = 5};
+    wulgach_times_deadline(&times, &until);
+    wulgach_times_deadline(&times, &unset);
+    demand(until.is_set && until.at == times.time + 5 && !unset.is_set, "until when a call waits");
 }
 
 int main(void)

@@ -22,3 +22,4 @@ pub mod TakingForm
 pub mod RegisterForm
 pub mod UsesForm
 pub mod WaitForm
+pub mod RoundForm
