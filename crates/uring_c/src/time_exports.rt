@@ -8,6 +8,7 @@ ghost use Rattle.uring_enter.specs.Timeouts.{posted, NoneIsOver, IsNext, IsReach
 ghost use Rattle.uring_enter.specs.Kept.{KeepsTime};
 ghost use Rattle.uring_enter.specs.Waits.{deadline, IsWait, IsWoken, IsPassing};
 ghost use Rattle.uring_enter.specs.Clocks.{clock_of, lasts};
+ghost use Rattle.uring_enter.specs.Sleeps.{lasts_at_most, comes_to};
 ghost use Rattle.uring_c.specs.TimeForm.{limit_of, word_of_clock, words_of_limit, words_of_wait, words_of_woken};
 
 use crate::time_words::{
@@ -308,4 +309,32 @@ pub extern "C" fn wulgach_timeout_fires(
     ensures { result ≡ fires timeout.now runs is_cancellable }
 {
     timeout.fires(runs, is_cancellable)
+}
+
+/// Writes how long a call sleeps at most that is to sleep until then.
+#[unsafe(no_mangle)]
+pub extern "C" fn wulgach_times_sleeps_for(
+    times: &Times,
+    until: &LimitWords,
+    can_be_woken: bool,
+    limit: &mut LimitWords,
+)
+    ensures { (log : List Event) (rows : List Timeout) → KeepsTime log times.now rows
+        → limit.new ≡ words_of_limit (lasts_at_most log (limit_of until.now) can_be_woken) }
+{
+    *limit = limit_words(times.sleeps_for(until.limit(), can_be_woken));
+}
+
+/// Writes to when time moves on behind such a sleep, where nothing has woken it, or that it doesn't.
+#[unsafe(no_mangle)]
+pub extern "C" fn wulgach_times_comes_to(
+    times: &Times,
+    until: &LimitWords,
+    can_be_woken: bool,
+    end: &mut LimitWords,
+)
+    ensures { (log : List Event) (rows : List Timeout) → KeepsTime log times.now rows
+        → end.new ≡ words_of_limit (comes_to log (limit_of until.now) can_be_woken) }
+{
+    *end = limit_words(times.comes_to(until.limit(), can_be_woken));
 }

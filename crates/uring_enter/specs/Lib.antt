@@ -35,3 +35,4 @@ pub mod Updates
 pub mod SettingUp
 pub mod Arguments
 pub mod Rounds
+pub mod Sleeps

@@ -30,6 +30,7 @@ mod search;
 mod shot;
 mod showing;
 mod showing_laws;
+mod sleeps;
 mod socket_form;
 mod submission;
 mod taking;
