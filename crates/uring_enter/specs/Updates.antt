@@ -12,11 +12,10 @@ use Rattle.uring_enter.specs.Clocks.{has_some}
 abbrev pub poll_removal : Submission → Removal
 poll_removal e = if has_some e.len 6 then Update else Cancel
 
--- IORING_LINK_TIMEOUT_UPDATE is 16 and IORING_TIMEOUT_UPDATE 2
+-- IORING_LINK_TIMEOUT_UPDATE is 16 and IORING_TIMEOUT_UPDATE 2. Without the second the first changes nothing, and the timeout is removed; what the kernel does
 abbrev pub timeout_removal : Submission → Removal
 timeout_removal e =
-    if has_some e.op_flags 16 then UpdateLinked else
-    if has_some e.op_flags 2 then Update else Cancel
+    if has_some e.op_flags 2 then (if has_some e.op_flags 16 then UpdateLinked else Update) else Cancel
 
 -- an update of linked timeouts changes one that runs and has its user data, and looks at nothing else that has it. IORING_LINK_TIMEOUT_UPDATE; what the kernel does
 abbrev pub updates_linked : ℕ → Linked → Bool

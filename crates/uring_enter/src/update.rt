@@ -59,12 +59,12 @@ pub fn poll_removal(entry: &Submission) -> Removal
 pub fn timeout_removal(entry: &Submission) -> Removal
     ensures { result ≡ spec.timeout_removal entry.now }
 {
-    if entry.op_flags & 16 != 0 {
-        Removal::UpdateLinked
-    } else if entry.op_flags & 2 != 0 {
-        Removal::Update
-    } else {
+    if entry.op_flags & 2 == 0 {
         Removal::Cancel
+    } else if entry.op_flags & 16 != 0 {
+        Removal::UpdateLinked
+    } else {
+        Removal::Update
     }
 }
 
