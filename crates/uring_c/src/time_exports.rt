@@ -301,11 +301,7 @@ pub extern "C" fn wulgach_times_deadline(times: &Times, limit: &mut LimitWords)
 
 /// Whether a timeout cancels the request before it, now that its time is over.
 #[unsafe(no_mangle)]
-pub extern "C" fn wulgach_timeout_fires(
-    timeout: &Timeout,
-    runs: bool,
-    is_cancellable: bool,
-) -> bool
+pub extern "C" fn wulgach_timeout_fires(timeout: &Timeout, runs: bool, is_cancellable: bool) -> bool
     ensures { result ≡ fires timeout.now runs is_cancellable }
 {
     timeout.fires(runs, is_cancellable)

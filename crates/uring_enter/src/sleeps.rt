@@ -19,13 +19,7 @@ impl Times {
             → result ≡ lasts_at_most log until can_be_woken }
     {
         match until {
-            None => {
-                if can_be_woken {
-                    None
-                } else {
-                    Some(NAP)
-                }
-            }
+            None => { if can_be_woken { None } else { Some(NAP) } }
             Some(at) => {
                 let left = left_until(at, self.time);
                 Some(if can_be_woken { left } else { left.min(NAP) })
