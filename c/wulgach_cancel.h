@@ -88,6 +88,17 @@ enum wulgach_removal {
 uint32_t wulgach_poll_removal(const struct wulgach_submission *entry);
 uint32_t wulgach_timeout_removal(const struct wulgach_submission *entry);
 
+/* A request as an update of linked timeouts sees it. */
+struct wulgach_linked {
+    uint64_t user_data;
+    bool is_linked;     /* a linked timeout, */
+    bool runs;          /* whose time runs */
+};
+
+/* Whether an update of the linked timeout with this user data changes this one: the first of which that is so. If it is so of none, the
+ * update ends with -2 (ENOENT). */
+bool wulgach_updates_linked(uint64_t user_data, const struct wulgach_linked *seen);
+
 /* What an update may change of a poll. */
 struct wulgach_poll {
     uint64_t user_data;

@@ -65,6 +65,9 @@ bool wulgach_course_end(struct wulgach_course *course);
  * copied. False, and nothing is written: it has none, since a cancel has found it, or no completion may be posted before its end. */
 bool wulgach_course_notice(const struct wulgach_course *course, bool reports, bool may_post, int32_t *res);
 
+/* Whether the time of a timeout begins that starts now: not of one that a cancel has found before. */
+bool wulgach_course_starts_time(const struct wulgach_course *course);
+
 /* ---- what is shown of an end ---- */
 
 /* A completion that was posted and isn't reaped. The rows that a call is given are the caller's memory: the first are those that stand

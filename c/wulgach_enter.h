@@ -82,6 +82,10 @@ struct wulgach_enter {
     bool took_all;
 };
 
+/* What goes on while a call is made, by the policy of the program: a lazy call that wakes a thread which takes entries, and gets no events,
+ * goes on in order, since the application may look at memory alone behind it. A number that is none stays. */
+uint32_t wulgach_policy_of_call(uint32_t policy, bool has_thread, bool gets);
+
 /* Begins a call of io_uring_enter(2), and writes what it wants first. -22 exactly if there is no such policy; then nothing is
  * written. Whoever keeps a ring does what the call wants, and replies with what became of it, until it is to return.
  *
@@ -94,6 +98,53 @@ int32_t wulgach_enter_begin(struct wulgach_enter *call, const struct wulgach_ask
  * written. */
 int32_t wulgach_enter_next(struct wulgach_enter *call, const struct wulgach_reply *reply, struct wulgach_command *command);
 
+/* ---- its last arguments ---- */
+
+/* The last argument of a call, as far as it was read. */
+struct wulgach_argument {
+    uint64_t size;              /* as the call gives it */
+    bool is_extended;           /* IORING_ENTER_EXT_ARG: a structure of a mask and a time, and no mask alone */
+    bool is_readable;           /* the structure can be read, */
+    bool has_time;              /* it gives a time, */
+    bool is_time_readable;      /* and that can be read */
+};
+
+/* Whether a call reads its last argument that is asked to submit so many entries, and whose submission came to this: it gets events
+ * (IORING_ENTER_GETEVENTS), and all was submitted. */
+bool wulgach_reads_argument(bool gets, uint32_t to_submit, int64_t submitted);
+
+/* The fault of a call's last argument, or 0. Of a structure the size is looked at first: -22 unless it is 24; then -14 if it, or the time
+ * that it gives, can't be read. */
+int32_t wulgach_last_argument_fault(const struct wulgach_argument *argument);
+
+/* The fault of a mask of this size, or 0: -22 unless it is 8, then -14 if it can't be read. It matters where the call is to sleep. */
+int32_t wulgach_mask_fault(uint64_t size, bool is_readable);
+
+/* What a submission comes to that came to this, and behind which the argument has this fault, or 0: the fault counts where nothing was
+ * submitted. */
+int64_t wulgach_submission_with_fault(int64_t submitted, int32_t fault);
+
+/* ---- what the thread that takes entries takes ---- */
+
+/* What came of a round, in which the thread of a ring with IORING_SETUP_SQPOLL takes what is published. */
+struct wulgach_round {
+    uint32_t positions;     /* how many it has taken, those among them whose word names no slot */
+    bool is_refused;        /* memory was refused, and none was taken */
+};
+
+/* The rounds of a call. It is the caller's memory, and its fields are the library's. */
+struct wulgach_rounds {
+    uint32_t to_submit;
+    bool has_taken;
+};
+
+/* A call that is asked to submit so many entries, without a round so far. */
+void wulgach_rounds_begin(struct wulgach_rounds *rounds, uint32_t to_submit);
+
+/* A round has come to this. Whether there is one more: exactly if it has taken a position. Else what the submission comes to is written: as
+ * many entries as were asked for, or -11 if memory was refused before any position was taken. */
+bool wulgach_rounds_go_on(struct wulgach_rounds *rounds, const struct wulgach_round *round, int64_t *submitted);
+
 /* ---- which positions of the submission ring a call takes ---- */
 
 /* What a call that submits finds in its ring, and how many entries it is asked for. */
@@ -102,6 +153,7 @@ struct wulgach_submitting {
     uint32_t head;          /* the submission ring's, */
     uint32_t tail;          /* as the application has stored it */
     uint32_t entries;       /* a power of two */
+    uint32_t given;         /* how many positions from the head on an earlier call has given the core, which couldn't take them */
     bool submits_all;       /* IORING_SETUP_SUBMIT_ALL */
 };
 
@@ -120,7 +172,8 @@ struct wulgach_taking {
     bool submits_all;
 };
 
-/* Begins a call that has taken nothing. Returns how many it takes at most: those that are published, and no more than it is asked for.
+/* Begins a call that has taken nothing. Returns how many it takes at most: those that are published, and no more than it is asked for, but
+ * all that the core was given before. What comes next, `next`, is the head of the ring behind what it has taken.
  * Unless that is 0, the cell is written where the word of its first position stands. */
 uint32_t wulgach_taking_begin(struct wulgach_taking *taking, const struct wulgach_submitting *asked, uint32_t *cell);
 

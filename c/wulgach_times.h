@@ -155,6 +155,20 @@ int32_t wulgach_timeout_linked_outcome(bool has_cancelled);
  * none. */
 int32_t wulgach_timeout_cancels(const struct wulgach_timeout *timeout, uint64_t *number);
 
+/* Whether a timeout cancels that request, now that its time is over: if that runs, and a cancel can end it. Else it cancels nothing. */
+bool wulgach_timeout_fires(const struct wulgach_timeout *timeout, bool runs, bool is_cancellable);
+
+/* Makes of how long a call waits at most until when it waits, from now on: no limit stays none. */
+void wulgach_times_deadline(const struct wulgach_times *times, struct wulgach_limit *limit);
+
+/* Writes how long a call sleeps at most that is to sleep until then: all that is left, but no longer than 10 milliseconds if no other
+ * thread can wake it. */
+void wulgach_times_sleeps_for(const struct wulgach_times *times, const struct wulgach_limit *until, bool can_be_woken, struct wulgach_limit *limit);
+
+/* Writes to when time moves on behind such a sleep, where nothing has woken it; no limit: it was a nap, and only what a clock says has
+ * passed. To be asked before the sleep. */
+void wulgach_times_comes_to(const struct wulgach_times *times, const struct wulgach_limit *until, bool can_be_woken, struct wulgach_limit *end);
+
 #ifdef __cplusplus
 }
 #endif

@@ -42,7 +42,9 @@ static void cancel_one(void)
 {
     struct wulgach_course course = started();
     int32_t res;
+    demand(wulgach_course_starts_time(&course), "a timeout's time begins");
     demand(wulgach_course_note(&course, WULGACH_FACT_CANCELLED, 0), "a cancel");
+    demand(!wulgach_course_starts_time(&course), "but not behind a cancel");
     demand(wulgach_course_act(&course, &res) == WULGACH_ACT_END && res == -125, "one that was cancelled");
 }
 

@@ -135,8 +135,45 @@ static void run(const struct row *row)
     }
 }
 
+static void read_arguments(void)
+{
+    running = "last arguments";
+    struct wulgach_argument argument = {.size = 24, .is_extended = true, .is_readable = true};
+    check(wulgach_reads_argument(true, 2, 2) && !wulgach_reads_argument(true, 2, 1) && !wulgach_reads_argument(false, 2, 2) && !wulgach_reads_argument(true, 0, -11), "when it is read");
+    check(wulgach_last_argument_fault(&argument) == 0, "one without a time");
+    argument.has_time = true;
+    check(wulgach_last_argument_fault(&argument) == -14, "a time that can't be read");
+    argument.is_readable = false;
+    check(wulgach_last_argument_fault(&argument) == -14, "one that can't be read");
+    argument.size = 8;
+    check(wulgach_last_argument_fault(&argument) == -22, "one of another size");
+    argument.is_extended = false;
+    check(wulgach_last_argument_fault(&argument) == 0, "a mask");
+    check(wulgach_mask_fault(8, true) == 0 && wulgach_mask_fault(8, false) == -14 && wulgach_mask_fault(3, false) == -22, "its faults");
+    check(wulgach_submission_with_fault(0, -14) == -14 && wulgach_submission_with_fault(2, -14) == 2 && wulgach_submission_with_fault(-11, -14) == -11 && wulgach_submission_with_fault(2, 0) == 2, "what counts");
+}
+
+static void take_in_rounds(void)
+{
+    running = "rounds";
+    struct wulgach_round any = {.positions = 1}, none = {0}, refused = {.is_refused = true};
+    struct wulgach_rounds rounds;
+    int64_t submitted = 99;
+    wulgach_rounds_begin(&rounds, 5);
+    check(wulgach_rounds_go_on(&rounds, &any, &submitted) && submitted == 99, "behind a position there is one more round");
+    check(!wulgach_rounds_go_on(&rounds, &none, &submitted) && submitted == 5, "behind none there isn't");
+    submitted = 99;
+    check(!wulgach_rounds_go_on(&rounds, &refused, &submitted) && submitted == 5, "a refusal behind a position");
+    wulgach_rounds_begin(&rounds, 5);
+    check(!wulgach_rounds_go_on(&rounds, &refused, &submitted) && submitted == -11, "a refusal before any");
+    check(wulgach_policy_of_call(WULGACH_LAZY, true, false) == WULGACH_IN_ORDER && wulgach_policy_of_call(WULGACH_LAZY, true, true) == WULGACH_LAZY && wulgach_policy_of_call(WULGACH_LAZY, false, false) == WULGACH_LAZY, "a lazy call");
+    check(wulgach_policy_of_call(WULGACH_BY_CHOICE, true, false) == WULGACH_BY_CHOICE && wulgach_policy_of_call(7, true, false) == 7, "any other");
+}
+
 int main(void)
 {
+    read_arguments();
+    take_in_rounds();
     struct wulgach_enter call = {.before = 7};
     struct wulgach_command command = {.kind = 99};
     const struct wulgach_asked asked = {.policy = 3};

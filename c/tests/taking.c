@@ -30,6 +30,9 @@ static void take_positions(void)
     demand(wulgach_taking_took(&taking, &faulty, &cell) == WULGACH_TAKES && wulgach_taking_took(&taking, &none, &cell) == WULGACH_ENDS_CALL, "a ring that submits all");
     asked.to_submit = 1;
     demand(wulgach_taking_begin(&taking, &asked, &cell) == 1 && wulgach_taking_took(&taking, &good, &cell) == WULGACH_IS_FULL, "as many as are asked for");
+    asked.given = 2;
+    demand(wulgach_taking_begin(&taking, &asked, &cell) == 2, "what the core was given before");
+    asked.given = 0;
     asked.tail = asked.head;
     cell = 99;
     demand(wulgach_taking_begin(&taking, &asked, &cell) == 0 && cell == 99, "nothing is published");
@@ -85,7 +88,9 @@ static void search_and_update(void)
     wulgach_updated_poll(&changed, &(struct wulgach_submission){.len = 2, .off = 8, .op_flags = 4});
     demand(changed.user_data == 6 && changed.events == 4 && !changed.is_multishot, "events");
     demand(wulgach_poll_removal(&(struct wulgach_submission){.len = 1}) == WULGACH_REMOVAL_CANCELS && wulgach_poll_removal(&(struct wulgach_submission){.len = 2}) == WULGACH_REMOVAL_UPDATES, "a poll's removal");
-    demand(wulgach_timeout_removal(&(struct wulgach_submission){0}) == WULGACH_REMOVAL_CANCELS && wulgach_timeout_removal(&(struct wulgach_submission){.op_flags = 3}) == WULGACH_REMOVAL_UPDATES && wulgach_timeout_removal(&(struct wulgach_submission){.op_flags = 17}) == WULGACH_REMOVAL_UPDATES_LINKED, "a timeout's");
+    demand(wulgach_timeout_removal(&(struct wulgach_submission){0}) == WULGACH_REMOVAL_CANCELS && wulgach_timeout_removal(&(struct wulgach_submission){.op_flags = 3}) == WULGACH_REMOVAL_UPDATES && wulgach_timeout_removal(&(struct wulgach_submission){.op_flags = 19}) == WULGACH_REMOVAL_UPDATES_LINKED && wulgach_timeout_removal(&(struct wulgach_submission){.op_flags = 17}) == WULGACH_REMOVAL_CANCELS, "a timeout's");
+    struct wulgach_linked linked = {.user_data = 5, .is_linked = true, .runs = true}, still = {.user_data = 5, .is_linked = true}, loose = {.user_data = 5, .runs = true};
+    demand(wulgach_updates_linked(5, &linked) && !wulgach_updates_linked(6, &linked) && !wulgach_updates_linked(5, &still) && !wulgach_updates_linked(5, &loose), "a linked timeout's");
     demand(wulgach_updated_flags(33, &(struct wulgach_submission){.op_flags = 2}) == 32 && wulgach_updated_flags(32, &(struct wulgach_submission){.op_flags = 11}) == 41, "a timeout's flags");
 }
 

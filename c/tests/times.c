@@ -105,9 +105,27 @@ static void check_waits(void)
     wulgach_times_woken(&times, rows, ROOM, &soon, &woken);
     demand(woken.kind == WULGACH_WOKEN_OVER && woken.timeout.number == 3, "the timeout is");
     demand(wulgach_timeout_cancels(&woken.timeout, &limited) == 0 && limited == 2, "it cancels the request before it");
+    demand(wulgach_timeout_fires(&woken.timeout, true, true) && !wulgach_timeout_fires(&woken.timeout, true, false) && !wulgach_timeout_fires(&woken.timeout, false, true), "if that runs, and can be cancelled");
     demand(wulgach_timeout_linked_outcome(true) == -62 && wulgach_timeout_linked_outcome(false) == -125, "how a linked one ends");
     woken.timeout.is_linked = false;
-    demand(wulgach_timeout_cancels(&woken.timeout, &limited) == -2, "one that isn't linked cancels none");
+    demand(wulgach_timeout_cancels(&woken.timeout, &limited) == -2 && !wulgach_timeout_fires(&woken.timeout, true, true), "one that isn't linked cancels none");
+    struct wulgach_limit until = {.at = 5, .is_set = true}, unset = {.at = 5};
+    wulgach_times_deadline(&times, &until);
+    wulgach_times_deadline(&times, &unset);
+    demand(until.is_set && until.at == times.time + 5 && !unset.is_set, "until when a call waits");
+    struct wulgach_limit late = {.at = times.time + 20000000, .is_set = true}, limit, end;
+    wulgach_times_sleeps_for(&times, &late, true, &limit);
+    wulgach_times_comes_to(&times, &late, true, &end);
+    demand(limit.is_set && limit.at == 20000000 && end.is_set && end.at == late.at, "a sleep");
+    wulgach_times_sleeps_for(&times, &late, false, &limit);
+    wulgach_times_comes_to(&times, &late, false, &end);
+    demand(limit.is_set && limit.at == 10000000 && !end.is_set, "a nap");
+    wulgach_times_sleeps_for(&times, &until, false, &limit);
+    wulgach_times_comes_to(&times, &until, false, &end);
+    demand(limit.is_set && limit.at == 5 && end.is_set && end.at == until.at, "one that isn't cut");
+    wulgach_times_sleeps_for(&times, &unset, true, &limit);
+    wulgach_times_comes_to(&times, &unset, true, &end);
+    demand(!limit.is_set && !end.is_set, "one without an end");
 }
 
 int main(void)

@@ -62,7 +62,6 @@ void end_of(struct ring *ring, struct request *request, int32_t res, int32_t tol
         stop_running(ring, request);
     if (request->is_draining)
         wulgach_drains_end(&ring->drains, true);
-    ring->counting -= request->course.has_started && has_count(request);
     end_request(&ring->requests, request);
     forget_waits(ring);
     ring->completions.is_behind = true;

@@ -32,36 +32,43 @@
 struct waiting {
     uint32_t to_submit, min_complete;
     bool is_looking;        /* it gets events, and waits for none */
-    struct wulgach_limit limit;     /* how long it waits at most, in nanoseconds, */
-    struct wulgach_limit deadline;  /* and until when in the ring's time */
-    const sigset_t *signals;        /* the mask while the call sleeps */
+    struct wulgach_limit limit;     /* how long it waits at most, in nanoseconds; behind the submission, until when in the ring's time */
+    const sigset_t *signals;        /* the thread's mask, while the call sleeps, */
+    uint64_t mask;                  /* unless the call gives one, at this address */
+    size_t mask_size;
+    sigset_t given;
+    uint32_t flags;
+    int fault;                      /* of the last argument, read behind the submission; 0: none */
 };
 
-/* Reads the last two arguments of the call. If it gives a mask, that stands in the place of the thread's. */
-static int read_waiting(struct waiting *waiting, sigset_t *given, uint32_t flags, const void *argument, size_t size)
+/* Reads the structure that a call gives as its last argument, which has this size. Returns its fault, or 0. */
+static int read_extended(struct waiting *waiting)
 {
-    uint64_t signals = (uintptr_t)argument;
-    size_t signals_size = size;
-    if (flags & IORING_ENTER_EXT_ARG) {
-        struct io_uring_getevents_arg extended;
-        struct __kernel_timespec time;
-        if (size != sizeof extended)
-            return -EINVAL;
-        if (copy_in(&extended, signals, size) < 0 || (extended.ts && copy_in(&time, extended.ts, sizeof time) < 0))
-            return -EFAULT;
-        signals = extended.sigmask;
-        signals_size = extended.sigmask_sz;
-        if (extended.ts)
-            waiting->limit = (struct wulgach_limit){.at = wulgach_time_of(time.tv_sec, time.tv_nsec), .is_set = true};
-    }
-    if (!signals)
+    struct io_uring_getevents_arg extended;
+    struct __kernel_timespec time;
+    struct wulgach_argument argument = {.size = waiting->mask_size, .is_extended = true};
+    argument.is_readable = argument.size == sizeof extended && copy_in(&extended, waiting->mask, sizeof extended) == 0;
+    argument.has_time = argument.is_readable && extended.ts;
+    argument.is_time_readable = argument.has_time && copy_in(&time, extended.ts, sizeof time) == 0;
+    int fault = wulgach_last_argument_fault(&argument);
+    if (fault < 0)
+        return fault;
+    waiting->mask = extended.sigmask;
+    waiting->mask_size = extended.sigmask_sz;
+    if (argument.has_time)
+        waiting->limit = (struct wulgach_limit){.at = wulgach_time_of(time.tv_sec, time.tv_nsec), .is_set = true};
+    return 0;
+}
+
+/* Reads the mask with which the call sleeps, if it gives one: the first 64 bits of the C library's. Returns its fault, or 0. */
+static int read_mask(struct waiting *waiting)
+{
+    if (!waiting->mask)
         return 0;
-    /* The kernel's set of signals is the first 64 bits of the C library's. */
-    if (signals_size != _NSIG / 8)
-        return -EINVAL;
-    sigemptyset(given);
-    waiting->signals = given;
-    return copy_in(given, signals, signals_size);
+    sigemptyset(&waiting->given);
+    waiting->signals = &waiting->given;
+    bool is_readable = waiting->mask_size == _NSIG / 8 && copy_in(&waiting->given, waiting->mask, _NSIG / 8) == 0;
+    return wulgach_mask_fault(waiting->mask_size, is_readable);
 }
 
 static void say_stuck(struct ring *ring, uint32_t min_complete)
@@ -80,21 +87,31 @@ static void complain_of_head(struct ring *ring)
 /* What the thread that takes entries would take: all that is published, with faults among them. */
 static int submit_published(struct ring *ring, uint32_t to_submit)
 {
-    int submitted;
-    do
-        submitted = submit(ring, UINT32_MAX);
-    while (submitted > 0);
-    return submitted < 0 ? submitted : (int)to_submit;
+    struct wulgach_rounds rounds;
+    struct wulgach_round round;
+    int64_t submitted;
+    wulgach_rounds_begin(&rounds, to_submit);
+    do {
+        uint32_t head = ring->head;
+        round.is_refused = submit(ring, UINT32_MAX) < 0;
+        round.positions = ring->head - head;
+    } while (wulgach_rounds_go_on(&rounds, &round, &submitted));
+    return (int)submitted;
 }
 
 /* ---- what a call wants, and what becomes of it ---- */
 
-/* Submits, and says what came of it. The caller's time counts from then on. */
+/* Submits, and says what came of it. Behind that the last argument is read, and the caller's time counts from then on. A fault of the argument counts only
+ * where nothing was submitted; else it ends the call where that would sleep. */
 static enum wulgach_reply_kind submit_entries(struct ring *ring, struct waiting *waiting, struct wulgach_reply *reply)
 {
     int submitted = ring->flags & IORING_SETUP_SQPOLL ? submit_published(ring, waiting->to_submit) : submit(ring, waiting->to_submit);
-    waiting->deadline = waiting->limit;
-    waiting->deadline.at = wulgach_time_later(ring->times.time, waiting->limit.at);
+    if (waiting->flags & IORING_ENTER_EXT_ARG && wulgach_reads_argument(waiting->flags & IORING_ENTER_GETEVENTS, waiting->to_submit, submitted)) {
+        waiting->fault = read_extended(waiting);
+        submitted = (int)wulgach_submission_with_fault(submitted, waiting->fault);
+    }
+    if (waiting->limit.is_set)
+        wulgach_times_deadline(&ring->times, &waiting->limit);
     if (waiting->is_looking && count_ready(ring) == 0)
         record_break();
     reply->number = (uint32_t)(submitted < 0 ? -submitted : submitted);
@@ -127,13 +144,18 @@ static enum wulgach_reply_kind go_on_fully(struct ring *ring)
     return kind;
 }
 
-static enum wulgach_reply_kind sleep_on(struct ring *ring, const struct waiting *waiting, struct wulgach_reply *reply)
+static enum wulgach_reply_kind sleep_on(struct ring *ring, struct waiting *waiting, struct wulgach_reply *reply)
 {
     block_before_waiting();
+    int fault = waiting->fault < 0 ? waiting->fault : read_mask(waiting);
+    if (fault < 0) {
+        reply->number = (uint32_t)-fault;
+        return WULGACH_FAILED;
+    }
     if (watch_pipes(ring))
         return WULGACH_WOKEN;
     show_readiness(ring);
-    int result = wait_for_any(ring, &waiting->deadline, waiting->signals);
+    int result = wait_for_any(ring, &waiting->limit, waiting->signals);
     hear_pipes(ring);
     switch (result) {
     case 0:
@@ -178,12 +200,11 @@ static void see(struct ring *ring, struct wulgach_reply *reply)
     reply->is_due = has_expired(ring);
 }
 
-/* A program whose entries a thread takes may look at memory alone from now on: so a call that gets no events isn't lazy there. */
-static enum wulgach_policy policy_of_call(bool has_thread, bool gets)
+/* What goes on while a call is made. It is the program's policy where no thread takes entries. */
+static uint32_t policy_of_call(bool has_thread, bool gets)
 {
-    if (policy() == LAZY)
-        return has_thread && !gets ? WULGACH_IN_ORDER : WULGACH_LAZY;
-    return policy() == IN_ORDER ? WULGACH_IN_ORDER : WULGACH_BY_CHOICE;
+    enum wulgach_policy own = policy() == LAZY ? WULGACH_LAZY : policy() == IN_ORDER ? WULGACH_IN_ORDER : WULGACH_BY_CHOICE;
+    return has_thread ? wulgach_policy_of_call(own, has_thread, gets) : own;
 }
 
 /* Carries a call out: what it does next, when it sleeps and what it returns is the library's decision. */
@@ -270,15 +291,21 @@ int enter(int fd, uint32_t to_submit, uint32_t min_complete, uint32_t flags, con
     if (!ring)
         return fcntl(fd, F_GETFD) < 0 ? -EBADF : -EOPNOTSUPP;
     ring->called_fd = fd;
-    sigset_t own, given;
-    struct waiting waiting = {.to_submit = to_submit, .min_complete = min_complete, .is_looking = flags & IORING_ENTER_GETEVENTS && min_complete == 0, .signals = signals ? signals : &own};
+    sigset_t own;
+    struct waiting waiting = {
+        .to_submit = to_submit,
+        .min_complete = min_complete,
+        .is_looking = flags & IORING_ENTER_GETEVENTS && min_complete == 0,
+        .signals = signals ? signals : &own,
+        .mask = (uintptr_t)argument,
+        .mask_size = size,
+        .flags = flags,
+    };
     if (!signals)
         block_signals(&own);
     if (!begins_unblocked(ring))
         block_before_waiting();
-    int result = read_waiting(&waiting, &given, flags, argument, size);
-    if (result == 0)
-        result = enter_ring(ring, flags, &waiting);
+    int result = enter_ring(ring, flags, &waiting);
     unlock_ring(ring);
     if (!signals)
         pthread_sigmask(SIG_SETMASK, &own, NULL);

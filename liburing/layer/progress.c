@@ -135,7 +135,6 @@ static void start(struct ring *ring, struct request *request)
     if (is_poll(request) && request->started == 0)
         request->started = start_poll(request);
     arm_linked_timeout(ring, request);
-    ring->counting += has_count(request);
     if (request->standing.is_stream)
         look_at(ring, request);
 }

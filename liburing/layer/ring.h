@@ -53,8 +53,8 @@ struct ring {
     uint64_t moment;                    /* counts what can make a descriptor ready: within one, each is looked at once */
     struct requests running;            /* those of them that were started */
     struct wulgach_drains drains;       /* which of them drain, */
-    size_t counting;                    /* how many are timeouts with a count that have started, */
-    bool is_count_reached;              /* of which one, maybe, has counted enough */
+    bool may_count;                     /* a timeout with a count has started since none ran, */
+    bool is_count_reached;              /* and one, maybe, has counted enough */
     size_t passed;                      /* at moment `passed_at` none of so many first running ones can be finished */
     uint64_t passed_at;
     bool have_to_wait;                  /* one of them may be remembered as having to wait */

@@ -16,9 +16,6 @@
 #include <time.h>
 #include <unistd.h>
 
-/* How long a thread sleeps at most, in nanoseconds, if there is no descriptor by which another could wake it. */
-enum { NAP = 10000000 };
-
 bool has_threads(void)
 {
     struct stat status;
@@ -83,18 +80,17 @@ int sleep_until(struct ring *ring, const struct wulgach_limit *until, const sigs
     polled[count++] = (struct pollfd){.fd = self.wake, .events = POLLIN};
     if (ring->pipes.count > 0)
         polled[count++] = (struct pollfd){.fd = ring->pipes.inotify, .events = POLLIN};
-    struct wulgach_limit limit = {.at = wulgach_time_left(until->at, ring->times.time), .is_set = until->is_set};
-    bool is_nap = self.wake < 0 && (!limit.is_set || limit.at > NAP);
-    if (is_nap)
-        limit = (struct wulgach_limit){.at = NAP, .is_set = true};
+    struct wulgach_limit limit, end;
+    wulgach_times_sleeps_for(&ring->times, until, self.wake >= 0, &limit);
+    wulgach_times_comes_to(&ring->times, until, self.wake >= 0, &end);
     uint64_t start = real_time();
     int result = poll_unlocked(ring, polled, count, &limit, signals);
     leave(ring, &self);
     free(polled);
     add_slept(ring, start);
     ring->moment++;
-    if (result == 0 && !is_nap && until->is_set)
-        wulgach_times_move_to(&ring->times, until->at);
+    if (result == 0 && end.is_set)
+        wulgach_times_move_to(&ring->times, end.at);
     return result < 0 ? result : 0;
 }
 

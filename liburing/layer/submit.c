@@ -118,8 +118,8 @@ static void note_chains(struct ring *ring, size_t first)
     }
 }
 
-/* Has the core take what is staged; it has the first `given` of it already. */
-static int take_staged(struct ring *ring, uint32_t given)
+/* Has the core take what is staged, behind which this head stands; it has the first `given` of it already. */
+static int take_staged(struct ring *ring, uint32_t given, uint32_t head)
 {
     uint32_t count = (uint32_t)ring->staged.count;
     uint64_t accepted = ring->accepted;
@@ -133,7 +133,8 @@ static int take_staged(struct ring *ring, uint32_t given)
     ring->has_changed = true;
     demand(answer.word == ring->accepted - accepted, "the core accepts another number of requests");
     note_accepted(ring, accepted);
-    ring->head = answer.head - ring->own_positions;
+    demand(answer.head - ring->own_positions == head, "the core stands at another position");
+    ring->head = head;
     store_word(&ring->memory.sq->dropped, answer.dropped);
     store_word(&ring->memory.sq->head, ring->head);
     trace_callers(ring);
@@ -165,10 +166,11 @@ int submit(struct ring *ring, uint32_t count)
 {
     uint32_t given = (uint32_t)ring->staged.count;
     struct wulgach_submitting asked = {
-        .to_submit = count < given ? given : count,
+        .to_submit = count,
         .head = ring->head,
         .tail = load_word(&ring->memory.sq->tail),
         .entries = ring->memory.sq_entries,
+        .given = given,
         .submits_all = ring->flags & IORING_SETUP_SUBMIT_ALL,
     };
     struct wulgach_taking taking;
@@ -177,5 +179,5 @@ int submit(struct ring *ring, uint32_t count)
         return 0;
     if (!reserve_all(ring, most) || stage_taken(ring, &taking, cell) == 0)
         return -EAGAIN;
-    return take_staged(ring, given);
+    return take_staged(ring, given, taking.next);
 }

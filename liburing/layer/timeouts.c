@@ -27,11 +27,6 @@ bool is_linked_timeout(const struct request *request)
     return request->entry.opcode == IORING_OP_LINK_TIMEOUT;
 }
 
-bool has_count(const struct request *request)
-{
-    return is_timeout(request) && request->entry.off > 0;
-}
-
 static uint64_t time_of_clock(clockid_t clock)
 {
     struct timespec now;
@@ -68,11 +63,12 @@ static void run(struct ring *ring, const struct request *timeout)
         .is_linked = is_linked_timeout(timeout),
     };
     demand(wulgach_times_start(&ring->times, ring->timeouts, ring->timeouts_room, &start) == 0, "there is no room for a timeout");
+    ring->may_count |= start.count > 0;
 }
 
 void start_timeout(struct ring *ring, const struct request *timeout)
 {
-    if (!timeout->course.is_cancelled)
+    if (wulgach_course_starts_time(&timeout->course))
         run(ring, timeout);
 }
 
@@ -90,13 +86,14 @@ int32_t end_timeout(struct ring *ring, const struct request *timeout)
 
 bool has_counted(const struct ring *ring, const struct request *timeout)
 {
-    return ring->is_count_reached && has_count(timeout) && wulgach_times_outcome(&ring->times, ring->timeouts, ring->timeouts_room, timeout->number) == 0;
+    return ring->is_count_reached && is_timeout(timeout) && wulgach_times_outcome(&ring->times, ring->timeouts, ring->timeouts_room, timeout->number) == 0;
 }
 
 void note_counts(struct ring *ring)
 {
     struct wulgach_timeout timeout;
-    ring->is_count_reached = ring->counting > 0 && wulgach_times_reached(&ring->times, ring->timeouts, ring->timeouts_room, &timeout) == 0;
+    ring->may_count &= ring->times.count > 0;
+    ring->is_count_reached = ring->may_count && wulgach_times_reached(&ring->times, ring->timeouts, ring->timeouts_room, &timeout) == 0;
 }
 
 struct request *timeout_behind(const struct ring *ring, const struct request *request)
@@ -126,7 +123,7 @@ void fire_linked_timeout(struct ring *ring, const struct wulgach_timeout *timeou
     end_timeout(ring, linked);
     demand(wulgach_timeout_cancels(timeout, &number) == 0, "a timeout isn't linked");
     struct request *limited = request_or_none(&ring->running, number);
-    if (limited && is_cancellable(limited)) {
+    if (wulgach_timeout_fires(timeout, limited, limited && is_cancellable(limited))) {
         cancel_request(ring, limited);
         linked->has_fired = true;
     }
@@ -136,7 +133,7 @@ int32_t change_timeout(struct ring *ring, struct request *timeout, const struct 
 {
     *timeout->time = *change->time;
     timeout->entry.timeout_flags = wulgach_updated_flags(timeout->entry.timeout_flags, submission_of(&change->entry));
-    ring->counting -= timeout->course.has_started && has_count(timeout);
+    /* (one that hasn't started has no count then) */
     timeout->entry.off = 0;
     wulgach_times_change(&ring->times, ring->timeouts, ring->timeouts_room, timeout->number, time_left(timeout));
     return 0;
@@ -144,15 +141,12 @@ int32_t change_timeout(struct ring *ring, struct request *timeout, const struct 
 
 int32_t change_linked_timeout(struct ring *ring, const struct request *change)
 {
-    struct wulgach_sought sought = {.user_data = change->entry.addr};
-    struct wulgach_cancel search;
-    wulgach_cancel_begin(&search, &sought);
     for (size_t i = 0; i < ring->requests.count; i++) {
         struct request *timeout = ring->requests.rows[i];
-        struct wulgach_outstanding seen = {.user_data = timeout->entry.user_data, .is_free = true, .runs = true};
-        seen.is_waiting = is_linked_timeout(timeout) && wulgach_times_runs(&ring->times, ring->timeouts, ring->timeouts_room, timeout->number);
-        if (wulgach_cancel_sees(&search, &seen))
+        struct wulgach_linked seen = {.user_data = timeout->entry.user_data, .is_linked = is_linked_timeout(timeout)};
+        seen.runs = seen.is_linked && wulgach_times_runs(&ring->times, ring->timeouts, ring->timeouts_room, timeout->number);
+        if (wulgach_updates_linked(change->entry.addr, &seen))
             return change_timeout(ring, timeout, change);
     }
-    return wulgach_cancel_result(&search);
+    return -ENOENT;
 }

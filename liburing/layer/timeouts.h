@@ -11,9 +11,6 @@ struct ring;
 bool is_timeout(const struct request *request);
 bool is_linked_timeout(const struct request *request);
 
-/* Whether a timeout has a count. */
-bool has_count(const struct request *request);
-
 /* Makes sure that so many timeouts can run; false if memory was refused. */
 bool reserve_timeouts(struct ring *ring, size_t count);
 

@@ -64,6 +64,38 @@ static void test_calls(void)
     check(enter(&ring, 0, 0, 0) == -EBADF);
 }
 
+static long enter_with(const struct ring *ring, unsigned to_submit, unsigned min_complete, unsigned flags, const void *argument, size_t size)
+{
+    long result = wulgach_syscall(SYS_io_uring_enter, ring->fd, to_submit, min_complete, flags, argument, size);
+    return result < 0 ? -errno : result;
+}
+
+/* The last argument is read behind the submission, by a call that gets events and has submitted all; and a mask where the call sleeps. */
+static void test_last_argument(void)
+{
+    enum { GETS = IORING_ENTER_GETEVENTS, EXTENDED = IORING_ENTER_GETEVENTS | IORING_ENTER_EXT_ARG };
+    struct ring ring;
+    const void *bad = (const void *)16;
+    struct io_uring_getevents_arg extended = {0}, late = {.ts = 16}, masked = {.sigmask = 16, .sigmask_sz = 8};
+    make_ring(&ring, 8, 0, 0);
+    put(&ring, IORING_OP_NOP, 0, 0);
+    check(enter_with(&ring, 1, 0, IORING_ENTER_EXT_ARG, &extended, 8) == 1 && enter_with(&ring, 0, 0, IORING_ENTER_EXT_ARG, bad, 24) == 0);
+    check(enter_with(&ring, 0, 0, 0, bad, 3) == 0 && enter(&ring, 0, 1, GETS) == 0);
+    check(enter_with(&ring, 0, 0, EXTENDED, bad, 8) == -EINVAL && enter_with(&ring, 0, 1, EXTENDED, bad, 24) == -EFAULT);
+    check(enter_with(&ring, 0, 1, EXTENDED, &late, 24) == -EFAULT && enter_with(&ring, 0, 1, EXTENDED, &masked, 24) == 0);
+    check(enter_with(&ring, 0, 1, GETS, bad, 8) == 0 && enter_with(&ring, 0, 1, GETS, bad, 3) == 0);
+    put(&ring, IORING_OP_NOP, 1, 0);
+    check(enter_with(&ring, 1, 3, EXTENDED, bad, 24) == 1 && *sq_word(&ring, ring.params.sq_off.head) == 2);
+    put(&ring, IORING_OP_NOP, 2, 0);
+    check(enter_with(&ring, 2, 4, EXTENDED, bad, 8) == 1);
+    check(enter(&ring, 0, 3, GETS) == 0);
+    check(enter_with(&ring, 0, 4, GETS, bad, 8) == -EFAULT && enter_with(&ring, 0, 4, GETS, bad, 3) == -EINVAL);
+    check(enter_with(&ring, 0, 4, EXTENDED, &masked, 24) == -EFAULT);
+    masked.sigmask_sz = 3;
+    check(enter_with(&ring, 0, 4, EXTENDED, &masked, 24) == -EINVAL);
+    close_ring(&ring);
+}
+
 /* A chain whose second member fails, a drain and a loose request. */
 static void test_chain(void)
 {
@@ -213,6 +245,7 @@ int main(int count, char **words)
     static const struct named tests[] = {
         {"setup", test_setup},
         {"calls", test_calls},
+        {"last argument", test_last_argument},
         {"chain", test_chain},
         {"skipped success", test_skipped_success},
         {"faulty", test_faulty},

@@ -447,6 +447,13 @@ static void test_sqpoll(void)
     put(&ring, IORING_OP_NOP, 1, 0);
     check(enter(&ring, 0, 0, IORING_ENTER_SQ_WAKEUP) == 0);
     check(count_ready(&ring) == 2 && reap(&ring).user_data == 0 && reap(&ring).user_data == 1);
+    /* What is published behind words that name no slot is taken too. */
+    publish(&ring, 99);
+    publish(&ring, 99);
+    put(&ring, IORING_OP_NOP, 5, 0);
+    check(enter(&ring, 3, 0, IORING_ENTER_SQ_WAKEUP) == 3);
+    check(*sq_word(&ring, ring.params.sq_off.dropped) == 2 && *sq_word(&ring, ring.params.sq_off.head) == *sq_word(&ring, ring.params.sq_off.tail));
+    check(count_ready(&ring) == 1 && reap(&ring).user_data == 5);
     close_ring(&ring);
 }
 

@@ -38,6 +38,56 @@ static void test_linked_timeout(void)
     close_ring(&ring);
 }
 
+static struct io_uring_sqe *put_update(struct ring *ring, uint64_t user_data, uint64_t sought, uint32_t flags, const struct __kernel_timespec *time)
+{
+    struct io_uring_sqe *entry = put(ring, IORING_OP_TIMEOUT_REMOVE, user_data, 0);
+    entry->addr = sought;
+    entry->off = (uintptr_t)time;
+    entry->timeout_flags = flags;
+    return entry;
+}
+
+/* An update changes the linked timeout with its user data, and looks at nothing else that has that; without IORING_TIMEOUT_UPDATE a timeout is removed. */
+static void test_linked_update(void)
+{
+    enum { LINKED = IORING_LINK_TIMEOUT_UPDATE | IORING_TIMEOUT_UPDATE };
+    struct ring ring;
+    char text[4];
+    int ends[2], others[2];
+    struct __kernel_timespec hour = {.tv_sec = 3600}, second = {.tv_sec = 1};
+    check(pipe(ends) == 0 && pipe(others) == 0);
+    make_ring(&ring, 8, 0, 0);
+    struct io_uring_sqe *poll = put(&ring, IORING_OP_POLL_ADD, 1, 0);
+    poll->fd = others[0];
+    poll->poll32_events = 1;
+    check(enter(&ring, 1, 0, IORING_ENTER_GETEVENTS) == 1);
+    put_update(&ring, 4, 1, LINKED, &second);
+    check(enter(&ring, 1, 1, IORING_ENTER_GETEVENTS) == 1 && reap(&ring).res == -ENOENT);
+    put_transfer(&ring, IORING_OP_READ, 0, IOSQE_IO_LINK, ends[0], text, 4, 0);
+    put_transfer(&ring, IORING_OP_LINK_TIMEOUT, 1, 0, -1, &hour, 1, 0);
+    check(enter(&ring, 2, 0, IORING_ENTER_GETEVENTS) == 2);
+    put_update(&ring, 4, 1, LINKED, &second);
+    check(enter(&ring, 1, 1, IORING_ENTER_GETEVENTS) == 1);
+    struct completion first = reap(&ring);
+    check(first.user_data == 4 && first.res == 0);
+    put_transfer(&ring, IORING_OP_TIMEOUT, 5, 0, -1, &hour, 1, 0);
+    put_update(&ring, 6, 5, IORING_LINK_TIMEOUT_UPDATE, &second);
+    check(enter(&ring, 2, 0, IORING_ENTER_GETEVENTS) == 2);
+    int32_t results[7] = {0};
+    check(enter(&ring, 0, 4, IORING_ENTER_GETEVENTS) == 0);
+    for (int i = 0; i < 4; i++) {
+        struct completion found = reap(&ring);
+        check(found.user_data < 7);
+        results[found.user_data] = found.res;
+    }
+    check(results[6] == 0 && results[5] == -ECANCELED && results[1] == -ETIME && results[0] == -ECANCELED);
+    for (int i = 0; i < 2; i++) {
+        close(ends[i]);
+        close(others[i]);
+    }
+    close_ring(&ring);
+}
+
 /* A timeout ends with 0 once as many completions were posted as it counts; one is removed; one is changed. */
 static void test_timeouts(void)
 {
@@ -326,6 +376,7 @@ int main(int count, char **words)
 {
     static const struct named tests[] = {
         {"linked timeout", test_linked_timeout},
+        {"linked update", test_linked_update},
         {"timeouts", test_timeouts},
         {"cancels", test_cancels},
         {"polls", test_polls},

@@ -23,3 +23,4 @@ pub mod RegisterForm
 pub mod UsesForm
 pub mod WaitForm
 pub mod MessageForm
+pub mod RoundForm

@@ -209,7 +209,7 @@ fn wanted(kind: u32, flag: bool, value: i64) -> CommandWords
     }
 }
 
-fn policy(word: u32) -> Option<Policy>
+pub(crate) fn policy(word: u32) -> Option<Policy>
     ensures { result ≡ spec.policy_of word }
 {
     match word {
@@ -220,7 +220,7 @@ fn policy(word: u32) -> Option<Policy>
     }
 }
 
-fn policy_word(policy: Policy) -> u32
+pub(crate) fn policy_word(policy: Policy) -> u32
     ensures { result ≡ spec.word_of_policy policy }
 {
     match policy {

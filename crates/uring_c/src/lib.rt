@@ -2,6 +2,7 @@
 #![tactic(auto)]
 
 mod answer_words;
+mod argument_exports;
 mod box_memory;
 mod cancel_exports;
 mod completion_words;

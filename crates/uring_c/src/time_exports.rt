@@ -3,14 +3,17 @@ ghost use Rattle.std.specs.Prelude.{◌≡◌, ◌↔◌, ◌⊎◌, ◌≤◌, 
 ghost use Rattle.uring_enter.specs.declared.wait.Wait.{Wait};
 ghost use Rattle.uring_enter.specs.declared.wait.Woken.{Woken};
 ghost use Rattle.uring_enter.specs.Timeouts.{Event, Started, Posted, Changed, Stopped, Clock, Slept, Passed, Ended};
-ghost use Rattle.uring_enter.specs.Timeouts.{later, nanoseconds_of, running, outcome, is_over, cancelled_by, linked_outcome};
+ghost use Rattle.uring_enter.specs.Timeouts.{later, nanoseconds_of, running, outcome, is_over, cancelled_by, fires, linked_outcome};
 ghost use Rattle.uring_enter.specs.Timeouts.{posted, NoneIsOver, IsNext, IsReachedOf, AreApart, HasNone, IsRow, EndsNone, EndsWith};
 ghost use Rattle.uring_enter.specs.Kept.{KeepsTime};
-ghost use Rattle.uring_enter.specs.Waits.{IsWait, IsWoken, IsPassing};
+ghost use Rattle.uring_enter.specs.Waits.{deadline, IsWait, IsWoken, IsPassing};
 ghost use Rattle.uring_enter.specs.Clocks.{clock_of, lasts};
-ghost use Rattle.uring_c.specs.TimeForm.{limit_of, word_of_clock, words_of_wait, words_of_woken};
+ghost use Rattle.uring_enter.specs.Sleeps.{lasts_at_most, comes_to};
+ghost use Rattle.uring_c.specs.TimeForm.{limit_of, word_of_clock, words_of_limit, words_of_wait, words_of_woken};
 
-use crate::time_words::{LimitWords, WaitWords, WokenWords, clock_word, wait_words, woken_words};
+use crate::time_words::{
+    LimitWords, WaitWords, WokenWords, clock_word, limit_words, wait_words, woken_words,
+};
 use uring_enter::{
     Start, Timeout, Times, WakeSources, clock_of, lasts, later, left_until, linked_outcome,
     nanoseconds_of,
@@ -285,4 +288,49 @@ pub extern "C" fn wulgach_timeout_cancels(timeout: &Timeout, number: &mut u64) -
     };
     *number = limited;
     0
+}
+
+/// Until when a call waits that waits so long at most, from now on.
+#[unsafe(no_mangle)]
+pub extern "C" fn wulgach_times_deadline(times: &Times, limit: &mut LimitWords)
+    ensures { (log : List Event) (rows : List Timeout) → KeepsTime log times.now rows
+        → limit.new ≡ words_of_limit (deadline log (limit_of limit.old)) }
+{
+    *limit = limit_words(times.deadline(limit.limit()));
+}
+
+/// Whether a timeout cancels the request before it, now that its time is over.
+#[unsafe(no_mangle)]
+pub extern "C" fn wulgach_timeout_fires(timeout: &Timeout, runs: bool, is_cancellable: bool) -> bool
+    ensures { result ≡ fires timeout.now runs is_cancellable }
+{
+    timeout.fires(runs, is_cancellable)
+}
+
+/// Writes how long a call sleeps at most that is to sleep until then.
+#[unsafe(no_mangle)]
+pub extern "C" fn wulgach_times_sleeps_for(
+    times: &Times,
+    until: &LimitWords,
+    can_be_woken: bool,
+    limit: &mut LimitWords,
+)
+    ensures { (log : List Event) (rows : List Timeout) → KeepsTime log times.now rows
+        → limit.new ≡ words_of_limit (lasts_at_most log (limit_of until.now) can_be_woken) }
+{
+    *limit = limit_words(times.sleeps_for(until.limit(), can_be_woken));
+}
+
+/// Writes to when time moves on behind such a sleep, where nothing has woken it, or that it doesn't.
+#[unsafe(no_mangle)]
+pub extern "C" fn wulgach_times_comes_to(
+    times: &Times,
+    until: &LimitWords,
+    can_be_woken: bool,
+    end: &mut LimitWords,
+)
+    ensures { (log : List Event) (rows : List Timeout) → KeepsTime log times.now rows
+        → end.new ≡ words_of_limit (comes_to log (limit_of until.now) can_be_woken) }
+{
+    *end = limit_words(times.comes_to(until.limit(), can_be_woken));
 }

@@ -37,7 +37,8 @@ impl LimitWords {
     }
 }
 
-fn limit_words(limit: Option<u64>) -> LimitWords
+/// The words of a limit.
+pub(crate) fn limit_words(limit: Option<u64>) -> LimitWords
     ensures { result ≡ spec.words_of_limit limit }
 {
     match limit {

@@ -4,7 +4,8 @@ ghost use Rattle.uring_enter.specs.Updates as spec;
 ghost use Rattle.uring_c.specs.TakingForm.{word_of_removal};
 
 use uring_enter::{
-    Poll, Removal, Submission, poll_removal, timeout_removal, updated_flags, updated_poll,
+    Linked, Poll, Removal, Submission, poll_removal, timeout_removal, updated_flags, updated_poll,
+    updates_linked,
 };
 
 /// What the removal of a poll does.
@@ -31,6 +32,14 @@ fn removal_word(removal: Removal) -> u32
         Removal::Update => 1,
         Removal::UpdateLinked => 2,
     }
+}
+
+/// Whether an update of the linked timeout with this user data changes this one.
+#[unsafe(no_mangle)]
+pub extern "C" fn wulgach_updates_linked(user_data: u64, seen: &Linked) -> bool
+    ensures { result ≡ spec.updates_linked user_data seen.now }
+{
+    updates_linked(user_data, seen)
 }
 
 /// Changes a poll as this entry updates it.

@@ -15,6 +15,11 @@ abbrev pub is_lazy : Policy → Bool
 is_lazy Lazy = true
 is_lazy _ = false
 
+-- behind a call that wakes the thread which takes entries, and gets no events, the application may look at memory alone: so it isn't lazy. Our own rule
+abbrev pub policy_of : Policy → Bool → Bool → Policy
+policy_of Lazy has_thread gets = if has_thread && not gets then InOrder else Lazy
+policy_of policy has_thread gets = policy
+
 -- going on: in order as far as it can; lazily by one request; and by choice, where it may be chosen that the call ends. Our own rule
 abbrev pub go_by : Policy → Bool → Command
 go_by InOrder may_end = GoOnFully

@@ -37,3 +37,6 @@ pub mod Messages
 pub mod Watching
 pub mod Strictness
 pub mod Layouts
+pub mod Arguments
+pub mod Rounds
+pub mod Sleeps

@@ -1,5 +1,5 @@
 -- Which positions of the submission ring a call takes, by what stood at those that it has taken, the newest first. io_uring(7), Submitting I/O requests; io_uring_setup(2), IORING_SETUP_SUBMIT_ALL; io_uring_enter(2), to_submit; but where the kernel is named.
-use Rattle.std.specs.Prelude.{◌≡◌, ℕ, ◌+◌, ◌-◌, ◌%◌, ◌^◌, Bool, false, not, ◌&&◌, ◌||◌, nat_lt, min, length, List, [], ◌∷◌, if◌then◌else◌}
+use Rattle.std.specs.Prelude.{◌≡◌, ℕ, ◌+◌, ◌-◌, ◌%◌, ◌^◌, Bool, false, not, ◌&&◌, ◌||◌, nat_lt, min, max, length, List, [], ◌∷◌, if◌then◌else◌}
 use Rattle.std.specs.Int.RustNames.{bit_and}
 use Rattle.uring_enter.specs.declared.taking.Submitting.{Submitting}
 use Rattle.uring_enter.specs.declared.taking.Item.{Item}
@@ -11,9 +11,9 @@ use Rattle.uring_enter.specs.declared.taking.Onward.TheVariants.{Takes, IsFull, 
 abbrev pub published : Submitting → ℕ
 published a = min ((a.tail + 2 ^ 32 - a.head) % 2 ^ 32) a.entries
 
--- how many a call takes at most: those that are published, and no more than it is asked for
+-- how many a call takes at most: those that are published, and no more than it is asked for. But what the core was given by an earlier call, which memory was refused, is taken whole. That is our own rule
 abbrev pub most : Submitting → ℕ
-most a = min a.to_submit (published a)
+most a = min (max a.to_submit a.given) (published a)
 
 -- what ends a call: a word that names no slot; and an entry with a fault, unless the ring submits all, or the entry links the next, so that its chain is taken whole. Both are what the kernel does
 abbrev pub ends : Bool → Item → Bool

@@ -139,6 +139,10 @@ linked_outcome has_cancelled = if has_cancelled then error 62 else error 125
 abbrev pub cancelled_by : Timeout → Option ℕ
 cancelled_by t = if t.is_linked then Some (t.number - 1) else None
 
+-- whether it does: that runs, and is one that a cancel can end. Else that goes on to its own end, and the timeout has cancelled nothing
+abbrev pub fires : Timeout → Bool → Bool → Bool
+fires t runs is_cancellable = t.is_linked && runs && is_cancellable
+
 -- none of these has this number
 abbrev pub HasNone : ℕ → List Timeout → Type 0
 HasNone number rows = (t : Timeout) → Contains rows t → t.number ≡ number → ⊥

@@ -1,7 +1,8 @@
 -- What an update makes of a poll, and of a timeout's flags. io_uring_enter(2), IORING_OP_POLL_REMOVE and IORING_OP_TIMEOUT_REMOVE.
-use Rattle.std.specs.Prelude.{ℕ, if◌then◌else◌}
+use Rattle.std.specs.Prelude.{ℕ, Bool, ◌&&◌, ◌==◌, if◌then◌else◌}
 use Rattle.std.specs.Int.RustNames.{bit_and, bit_or}
 use Rattle.uring_enter.specs.declared.submission.Submission.{Submission}
+use Rattle.uring_enter.specs.declared.update.Linked.{Linked}
 use Rattle.uring_enter.specs.declared.update.Poll.{Poll}
 use Rattle.uring_enter.specs.declared.update.Removal.{Removal}
 use Rattle.uring_enter.specs.declared.update.Removal.TheVariants.{Cancel, Update, UpdateLinked}
@@ -11,11 +12,14 @@ use Rattle.uring_enter.specs.Clocks.{has_some}
 abbrev pub poll_removal : Submission → Removal
 poll_removal e = if has_some e.len 6 then Update else Cancel
 
--- IORING_LINK_TIMEOUT_UPDATE is 16 and IORING_TIMEOUT_UPDATE 2
+-- IORING_LINK_TIMEOUT_UPDATE is 16 and IORING_TIMEOUT_UPDATE 2. Without the second the first changes nothing, and the timeout is removed; what the kernel does
 abbrev pub timeout_removal : Submission → Removal
 timeout_removal e =
-    if has_some e.op_flags 16 then UpdateLinked else
-    if has_some e.op_flags 2 then Update else Cancel
+    if has_some e.op_flags 2 then (if has_some e.op_flags 16 then UpdateLinked else Update) else Cancel
+
+-- an update of linked timeouts changes one that runs and has its user data, and looks at nothing else that has it. IORING_LINK_TIMEOUT_UPDATE; what the kernel does
+abbrev pub updates_linked : ℕ → Linked → Bool
+updates_linked user_data seen = seen.is_linked && seen.runs && seen.user_data == user_data
 
 -- a poll keeps what isn't updated; with its events an update says whether it goes on, IORING_POLL_ADD_MULTI, which is 1
 abbrev pub updated_poll : Poll → Submission → Poll

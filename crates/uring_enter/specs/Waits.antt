@@ -6,7 +6,7 @@ use Rattle.uring_enter.specs.declared.wait.Wait.{Wait}
 use Rattle.uring_enter.specs.declared.wait.Wait.TheVariants.{Sleep, MoveTo, Never}
 use Rattle.uring_enter.specs.declared.wait.Woken.{Woken}
 use Rattle.uring_enter.specs.declared.wait.Woken.TheVariants.{Over, TimedOut, Other}
-use Rattle.uring_enter.specs.Timeouts.{Event, time, running, is_over, NoneIsOver, IsNext, IsNextOf, IsDueOf, IsEarliest}
+use Rattle.uring_enter.specs.Timeouts.{Event, later, time, running, is_over, NoneIsOver, IsNext, IsNextOf, IsDueOf, IsEarliest}
 use Rattle.uring_enter.specs.Kept.{due_of}
 
 -- a call sleeps while a descriptor is waited for; while another thread may call, if no timeout runs; and where time passes by itself, if there is anything that it brings. Else time moves on at once to what comes first, or there is nothing to wait for
@@ -20,6 +20,11 @@ wait_of sources has_timeouts (Some until) =
 abbrev pub has_any : List Timeout → Bool
 has_any [] = false
 has_any (t ∷ rows) = true
+
+-- until when a call waits that waits so long at most, and begins to wait behind this log: behind its submission
+abbrev pub deadline : List Event → Option ℕ → Option ℕ
+deadline log None = None
+deadline log (Some more) = Some (later (time log) more)
 
 -- how a call waits: no longer than to the earliest of its limit and of the times at which timeouts are over
 abbrev pub IsWait : List Event → WakeSources → Option ℕ → Wait → Type 0

@@ -1,5 +1,8 @@
 //! What a call is asked for.
 
+ghost use Rattle.std.specs.Prelude.{◌≡◌};
+ghost use Rattle.uring_enter.specs.Due.{policy_of};
+
 /// What goes on while a call is made, where more than one thing may.
 #[derive(Clone, Copy)]
 pub enum Policy {
@@ -11,6 +14,25 @@ pub enum Policy {
 
     /// Something is chosen each time. Where the call may end, that it ends is among the choices. Our own rule.
     ByChoice,
+}
+
+impl Policy {
+    /// What goes on while a call is made whose ring has a thread that takes entries, or hasn't, and that gets events or doesn't. Behind one that wakes that thread the application may look at memory alone, so such a call isn't lazy.
+    pub fn of_call(self, has_thread: bool, gets: bool) -> Policy
+        ensures { result ≡ policy_of self has_thread gets }
+    {
+        match self {
+            Policy::Lazy => {
+                if has_thread && !gets {
+                    Policy::InOrder
+                } else {
+                    Policy::Lazy
+                }
+            }
+            Policy::InOrder => Policy::InOrder,
+            Policy::ByChoice => Policy::ByChoice,
+        }
+    }
 }
 
 /// The arguments of a call, and the ring that it is made on.

@@ -17,6 +17,9 @@ pub struct Submitting {
     /// How many entries the ring has, a power of two.
     pub entries: u32,
 
+    /// How many positions from the head on an earlier call has given the core, which couldn't take them.
+    pub given: u32,
+
     /// The call goes on behind an entry with a fault. IORING_SETUP_SUBMIT_ALL.
     pub submits_all: bool,
 }
@@ -73,7 +76,7 @@ impl Taking {
         Taking {
             next: asked.head,
             mask: asked.entries.saturating_sub(1),
-            left: asked.to_submit.min(published),
+            left: asked.to_submit.max(asked.given).min(published),
             submits_all: asked.submits_all,
         }
     }

@@ -1,7 +1,7 @@
 //! A timeout, and the times that it is given.
 
 ghost use Rattle.std.specs.Prelude.{◌≡◌, ◌-◌};
-ghost use Rattle.uring_enter.specs.Timeouts.{later, nanoseconds_of, ends_before, is_reached_by, with_expiry, cancelled_by, linked_outcome};
+ghost use Rattle.uring_enter.specs.Timeouts.{later, nanoseconds_of, ends_before, is_reached_by, with_expiry, cancelled_by, fires, linked_outcome};
 ghost use Rattle.uring_enter.specs.Clocks.{clock_of, lasts, are_timeout_flags};
 
 /// A timeout that starts. io_uring_enter(2), IORING_OP_TIMEOUT and IORING_OP_LINK_TIMEOUT.
@@ -48,6 +48,13 @@ impl Timeout {
         } else {
             None
         }
+    }
+
+    /// Whether it cancels that request, now that its time is over, of which is told whether it runs, and whether a cancel can end it.
+    pub fn fires(&self, runs: bool, is_cancellable: bool) -> bool
+        ensures { result ≡ fires self.now runs is_cancellable }
+    {
+        self.is_linked && runs && is_cancellable
     }
 }
 

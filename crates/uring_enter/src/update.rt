@@ -18,6 +18,19 @@ pub struct Poll {
     pub is_multishot: bool,
 }
 
+/// A request as an update of linked timeouts sees it.
+#[repr(C)]
+#[derive(Clone, Copy, Drop)]
+pub struct Linked {
+    pub user_data: u64,
+
+    /// It is a linked timeout. IORING_OP_LINK_TIMEOUT.
+    pub is_linked: bool,
+
+    /// Its time runs.
+    pub runs: bool,
+}
+
 /// What a removal of a poll or of a timeout is to do with the one that it finds.
 #[derive(Clone, Copy, Drop)]
 pub enum Removal {
@@ -46,13 +59,20 @@ pub fn poll_removal(entry: &Submission) -> Removal
 pub fn timeout_removal(entry: &Submission) -> Removal
     ensures { result ≡ spec.timeout_removal entry.now }
 {
-    if entry.op_flags & 16 != 0 {
-        Removal::UpdateLinked
-    } else if entry.op_flags & 2 != 0 {
-        Removal::Update
-    } else {
+    if entry.op_flags & 2 == 0 {
         Removal::Cancel
+    } else if entry.op_flags & 16 != 0 {
+        Removal::UpdateLinked
+    } else {
+        Removal::Update
     }
+}
+
+/// Whether an update of the linked timeout with this user data changes this one. It changes the first of which that is so.
+pub fn updates_linked(user_data: u64, seen: &Linked) -> bool
+    ensures { result ≡ spec.updates_linked user_data seen.now }
+{
+    seen.is_linked && seen.runs && seen.user_data == user_data
 }
 
 /// A poll behind an update by this entry.

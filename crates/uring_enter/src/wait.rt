@@ -3,9 +3,9 @@
 ghost use Rattle.std.specs.Prelude.{◌≡◌, ◌<◌, List};
 ghost use Rattle.uring_enter.specs.Timeouts.{Event};
 ghost use Rattle.uring_enter.specs.Kept.{KeepsTime};
-ghost use Rattle.uring_enter.specs.Waits.{wait_of, woken_of, passing_of, IsWait, IsWoken, IsPassing};
+ghost use Rattle.uring_enter.specs.Waits.{deadline, wait_of, woken_of, passing_of, IsWait, IsWoken, IsPassing};
 
-use crate::timeout::Timeout;
+use crate::timeout::{Timeout, later};
 use crate::times::{Times, due_of};
 
 /// By what a call that waits may be woken.
@@ -49,6 +49,17 @@ pub enum Woken {
 }
 
 impl Times {
+    /// Until when a call waits that waits so long at most, from now on.
+    pub fn deadline(&self, limit: Option<u64>) -> Option<u64>
+        ensures { (log : List Event) (rows : List Timeout) → KeepsTime log self.now rows
+            → result ≡ deadline log limit }
+    {
+        match limit {
+            Some(more) => Some(later(self.time, more)),
+            None => None,
+        }
+    }
+
     /// How a call waits that has this limit.
     pub fn wait(&self, rows: &[Timeout], sources: WakeSources, limit: Option<u64>) -> Wait
         ensures { (log : List Event) → KeepsTime log self.now rows.now

@@ -1,0 +1,84 @@
+//! The last arguments of a call, and what the thread that takes entries takes, for C: functions of `c/wulgach_enter.h`.
+ghost use Rattle.std.specs.Prelude.{◌≡◌, ℕ, List, [], ◌∷◌};
+ghost use Rattle.uring_enter.specs.Arguments as spec;
+ghost use Rattle.uring_enter.specs.Rounds.{KeepsRounds, returned};
+ghost use Rattle.uring_c.specs.RoundForm.{goes_on, submitted_of, policy_word_of};
+
+use crate::enter_words::{policy, policy_word};
+use uring_enter::{
+    Argument, Round, Rounds, argument_fault, mask_fault, reads_argument, with_fault,
+};
+
+/// Whether a call reads its last argument that is asked to submit so many entries, and whose submission came to this.
+#[unsafe(no_mangle)]
+pub extern "C" fn wulgach_reads_argument(gets: bool, to_submit: u32, submitted: i64) -> bool
+    ensures { result ≡ spec.is_read gets to_submit submitted }
+{
+    reads_argument(gets, to_submit, submitted)
+}
+
+/// The fault of a call's last argument, or 0.
+#[unsafe(no_mangle)]
+pub extern "C" fn wulgach_last_argument_fault(argument: &Argument) -> i32
+    ensures { result ≡ spec.argument_fault argument.now }
+{
+    argument_fault(argument)
+}
+
+/// The fault of a mask of this size, or 0.
+#[unsafe(no_mangle)]
+pub extern "C" fn wulgach_mask_fault(size: u64, is_readable: bool) -> i32
+    ensures { result ≡ spec.mask_fault size is_readable }
+{
+    mask_fault(size, is_readable)
+}
+
+/// What a submission comes to that came to this, and behind which the call's argument has this fault, or 0.
+#[unsafe(no_mangle)]
+pub extern "C" fn wulgach_submission_with_fault(submitted: i64, fault: i32) -> i64
+    ensures { result ≡ spec.with_fault submitted fault }
+{
+    with_fault(submitted, fault)
+}
+
+/// Begins a call without a round so far.
+#[unsafe(no_mangle)]
+pub extern "C" fn wulgach_rounds_begin(rounds: &mut Rounds, to_submit: u32)
+    ensures { KeepsRounds to_submit [] rounds.new }
+{
+    *rounds = Rounds::begin(to_submit);
+}
+
+/// A round has come to this. Whether there is one more; else what the submission comes to is written.
+#[unsafe(no_mangle)]
+pub extern "C" fn wulgach_rounds_go_on(
+    rounds: &mut Rounds,
+    round: &Round,
+    submitted: &mut i64,
+) -> bool
+    ensures goes_on { (asked : ℕ) (earlier : List Round) → KeepsRounds asked earlier rounds.old
+        → result ≡ goes_on (returned asked (round.now ∷ earlier)) }
+    ensures submitted { (asked : ℕ) (earlier : List Round) → KeepsRounds asked earlier rounds.old
+        → submitted.new ≡ submitted_of (returned asked (round.now ∷ earlier)) submitted.old }
+    ensures after { (asked : ℕ) (earlier : List Round) → KeepsRounds asked earlier rounds.old
+        → KeepsRounds asked (round.now ∷ earlier) rounds.new }
+{
+    match rounds.took(*round) {
+        Some(count) => {
+            *submitted = count;
+            false
+        }
+        None => true,
+    }
+}
+
+/// What goes on while a call is made, by the policy of the program. A number that is none stays.
+#[unsafe(no_mangle)]
+pub extern "C" fn wulgach_policy_of_call(word: u32, has_thread: bool, gets: bool) -> u32
+    ensures { result ≡ policy_word_of word has_thread gets }
+{
+    match policy(word) {
+        Some(policy) => policy_word(policy.of_call(has_thread, gets)),
+        None => word,
+    }
+}

@@ -1,0 +1,23 @@
+-- How long a call sleeps at most, and what time it is behind a sleep that came to its end. Our own rules: where no descriptor is left by which another thread could wake the sleeper, it naps, and looks again.
+use Rattle.std.specs.Prelude.{ℕ, ◌-◌, Bool, ◌||◌, nat_le, min, Option, Some, None, List, if◌then◌else◌}
+use Rattle.uring_enter.specs.Timeouts.{Event, time}
+
+-- 10 milliseconds, in nanoseconds
+abbrev pub nap : ℕ
+nap = 10000000
+
+-- how much is left until then, behind this log. What is over has nothing left
+abbrev pub left : List Event → ℕ → ℕ
+left log at = at - time log
+
+-- how long a call sleeps at most that is to sleep until then: all that is left, but one that can't be woken no longer than a nap
+abbrev pub lasts_at_most : List Event → Option ℕ → Bool → Option ℕ
+lasts_at_most log None can_be_woken = if can_be_woken then None else Some nap
+lasts_at_most log (Some at) can_be_woken =
+    Some (if can_be_woken then left log at else min (left log at) nap)
+
+-- to when time moves on behind a sleep that came to its end: to then, exactly if all that was left was slept. A nap that was cut adds only what a clock says
+abbrev pub comes_to : List Event → Option ℕ → Bool → Option ℕ
+comes_to log None can_be_woken = None
+comes_to log (Some at) can_be_woken =
+    if can_be_woken || nat_le (left log at) nap then Some at else None
