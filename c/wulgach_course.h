@@ -75,7 +75,8 @@ struct wulgach_posted {
     uint32_t flags;
     uint64_t token;         /* the core's user data, */
     int32_t told;           /* and its result */
-    bool is_async;          /* it ended behind the call that submitted it */
+    uint64_t call;          /* the number of the call that submitted it, */
+    uint64_t ended;         /* and of that in which it ended */
 };
 
 /* A request has ended, and `core` is the completion that the core has posted of it, if it has posted one. Writes it into its row, with

@@ -16,9 +16,9 @@ static void demand(bool holds, const char *what)
 static int32_t look(const struct wulgach_sought *sought, const bool *wanted)
 {
     static const struct wulgach_outstanding requests[] = {
-        {.user_data = 1, .fd = 4, .is_assigned = true, .is_free = true},
-        {.user_data = 1, .fd = 5, .is_assigned = true, .is_free = true, .runs = true, .is_waiting = true},
-        {.user_data = 2, .file = 9, .is_registered = true, .is_assigned = true, .is_free = true, .may_start = true},
+        {.user_data = 1, .fd = 4, .is_assigned = true, .is_token = true},
+        {.user_data = 1, .fd = 5, .is_assigned = true, .is_token = true, .runs = true, .is_stream = true},
+        {.user_data = 2, .file = 9, .is_registered = true, .is_assigned = true, .is_token = true, .may_start = true},
     };
     struct wulgach_cancel cancel;
     wulgach_cancel_begin(&cancel, sought);
@@ -30,7 +30,7 @@ static int32_t look(const struct wulgach_sought *sought, const bool *wanted)
 int main(void)
 {
     struct wulgach_cancel cancel;
-    struct wulgach_outstanding waits = {.user_data = 1, .is_free = true};
+    struct wulgach_outstanding waits = {.user_data = 1, .is_token = true};
     struct wulgach_sought one = {.user_data = 1}, nobody = {.user_data = 3}, any = {.is_any = true}, all = {.user_data = 1, .is_all = true};
     struct wulgach_sought fd = {.fd = 5, .is_by_fd = true}, file = {.file = 9, .is_by_fd = true, .is_fixed = true};
     demand(look(&one, (bool[]){false, true, false}) == 0, "one by its user data");
