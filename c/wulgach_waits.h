@@ -156,6 +156,37 @@ uint32_t wulgach_transfer_next(const struct wulgach_transfer *transfer, uint32_t
 /* The offset at which a transfer is made whose entry has this one: of what has no offsets it is 2^64 - 1, which is none. */
 uint64_t wulgach_transfer_offset(const struct wulgach_transfer *transfer, uint64_t offset);
 
+/* ---- what becomes of an operation of sockets, of a splice and of a poll ---- */
+
+/* How far an operation has come. */
+struct wulgach_call {
+    uint64_t length;            /* how many bytes a message is asked to move, */
+    uint64_t done;              /* and has moved so far */
+    bool is_stream;             /* it may have to wait for its descriptor */
+    bool has_begun;             /* a connect was begun */
+};
+
+enum wulgach_turn {
+    WULGACH_TURN_ENDS = 0,      /* it ends with what is written, */
+    WULGACH_TURN_ENDS_WITH_DONE = 1,    /* or with how many bytes it has moved */
+    WULGACH_TURN_WAITS = 2,     /* it would have to wait */
+    WULGACH_TURN_CALLS = 3,     /* its call is made, so that it doesn't wait */
+    WULGACH_TURN_POLLS = 4,     /* its descriptor is polled: 0 if it isn't ready */
+    WULGACH_TURN_ASKS_WILL = 5, /* its descriptor is asked whether it isn't to wait (O_NONBLOCK): 0 if it is */
+    WULGACH_TURN_ASKS_TYPE = 6, /* its socket is asked whether it is a stream: 0 if it isn't */
+    WULGACH_TURN_ASKS_ERROR = 7 /* its socket is asked for its error, which is what that came to */
+};
+
+/* Returns what is next of an operation of sockets or of a splice (enum wulgach_turn), behind what was done last, which came to `res`, and
+ * writes what it ends with, if it ends with an error, or with what its call gave. `last` is 0 at first; behind a call, `done` has what that
+ * has moved. A connection is accepted only on a socket that was found ready just before, where it might wait; a call ends with what came
+ * last, or with -11 (EAGAIN); and bytes that were moved are told. */
+uint32_t wulgach_call_next(const struct wulgach_submission *entry, const struct wulgach_call *call, uint32_t last, int32_t res, int32_t *end);
+
+/* Writes what a poll for these events ends with, where `present` are there, 0 for none; `was_told`: something that its pipe had to be read
+ * is gone. False, and nothing is written: it waits. */
+bool wulgach_poll_result(uint16_t events, uint16_t present, bool was_told, int32_t *res);
+
 #ifdef __cplusplus
 }
 #endif

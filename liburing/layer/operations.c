@@ -83,8 +83,7 @@ bool is_impatient(const struct request *request)
     return wulgach_is_impatient(submission_of(&request->entry), &patience);
 }
 
-/* Whether its descriptor is ready. */
-static bool is_polled(const struct request *request)
+bool is_polled(const struct request *request)
 {
     struct pollfd at = poll_of(request);
     return poll(&at, 1, 0) != 0;
@@ -269,11 +268,7 @@ static int32_t call_or_wait(struct ring *ring, struct request *request)
 {
     if (is_poll(request))
         return take_events(request);
-    if (is_splice(request)) {
-        request->done = 1;
-        return call_splice(request);
-    }
-    return is_of_sockets(request->entry.opcode) ? call_socket(ring, request) : call_system(ring, request);
+    return is_of_sockets(request->entry.opcode) || is_splice(request) ? call_socket(ring, request) : call_system(ring, request);
 }
 
 bool can_have(const struct request *request, enum injection fault)

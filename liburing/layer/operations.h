@@ -35,6 +35,9 @@ bool is_impatient(const struct request *request);
 /* Whether the group of which it takes a provided buffer has one. */
 bool finds_buffer(struct ring *ring, const struct request *request);
 
+/* Whether its descriptor is ready. */
+bool is_polled(const struct request *request);
+
 /* Whether one that may have to wait wouldn't wait now. */
 bool is_ready(const struct request *request);
 

@@ -41,21 +41,20 @@ struct pollfd poll_of_poll(const struct request *request)
     return (struct pollfd){.fd = request->fd, .events = events_of(request)};
 }
 
-static int32_t take_present_events(const struct request *request)
+/* The events that are there, or 0. */
+static uint16_t present_events(const struct request *request)
 {
     struct epoll_event event;
     struct pollfd at = {.fd = request->fd, .events = events_of(request)};
     if (request->epoll >= 0)
-        return epoll_wait(request->epoll, &event, 1, 0) == 1 ? (int32_t)(event.events & 0xffff) : WOULD_WAIT;
-    if (poll(&at, 1, 0) == 0)
-        return WOULD_WAIT;
-    return at.revents & POLLNVAL ? -EBADF : at.revents;
+        return epoll_wait(request->epoll, &event, 1, 0) == 1 ? (uint16_t)event.events : 0;
+    return poll(&at, 1, 0) > 0 ? (uint16_t)at.revents : 0;
 }
 
 int32_t take_events(struct request *request)
 {
-    int32_t events = take_present_events(request);
+    int32_t res;
     bool was_told = request->is_told;
     request->is_told = false;
-    return events == WOULD_WAIT && was_told ? events_of(request) & (POLLIN | POLLRDNORM) : events;
+    return wulgach_poll_result((uint16_t)events_of(request), present_events(request), was_told, &res) ? res : WOULD_WAIT;
 }

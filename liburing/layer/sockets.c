@@ -1,12 +1,12 @@
-/* Sockets: each call is made so that it doesn't wait, and again once the descriptor is ready. What a socket says of
- * waiting itself is kept to, as the kernel does: a call on one that isn't to wait ends with -EAGAIN.
- */
+/* Sockets and splices: each call is made so that it doesn't wait, and again once the descriptor is ready. What is next behind each is the
+ * library's decision. */
 #define _GNU_SOURCE
 #include "sockets.h"
 #include "copying.h"
 #include "files.h"
 #include "operations.h"
 #include "ring.h"
+#include "splices.h"
 
 #include <errno.h>
 #include <fcntl.h>
@@ -149,25 +149,18 @@ static int32_t move_message(struct request *request)
     return res;
 }
 
-/* With MSG_WAITALL it goes on until all is moved, an error, or the stream's end. */
-static int32_t move_all(struct request *request)
+/* Moves what can be moved now, and says how much. */
+static int32_t move_some(struct request *request)
 {
-    bool is_whole = request->entry.msg_flags & MSG_WAITALL;
     int32_t res = move_message(request);
-    if (res == -EAGAIN && !(request->entry.msg_flags & MSG_DONTWAIT) && !is_not_to_wait(request))
-        return WOULD_WAIT;
-    if (res < 0)
-        return request->done > 0 ? (int32_t)request->done : res;
-    advance(request, (uint64_t)res);
-    int type = 0;
-    socklen_t size = sizeof type;
-    bool is_stream = getsockopt(request->fd, SOL_SOCKET, SO_TYPE, &type, &size) == 0 && (type == SOCK_STREAM || type == SOCK_SEQPACKET);
-    bool may_wait = !(request->entry.msg_flags & MSG_DONTWAIT);
-    return is_whole && may_wait && is_stream && res > 0 && request->done < request->length ? WOULD_WAIT : (int32_t)request->done;
+    if (res > 0)
+        advance(request, (uint64_t)res);
+    return res;
 }
 
-/* One that goes on: sizes and flags stand in the buffer, and behind them the address, the control data and the bytes. */
-static int32_t receive_into_buffer(struct request *request)
+/* One that goes on: sizes and flags stand in the buffer, and behind them the address, the control data and the bytes. Writes how much of the buffer has
+ * something. */
+static int32_t receive_into_buffer(struct request *request, int32_t *filled)
 {
     const struct msghdr *asked = request->value;
     size_t in_front = size_in_front(asked);
@@ -184,30 +177,28 @@ static int32_t receive_into_buffer(struct request *request)
         .msg_iovlen = 1,
     };
     int32_t res = result_of(recvmsg(request->fd, &message, (int)request->entry.msg_flags | MSG_DONTWAIT));
-    if (res == -EAGAIN && !(request->entry.msg_flags & MSG_DONTWAIT) && !is_not_to_wait(request))
-        return WOULD_WAIT;
     if (res < 0)
         return res;
-    request->done = (uint32_t)res;
     struct io_uring_recvmsg_out told = {message.msg_namelen, (uint32_t)message.msg_controllen, (uint32_t)res, (uint32_t)message.msg_flags};
     size_t moved = (uint32_t)res < bytes.iov_len ? (uint32_t)res : bytes.iov_len;
-    return copy_out((uintptr_t)at, &told, sizeof told) < 0 ? -EFAULT : (int32_t)(in_front + moved);
+    if (copy_out((uintptr_t)at, &told, sizeof told) < 0)
+        return -EFAULT;
+    request->done = (uint32_t)res;
+    *filled = (int32_t)(in_front + moved);
+    return res;
 }
 
 static int32_t accept_one_socket(struct ring *ring, const struct request *request)
 {
     const struct io_uring_sqe *entry = &request->entry;
-    struct pollfd at = poll_of(request);
-    if (request->standing.is_stream && poll(&at, 1, 0) == 0)
-        return is_not_to_wait(request) ? -EAGAIN : WOULD_WAIT;
     int fd = accept4(request->fd, (struct sockaddr *)(uintptr_t)entry->addr, (socklen_t *)(uintptr_t)entry->addr2, (int)entry->accept_flags);
     if (fd < 0)
-        return errno == EAGAIN && !is_not_to_wait(request) ? WOULD_WAIT : -errno;
+        return -errno;
     return entry->file_index ? install_file(ring, fd, entry->file_index) : fd;
 }
 
 /* The descriptor is told not to wait for the moment of the call. */
-static int32_t begin_connect(const struct request *request)
+static int32_t begin_connect(struct request *request)
 {
     int flags = fcntl(request->fd, F_GETFL);
     if (flags >= 0 && !(flags & O_NONBLOCK))
@@ -215,36 +206,84 @@ static int32_t begin_connect(const struct request *request)
     int32_t res = result_of(connect(request->fd, request->value, (socklen_t)request->entry.off));
     if (flags >= 0 && !(flags & O_NONBLOCK))
         fcntl(request->fd, F_SETFL, flags);
+    request->done = res == -EINPROGRESS;
     return res;
 }
 
-static int32_t connect_socket(struct request *request)
+static bool is_stream_socket(const struct request *request)
+{
+    int type = 0;
+    socklen_t size = sizeof type;
+    return getsockopt(request->fd, SOL_SOCKET, SO_TYPE, &type, &size) == 0 && (type == SOCK_STREAM || type == SOCK_SEQPACKET);
+}
+
+static int32_t error_of_socket(const struct request *request)
 {
     int error = 0;
     socklen_t size = sizeof error;
-    struct pollfd at = poll_of(request);
-    if (!request->done) {
-        int32_t res = begin_connect(request);
-        if (res != -EINPROGRESS && res != -EAGAIN)
-            return res;
-        request->done = res == -EINPROGRESS;
-        return WOULD_WAIT;
-    }
-    if (poll(&at, 1, 0) == 0)
-        return WOULD_WAIT;
     return getsockopt(request->fd, SOL_SOCKET, SO_ERROR, &error, &size) < 0 ? -errno : -error;
 }
 
-int32_t call_socket(struct ring *ring, struct request *request)
+/* Makes the call of the operation, so that it doesn't wait. */
+static int32_t make_call(struct ring *ring, struct request *request, int32_t *filled)
 {
     switch (request->entry.opcode) {
     case IORING_OP_ACCEPT:
         return accept_one_socket(ring, request);
     case IORING_OP_CONNECT:
-        return connect_socket(request);
+        return begin_connect(request);
+    case IORING_OP_SPLICE:
+    case IORING_OP_TEE:
+        request->done = 1;
+        return call_splice(request);
     default:
-        return request->entry.opcode == IORING_OP_RECVMSG && request->needs.goes_on ? receive_into_buffer(request) : move_all(request);
+        return filled ? receive_into_buffer(request, filled) : move_some(request);
     }
+}
+
+/* Does what the library said is next, and says what that came to. */
+static int32_t take_turn(struct ring *ring, struct request *request, uint32_t turn, int32_t *filled)
+{
+    switch (turn) {
+    case WULGACH_TURN_CALLS:
+        return make_call(ring, request, filled);
+    case WULGACH_TURN_POLLS:
+        return is_polled(request);
+    case WULGACH_TURN_ASKS_WILL:
+        return is_not_to_wait(request);
+    case WULGACH_TURN_ASKS_TYPE:
+        return is_stream_socket(request);
+    default:
+        return error_of_socket(request);
+    }
+}
+
+static struct wulgach_call call_of(const struct request *request)
+{
+    return (struct wulgach_call){
+        .length = request->length,
+        .done = request->done,
+        .is_stream = request->standing.is_stream,
+        .has_begun = request->done > 0,
+    };
+}
+
+int32_t call_socket(struct ring *ring, struct request *request)
+{
+    const struct wulgach_submission *entry = submission_of(&request->entry);
+    bool fills = request->entry.opcode == IORING_OP_RECVMSG && request->needs.goes_on;
+    int32_t res = 0, filled = 0;
+    uint32_t turn = 0;
+    for (;;) {
+        struct wulgach_call call = call_of(request);
+        turn = wulgach_call_next(entry, &call, turn, res, &res);
+        if (turn <= WULGACH_TURN_WAITS)
+            break;
+        res = take_turn(ring, request, turn, fills ? &filled : NULL);
+    }
+    if (turn == WULGACH_TURN_ENDS_WITH_DONE)
+        return fills ? filled : (int32_t)request->done;
+    return turn == WULGACH_TURN_WAITS ? WOULD_WAIT : res;
 }
 
 bool wants_whole(const struct request *request)

@@ -22,7 +22,5 @@ int32_t call_splice(const struct request *request)
     loff_t in = (loff_t)entry->splice_off_in, out = (loff_t)entry->off;
     ssize_t moved = entry->opcode == IORING_OP_TEE ? tee(request->second_fd, request->fd, entry->len, flags)
                                                    : splice(request->second_fd, in == -1 ? NULL : &in, request->fd, out == -1 ? NULL : &out, entry->len, flags);
-    if (moved < 0 && errno == EAGAIN && !(entry->splice_flags & SPLICE_F_NONBLOCK))
-        return WOULD_WAIT;
     return moved < 0 ? -errno : (int32_t)moved;
 }

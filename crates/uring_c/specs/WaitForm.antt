@@ -12,6 +12,10 @@ use Rattle.uring_enter.specs.declared.transfer.Task.{Task}
 use Rattle.uring_enter.specs.declared.transfer.Task.TheVariants.{Calls, Finds, Polls}
 use Rattle.uring_enter.specs.declared.transfer.Step.{Step}
 use Rattle.uring_enter.specs.declared.transfer.Step.TheVariants.{Does, Waits, Ends}
+use Rattle.uring_enter.specs.declared.waiting_call.Doing.{Doing}
+use Rattle.uring_enter.specs.declared.waiting_call.Doing.TheVariants as doing
+use Rattle.uring_enter.specs.declared.waiting_call.Turn.{Turn}
+use Rattle.uring_enter.specs.declared.waiting_call.Turn.TheVariants as turn
 
 -- kinds count in the order of `Kind`, from 0, and questions in the order of `Question` behind them. Our own rule
 abbrev pub word_of_finding : Finding → ℕ
@@ -61,3 +65,27 @@ task_of word =
     if word == 7 then Some (Calls how.Nonblocking) else
     if word == 8 then Some (Calls how.Unwilling) else
     if word == 9 then Some (Calls how.Ready) else None
+
+-- ends are 0 and 1, a wait 2, and what is done counts in the order of `Doing` behind them. Our own rule
+abbrev pub word_of_turn : Turn → ℕ
+word_of_turn (turn.Ends _) = 0
+word_of_turn turn.EndsWithDone = 1
+word_of_turn turn.Waits = 2
+word_of_turn (turn.Does doing.Calls) = 3
+word_of_turn (turn.Does doing.Polls) = 4
+word_of_turn (turn.Does doing.AsksWill) = 5
+word_of_turn (turn.Does doing.AsksType) = 6
+word_of_turn (turn.Does doing.AsksError) = 7
+
+abbrev pub end_of_turn : Turn → ℤ → ℤ
+end_of_turn (turn.Ends res) old = res
+end_of_turn _ old = old
+
+-- what was done, by the same numbers; nothing of another
+abbrev pub doing_of : ℕ → Option Doing
+doing_of word =
+    if word == 3 then Some doing.Calls else
+    if word == 4 then Some doing.Polls else
+    if word == 5 then Some doing.AsksWill else
+    if word == 6 then Some doing.AsksType else
+    if word == 7 then Some doing.AsksError else None

@@ -1,17 +1,20 @@
 //! What carrying out an operation needs, whether it has to wait, and what becomes of a try, for C: functions of `c/wulgach_waits.h`.
-ghost use Rattle.std.specs.Prelude.{◌≡◌, List};
+ghost use Rattle.std.specs.Prelude.{◌≡◌, true, false, List, MatchOption};
 ghost use Rattle.uring_enter.specs.declared.act.Fact.{Fact};
 ghost use Rattle.uring_enter.specs.Courses.{KeepsCourse, is_cancelled};
 ghost use Rattle.uring_enter.specs.Needs as needed;
 ghost use Rattle.uring_enter.specs.Descriptors as found;
 ghost use Rattle.uring_enter.specs.Readiness as ready;
 ghost use Rattle.uring_enter.specs.Tries as tried;
-ghost use Rattle.uring_c.specs.WaitForm.{word_of_finding, word_of_look, word_of_step, end_of_step, task_of};
+ghost use Rattle.uring_enter.specs.CallTries as called;
+ghost use Rattle.uring_c.specs.WaitForm.{word_of_finding, word_of_look, word_of_step, end_of_step, task_of, word_of_turn, end_of_turn, doing_of};
 
-use crate::wait_words::{finding_word, look_word, step_end, step_word, task};
+use crate::wait_words::{
+    doing, finding_word, look_word, step_end, step_word, task, turn_end, turn_word,
+};
 use uring_enter::{
-    Course, Known, Moment, Needs, Patience, Standing, Submission, Transfer, Trial, is_impatient,
-    needs_of, next_finding, next_look, next_step, offset_of,
+    Call, Course, Known, Moment, Needs, Patience, Standing, Submission, Transfer, Trial,
+    is_impatient, needs_of, next_finding, next_look, next_step, next_turn, offset_of, poll_result,
 };
 
 /// Writes what the operation of an entry needs.
@@ -74,4 +77,39 @@ pub extern "C" fn wulgach_transfer_offset(transfer: &Transfer, offset: u64) -> u
     ensures { result ≡ tried.offset_of transfer.now offset }
 {
     offset_of(transfer, offset)
+}
+
+/// Returns what is next of an operation of sockets or of a splice, behind what was done last, which came to `res`, and writes what it ends with, if that is known.
+#[unsafe(no_mangle)]
+pub extern "C" fn wulgach_call_next(
+    entry: &Submission,
+    call: &Call,
+    last: u32,
+    res: i32,
+    end: &mut i32,
+) -> u32
+    ensures next { result ≡ word_of_turn (called.next_of entry.now call.now (doing_of last) res) }
+    ensures end { end.new ≡ end_of_turn (called.next_of entry.now call.now (doing_of last) res) end.old }
+{
+    let turn = next_turn(entry, call, doing(last), res);
+    *end = turn_end(turn, *end);
+    turn_word(turn)
+}
+
+/// Writes what a poll ends with, where these of its events are present, 0 for none. False, and nothing is written: it waits.
+#[unsafe(no_mangle)]
+pub extern "C" fn wulgach_poll_result(
+    events: u16,
+    present: u16,
+    was_told: bool,
+    res: &mut i32,
+) -> bool
+    ensures { MatchOption (called.poll_result events present was_told) ((result ≡ false) × (res.new ≡ res.old))
+        (λ ends. (result ≡ true) × (res.new ≡ ends)) }
+{
+    let Some(ends) = poll_result(events, present, was_told) else {
+        return false;
+    };
+    *res = ends;
+    true
 }

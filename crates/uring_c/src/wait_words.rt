@@ -2,7 +2,7 @@
 ghost use Rattle.std.specs.Prelude.{◌≡◌};
 ghost use Rattle.uring_c.specs.WaitForm as spec;
 
-use uring_enter::{Finding, How, Kind, Look, Question, Step, Task, Wanted};
+use uring_enter::{Doing, Finding, How, Kind, Look, Question, Step, Task, Turn, Wanted};
 
 /// The word of what is to be asked of a descriptor, or of what the request is on it.
 pub(crate) fn finding_word(finding: Finding) -> u32
@@ -75,6 +75,46 @@ pub(crate) fn task(word: u32) -> Option<Task>
         7 => Some(Task::Calls(How::Nonblocking)),
         8 => Some(Task::Calls(How::Unwilling)),
         9 => Some(Task::Calls(How::Ready)),
+        _ => None,
+    }
+}
+
+/// The word of what is next of an operation.
+pub(crate) fn turn_word(turn: Turn) -> u32
+    ensures { result ≡ spec.word_of_turn turn }
+{
+    match turn {
+        Turn::Ends(_) => 0,
+        Turn::EndsWithDone => 1,
+        Turn::Waits => 2,
+        Turn::Does(Doing::Calls) => 3,
+        Turn::Does(Doing::Polls) => 4,
+        Turn::Does(Doing::AsksWill) => 5,
+        Turn::Does(Doing::AsksType) => 6,
+        Turn::Does(Doing::AsksError) => 7,
+    }
+}
+
+/// What an operation ends with, else what was there.
+pub(crate) fn turn_end(turn: Turn, old: i32) -> i32
+    ensures { result ≡ spec.end_of_turn turn old }
+{
+    match turn {
+        Turn::Ends(res) => res,
+        _ => old,
+    }
+}
+
+/// What was done, by its word. `None`: nothing was.
+pub(crate) fn doing(word: u32) -> Option<Doing>
+    ensures { result ≡ spec.doing_of word }
+{
+    match word {
+        3 => Some(Doing::Calls),
+        4 => Some(Doing::Polls),
+        5 => Some(Doing::AsksWill),
+        6 => Some(Doing::AsksType),
+        7 => Some(Doing::AsksError),
         _ => None,
     }
 }

@@ -13,3 +13,4 @@ mod PostingRuns
 mod ChainRuns
 mod WayRuns
 mod DescriptorRuns
+mod CallTryRuns

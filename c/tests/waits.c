@@ -1,0 +1,158 @@
+/* What an operation needs, whether it has to wait, and what becomes of a try: with what the manual pages call for, written by hand. */
+#include "wulgach_waits.h"
+
+#include <stdio.h>
+#include <stdlib.h>
+
+static void demand(bool holds, const char *what)
+{
+    if (!holds) {
+        printf("FAILED: %s\n", what);
+        exit(1);
+    }
+}
+
+enum { NOP, READV, WRITEV, FSYNC, READ_FIXED, WRITE_FIXED, POLL_ADD, TIMEOUT = 11, ACCEPT = 13, CONNECT = 16, READ = 22, WRITE, SEND = 26, RECV, SPLICE = 30, TEE = 33, SEND_ZC = 47 };
+
+static struct wulgach_needs needs(struct wulgach_submission entry)
+{
+    struct wulgach_needs made;
+    wulgach_needs_of(&entry, &made);
+    return made;
+}
+
+#define NEEDS(...) needs((struct wulgach_submission){__VA_ARGS__})
+
+static void look_at_needs(void)
+{
+    demand(!NEEDS(.opcode = NOP).needs_file && NEEDS(.opcode = READ).needs_file && NEEDS(.opcode = FSYNC).needs_file && !NEEDS(.opcode = 18).needs_file, "a file");
+    demand(NEEDS(.opcode = READ, .flags = 1).is_registered && !NEEDS(.opcode = READ).is_registered, "a registered file");
+    demand(NEEDS(.opcode = SPLICE, .op_flags = 1u << 31).is_second_registered && NEEDS(.opcode = TEE).needs_second && !NEEDS(.opcode = READ).needs_second, "a second file");
+    demand(NEEDS(.opcode = READ_FIXED).uses_buffer && NEEDS(.opcode = SEND_ZC, .ioprio = 4).uses_buffer && !NEEDS(.opcode = SEND_ZC, .ioprio = 1).uses_buffer && !NEEDS(.opcode = READ).uses_buffer, "a buffer");
+    demand(NEEDS(.opcode = READ, .flags = 32).selects && NEEDS(.opcode = TIMEOUT).is_timeout && !NEEDS(.opcode = 15).is_timeout, "a provided buffer, a timeout");
+    demand(NEEDS(.opcode = POLL_ADD, .len = 1).goes_on && NEEDS(.opcode = ACCEPT, .ioprio = 1).goes_on && NEEDS(.opcode = RECV, .ioprio = 2).goes_on && !NEEDS(.opcode = RECV, .ioprio = 1).goes_on && !NEEDS(.opcode = READ, .len = 1).goes_on, "one that goes on");
+    demand(!NEEDS(.opcode = NOP).can_make_ready && NEEDS(.opcode = WRITE).can_make_ready && !NEEDS(.opcode = POLL_ADD).can_make_ready, "what makes ready");
+    demand(NEEDS(.opcode = POLL_ADD, .op_flags = 0x10005).events == 5 && NEEDS(.opcode = READ).events == 1 && NEEDS(.opcode = CONNECT).events == 4 && NEEDS(.opcode = NOP).events == 0, "events");
+}
+
+static void find_files(void)
+{
+    struct wulgach_drains drains;
+    struct wulgach_member first = {.number = 4, .chain = 4}, second = {.number = 5, .chain = 4, .is_linked = true};
+    wulgach_drains_begin(&drains);
+    demand(wulgach_drains_find_file(&drains, &first) && !wulgach_drains_find_file(&drains, &second), "behind a link");
+    wulgach_drains_accept(&drains, 1, true);
+    demand(!wulgach_drains_find_file(&drains, &first), "behind a drain");
+}
+
+/* What a request is on a descriptor of which all is known. */
+static uint32_t kind(uint8_t code, uint64_t offset, struct wulgach_trial trial, struct wulgach_nature nature)
+{
+    struct wulgach_submission entry = {.opcode = code, .off = offset};
+    struct wulgach_known known = {.status = true, .offsets = true, .access = true, .nature = nature};
+    return wulgach_find_kind(&entry, &trial, &known);
+}
+
+static void look_at_descriptors(void)
+{
+    struct wulgach_trial plain = {.length = 8}, known = {.length = 8, .was_file = true}, tried = {.length = 8, .was_tried = true, .was_file = true}, asked = {.length = 8, .was_file = true, .is_asked_before = true}, empty = {.was_file = true};
+    struct wulgach_nature none = {0}, file = {.is_open = true, .is_file = true, .has_offsets = true, .can_read = true}, pipe = {.is_open = true, .can_read = true}, tty = {.is_open = true, .is_device = true, .has_offsets = true, .can_write = true}, socket = {.is_open = true, .is_socket = true, .can_read = true, .can_write = true};
+    demand(kind(READ, 0, plain, file) == WULGACH_KIND_TRIED && kind(READ, 0, tried, file) == WULGACH_KIND_NEVER && kind(READ, 0, known, pipe) == WULGACH_KIND_AT_ONCE, "a file");
+    demand(kind(READ, UINT64_MAX, known, file) == WULGACH_KIND_NEVER && kind(READ, 0, asked, file) == WULGACH_KIND_NEVER && kind(READ, 0, empty, file) == WULGACH_KIND_NEVER && kind(WRITE, 0, known, file) == WULGACH_KIND_TRIED, "what is asked before");
+    demand(kind(READ, 0, plain, pipe) == WULGACH_KIND_STREAM && kind(WRITE, 0, plain, pipe) == WULGACH_KIND_WRONG && kind(WRITE, 0, plain, tty) == WULGACH_KIND_STREAM && kind(READ, 0, plain, none) == WULGACH_KIND_NEVER, "streams");
+    demand(kind(RECV, 0, plain, socket) == WULGACH_KIND_STREAM && kind(RECV, 0, plain, pipe) == WULGACH_KIND_NEVER && kind(POLL_ADD, 0, plain, none) == WULGACH_KIND_STREAM && kind(FSYNC, 0, plain, pipe) == WULGACH_KIND_NEVER, "others");
+    struct wulgach_submission entry = {.opcode = READ};
+    struct wulgach_known nothing = {0}, status = {.status = true, .nature = pipe}, offsets = {.status = true, .offsets = true, .nature = pipe};
+    demand(wulgach_find_kind(&entry, &plain, &nothing) == WULGACH_ASK_STATUS && wulgach_find_kind(&entry, &plain, &status) == WULGACH_ASK_OFFSETS && wulgach_find_kind(&entry, &plain, &offsets) == WULGACH_ASK_ACCESS, "what is asked");
+}
+
+static void finish(void)
+{
+    struct wulgach_standing still = {0}, waits = {.has_to_wait = true}, stream = {.is_stream = true};
+    struct wulgach_needs none = {0}, timeout = {.is_timeout = true}, goes_on = {.goes_on = true}, selects = {.selects = true};
+    struct wulgach_course runs = {.has_started = true}, cancelled = {.has_started = true, .is_cancelled = true};
+    struct wulgach_moment unknown = {0}, ready = {.knows_readiness = true, .is_ready = true}, not_ready = {.knows_readiness = true}, counted = {.knows_count = true, .has_counted = true}, no_buffer = {.knows_buffer = true}, no_posting = {.knows_posting = true};
+    demand(wulgach_can_finish(&still, &none, &runs, &unknown) == WULGACH_LOOK_FINISHES && wulgach_can_finish(&waits, &none, &cancelled, &unknown) == WULGACH_LOOK_WAITS, "one that would have waited");
+    demand(wulgach_can_finish(&stream, &timeout, &cancelled, &unknown) == WULGACH_LOOK_FINISHES, "one that was cancelled");
+    demand(wulgach_can_finish(&still, &timeout, &runs, &unknown) == WULGACH_ASK_COUNT && wulgach_can_finish(&still, &timeout, &runs, &counted) == WULGACH_LOOK_FINISHES, "a timeout");
+    demand(wulgach_can_finish(&stream, &goes_on, &runs, &unknown) == WULGACH_ASK_POSTING && wulgach_can_finish(&stream, &goes_on, &runs, &no_posting) == WULGACH_LOOK_WAITS, "one that goes on");
+    demand(wulgach_can_finish(&stream, &selects, &runs, &unknown) == WULGACH_ASK_BUFFER && wulgach_can_finish(&stream, &selects, &runs, &no_buffer) == WULGACH_LOOK_FINISHES, "one without a buffer");
+    demand(wulgach_can_finish(&stream, &none, &runs, &unknown) == WULGACH_ASK_READINESS && wulgach_can_finish(&stream, &none, &runs, &ready) == WULGACH_LOOK_FINISHES && wulgach_can_finish(&stream, &none, &runs, &not_ready) == WULGACH_LOOK_WAITS, "a stream");
+}
+
+static bool impatient(uint8_t code, uint32_t flags, struct wulgach_patience patience)
+{
+    struct wulgach_submission entry = {.opcode = code, .op_flags = flags};
+    return wulgach_is_impatient(&entry, &patience);
+}
+
+static void be_impatient(void)
+{
+    struct wulgach_patience fresh = {.length = 8}, empty = {0}, failed = {.length = 8, .has_failed = true}, begun = {.length = 8, .has_begun = true};
+    demand(!impatient(READ, 0, fresh) && impatient(READ, 8, fresh) && impatient(READ, 0, empty) && impatient(READ, 0, failed), "a read");
+    demand(impatient(RECV, 64, fresh) && !impatient(RECV, 8, empty) && !impatient(ACCEPT, 64, fresh), "a receive");
+    demand(impatient(CONNECT, 0, fresh) && !impatient(CONNECT, 0, begun) && impatient(SPLICE, 0, fresh) && !impatient(SPLICE, 0, begun) && !impatient(POLL_ADD, 0, fresh), "a connect, a splice");
+}
+
+/* What is next of a transfer; what it ends with comes behind as itself. */
+static int32_t next(struct wulgach_transfer transfer, uint32_t last, int32_t res)
+{
+    int32_t end = 777;
+    uint32_t step = wulgach_transfer_next(&transfer, last, res, &end);
+    demand((step == WULGACH_TRY_ENDS) == (end != 777), "what is written");
+    return step == WULGACH_TRY_ENDS ? end : 1000 + (int32_t)step;
+}
+
+static void transfer(void)
+{
+    struct wulgach_transfer once = {.length = 8, .is_at_once = true}, tried = {.length = 8, .is_tried = true}, file = {.length = 8}, stream = {.length = 8, .is_stream = true}, hasty = {.is_stream = true, .is_impatient = true}, unwilling = {.length = 8, .is_stream = true, .is_not_to_wait = true}, failed = {.length = 8, .fault = -9};
+    demand(next(once, 0, 0) == 1000 + WULGACH_CALL_AT_ONCE && next(once, WULGACH_CALL_AT_ONCE, 8) == 8 && next(once, WULGACH_CALL_AT_ONCE, 5) == 1000 + WULGACH_TRY_FINDS, "at once");
+    demand(next(stream, WULGACH_TRY_FINDS, 5) == 5 && next(file, WULGACH_TRY_FINDS, 5) == 1000 + WULGACH_CALL_PLAIN && next(stream, WULGACH_TRY_FINDS, 0) == 1000 + WULGACH_CALL_NONBLOCKING && next(failed, WULGACH_TRY_FINDS, -11) == -9, "behind that");
+    demand(next(tried, 0, 0) == 1000 + WULGACH_CALL_TRIED && next(tried, WULGACH_CALL_TRIED, 5) == 5 && next(tried, WULGACH_CALL_TRIED, -29) == 1000 + WULGACH_TRY_FINDS, "one that is tried");
+    demand(next(stream, WULGACH_CALL_NONBLOCKING, -11) == 1000 + WULGACH_TRY_WAITS && next(stream, WULGACH_CALL_NONBLOCKING, -95) == 1000 + WULGACH_TRY_POLLS && next(stream, WULGACH_CALL_NONBLOCKING, -5) == -5, "asked not to wait");
+    demand(next(stream, WULGACH_TRY_POLLS, 0) == 1000 + WULGACH_TRY_WAITS && next(stream, WULGACH_TRY_POLLS, 1) == 1000 + WULGACH_CALL_READY && next(stream, WULGACH_CALL_READY, -11) == -11, "polled");
+    demand(next(hasty, 0, 0) == 1000 + WULGACH_CALL_PLAIN && next(hasty, WULGACH_CALL_PLAIN, -11) == -11 && next(unwilling, 0, 0) == 1000 + WULGACH_CALL_UNWILLING && next(unwilling, WULGACH_CALL_UNWILLING, -11) == 1000 + WULGACH_TRY_WAITS, "what doesn't wait");
+    demand(next(failed, 0, 0) == -9 && wulgach_transfer_offset(&stream, 5) == UINT64_MAX && wulgach_transfer_offset(&file, 5) == 5, "one that failed, offsets");
+}
+
+/* The same of a call. */
+static int32_t turn(uint8_t code, uint32_t flags, struct wulgach_call call, uint32_t last, int32_t res)
+{
+    struct wulgach_submission entry = {.opcode = code, .op_flags = flags};
+    int32_t end = 777;
+    uint32_t what = wulgach_call_next(&entry, &call, last, res, &end);
+    demand((what == WULGACH_TURN_ENDS) == (end != 777), "what is written");
+    return what == WULGACH_TURN_ENDS ? end : 1000 + (int32_t)what;
+}
+
+static void call(void)
+{
+    struct wulgach_call fresh = {.length = 8, .is_stream = true}, part = {.length = 8, .done = 3, .is_stream = true}, begun = {.is_stream = true, .has_begun = true, .done = 1};
+    demand(turn(ACCEPT, 0, fresh, 0, 0) == 1000 + WULGACH_TURN_POLLS && turn(ACCEPT, 0, fresh, WULGACH_TURN_POLLS, 1) == 1000 + WULGACH_TURN_CALLS && turn(ACCEPT, 0, fresh, WULGACH_TURN_POLLS, 0) == 1000 + WULGACH_TURN_ASKS_WILL, "an accept");
+    demand(turn(ACCEPT, 0, fresh, WULGACH_TURN_ASKS_WILL, 1) == -11 && turn(ACCEPT, 0, fresh, WULGACH_TURN_ASKS_WILL, 0) == 1000 + WULGACH_TURN_WAITS && turn(ACCEPT, 0, fresh, WULGACH_TURN_CALLS, 0) == 0, "what its socket says");
+    demand(turn(CONNECT, 0, fresh, 0, 0) == 1000 + WULGACH_TURN_CALLS && turn(CONNECT, 0, fresh, WULGACH_TURN_CALLS, -115) == 1000 + WULGACH_TURN_WAITS && turn(CONNECT, 0, begun, 0, 0) == 1000 + WULGACH_TURN_POLLS && turn(CONNECT, 0, begun, WULGACH_TURN_POLLS, 1) == 1000 + WULGACH_TURN_ASKS_ERROR && turn(CONNECT, 0, begun, WULGACH_TURN_ASKS_ERROR, -111) == -111, "a connect");
+    demand(turn(RECV, 0, fresh, WULGACH_TURN_CALLS, -11) == 1000 + WULGACH_TURN_ASKS_WILL && turn(RECV, 64, fresh, WULGACH_TURN_CALLS, -11) == -11 && turn(RECV, 0, part, WULGACH_TURN_CALLS, 3) == 1000 + WULGACH_TURN_ENDS_WITH_DONE, "a receive");
+    demand(turn(RECV, 256, part, WULGACH_TURN_CALLS, 3) == 1000 + WULGACH_TURN_ASKS_TYPE && turn(RECV, 256, part, WULGACH_TURN_ASKS_TYPE, 1) == 1000 + WULGACH_TURN_WAITS && turn(RECV, 256, part, WULGACH_TURN_CALLS, 0) == 1000 + WULGACH_TURN_ENDS_WITH_DONE && turn(RECV, 256, part, WULGACH_TURN_CALLS, -104) == 1000 + WULGACH_TURN_ENDS_WITH_DONE, "of all");
+    demand(turn(SPLICE, 0, begun, WULGACH_TURN_CALLS, -11) == 1000 + WULGACH_TURN_WAITS && turn(SPLICE, 2, begun, WULGACH_TURN_CALLS, -11) == -11 && turn(SPLICE, 0, begun, WULGACH_TURN_CALLS, 5) == 5, "a splice");
+}
+
+static void poll_one(void)
+{
+    int32_t res = 7;
+    demand(!wulgach_poll_result(5, 0, false, &res) && res == 7, "a poll that waits");
+    demand(wulgach_poll_result(5, 4, true, &res) && res == 4 && wulgach_poll_result(5, 32, false, &res) && res == -9 && wulgach_poll_result(5, 0, true, &res) && res == 1, "its events");
+}
+
+int main(void)
+{
+    look_at_needs();
+    find_files();
+    look_at_descriptors();
+    finish();
+    be_impatient();
+    transfer();
+    call();
+    poll_one();
+    printf("waits: as called for\n");
+    return 0;
+}
