@@ -20,7 +20,7 @@ bool can_post_extra(struct ring *ring)
     return wulgach_drains_may_post(&ring->drains, ring->staged.count) && reserve_all(ring, 1);
 }
 
-void post_extra(struct ring *ring, uint64_t user_data, int32_t res, uint32_t flags)
+void post_extra(struct ring *ring, uint64_t call, uint64_t user_data, int32_t res, uint32_t flags)
 {
     int32_t ended;
     struct wulgach_entry entry;
@@ -28,6 +28,7 @@ void post_extra(struct ring *ring, uint64_t user_data, int32_t res, uint32_t fla
     demand(request != NULL, "out of memory");
     request->entry.user_data = request->token = user_data;
     request->flags = flags;
+    request->call = call;
     write_token(&entry, request);
     load_head(ring);
     fill_slot(ring, 0, &entry);
@@ -74,7 +75,7 @@ void post_messages(struct ring *ring)
 {
     struct message *message;
     while (has_messages(ring) && can_post_extra(ring) && (message = take_message(&ring->inbox))) {
-        post_extra(ring, message->user_data, message->res, 0);
+        post_extra(ring, 0, message->user_data, message->res, 0);
         free(message);
     }
 }

@@ -149,8 +149,8 @@ int32_t change_linked_timeout(struct ring *ring, const struct request *change)
     wulgach_cancel_begin(&search, &sought);
     for (size_t i = 0; i < ring->requests.count; i++) {
         struct request *timeout = ring->requests.rows[i];
-        struct wulgach_outstanding seen = {.user_data = timeout->entry.user_data, .is_free = true, .runs = true};
-        seen.is_waiting = is_linked_timeout(timeout) && wulgach_times_runs(&ring->times, ring->timeouts, ring->timeouts_room, timeout->number);
+        struct wulgach_outstanding seen = {.user_data = timeout->entry.user_data, .is_token = true, .runs = true};
+        seen.is_stream = is_linked_timeout(timeout) && wulgach_times_runs(&ring->times, ring->timeouts, ring->timeouts_room, timeout->number);
         if (wulgach_cancel_sees(&search, &seen))
             return change_timeout(ring, timeout, change);
     }

@@ -64,8 +64,8 @@ pub ends_with_what_came : EndsWithWhatCame
 ends_with_what_came e c None res end is = absurd (no_end (polls_first e c) (Does Polls) (Does Calls) end refl refl is)
 ends_with_what_came e c (Some Calls) res end is =
     call_end (e.opcode == 16) (int_eq res (error 115) || int_eq res (error 11)) (int_eq res (error 11)) (has_message_flags e.opcode) (would_wait e c) (behind_message e c res) res end
-        (λ would. would_end (is_asked e) (is_splice e.opcode) (has_message_flags e.opcode && not (c.done == 0)) end would)
-        (λ later. message_end e c res end later) is
+    (λ would. would_end (is_asked e) (is_splice e.opcode) (has_message_flags e.opcode && not (c.done == 0)) end would)
+    (λ later. message_end e c res end later) is
 ends_with_what_came e c (Some Polls) res end is = absurd (poll_end (e.opcode == 16) (not (int_eq res (pos 0))) end is)
 ends_with_what_came e c (Some AsksWill) res end is =
     inr (will_end (int_eq res (pos 0)) (has_message_flags e.opcode && not (c.done == 0)) end is)

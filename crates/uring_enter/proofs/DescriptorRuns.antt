@@ -94,10 +94,10 @@ opens_for false one one' two two' same other = other
 pub finds_the_kind : FindsTheKind
 finds_the_kind e t k d kind fits is =
     by_entry_is (is_poll e.opcode || is_splice e.opcode) (is_tried_at_once e t) (is_transfer e.opcode || is_of_sockets e.opcode) k.status _ kind _
-        (λ asked later. rw (← fits.opened asked, ← fits.file asked, ← fits.device asked, ← fits.socket asked)
-            (by_status_is k.nature.is_open (is_transfer e.opcode) k.nature.is_socket k.nature.is_file (may_be_tried e t) k.nature.is_device k.offsets k.nature.has_offsets d.has_offsets k.access (is_open_for e.opcode k.nature) (is_open_for e.opcode d) kind
-                fits.offsets (λ known. opens_for (is_read e.opcode) k.nature.can_read d.can_read k.nature.can_write d.can_write (fits.reads known) (fits.writes known)) later))
-        is
+    (λ asked later. rw (← fits.opened asked, ← fits.file asked, ← fits.device asked, ← fits.socket asked)
+    (by_status_is k.nature.is_open (is_transfer e.opcode) k.nature.is_socket k.nature.is_file (may_be_tried e t) k.nature.is_device k.offsets k.nature.has_offsets d.has_offsets k.access (is_open_for e.opcode k.nature) (is_open_for e.opcode d) kind
+    fits.offsets (λ known. opens_for (is_read e.opcode) k.nature.can_read d.can_read k.nature.can_write d.can_write (fits.reads known) (fits.writes known)) later))
+    is
 
 -- whether a question was asked
 abbrev was : Question → Bool → Bool → Bool → Bool

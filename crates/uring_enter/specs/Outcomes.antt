@@ -23,13 +23,13 @@ cuts e c = e.opcode == 10 && c.has_message && has_some c.message_flags 40
 -- what success is of the operation of an entry: a splice's length is the entry's, and IORING_TIMEOUT_ETIME_SUCCESS 32 of a timeout's (11) flags. LINK_TIMEOUT is 15
 abbrev pub success_of_entry : Submission → Carried → Success
 success_of_entry e c = record {
-    length = if is_splice e.opcode then e.len else c.length;
-    is_whole = wants_whole e c.has_message;
-    is_cut = cuts e c;
-    takes_time = e.opcode == 11 && has_some e.op_flags 32;
-    is_linked_timeout = e.opcode == 15;
-    is_cancelled = c.is_cancelled
-  }
+  length = if is_splice e.opcode then e.len else c.length;
+  is_whole = wants_whole e c.has_message;
+  is_cut = cuts e c;
+  takes_time = e.opcode == 11 && has_some e.op_flags 32;
+  is_linked_timeout = e.opcode == 15;
+  is_cancelled = c.is_cancelled;
+}
 
 -- a transfer has moved all that it was asked to, and nothing was cut: a short one breaks a link
 abbrev pub is_whole : Success → ℤ → Bool

@@ -15,15 +15,15 @@ abbrev pub sought_of : Submission → Sought
 sought_of e =
     let is_cancel = e.opcode == 14 in
     record {
-        user_data = e.addr;
-        file = 0;
-        fd = cast_unsigned w32 e.fd;
-        code = code_removed e.opcode;
-        is_of_operation = not is_cancel;
-        is_any = is_cancel && has_some e.op_flags 4;
-        is_all = is_cancel && has_some e.op_flags 1;
-        is_by_fd = is_cancel && has_some e.op_flags 2;
-        is_fixed = is_cancel && (has_some e.op_flags 8 || has_some e.flags 1)
+      user_data = e.addr;
+      file = 0;
+      fd = cast_unsigned w32 e.fd;
+      code = code_removed e.opcode;
+      is_of_operation = not is_cancel;
+      is_any = is_cancel && has_some e.op_flags 4;
+      is_all = is_cancel && has_some e.op_flags 1;
+      is_by_fd = is_cancel && has_some e.op_flags 2;
+      is_fixed = is_cancel && (has_some e.op_flags 8 || has_some e.flags 1);
     }
 
 -- -9 (EBADF) where it looks by a descriptor that isn't open, or by a slot that has no file; then it looks at nothing. What Linux 6.18 does

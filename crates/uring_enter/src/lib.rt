@@ -70,9 +70,15 @@ pub use course_laws::carries_out_what_runs;
 pub use course_laws::ends_for_good;
 pub use course_laws::ends_with_its_result;
 pub use course_laws::tries_once;
-pub use descriptor::{
-    Finding, Kind, Known, Nature, Question, Trial, asks_once, finds_the_kind, next_finding,
-};
+pub use descriptor::Finding;
+pub use descriptor::Kind;
+pub use descriptor::Known;
+pub use descriptor::Nature;
+pub use descriptor::Question;
+pub use descriptor::Trial;
+pub use descriptor::asks_once;
+pub use descriptor::finds_the_kind;
+pub use descriptor::next_finding;
 pub use drains::Drains;
 pub use enter::Before;
 pub use enter::Enter;
@@ -109,13 +115,20 @@ pub use posted::Posted;
 pub use posted::WrongEnd;
 pub use posting_laws::shows_each_once;
 pub use posting_laws::shows_the_cores;
-pub use ready::{
-    Look, Moment, Patience, Standing, Wanted, finishes_what_can, is_impatient, looks_once, next_look,
-};
+pub use ready::Look;
+pub use ready::Moment;
+pub use ready::Patience;
+pub use ready::Standing;
+pub use ready::Wanted;
+pub use ready::finishes_what_can;
+pub use ready::is_impatient;
+pub use ready::looks_once;
+pub use ready::next_look;
 pub use reply::Reply;
 pub use reply::Sight;
 pub use search::Search;
-pub use seeking::{seeking_fault, sought_of};
+pub use seeking::seeking_fault;
+pub use seeking::sought_of;
 pub use shot::Part;
 pub use shot::Shot;
 pub use shot::completion_flags;
@@ -146,9 +159,15 @@ pub use timeout::linked_outcome;
 pub use timeout::nanoseconds_of;
 pub use times::NoRoom;
 pub use times::Times;
-pub use transfer::{
-    How, Step, Task, Transfer, loses_nothing, next_step, offset_of, sleeps_never, tells_what_came,
-};
+pub use transfer::How;
+pub use transfer::Step;
+pub use transfer::Task;
+pub use transfer::Transfer;
+pub use transfer::loses_nothing;
+pub use transfer::next_step;
+pub use transfer::offset_of;
+pub use transfer::sleeps_never;
+pub use transfer::tells_what_came;
 pub use update::Poll;
 pub use update::Removal;
 pub use update::poll_removal;
@@ -158,9 +177,14 @@ pub use update::updated_poll;
 pub use wait::Wait;
 pub use wait::WakeSources;
 pub use wait::Woken;
-pub use waiting_call::{
-    Call, Doing, Turn, accepts_what_came, ends_with_what_came, loses_no_bytes, next_turn, poll_result,
-};
+pub use waiting_call::Call;
+pub use waiting_call::Doing;
+pub use waiting_call::Turn;
+pub use waiting_call::accepts_what_came;
+pub use waiting_call::ends_with_what_came;
+pub use waiting_call::loses_no_bytes;
+pub use waiting_call::next_turn;
+pub use waiting_call::poll_result;
 pub use ways::Way;
 pub use ways::Ways;
 pub use ways::names_the_ways;

@@ -39,9 +39,5 @@ fn code_removed(code: u8) -> u8
 pub fn seeking_fault(sought: &Sought, is_there: bool) -> i32
     ensures { result ≡ spec.seeking_fault sought.now is_there }
 {
-    if sought.is_by_fd && !is_there {
-        -9
-    } else {
-        0
-    }
+    if sought.is_by_fd && !is_there { -9 } else { 0 }
 }

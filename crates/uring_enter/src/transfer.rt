@@ -156,11 +156,7 @@ fn unless(is_end: bool, res: i32) -> Step
 fn is_all(res: i32, length: u64) -> bool
     ensures { result ≡ spec.is_all res length }
 {
-    if res < 0 {
-        false
-    } else {
-        res as u64 == length
-    }
+    if res < 0 { false } else { res as u64 == length }
 }
 
 /// Behind a call that doesn't wait, on what may have to.
