@@ -72,10 +72,10 @@ uint32_t wulgach_probed(uint32_t count);
 
 /* ---- the thread that may call ---- */
 
-/* The one thread that may call on a ring, if there is one. The fields belong to the library. */
+/* The one thread that may call on a ring, if there is one, and whether the ring is disabled. The fields may be read. */
 struct wulgach_issuer {
     uint32_t flags;
-    bool wants_one, has_one;
+    bool is_disabled, wants_one, has_one;
     uint32_t thread;
 };
 
@@ -84,10 +84,11 @@ struct wulgach_issuer {
 void wulgach_issuer_begin(struct wulgach_issuer *issuer, uint32_t thread, uint32_t flags, bool is_strict);
 void wulgach_issuer_enable(struct wulgach_issuer *issuer, uint32_t thread);
 
-/* Whether a thread is another one, whose calls of io_uring_register(2) are refused; and so its call of io_uring_enter(2): if it submits,
- * unless the ring has a thread of its own (SQPOLL), and with DEFER_TASKRUN if it asks for completions (GETEVENTS). */
+/* Whether a thread is another one, whose calls of io_uring_register(2) are refused. And the fault of a thread's call of io_uring_enter(2),
+ * or 0: -77 (EBADFD) while the ring is disabled; -17 of another one if it submits, unless the ring has a thread of its own (SQPOLL), and
+ * with DEFER_TASKRUN if it asks for completions (GETEVENTS). */
 bool wulgach_issuer_is_another(const struct wulgach_issuer *issuer, uint32_t thread);
-bool wulgach_issuer_refuses_enter(const struct wulgach_issuer *issuer, uint32_t thread, uint32_t to_submit, bool gets);
+int32_t wulgach_entering_fault(const struct wulgach_issuer *issuer, uint32_t thread, uint32_t to_submit, bool gets);
 
 /* ---- an eventfd ---- */
 

@@ -198,15 +198,15 @@ static void note_threads(void)
     demand(!wulgach_issuer_is_another(&issuer, 8), "a layer that isn't strict");
     wulgach_issuer_begin(&issuer, 7, SINGLE, true);
     demand(wulgach_issuer_is_another(&issuer, 8) && !wulgach_issuer_is_another(&issuer, 7), "one that is");
-    demand(wulgach_issuer_refuses_enter(&issuer, 8, 1, false) && !wulgach_issuer_refuses_enter(&issuer, 8, 0, true) && !wulgach_issuer_refuses_enter(&issuer, 7, 1, true), "submissions");
+    demand(wulgach_entering_fault(&issuer, 8, 1, false) == -17 && wulgach_entering_fault(&issuer, 8, 0, true) == 0 && wulgach_entering_fault(&issuer, 7, 1, true) == 0, "submissions");
     wulgach_issuer_begin(&issuer, 7, SINGLE | SQPOLL, true);
-    demand(wulgach_issuer_is_another(&issuer, 8) && !wulgach_issuer_refuses_enter(&issuer, 8, 1, true), "a ring with a thread");
+    demand(wulgach_issuer_is_another(&issuer, 8) && wulgach_entering_fault(&issuer, 8, 1, true) == 0, "a ring with a thread");
     wulgach_issuer_begin(&issuer, 7, SINGLE | DEFER | R_DISABLED, false);
-    demand(!wulgach_issuer_is_another(&issuer, 8), "a disabled ring");
+    demand(issuer.is_disabled && !wulgach_issuer_is_another(&issuer, 8) && wulgach_entering_fault(&issuer, 7, 0, false) == -77, "a disabled ring");
     wulgach_issuer_enable(&issuer, 8);
     wulgach_issuer_enable(&issuer, 7);
-    demand(wulgach_issuer_is_another(&issuer, 7) && !wulgach_issuer_is_another(&issuer, 8), "who enabled it");
-    demand(wulgach_issuer_refuses_enter(&issuer, 7, 1, false) && wulgach_issuer_refuses_enter(&issuer, 7, 0, true) && !wulgach_issuer_refuses_enter(&issuer, 7, 0, false), "deferred work");
+    demand(!issuer.is_disabled && wulgach_issuer_is_another(&issuer, 7) && !wulgach_issuer_is_another(&issuer, 8), "who enabled it");
+    demand(wulgach_entering_fault(&issuer, 7, 1, false) == -17 && wulgach_entering_fault(&issuer, 7, 0, true) == -17 && wulgach_entering_fault(&issuer, 7, 0, false) == 0, "deferred work");
 }
 
 static void tell_eventfds(void)

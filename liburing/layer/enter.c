@@ -213,15 +213,14 @@ static int carry_call_out(struct ring *ring, struct waiting *waiting, uint32_t f
 
 static int enter_ring(struct ring *ring, uint32_t flags, struct waiting *waiting)
 {
-    if (ring->is_disabled)
-        return -EBADFD;
-    if (wulgach_issuer_refuses_enter(&ring->issuer, (uint32_t)this_thread(), waiting->to_submit, flags & IORING_ENTER_GETEVENTS))
-        return -EEXIST;
+    int result = wulgach_entering_fault(&ring->issuer, (uint32_t)this_thread(), waiting->to_submit, flags & IORING_ENTER_GETEVENTS);
+    if (result < 0)
+        return result;
     ring->call_number++;
     ring->moment++;
     hear_pipes(ring);
     pass_real_time(ring);
-    int result = carry_call_out(ring, waiting, flags);
+    result = carry_call_out(ring, waiting, flags);
     hold_files(ring);
     watch_pipes(ring);
     show_readiness(ring);

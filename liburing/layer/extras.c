@@ -102,7 +102,7 @@ static int32_t send_data(struct ring *target, const struct io_uring_sqe *entry)
 {
     if (entry->addr3 || entry->file_index || entry->msg_ring_flags)
         return -EINVAL;
-    if (target->is_disabled)
+    if (target->issuer.is_disabled)
         return -EBADFD;
     struct message *message = make_message_of(entry->off, (int32_t)entry->len);
     if (!message)
@@ -116,7 +116,7 @@ static int32_t send_file(struct ring *ring, struct ring *target, const struct io
 {
     if (target == ring)
         return -EINVAL;
-    if (target->is_disabled)
+    if (target->issuer.is_disabled)
         return -EBADFD;
     struct file *file = use_file(ring, (uint32_t)entry->addr3);
     struct message *message = file ? make_message_of(entry->off, 0) : NULL;

@@ -15,7 +15,7 @@ int register_restrictions(struct ring *ring, uint64_t list, uint32_t count)
 {
     struct io_uring_restriction asked[MOST_RESTRICTIONS];
     struct wulgach_restrictions made;
-    int result = wulgach_restricting_fault(ring->is_disabled, ring->restrictions.are_registered, list, count);
+    int result = wulgach_restricting_fault(ring->issuer.is_disabled, ring->restrictions.are_registered, list, count);
     if (result == 0 && count > 0)
         result = copy_in(asked, list, count * sizeof *asked);
     wulgach_restrictions_begin(&made);
@@ -28,10 +28,9 @@ int register_restrictions(struct ring *ring, uint64_t list, uint32_t count)
 
 int enable_ring(struct ring *ring)
 {
-    int result = wulgach_enabling_fault(ring->is_disabled, false);
+    int result = wulgach_enabling_fault(ring->issuer.is_disabled, false);
     if (result < 0)
         return result;
-    ring->is_disabled = false;
     wulgach_issuer_enable(&ring->issuer, (uint32_t)this_thread());
     return 0;
 }
@@ -43,5 +42,5 @@ bool allows_entry(const struct ring *ring, const struct io_uring_sqe *entry)
 
 bool allows_call(const struct ring *ring, uint32_t code)
 {
-    return wulgach_restrictions_allow_call(&ring->restrictions, code, ring->is_disabled);
+    return wulgach_restrictions_allow_call(&ring->restrictions, code, ring->issuer.is_disabled);
 }

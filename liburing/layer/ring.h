@@ -75,9 +75,8 @@ struct ring {
     struct wulgach_eventfd telling;     /* whether an eventfd is registered, and of what it is told; */
     int eventfd;                        /* then one of the layer's own */
     uint64_t call_number;               /* how many calls were made that can end requests */
-    struct wulgach_issuer issuer;       /* the one thread that may call, or submit, if there is one */
+    struct wulgach_issuer issuer;       /* the one thread that may call, or submit, if there is one; and whether the ring is disabled */
     bool has_skipped;                   /* where the layer is strict: an entry that skips its success was submitted */
-    bool is_disabled;                   /* until it is enabled */
     struct wulgach_restrictions restrictions;
     uint64_t accepted;                  /* how many requests were accepted so far */
     struct completions completions;     /* posted and not reaped */

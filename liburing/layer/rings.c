@@ -113,7 +113,6 @@ static int make_ring(struct ring **made, uint32_t entries, struct io_uring_param
     wulgach_drains_begin(&ring->drains);
     ring->ready_fd = -1;
     wulgach_eventfd_begin(&ring->telling);
-    ring->is_disabled = params->flags & IORING_SETUP_R_DISABLED;
     ring->fd = fill_ring(ring, &sizes, params, is_polled);
     if (ring->fd < 0) {
         result = ring->fd;

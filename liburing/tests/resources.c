@@ -266,6 +266,61 @@ static void test_provided(void)
     close_ring(&ring);
 }
 
+static int32_t provide(struct ring *ring, uint64_t address, uint32_t size, int count, uint64_t id, uint16_t group)
+{
+    struct io_uring_sqe *entry = put_plain(ring, IORING_OP_PROVIDE_BUFFERS, 0, count);
+    entry->addr = address;
+    entry->len = size;
+    entry->off = id;
+    entry->buf_group = group;
+    return result_of_one(ring, 1);
+}
+
+static int32_t remove_buffers(struct ring *ring, int count, uint16_t group)
+{
+    put_plain(ring, IORING_OP_REMOVE_BUFFERS, 0, count)->buf_group = group;
+    return result_of_one(ring, 1);
+}
+
+static long register_group(const struct ring *ring, const void *cells, uint32_t entries, uint16_t group)
+{
+    struct io_uring_buf_reg asked = {.ring_addr = (uintptr_t)cells, .ring_entries = entries, .bgid = group};
+    return register_at(ring->fd, IORING_REGISTER_PBUF_RING, &asked, 1);
+}
+
+static long unregister_group(const struct ring *ring, uint16_t group)
+{
+    struct io_uring_buf_reg asked = {.bgid = group};
+    return register_at(ring->fd, IORING_UNREGISTER_PBUF_RING, &asked, 1);
+}
+
+/* What is refused of groups, and how many buffers a list takes up. */
+static void test_groups(void)
+{
+    struct ring ring;
+    static char memory[16];
+    uint64_t at = (uintptr_t)memory;
+    char *cells = mmap(NULL, 8192, PROT_READ | PROT_WRITE, MAP_PRIVATE | MAP_ANONYMOUS, -1, 0);
+    make_ring(&ring, 8, 0, 0);
+    munmap(cells + 4096, 4096);
+    check(remove_buffers(&ring, 1, 1) == -ENOENT && unregister_group(&ring, 1) == -ENOENT);
+    check(provide(&ring, at, 1, 2, 65535, 1) == -EINVAL && provide(&ring, UINT64_MAX - 5, 4096, 2, 0, 1) == -EOVERFLOW);
+    check(register_group(&ring, cells, 3, 1) == -EINVAL && register_group(&ring, cells, 0, 1) == -EINVAL && register_group(&ring, cells, 65536, 1) == -EINVAL);
+    check(register_group(&ring, NULL, 3, 1) == -EINVAL && register_group(&ring, NULL, 8, 1) == -EFAULT && register_group(&ring, cells + 8, 8, 1) == -EINVAL);
+    check(register_group(&ring, cells + 4096, 8, 1) == -EFAULT && unregister_group(&ring, 1) == -ENOENT);
+    check(register_group(&ring, cells, 8, 1) == 0);
+    check(register_group(&ring, cells, 3, 1) == -EINVAL && register_group(&ring, NULL, 8, 1) == -EEXIST && register_group(&ring, cells + 8, 8, 1) == -EEXIST);
+    check(provide(&ring, at, 1, 1, 0, 1) == -EINVAL && remove_buffers(&ring, 1, 1) == -EINVAL);
+    check(register_at(ring.fd, IORING_UNREGISTER_PBUF_RING, NULL, 1) == -EINVAL && unregister_group(&ring, 1) == 0 && unregister_group(&ring, 1) == -ENOENT);
+    check(provide(&ring, at, 1, 3, 0, 2) == 0 && register_group(&ring, cells, 8, 2) == -EEXIST && unregister_group(&ring, 2) == -EINVAL);
+    check(remove_buffers(&ring, 2, 2) == 2 && remove_buffers(&ring, 2, 2) == 1 && remove_buffers(&ring, 2, 2) == 0);
+    check(register_group(&ring, cells, 8, 2) == 0 && unregister_group(&ring, 2) == 0);
+    check(provide(&ring, at, 1, 65536, 0, 3) == 0 && provide(&ring, at, 1, 1, 0, 3) == -EOVERFLOW);
+    check(remove_buffers(&ring, 65536, 3) == 65535 && remove_buffers(&ring, 1, 3) == 0);
+    munmap(cells, 4096);
+    close_ring(&ring);
+}
+
 static void test_eventfd(void)
 {
     struct ring ring;
@@ -456,6 +511,7 @@ int main(int count, char **words)
         {"tags of files", test_tags_of_files},
         {"tags of buffers", test_tags_of_buffers},
         {"provided", test_provided},
+        {"groups", test_groups},
         {"eventfd", test_eventfd},
         {"async eventfd", test_async_eventfd},
         {"advice", test_advice},

@@ -8,6 +8,9 @@
 #include <stdarg.h>
 #include <stdbool.h>
 #include <stdlib.h>
+#include <errno.h>
+#include <string.h>
+#include <sys/eventfd.h>
 #include <sys/mman.h>
 #include <sys/syscall.h>
 #include <unistd.h>
@@ -36,7 +39,7 @@ static long ask(long call, ...)
 
 /* ---- what is asked ---- */
 
-enum { MOST_ANSWERS = 64 };
+enum { MOST_ANSWERS = 2048 };
 
 static int32_t answers[2][MOST_ANSWERS];
 static size_t counts[2];
@@ -121,9 +124,11 @@ static void *call_elsewhere(void *argument)
 {
     struct ring *ring = argument;
     put(ring, IORING_OP_NOP, 0, 0);
+    told((int32_t)enter(ring, 0, 0, 0));
     told((int32_t)enter(ring, 1, 0, 0));
     told((int32_t)enter(ring, 0, 0, IORING_ENTER_GETEVENTS));
     told((int32_t)register_at(ring->fd, IORING_UNREGISTER_FILES, NULL, 0));
+    told((int32_t)register_at(ring->fd, 1000, NULL, 0));
     return NULL;
 }
 
@@ -140,8 +145,144 @@ static void ask_other_threads(void)
     }
 }
 
+/* Calls of io_uring_register(2), each on a ring of its own: without an argument, by an address that can't be read, and of what is all zero. */
+static void ask_calls(void)
+{
+    static const uint8_t codes[] = {0, 1, 2, 3, 4, 5, 6, 7, 8, 11, 12, 13, 14, 15, 16, 20, 21, 22, 23, 24, 25};
+    static const unsigned lengths[] = {0, 1, 2, 16, 17, 32, 33, 256, 257};
+    static char zero[4096];
+    for (size_t i = 0; i < sizeof codes; i++) {
+        struct ring ring;
+        make_ring(&ring, 8, 0, 0);
+        for (size_t j = 0; j < sizeof lengths / sizeof *lengths; j++) {
+            told((int32_t)register_at(ring.fd, codes[i], NULL, lengths[j]));
+            told((int32_t)register_at(ring.fd, codes[i], (void *)8, lengths[j]));
+            memset(zero, 0, sizeof zero);
+            if (codes[i] != IORING_REGISTER_PBUF_RING && codes[i] != IORING_UNREGISTER_PBUF_RING)
+                told((int32_t)register_at(ring.fd, codes[i], zero, lengths[j]));
+        }
+        close_ring(&ring);
+    }
+}
+
+static void ask_who_calls(void)
+{
+    static const unsigned codes[] = {IORING_REGISTER_PROBE, 35, 36, 1000};
+    struct ring ring;
+    int ends[2];
+    check(pipe(ends) == 0);
+    make_ring(&ring, 8, 0, IORING_SETUP_R_DISABLED);
+    for (size_t i = 0; i < sizeof codes / sizeof *codes; i++) {
+        told((int32_t)register_at(-1, codes[i], NULL, 0));
+        told((int32_t)register_at(-2, codes[i], NULL, 0));
+        told((int32_t)register_at(999, codes[i], NULL, 0));
+        told((int32_t)register_at(ends[0], codes[i], NULL, 0));
+    }
+    struct io_uring_restriction row = {.opcode = IORING_RESTRICTION_REGISTER_OP, .register_op = IORING_REGISTER_ENABLE_RINGS};
+    told((int32_t)register_at(ring.fd, IORING_REGISTER_RESTRICTIONS, &row, 1));
+    told((int32_t)register_at(ring.fd, IORING_REGISTER_PROBE, NULL, 0));
+    told((int32_t)register_at(ring.fd, IORING_REGISTER_ENABLE_RINGS, &row, 0));
+    told((int32_t)register_at(ring.fd, IORING_REGISTER_ENABLE_RINGS, NULL, 0));
+    for (size_t i = 0; i < sizeof codes / sizeof *codes; i++)
+        told((int32_t)register_at(ring.fd, codes[i], NULL, 0));
+    told((int32_t)register_at(ring.fd, IORING_REGISTER_ENABLE_RINGS, &row, 0));
+    told((int32_t)register_at(ring.fd, IORING_REGISTER_ENABLE_RINGS, NULL, 0));
+    close(ends[0]);
+    close(ends[1]);
+    close_ring(&ring);
+}
+
+/* What a structure may say. */
+static void ask_contents(void)
+{
+    struct ring ring;
+    char probe[sizeof(struct io_uring_probe) + 256 * sizeof(struct io_uring_probe_op)] = {1};
+    make_ring(&ring, 8, 0, 0);
+    told((int32_t)register_at(ring.fd, IORING_REGISTER_PROBE, probe, 0));
+    memset(probe, 0, sizeof probe);
+    probe[sizeof probe - 1] = 1;
+    told((int32_t)register_at(ring.fd, IORING_REGISTER_PROBE, probe, 256));
+    struct io_uring_rsrc_register tables[] = {{0}, {.nr = 1, .flags = 2}, {.nr = 1, .resv2 = 1}, {.nr = 1, .flags = 1, .data = 8}, {.nr = 0, .flags = 1}, {.nr = 2, .flags = 1}, {.nr = 2, .flags = 1}};
+    for (size_t i = 0; i < sizeof tables / sizeof *tables; i++) {
+        told((int32_t)register_at(ring.fd, IORING_REGISTER_FILES2, &tables[i], sizeof *tables));
+        told((int32_t)register_at(ring.fd, IORING_REGISTER_BUFFERS2, &tables[i], sizeof *tables));
+    }
+    struct io_uring_rsrc_update2 updates[] = {{0}, {.nr = 1, .resv = 1}, {.nr = 1, .resv2 = 1}, {.nr = 1, .offset = UINT32_MAX}, {.nr = 3}, {.nr = 2}};
+    for (size_t i = 0; i < sizeof updates / sizeof *updates; i++) {
+        told((int32_t)register_at(ring.fd, IORING_REGISTER_FILES_UPDATE2, &updates[i], sizeof *updates));
+        told((int32_t)register_at(ring.fd, IORING_REGISTER_BUFFERS_UPDATE, &updates[i], sizeof *updates));
+    }
+    struct io_uring_sync_cancel_reg cancels[] = {{.addr = 5}, {.flags = 64}, {.flags = IORING_ASYNC_CANCEL_ALL}, {.flags = IORING_ASYNC_CANCEL_ANY}, {.flags = IORING_ASYNC_CANCEL_FD, .fd = 999}};
+    for (size_t i = 0; i < sizeof cancels / sizeof *cancels; i++) {
+        cancels[i].timeout.tv_sec = cancels[i].timeout.tv_nsec = -1;
+        told((int32_t)register_at(ring.fd, IORING_REGISTER_SYNC_CANCEL, &cancels[i], 1));
+    }
+    close_ring(&ring);
+    make_ring(&ring, 8, 0, 0);
+    told((int32_t)register_at(ring.fd, IORING_REGISTER_FILES_UPDATE2, &updates[3], sizeof *updates));
+    close_ring(&ring);
+}
+
+static void ask_eventfds(void)
+{
+    struct ring ring;
+    int ends[2], none = 999, event = eventfd(0, 0);
+    check(event >= 0 && pipe(ends) == 0);
+    make_ring(&ring, 8, 0, 0);
+    int *numbers[] = {&none, &ends[0], &event, &event, &none, NULL};
+    for (size_t i = 0; i < sizeof numbers / sizeof *numbers; i++)
+        told((int32_t)register_at(ring.fd, i == 3 ? IORING_REGISTER_EVENTFD_ASYNC : IORING_REGISTER_EVENTFD, numbers[i], 1));
+    told((int32_t)register_at(ring.fd, IORING_UNREGISTER_EVENTFD, &none, 0));
+    told((int32_t)register_at(ring.fd, IORING_UNREGISTER_EVENTFD, NULL, 0));
+    told((int32_t)register_at(ring.fd, IORING_UNREGISTER_EVENTFD, NULL, 0));
+    close(event);
+    close(ends[0]);
+    close(ends[1]);
+    close_ring(&ring);
+}
+
+/* Enrols a ring, or dismisses it, and tells which number it has. */
+static void enrol(struct ring *ring, unsigned code, unsigned offset, uint64_t data, uint32_t reserved)
+{
+    struct io_uring_rsrc_update row = {.offset = offset, .resv = reserved, .data = data};
+    told((int32_t)register_at(ring->fd, code, &row, 1));
+    told((int32_t)row.offset);
+}
+
+static void ask_numbers(void)
+{
+    struct ring ring;
+    int ends[2];
+    check(pipe(ends) == 0);
+    make_ring(&ring, 8, 0, 0);
+    uint64_t fd = (uint64_t)ring.fd, other = (uint64_t)ends[0];
+    const struct {
+        unsigned code, offset;
+        uint64_t data;
+        uint32_t reserved;
+    } rows[] = {
+        {20, 3, fd, 0}, {20, 3, fd, 0}, {20, 3, 999, 0}, {20, 3, other, 0}, {20, 16, 999, 0}, {20, 4, 999, 1}, {20, UINT32_MAX, fd, 0}, {20, UINT32_MAX, fd | 1ull << 32, 0},
+        {20, UINT32_MAX, 999, 0}, {20, UINT32_MAX, other, 0}, {21, 3, 1, 0}, {21, 3, 0, 1}, {21, 16, 0, 0}, {21, UINT32_MAX, 0, 0}, {21, 0, 0, 0}, {20, UINT32_MAX, fd, 0}, {20, UINT32_MAX, fd, 0}, {20, UINT32_MAX, fd, 0}, {20, 15, fd, 0},
+    };
+    for (size_t i = 0; i < sizeof rows / sizeof *rows; i++) {
+        enrol(&ring, rows[i].code, rows[i].offset, rows[i].data, rows[i].reserved);
+        for (int number = 0; number < 18; number++)
+            told((int32_t)(ask(SYS_io_uring_enter, number, 0, 0, IORING_ENTER_REGISTERED_RING, NULL, (size_t)0) < 0 ? -errno : 0));
+    }
+    for (unsigned number = 0; number < 16; number++)
+        enrol(&ring, IORING_UNREGISTER_RING_FDS, number, 0, 0);
+    close(ends[0]);
+    close(ends[1]);
+    close_ring(&ring);
+}
+
 static void ask_all(void)
 {
+    ask_calls();
+    ask_who_calls();
+    ask_contents();
+    ask_eventfds();
+    ask_numbers();
     ask_drains();
     ask_operations();
     ask_set_ups();

@@ -78,18 +78,18 @@ pub extern "C" fn wulgach_issuer_is_another(issuer: &Issuer, thread: u32) -> boo
     issuer.is_of_another(thread)
 }
 
-/// Whether a call of io_uring_enter(2) by a thread is refused, which submits so many entries and asks for completions or not.
+/// The fault of a call of io_uring_enter(2) by a thread, which submits so many entries and asks for completions or not; or 0.
 #[unsafe(no_mangle)]
-pub extern "C" fn wulgach_issuer_refuses_enter(
+pub extern "C" fn wulgach_entering_fault(
     issuer: &Issuer,
     thread: u32,
     to_submit: u32,
     gets: bool,
-) -> bool
+) -> i32
     ensures { (log : List Doing) → KeepsIssuer log issuer.now
-        → result ≡ issuing.is_enter_of_another log thread to_submit gets }
+        → result ≡ issuing.entering_fault log thread to_submit gets }
 {
-    issuer.is_enter_of_another(thread, to_submit, gets)
+    issuer.entering_fault(thread, to_submit, gets)
 }
 
 /// A ring has no eventfd.

@@ -11,6 +11,7 @@ use Rattle.uring_linux.specs.KeptDrains.{KeptDrains, accepted_drains, cut_drains
 use Rattle.uring_linux.specs.LinuxRequests.{LinuxRequests, is_skipping, has_fault, no_request, with_last_entry, with_accepted, with_cut}
 use Rattle.uring_linux.specs.Window.{Window, new_request, end_of, Tells, Shows}
 use Rattle.uring_linux.specs.LinuxDispatch.{dispatch_of, ShowsRequests}
+use Rattle.uring_linux.proofs.WindowCounts.{unended_shown, running_shown}
 use Rattle.uring_linux.proofs.WindowEvents.{roomed, pushed_shows, skipped_accepted, tells_new, none_shows}
 
 pub dispatch_new : (s : Window) (d : KeptDrains) → s ≡ record { first = 0; items = []; room = 0 }
@@ -19,7 +20,7 @@ pub dispatch_new : (s : Window) (d : KeptDrains) → s ≡ record { first = 0; i
 dispatch_new s d es ed =
     subst (λ (x : Window). ShowsRequests (dispatch_of x d false 0 true) no_request) (sym es)
     (subst (λ (y : KeptDrains). ShowsRequests (dispatch_of (record { first = 0; items = []; room = 0 }) y false 0 true) no_request) (sym ed)
-    (record { accepted = refl; held = record { window = none_shows; drains = refl; skipped = refl } }))
+    (record { accepted = refl; outstanding = unended_shown _ _ none_shows; running = running_shown _ _ none_shows; held = record { window = none_shows; drains = refl; skipped = refl } }))
 
 -- an entry is taken, as the definitions say
 taken : (q : Request) (d e : Drains) (first second : Bool) (r : Requests) (n : ℕ) → Tells q r n → d ≡ e
@@ -44,6 +45,8 @@ dispatch_accepted s t d k b c room left between amid e q l first h ec eq ef ei i
     let more : length r.accepted + 1 ≡ length (r.accepted ++ e ∷ []) = sym (length-append r.accepted (e ∷ [])) in
     record {
       accepted = shows.count;
+      outstanding = unended_shown t (manual.with_accepted r e) shows;
+      running = running_shown t (manual.with_accepted r e) shows;
       held = record {
         window = roomed t.first t.items t.room 0 (manual.with_accepted r e) shows;
         drains =
@@ -66,6 +69,8 @@ dispatch_cut s t d k b room left between amid l h g f =
     let shows = g r (roomed s.first s.items 0 s.room r h.held.window) in
     record {
       accepted = shows.count;
+      outstanding = unended_shown t (manual.with_cut r) shows;
+      running = running_shown t (manual.with_cut r) shows;
       held = record {
         window = roomed t.first t.items t.room 0 (manual.with_cut r) shows;
         drains = f (manual.with_cut r) shows ∙ ap (cut_drains (manual.with_cut r)) h.held.drains;

@@ -1,5 +1,11 @@
 pub mod WindowLemmas
 pub mod MemberLemmas
 pub mod WindowEvents
+pub mod WindowCounts
 pub mod Dispatches
+pub mod LettingGo
+pub mod Tallies
 pub mod Standings
+pub mod Deferring
+pub mod Reaching
+pub mod GoingOn

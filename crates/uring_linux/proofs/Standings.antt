@@ -1,17 +1,18 @@
 -- How a request stands, from what is kept of it, and what its issue is answered.
-use Rattle.std.proofs.Common.{◌≡◌, ℕ, ◌<◌, ℤ, pos, length, Bool, true, false, not, ◌&&◌, ◌||◌, ◌==◌, leb, Option, Some, None, is_some, refl, sym, ◌∙◌, ap, subst, arith, inl, inr, List, set, ◌-◌}
+use Rattle.std.proofs.Common.{◌≡◌, ℕ, suc, ◌+◌, ◌<◌, ℤ, pos, length, Bool, true, false, not, ◌&&◌, ◌||◌, ◌==◌, leb, Option, Some, None, is_some, refl, sym, ◌∙◌, ap, subst, arith, inl, inr, List, set, ◌-◌}
 use Rattle.std.specs.Prelude.{if◌then◌else◌, neg_ℤ}
 use Rattle.std.proofs.lemmas.Bool.{cases_lt, cases_eq, cases_Bool, and_left, and_right, and_from, and_parts, or_parts, or_left, both_ways, lt-ltb, le-ltb, le-leb, lt-leb, ne_eqb, not-true}
 use Rattle.uring_entry.specs.Layout.{Sqe, addr_of, user_data_of}
 use Rattle.uring_entry.specs.Preparation.{is_faulty, is_cancel, is_cancel_all, operation_of}
 use Rattle.uring_entry.specs.Success as success
-use Rattle.uring_entry.specs.Below.{some_below, least_below}
+use Rattle.uring_entry.specs.Below.{some_below, least_below, count_below}
 use Rattle.uring_entry.specs.Groups.{first_member}
 use Rattle.uring_entry.specs.Requests as manual
 use Rattle.uring_entry.specs.Requests.{Requests, entry_of, has_ended, has_started, is_outstanding, is_running, is_in_group, least_of}
 use Rattle.uring_entry.specs.declared.errno.TheConstants.{ENOENT, EALREADY}
 use Rattle.uring_entry.proofs.BelowLemmas.{some_below_some, some_below_same, is_some_least_below, least_below_same}
 use Rattle.uring_entry.proofs.RequestLemmas.{is_in_own_group}
+use Rattle.uring_dispatch.specs.Window.{one_if}
 use Rattle.uring_dispatch.specs.declared.answers.Posts.{Posts}
 use Rattle.uring_linux.specs.declared.request.Request.{Request}
 use Rattle.uring_linux.specs.declared.request.Test.TheVariants.{Runs}
@@ -23,8 +24,9 @@ use Rattle.uring_linux.specs.LinuxRequests.{LinuxRequests, has_fault, is_in_faul
 use Rattle.uring_linux.specs.Laws.{is_refusal}
 use Rattle.uring_linux.specs.Issues.{issued, issued_ready, ended_with, after_end}
 use Rattle.uring_linux.specs.Window.{Window, at, end_of, said, Tells, Shows}
-use Rattle.uring_linux.specs.LinuxDispatch.{dispatch_of, ShowsRequests}
+use Rattle.uring_linux.specs.LinuxDispatch.{LinuxDispatch, dispatch_of, ShowsRequests}
 use Rattle.uring_linux.proofs.WindowLemmas.{not_none}
+use Rattle.uring_linux.proofs.WindowCounts.{unended_shown, running_shown}
 use Rattle.uring_linux.proofs.WindowEvents.{at_within, roomed, started_shows, ended_shows}
 
 -- what is kept shows the requests that the dispatcher does
@@ -181,6 +183,8 @@ dispatch_started s t d b room left between amid l n q h here going et =
     let shows = subst (λ (x : Window). Shows x (manual.with_started l.requests n)) (sym et) (started_shows s q l.requests n (shown s d b room between l h) here open_) in
     record {
       accepted = shows.count;
+      outstanding = unended_shown t (manual.with_started l.requests n) shows;
+      running = running_shown t (manual.with_started l.requests n) shows;
       held = record {
         window = roomed t.first t.items t.room 0 (manual.with_started l.requests n) shows;
         drains = h.held.drains;
@@ -201,6 +205,8 @@ dispatch_ended s t d k b room left between amid l n q res bytes failed h here go
     let shows = subst (λ (x : Window). Shows x r) (sym et) (ended_shows s q l.requests n res bytes failed (shown s d b room between l h) here open_ ef) in
     record {
       accepted = shows.count;
+      outstanding = unended_shown t r shows;
+      running = running_shown t r shows;
       held = record {
         window = roomed t.first t.items t.room 0 r shows;
         drains = f r shows ∙ ap (λ (x : Drains). record x { deferred = after_going_on r x.deferred }) h.held.drains;
@@ -246,3 +252,19 @@ least_is s r h =
           ∙ ap (λ b. b && not (has_ended r m)) (sym (lt-ltb m (length r.accepted) (omega (arith, low, h.count))))
     ])
     ∙ ap (least_below (is_outstanding r)) h.count
+
+-- who is not kept any more can't be issued
+pub gone_issuable : (s : Window) (d : KeptDrains) (b : Bool) (room : ℕ) (between : Bool) (x : LinuxDispatch) (l : LinuxRequests) (n : ℕ)
+    → dispatch_of s d b room between ≡ x → ShowsRequests x l → n < s.first → is_issuable l n ≡ false
+gone_issuable s d b room between x l n e g lt =
+    let h = shown s d b room between l (subst (λ (y : LinuxDispatch). ShowsRequests y l) (sym e) g) in
+    and_left _ _ (and_right _ _ (ap not (h.gone n lt)))
+
+-- Counts.
+
+pub next_count : (p : ℕ → Bool) (n : ℕ) → count_below p (n + 1) ≡ count_below p n + one_if (p n)
+next_count p n = let more : n + 1 ≡ suc n = omega arith in ap (count_below p) more
+
+pub one_more : (b : Bool) (k : ℕ) → k ≡ one_if b → 0 < k → b ≡ true
+one_more true k e lt = refl
+one_more false k e lt = absurd (omega arith)

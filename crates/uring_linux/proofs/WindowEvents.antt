@@ -21,11 +21,11 @@ use Rattle.uring_linux.proofs.WindowLemmas.{at_low, at_high}
 
 -- Lists.
 
-push_here : (xs : List Request) (x : Request) → slice_get (xs ++ x ∷ []) (length xs) ≡ Some x
+pub push_here : (xs : List Request) (x : Request) → slice_get (xs ++ x ∷ []) (length xs) ≡ Some x
 push_here xs x =
     slice_get-get_or (xs ++ x ∷ []) (length xs) x (omega (arith, length-append xs (x ∷ []))) ∙ ap Some (get_or-append_seam xs x [] x)
 
-push_other : (xs : List Request) (x : Request) (k : ℕ) → k ≢ length xs
+pub push_other : (xs : List Request) (x : Request) (k : ℕ) → k ≢ length xs
     → slice_get (xs ++ x ∷ []) k ≡ slice_get xs k
 push_other xs x k ne =
     let long = length-append xs (x ∷ []) in
@@ -38,11 +38,11 @@ push_other xs x k ne =
           slice_get_past (xs ++ x ∷ []) k past ∙ sym (slice_get_past xs k high)
     ]
 
-is_set_here : (xs : List Request) (x : Request) (i : ℕ) → i < length xs → slice_get (set xs i x) i ≡ Some x
+pub is_set_here : (xs : List Request) (x : Request) (i : ℕ) → i < length xs → slice_get (set xs i x) i ≡ Some x
 is_set_here xs x i lt =
     slice_get-get_or (set xs i x) i x (omega (arith, length-set xs i x)) ∙ ap Some (get_or-set_same xs i x x lt)
 
-set_other : (xs : List Request) (x : Request) (i k : ℕ) → k ≢ i
+pub set_other : (xs : List Request) (x : Request) (i k : ℕ) → k ≢ i
     → slice_get (set xs i x) k ≡ slice_get xs k
 set_other xs x i k ne =
     let long = length-set xs i x in
@@ -95,7 +95,7 @@ at_set_other s q n k le ne =
 
 -- An entry is accepted.
 
-refused_accepted : (r : Requests) (e : Sqe) (k : ℕ) → k < length r.accepted
+pub refused_accepted : (r : Requests) (e : Sqe) (k : ℕ) → k < length r.accepted
     → is_refused_drain (with_accepted r e) k ≡ is_refused_drain r k
 refused_accepted r e k lt =
     ap (λ b. b && has_skipped (with_accepted r e) k) (entry_same r e is_drain k lt)
@@ -103,7 +103,7 @@ refused_accepted r e k lt =
     (some_below_same (λ m. is_skipping (entry_of (with_accepted r e) m)) (λ m. is_skipping (entry_of r m)) (k + 1)
     (λ m low. entry_same r e is_skipping m (omega arith)))
 
-last_accepted : (r : Requests) (e : Sqe) (k : ℕ) → k < length r.accepted
+pub last_accepted : (r : Requests) (e : Sqe) (k : ℕ) → k < length r.accepted
     → is_last (with_accepted r e) k ≡ is_last r k
 last_accepted r e k lt =
     ap (λ b. b || list_any (λ cut. cut == k + 1) r.cuts) (entry_same r e (λ x. not (is_linked x)) k lt)
@@ -264,14 +264,14 @@ ended_shows s q r n res bytes failed h here going is =
 
 -- A call closes.
 
-last_kept : (r : Requests) (k : ℕ) → is_last r k ≡ true → is_last (with_cut r) k ≡ true
+pub last_kept : (r : Requests) (k : ℕ) → is_last r k ≡ true → is_last (with_cut r) k ≡ true
 last_kept r k was =
     elim (cases_eq (suc k) (length r.accepted)) [
       | inl last ↦ is_last_cut_last r k last
       | inr other ↦ is_last_cut r k other ∙ was
     ]
 
-new_cut : (r : Requests) (k : ℕ) → length r.accepted ≤ k → IsNew r k → IsNew (with_cut r) k
+pub new_cut : (r : Requests) (k : ℕ) → length r.accepted ≤ k → IsNew r k → IsNew (with_cut r) k
 new_cut r k le new = record {
   started = new.started;
   ended = new.ended;

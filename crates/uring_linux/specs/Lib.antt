@@ -1,8 +1,11 @@
 pub mod Drains
 pub mod LinuxRequests
 pub mod Issues
+pub mod Issuable
+pub mod Happenings
 pub mod Laws
 pub mod Window
 pub mod Members
 pub mod KeptDrains
 pub mod LinuxDispatch
+pub mod Counts

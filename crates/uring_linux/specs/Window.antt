@@ -2,6 +2,7 @@
 use Rattle.std.specs.Prelude.{◌≡◌, ℕ, suc, ◌+◌, ◌-◌, ◌<◌, ◌≤◌, Bool, true, false, not, ◌&&◌, ◌||◌, ◌==◌, nat_lt, List, length, slice_get, Option, Some, None, if◌then◌else◌}
 use Rattle.std.specs.List.{list_any}
 use Rattle.uring_entry.specs.Layout.{Sqe, user_data_of}
+use Rattle.uring_entry.specs.Below.{count_below}
 use Rattle.uring_entry.specs.Preparation.{is_faulty}
 use Rattle.uring_entry.specs.Requests.{Requests, entry_of, is_linked, is_drain, is_soft, is_last, is_running, has_started, has_ended, has_failed}
 use Rattle.uring_linux.specs.declared.request.Request.{Request}
@@ -27,6 +28,29 @@ at s n = if nat_lt n s.first then None else slice_get s.items (n - s.first)
 pub record IsWithin (s : Window) (n : ℕ) : Type 0 where
   pub low : s.first ≤ n
   pub high : n < end_of s
+
+-- whether a request is there that hasn't ended
+abbrev pub is_unended : Option Request → Bool
+is_unended None = false
+is_unended (Some q) = not q.has_ended
+
+-- whether a request is there that runs
+abbrev pub runs : Option Request → Bool
+runs None = false
+runs (Some q) = q.is_running && not q.has_ended
+
+-- how many of these haven't ended
+unfoldable pub unended_among : List Request → ℕ
+unended_among items = count_below (λ k. is_unended (slice_get items k)) (length items)
+
+-- how many of these run
+unfoldable pub running_among : List Request → ℕ
+running_among items = count_below (λ k. runs (slice_get items k)) (length items)
+
+-- what is kept of n is of a request that hasn't ended, and runs or doesn't
+pub record IsOpen (s : Window) (n : ℕ) (is_running : Bool) : Type 0 where
+  pub unended : is_unended (at s n) ≡ true
+  pub running : runs (at s n) ≡ is_running
 
 -- what is kept of a new request of this entry, in a ring that has used skipped success or not
 abbrev pub new_request : Sqe → (has_skipped : Bool) → Request
@@ -77,3 +101,10 @@ pub record Shows (s : Window) (r : Requests) : Type 0 where
   pub gone : (n : ℕ) → n < s.first → has_ended r n ≡ true
   pub begins : (k : ℕ) → suc k ≡ s.first → is_last r k ≡ true
   pub later : (n : ℕ) → length r.accepted ≤ n → IsNew r n
+
+-- what is kept before this number has ended, in whole groups
+pub record IsOver (s : Window) (to : ℕ) : Type 0 where
+  pub low : s.first ≤ to
+  pub high : to ≤ end_of s
+  pub ended : (n : ℕ) (q : Request) → n < to → at s n ≡ Some q → q.has_ended ≡ true
+  pub last : (n : ℕ) (q : Request) → suc n ≡ to → at s n ≡ Some q → q.is_last ≡ true

@@ -3,12 +3,14 @@
 ghost use Rattle.std.specs.Prelude.{◌≡◌, ℕ, true, false, Some, None};
 ghost use Rattle.uring_entry.specs.Requests.{Requests, entry_of, is_running};
 ghost use Rattle.uring_entry.specs.Preparation.{is_faulty};
+ghost use Rattle.uring_dispatch.specs.declared.answers.Posts.{Posts};
+ghost use Rattle.uring_linux.specs.Laws.{is_refusal};
 ghost use Rattle.uring_linux.specs.Issues.{issued, issued_ready, ended_with, posts_of, posted_by};
 ghost use Rattle.uring_linux.specs.LinuxRequests as linux;
 ghost use Rattle.uring_linux.specs.LinuxRequests.{LinuxRequests};
 ghost use Rattle.uring_linux.specs.LinuxDispatch.{ShowsRequests};
 ghost use Rattle.uring_linux.specs.Members.{IsSpan};
-ghost use Rattle.uring_linux.specs.Window.{Tells, Shows};
+ghost use Rattle.uring_linux.specs.Window.{Tells, Shows, IsOpen};
 
 use crate::answers::Issued;
 use crate::dispatch::LinuxDispatch;
@@ -22,7 +24,8 @@ use uring_entry::{Sqe, opcode, prepare};
 impl LinuxDispatch {
     /// What the issue of request `n` is answered.
     pub(crate) fn answer(&self, n: u64) -> Issued
-        ensures { (l : LinuxRequests) → ShowsRequests self.now l → result ≡ issued l n }
+        ensures issued { (l : LinuxRequests) → ShowsRequests self.now l → result ≡ issued l n }
+        ensures open { is_refusal result ≡ false → IsOpen self.now.held.window n false }
     {
         let Some(request) = self.window.copy(n) else {
             return Issued::Unknown;
@@ -50,11 +53,15 @@ impl LinuxDispatch {
 
     /// What the end of request `n` with this result posts, if it runs.
     pub(crate) fn posted(&self, n: u64, res: i32) -> Option<Posts>
-        ensures { (l : LinuxRequests) → ShowsRequests self.now l → result ≡ posted_by l n res }
+        ensures posted { (l : LinuxRequests) → ShowsRequests self.now l → result ≡ posted_by l n res }
+        ensures open { (p : Posts) → result ≡ Some p → IsOpen self.now.held.window n true }
     {
         let Some(request) = self.window.copy(n) else {
             return None;
         };
+        if request.has_ended {
+            return None;
+        }
         if !request.is_running {
             return None;
         }

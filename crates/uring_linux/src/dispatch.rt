@@ -1,34 +1,39 @@
 //! The dispatcher: accepts requests, says which may start, issues them and ends them, as Linux 6.18 does.
 
 ghost use Rattle.std.specs.Prelude.{◌≡◌, ◌||◌, ℕ, List, ◌+◌, ◌-◌, ◌^◌, ◌<◌, ◌≤◌, ◌↔◌, IsTrue, true, false, OnOk, OnErr, IsErrOf, length, None, Some};
-ghost use Rattle.uring_entry.specs.Requests.{is_outstanding, operation_running, entry_outstanding, least_of};
+ghost use Rattle.uring_dispatch.specs.Window.{one_if};
+ghost use Rattle.uring_entry.specs.Requests.{is_outstanding, operation_running, entry_outstanding, least_of, outstanding_in, running_in};
 ghost use Rattle.uring_linux.specs.Laws.{is_refusal};
 ghost use Rattle.uring_linux.specs.Issues.{issued, after_issue, posted_by, after_end};
 ghost use Rattle.uring_linux.specs.LinuxRequests.{LinuxRequests, is_skipping, no_request, with_accepted, with_cut, with_started, with_ended, next_of};
 ghost use Rattle.uring_entry.specs.Preparation as preparation;
-ghost use Rattle.uring_linux.specs.Window.{end_of};
+ghost use Rattle.uring_linux.specs.Window.{end_of, at, is_unended, IsOpen};
 ghost use Rattle.uring_linux.specs.Window as spec;
 ghost use Rattle.uring_linux.specs.LinuxRequests as spec_of;
 
 use crate::answers::Issued;
 use crate::drains::Drains;
-use crate::request::{Request, Test};
+use crate::request::{Request, Test, operation};
 use crate::window::Window;
 use std::alloc::Global;
 use std::marker::Model;
 use uring_dispatch::{Posts, ReserveError};
-use uring_entry::{Sqe, SqeFlags, prepare, succeeded};
+use uring_entry::{Op, Sqe, SqeFlags, prepare, succeeded};
 use uring_memory::Memory;
 
 /// The requests that were accepted, numbered from 0 in the order of their acceptance, with what was made of them, by the rules of Linux 6.18.
 ///
-/// A submission call gives its entries one by one to `accept` and ends with `end_call`; every other call is made between submission calls. It keeps all requests that were accepted, and searches go over them one after the other.
+/// A submission call gives its entries one by one to `accept` and ends with `end_call`; every other call is made between submission calls. It keeps the requests from the first group on of which one is outstanding at a call's end, and searches go over them one after the other.
 #[derive(Drop)]
 pub struct LinuxDispatch {
     pub(crate) window: Window,
     pub(crate) drains: Drains,
     // Whether an entry without a fault has asked for skipped success.
     has_skipped: bool,
+    // How many requests haven't ended.
+    outstanding: u64,
+    // How many of them are running.
+    running: u64,
     // How many more requests can be accepted: the memory of all that they need was asked for.
     room: u64,
     // Whether no submission call is open.
@@ -42,11 +47,12 @@ impl Model for LinuxDispatch {
 
     ghost view = { λ d. dispatch_of d.window d.drains d.has_skipped d.room d.is_between_calls };
 
-    ghost invariant = { λ d. IsDispatch d.window d.drains d.room d.is_between_calls };
+    ghost invariant = { λ d. IsDispatch d.window d.drains d.outstanding d.running d.room d.is_between_calls };
 }
 
 impl LinuxDispatch {
     ghost use Rattle.uring_linux.specs.LinuxDispatch.{ShowsRequests};
+    ghost use Rattle.uring_linux.specs.Counts.{IsSameCount, HasAccepted, HasStarted, HasEnded, HasFinished, IssueCounts, EndCounts};
 
     /// The most requests that are ever accepted: 2^63 - 1. Our own rule.
     pub const MAX_ACCEPTED: u64 = 9_223_372_036_854_775_807;
@@ -60,6 +66,8 @@ impl LinuxDispatch {
             window: Window::new(alloc),
             drains: Drains::new(alloc),
             has_skipped: false,
+            outstanding: 0,
+            running: 0,
             room: 0,
             is_between_calls: true,
         }
@@ -75,7 +83,7 @@ impl LinuxDispatch {
             ↔ (2 ^ 63 - 1 < self.old.accepted + count) }
         ensures no_memory { IsErrOf result ReserveError.NoMemory → self.old.room < count }
         ensures err { OnErr result (self.new ≡ self.old) }
-        ensures accepted { self.new.accepted ≡ self.old.accepted }
+        ensures counts { IsSameCount self.old self.new }
         ensures between { self.new.is_between_calls ≡ true }
         ensures shows { (l : LinuxRequests) → ShowsRequests self.old l → ShowsRequests self.new l }
     {
@@ -83,7 +91,7 @@ impl LinuxDispatch {
         self.reserve_in(&memory, count)
     }
 
-    /// As `reserve`, by this memory.
+    /// As `reserve`, by this memory. If it grants more elements than the requests accepted so far and these `count` are, `NoMemory` never comes.
     pub fn reserve_in<M: Memory>(&mut self, memory: &M, count: u64) -> Result<(), ReserveError>
         requires { IsTrue self.old.is_between_calls }
         ensures ok { OnOk result (count ≤ self.new.room) }
@@ -91,9 +99,11 @@ impl LinuxDispatch {
             ↔ (2 ^ 63 - 1 < self.old.accepted + count) }
         ensures no_memory { IsErrOf result ReserveError.NoMemory → self.old.room < count }
         ensures err { OnErr result (self.new ≡ self.old) }
-        ensures accepted { self.new.accepted ≡ self.old.accepted }
+        ensures counts { IsSameCount self.old self.new }
         ensures between { self.new.is_between_calls ≡ true }
         ensures shows { (l : LinuxRequests) → ShowsRequests self.old l → ShowsRequests self.new l }
+        ensures granted { (n : ℕ) → M.grants memory.now n → self.old.accepted + count < n
+            → IsErrOf result ReserveError.NoMemory → ⊥ }
     {
         if count > LinuxDispatch::MAX_ACCEPTED - self.accepted() {
             return Err(ReserveError::Spent);
@@ -126,8 +136,7 @@ impl LinuxDispatch {
         requires { 0 < self.old.room }
         ensures shows { (l : LinuxRequests) → ShowsRequests self.old l
             → ShowsRequests self.new (with_accepted l entry) }
-        ensures accepted { self.new.accepted ≡ self.old.accepted + 1 }
-        ensures room { self.new.room + 1 ≡ self.old.room }
+        ensures counts { HasAccepted self.old self.new }
         ensures between { self.new.is_between_calls ≡ false }
     {
         self.has_skipped = has_skipped(self.has_skipped, &entry);
@@ -135,19 +144,22 @@ impl LinuxDispatch {
         let is_first = self.drains.from() == self.window.end();
         self.window.push(request);
         self.drains.accept(&self.window, &request, is_first);
+        self.outstanding += 1;
         self.room -= 1;
         self.is_between_calls = false;
     }
+
     /// Ends a submission call: no group goes on past it. io_uring_enter(2), IOSQE_IO_LINK.
     pub fn end_call(&mut self)
         ensures shows { (l : LinuxRequests) → ShowsRequests self.old l
             → ShowsRequests self.new (with_cut l) }
-        ensures accepted { self.new.accepted ≡ self.old.accepted }
+        ensures counts { IsSameCount self.old self.new }
         ensures room { self.new.room ≡ self.old.room }
         ensures between { self.new.is_between_calls ≡ true }
     {
         self.window.close();
         self.drains.end_call(&self.window);
+        self.window.let_go();
         self.is_between_calls = true;
     }
 
@@ -159,6 +171,7 @@ impl LinuxDispatch {
         ensures answer { (l : LinuxRequests) → ShowsRequests self.old l → result ≡ issued l n }
         ensures shows { (l : LinuxRequests) → ShowsRequests self.old l
             → ShowsRequests self.new (after_issue l n result) }
+        ensures counts { IssueCounts result self.old self.new }
         ensures refused { is_refusal result ≡ true → self.new ≡ self.old }
         ensures between { self.new.is_between_calls ≡ self.old.is_between_calls }
     {
@@ -177,6 +190,7 @@ impl LinuxDispatch {
         ensures answer { (l : LinuxRequests) → ShowsRequests self.old l → result ≡ posted_by l n res }
         ensures shows { (l : LinuxRequests) (bytes : List ℕ) → ShowsRequests self.old l
             → ShowsRequests self.new (after_end l n res bytes result) }
+        ensures counts { EndCounts result self.old self.new }
         ensures refused { result ≡ None → self.new ≡ self.old }
         ensures between { self.new.is_between_calls ≡ self.old.is_between_calls }
     {
@@ -185,6 +199,21 @@ impl LinuxDispatch {
         };
         self.end(n, res);
         Some(posts)
+    }
+
+    /// The operation of request `n`: `Some` exactly if it is running.
+    pub fn running_op(&self, n: u64) -> Option<Op>
+        requires { IsTrue self.now.is_between_calls }
+        ensures { (l : LinuxRequests) → ShowsRequests self.now l
+            → result ≡ operation_running l.requests n }
+    {
+        let Some(request) = self.window.copy(n) else {
+            return None;
+        };
+        if !request.is_running {
+            return None;
+        }
+        Some(operation(&request.entry))
     }
 
     /// The entry of request `n`: `Some` exactly if it is outstanding, that is accepted and not ended.
@@ -217,29 +246,35 @@ impl LinuxDispatch {
         requires { IsTrue self.now.is_between_calls }
         ensures { (l : LinuxRequests) → ShowsRequests self.now l → result ≡ next_of l }
     {
-        for n in self.window.first()..self.window.end() {
-            if self.is_issuable(n) {
-                return Some(n);
-            }
-        }
-        None
+        self.next_issuable(0)
     }
 
-    /// Whether request `n` can be issued.
-    fn is_issuable(&self, n: u64) -> bool
-        ensures { (l : LinuxRequests) → ShowsRequests self.now l → result ≡ spec_of.is_issuable l n }
+    /// How many requests were accepted and haven't ended.
+    pub fn outstanding(&self) -> u64
+        requires { IsTrue self.now.is_between_calls }
+        ensures value { result ≡ self.now.outstanding }
+        ensures shown { (l : LinuxRequests) → ShowsRequests self.now l
+            → result ≡ outstanding_in l.requests }
     {
-        match self.answer(n) {
-            Issued::Run(_) | Issued::Ended(_, _) => true,
-            Issued::NotReady | Issued::Running | Issued::Unknown => false,
-        }
+        self.outstanding
     }
 
-    /// Starts request `n`.
+    /// How many of them were started.
+    pub fn running(&self) -> u64
+        requires { IsTrue self.now.is_between_calls }
+        ensures value { result ≡ self.now.running }
+        ensures shown { (l : LinuxRequests) → ShowsRequests self.now l
+            → result ≡ running_in l.requests }
+    {
+        self.running
+    }
+
+    /// Starts request `n`, which hasn't ended and doesn't run.
     fn start(&mut self, n: u64)
+        requires { IsOpen self.old.held.window n false }
         ensures shows { (l : LinuxRequests) → ShowsRequests self.old l
             → is_outstanding l.requests n ≡ true → ShowsRequests self.new (with_started l n) }
-        ensures between { self.new.is_between_calls ≡ self.old.is_between_calls }
+        ensures counts { HasStarted self.old self.new }
     {
         if let Some(request) = self.window.copy(n) {
             let running = Request {
@@ -247,14 +282,17 @@ impl LinuxDispatch {
                 ..request
             };
             self.window.write(n, running);
+            self.running += 1;
         }
     }
 
-    /// Ends request `n` with this result, and lets go on what was deferred and may.
+    /// Ends request `n`, which hasn't ended, with this result, and lets go on what was deferred and may.
     fn end(&mut self, n: u64, res: i32)
+        requires { is_unended (at self.old.held.window n) ≡ true }
         ensures shows { (l : LinuxRequests) (bytes : List ℕ) → ShowsRequests self.old l
             → is_outstanding l.requests n ≡ true → ShowsRequests self.new (with_ended l n res bytes) }
-        ensures between { self.new.is_between_calls ≡ self.old.is_between_calls }
+        ensures waited { IsOpen self.old.held.window n false → HasEnded self.old self.new }
+        ensures ran { IsOpen self.old.held.window n true → HasFinished self.old self.new }
     {
         if let Some(request) = self.window.copy(n) {
             let has_failed = !succeeded(&request.entry, res);
@@ -266,8 +304,18 @@ impl LinuxDispatch {
             };
             self.window.write(n, ended);
             self.drains.go_on(&self.window);
+            self.outstanding -= 1;
+            self.running = less_if(self.running, request.is_running);
         }
     }
+}
+
+/// One less, if this holds.
+fn less_if(count: u64, is_less: bool) -> u64
+    requires { one_if is_less ≤ count }
+    ensures { result + one_if is_less ≡ count }
+{
+    if is_less { count - 1 } else { count }
 }
 
 /// Whether an entry has asked for skipped success by then, behind this one.

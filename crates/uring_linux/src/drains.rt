@@ -112,6 +112,10 @@ impl Drains {
         ensures from_linked { is_linked request.now.entry ≡ true → self.new.drains.from ≡ self.old.drains.from }
         ensures closed { is_linked request.now.entry ≡ false → self.new.drains.from ≡ end_of window.now }
         ensures room { self.old.room ≤ self.new.room + 1 }
+        ensures high { self.old.drains.from ≤ end_of window.now → self.new.drains.from ≤ end_of window.now }
+        ensures few { self.old.drains.from < end_of window.now
+            → length self.old.drains.deferred ≤ self.old.drains.from
+            → length self.new.drains.deferred ≤ self.new.drains.from }
     {
         let has_fault = request.is_faulty || request.is_refused;
         let is_drain = request.entry.is_drain();
@@ -130,6 +134,9 @@ impl Drains {
         ensures low { window.now.first ≤ self.new.drains.from }
         ensures amid { self.old.drains.from < end_of window.now → self.old.room ≤ self.new.room + 1 }
         ensures none { end_of window.now ≤ self.old.drains.from → self.new.room ≡ self.old.room }
+        ensures high { self.old.drains.from ≤ end_of window.now → self.new.drains.from ≤ end_of window.now }
+        ensures few { length self.old.drains.deferred ≤ self.old.drains.from
+            → length self.new.drains.deferred ≤ self.new.drains.from }
     {
         if self.from < window.end() {
             self.accept_group(window);
@@ -144,6 +151,7 @@ impl Drains {
             → self.new.drains ≡ linux.with_group r self.old.drains }
         ensures from { self.new.drains.from ≡ end_of window.now }
         ensures room { self.old.room ≤ self.new.room + 1 }
+        ensures few { length self.new.drains.deferred ≤ length self.old.drains.deferred + 1 }
     {
         let end = window.end();
         let is_faulty = has_fault_from(window, self.from);
@@ -162,6 +170,7 @@ impl Drains {
             (record self.old.drains { deferred = linux.after_going_on r (deferred_with self.old.drains end) })
             self.old.drains.group }
         ensures room { self.old.room ≡ self.new.room + 1 }
+        ensures few { length self.new.drains.deferred ≤ length self.old.drains.deferred + 1 }
     {
         self.deferred.push_back_reserved(Deferred {
             from: self.from,
@@ -180,6 +189,7 @@ impl Drains {
             ≡ record self.old.drains { deferred = linux.after_going_on r self.old.drains.deferred } }
         ensures room { self.new.room ≡ self.old.room }
         ensures from { self.new.drains.from ≡ self.old.drains.from }
+        ensures few { length self.new.drains.deferred ≤ length self.old.drains.deferred }
     {
         let is_alone = is_alone(&self.deferred, window);
         go_on(&mut self.deferred, is_alone);

@@ -6,6 +6,7 @@ mod answers;
 mod deferred;
 mod dispatch;
 mod drains;
+mod issuable;
 pub mod laws;
 mod members;
 mod request;

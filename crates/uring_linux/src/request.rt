@@ -1,6 +1,9 @@
 //! What is kept of one request.
 
-use uring_entry::Sqe;
+ghost use Rattle.std.specs.Prelude.{◌≡◌};
+ghost use Rattle.uring_entry.specs.Preparation.{operation_of};
+
+use uring_entry::{Op, Sqe, opcode};
 
 /// What is kept of one request.
 #[derive(Clone, Copy, Debug, PartialEq, Eq)]
@@ -32,4 +35,29 @@ pub(crate) enum Test {
 
     /// It runs, and has this user data.
     Runs(u64),
+}
+
+/// What an entry asks for that has no fault.
+pub(crate) fn operation(entry: &Sqe) -> Op
+    ensures { result ≡ operation_of entry.now }
+{
+    match entry.opcode() {
+        opcode::NOP => Op::Nop,
+        opcode::FSYNC => Op::Fsync { fd: entry.fd() },
+        opcode::ASYNC_CANCEL => Op::Cancel {
+            target: entry.addr(),
+            all: entry.is_cancel_all(),
+        },
+        opcode::READ => Op::Read {
+            fd: entry.fd(),
+            off: entry.off(),
+            len: entry.len(),
+        },
+        _ => Op::Write {
+            fd: entry.fd(),
+            off: entry.off(),
+            len: entry.len(),
+            bytes: entry.payload(),
+        },
+    }
 }

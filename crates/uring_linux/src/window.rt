@@ -1,13 +1,13 @@
 //! The requests that are kept, by their numbers, and searches among them.
 
-ghost use Rattle.std.specs.Prelude.{◌≡◌, ◌≢◌, ℕ, ◌+◌, ◌-◌, ◌^◌, ◌<◌, ◌≤◌, length, true, false, [], Some, None, option_copied, slice_get, slice_set, ◌∷◌, ◌++◌, OnOk, OnErr, IsOk};
+ghost use Rattle.std.specs.Prelude.{◌≡◌, ◌≢◌, ℕ, ◌+◌, ◌-◌, ◌^◌, ◌<◌, ◌≤◌, length, true, false, [], Some, None, option_copied, drop, slice_get, slice_set, ◌∷◌, ◌++◌, OnOk, OnErr, IsOk};
 ghost use Rattle.std.specs.VecDeque.{deque_len, deque_capacity};
 ghost use Rattle.uring_entry.specs.Requests.{Requests, entry_of, is_last, with_cut};
 ghost use Rattle.uring_entry.specs.Flags.{skip_success};
 ghost use Rattle.uring_entry.specs.Layout.{has};
 ghost use Rattle.uring_entry.specs.Groups.{first_member};
 ghost use Rattle.uring_linux.specs.Issues as issues;
-ghost use Rattle.uring_linux.specs.Window.{at, end_of, passes, said, Tells, Shows, IsWithin};
+ghost use Rattle.uring_linux.specs.Window.{at, end_of, unended_among, running_among, passes, said, Tells, Shows, IsWithin, IsOver};
 
 use crate::request::{Request, Test};
 use std::alloc::{AllocError, Global};
@@ -17,7 +17,7 @@ use uring_dispatch::Posts;
 use uring_entry::{SqeFlags, succeeded};
 use uring_memory::Memory;
 
-/// The requests from a first one on, found by their numbers: all before it have ended, in whole groups. So far none is let go, and the first is 0.
+/// The requests from a first one on, found by their numbers: all before it have ended, in whole groups, and were let go.
 #[derive(Drop)]
 pub(crate) struct Window {
     first: u64,
@@ -154,8 +154,9 @@ impl Window {
     /// Says anew what is kept of request `n`.
     pub(crate) fn write(&mut self, n: u64, request: Request)
         requires { IsWithin self.old n }
-        ensures { self.new
+        ensures written { self.new
             ≡ record self.old { items = slice_set self.old.items (n - self.old.first) request } }
+        ensures limit { end_of self.new < 2 ^ 63 }
     {
         put(&mut self.items, (n - self.first) as usize, request);
     }
@@ -166,6 +167,8 @@ impl Window {
         ensures first { self.new.first ≡ self.old.first }
         ensures end { end_of self.new ≡ end_of self.old }
         ensures room { self.new.room ≡ self.old.room }
+        ensures outstanding { unended_among self.new.items ≡ unended_among self.old.items }
+        ensures running { running_among self.new.items ≡ running_among self.old.items }
     {
         let end = self.end();
         if end <= self.first {
@@ -181,6 +184,36 @@ impl Window {
                 ..request
             },
         );
+    }
+
+    /// Lets go of the first groups, as far as they have ended whole. It looks at these, and at the first members of the next that have ended.
+    pub(crate) fn let_go(&mut self)
+        ensures shows { (r : Requests) → Shows self.old r → Shows self.new r }
+        ensures end { end_of self.new ≡ end_of self.old }
+        ensures high { self.new.first ≤ end_of self.old }
+        ensures room { self.new.room ≡ self.old.room }
+        ensures outstanding { unended_among self.new.items ≡ unended_among self.old.items }
+        ensures running { running_among self.new.items ≡ running_among self.old.items }
+    {
+        let to = self.over_to();
+        drop_before(&mut self.first, &mut self.items, to);
+    }
+
+    /// The number behind the last of the first groups that have ended whole.
+    fn over_to(&self) -> u64
+        ensures { IsOver self.now result }
+    {
+        let mut to = self.first;
+        for n in self.first..self.end() {
+            let Some(request) = self.copy(n) else {
+                return to;
+            };
+            if !request.has_ended {
+                return to;
+            }
+            to = if_last(&request, n + 1, to);
+        }
+        to
     }
 
     /// Makes room for `count` more requests. Where memory is refused, nothing changes.
@@ -239,4 +272,27 @@ fn item(items: &VecDeque<Request>, place: usize) -> Option<&Request>
     ensures { option_copied result ≡ slice_get items.now.items place }
 {
     items.get(place)
+}
+
+/// The number behind a request if it is the last of its group, else that behind the last before.
+fn if_last(request: &Request, behind: u64, before: u64) -> u64
+    ensures last { request.now.is_last ≡ true → result ≡ behind }
+    ensures other { request.now.is_last ≡ false → result ≡ before }
+{
+    if request.is_last { behind } else { before }
+}
+
+/// Drops the requests before this number.
+fn drop_before(first: &mut u64, items: &mut VecDeque<Request>, to: u64)
+    requires low { first.old ≤ to }
+    requires high { to ≤ first.old + deque_len items.old }
+    ensures first { first.new ≡ to }
+    ensures items { items.new.items ≡ drop (to - first.old) items.old.items }
+    ensures len { deque_len items.new + to ≡ deque_len items.old + first.old }
+    ensures capacity { deque_capacity items.new ≡ deque_capacity items.old }
+{
+    while *first < to {
+        items.pop_front();
+        *first += 1;
+    }
 }

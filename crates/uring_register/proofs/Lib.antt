@@ -3,3 +3,4 @@ mod TableLaws
 mod UseRuns
 mod GroupRuns
 mod GroupKept
+mod IssuingLaws

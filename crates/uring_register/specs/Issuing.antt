@@ -1,5 +1,5 @@
 -- Which thread may call on a ring, by what was done to it, the newest first. io_uring_setup(2), IORING_SETUP_SINGLE_ISSUER, IORING_SETUP_DEFER_TASKRUN and IORING_SETUP_R_DISABLED; which calls another thread may make is what Linux 6.18 was seen to do.
-use Rattle.std.specs.Prelude.{◌≡◌, ℕ, Bool, false, not, ◌&&◌, ◌||◌, ◌==◌, nat_lt, List, [], ◌∷◌, Option, Some, None, if◌then◌else◌}
+use Rattle.std.specs.Prelude.{◌≡◌, ℕ, ℤ, pos, Bool, false, not, ◌&&◌, ◌||◌, ◌==◌, nat_lt, List, [], ◌∷◌, Option, Some, None, if◌then◌else◌}
 use Rattle.std.specs.Int.RustNames.{bit_and}
 use Rattle.uring_register.specs.declared.issuer.Issuer.{Issuer}
 pub use Rattle.uring_entry.specs.Errors.{error}
@@ -52,12 +52,22 @@ abbrev pub may_not_enter : ℕ → ℕ → Bool → Bool
 may_not_enter given to_submit gets =
     (nat_lt 0 to_submit && bit_and given 2 == 0) || (gets && not (bit_and given 8192 == 0))
 
-abbrev pub is_enter_of_another : List Doing → ℕ → ℕ → Bool → Bool
-is_enter_of_another log thread to_submit gets =
-    is_of_another log thread && may_not_enter (flags log) to_submit gets
+-- a ring that was made disabled stays so until it is enabled
+abbrev pub is_disabled : List Doing → Bool
+is_disabled [] = false
+is_disabled (SetUp thread given strict ∷ earlier) = not (bit_and given 64 == 0)
+is_disabled (Enabled thread ∷ earlier) = false
+is_disabled (Called thread ∷ earlier) = is_disabled earlier
+
+-- a call of io_uring_enter(2): -77 (EBADFD) while the ring is disabled, and -17 (EEXIST) of another thread
+abbrev pub entering_fault : List Doing → ℕ → ℕ → Bool → ℤ
+entering_fault log thread to_submit gets =
+    if is_disabled log then error 77 else
+    if is_of_another log thread && may_not_enter (flags log) to_submit gets then error 17 else pos 0
 
 -- glue: what is kept of all this
 pub record KeepsIssuer (log : List Doing) (i : Issuer) : Type 0 where
   pub flags : i.flags ≡ flags log
+  pub disabled : i.is_disabled ≡ is_disabled log
   pub wants_one : i.wants_one ≡ wants_one log
   pub issuer : (if i.has_one then Some i.thread else None) ≡ issuer log

@@ -11,6 +11,8 @@ pub struct Issuer {
     /// Those of the ring's set-up.
     pub flags: u32,
 
+    pub is_disabled: bool,
+
     /// Whether one thread alone may call.
     pub wants_one: bool,
 
@@ -29,6 +31,7 @@ impl Issuer {
         let wants_one = has_one(flags, is_strict);
         Issuer {
             flags,
+            is_disabled: flags & 64 != 0,
             wants_one,
             has_one: wants_one && flags & 64 == 0,
             thread,
@@ -39,6 +42,7 @@ impl Issuer {
     pub fn enable(&mut self, thread: u32)
         ensures { (log : List Doing) → KeepsIssuer log self.old → KeepsIssuer (Enabled thread ∷ log) self.new }
     {
+        self.is_disabled = false;
         if self.wants_one && !self.has_one {
             self.has_one = true;
             self.thread = thread;
@@ -52,12 +56,18 @@ impl Issuer {
         self.has_one && self.thread != thread
     }
 
-    /// Whether a call of io_uring_enter(2) by this thread is refused, which submits so many entries and asks for completions or not.
-    pub fn is_enter_of_another(&self, thread: u32, to_submit: u32, gets: bool) -> bool
+    /// The fault of a call of io_uring_enter(2) by this thread, which submits so many entries and asks for completions or not; or 0.
+    pub fn entering_fault(&self, thread: u32, to_submit: u32, gets: bool) -> i32
         ensures { (log : List Doing) → KeepsIssuer log self.now
-            → result ≡ spec.is_enter_of_another log thread to_submit gets }
+            → result ≡ spec.entering_fault log thread to_submit gets }
     {
-        self.is_of_another(thread) && may_not_enter(self.flags, to_submit, gets)
+        if self.is_disabled {
+            -77
+        } else if self.is_of_another(thread) && may_not_enter(self.flags, to_submit, gets) {
+            -17
+        } else {
+            0
+        }
     }
 }
 

@@ -36,7 +36,7 @@ pub use group_laws::{
 };
 pub use group_rows::group_argument_fault;
 pub use issuer::Issuer;
-pub use issuer_laws::{keeps_its_issuer, knows_its_issuer};
+pub use issuer_laws::{disabled_has_none, keeps_its_issuer, knows_its_issuer};
 pub use registering::{Row, buffer_row, file_row, updated};
 pub use restrictions::{Restriction, Restrictions, enabling_fault, restricting_fault};
 pub use table::Table;

@@ -5,7 +5,7 @@ ghost use Rattle.std.specs.Prelude.{IsTrue};
 use super::{check_done, first_false};
 use std::alloc::Global;
 use std::test::Fail;
-use uring_entry::Sqe;
+use uring_entry::{Op, Sqe};
 use uring_linux::{Issued, LinuxDispatch, Posts, ReserveError};
 
 const DRAIN: u8 = 2;
@@ -171,6 +171,52 @@ fn silent_members(alloc: Global) -> Result<Option<usize>, Fail> {
     let failed = matches!(dispatch.end_running(2, -5), Some(Posts::Completion(3)));
     let cancelled = ends(&mut dispatch, 3, -125, false);
     Ok(first_false(&[head, silent, running, failed, cancelled]))
+}
+
+/// Whether so many requests are outstanding, running and issuable.
+fn has(dispatch: &LinuxDispatch, outstanding: u64, running: u64, issuable: u64) -> bool
+    requires { IsTrue dispatch.now.is_between_calls }
+{
+    let are_outstanding = dispatch.outstanding() == outstanding;
+    let are_running = dispatch.running() == running;
+    let are_issuable = dispatch.issuable() == issuable;
+    are_outstanding && are_running && are_issuable
+}
+
+/// A chain of two, a drain and one behind it, each in its turn; then all but the last have been let go.
+fn counts(dispatch: &mut LinuxDispatch) -> Result<Option<usize>, ReserveError>
+    requires { IsTrue dispatch.old.is_between_calls }
+{
+    two(dispatch, Sqe::nop(0, LINK), Sqe::nop(1, 0))?;
+    one(dispatch, Sqe::nop(2, DRAIN))?;
+    one(dispatch, Sqe::nop(3, 0))?;
+    let new = has(dispatch, 4, 0, 1) && dispatch.nth_issuable(0) == Some(0);
+    let no_other = dispatch.nth_issuable(1).is_none() && dispatch.next_issuable(1).is_none();
+    let first = starts(dispatch, 0) && has(dispatch, 4, 1, 0);
+    let operation = dispatch.running_op(0) == Some(Op::Nop) && dispatch.running_op(1).is_none();
+    let second = finish(dispatch, 0) && dispatch.next() == Some(1);
+    let chain = starts(dispatch, 1) && finish(dispatch, 1) && has(dispatch, 2, 0, 1);
+    let drain = starts(dispatch, 2) && finish(dispatch, 2) && has(dispatch, 1, 0, 1);
+    one(dispatch, Sqe::nop(4, 0))?;
+    let held = dispatch.nth_issuable(0) == Some(3) && dispatch.next_issuable(4).is_none();
+    let gone = dispatch.entry(2).is_none() && dispatch.least() == Some(3);
+    let behind = starts(dispatch, 3) && finish(dispatch, 3) && dispatch.next_issuable(4) == Some(4);
+    Ok(first_false(&[
+        new, no_other, first, operation, second, chain, drain, held, gone, behind,
+    ]))
+}
+
+/// The same, with a dispatcher of its own.
+fn counts_made(alloc: Global) -> Result<Option<usize>, Fail> {
+    let mut dispatch = LinuxDispatch::new(alloc);
+    let wrong = counts(&mut dispatch)?;
+    drop(dispatch);
+    Ok(wrong)
+}
+
+#[test]
+fn counts_as_linux_does(rt: HostRuntime) -> Result<(), Fail> {
+    check_done(&rt, counts_made(rt.alloc()))
 }
 
 #[test]

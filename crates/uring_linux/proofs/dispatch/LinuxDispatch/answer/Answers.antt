@@ -2,24 +2,26 @@ use Rattle.std.proofs.Common.{rules, w32, arith, sym, ◌∙◌, ap, subst, true
 use Rattle.std.proofs.lemmas.Int.{to_z-of_z}
 use Rattle.uring_linux.specs.Issues.{ended_with}
 use Rattle.uring_linux.specs.LinuxDispatch.{LinuxDispatch, ShowsRequests}
+use Rattle.uring_linux.specs.Window.{IsOpen}
+use Rattle.uring_linux.proofs.WindowCounts.{open_at}
 use Rattle.uring_linux.specs.Drains.{Drains, is_in_some}
 use Rattle.uring_linux.proofs.WindowEvents.{at_within}
 use Rattle.uring_linux.proofs.Standings.{shown, outside_ended, outstanding_ended, outstanding_going, asked, healthy}
 use Rattle.uring_linux.proofs.dispatch.LinuxDispatch.answer.Goals as goal
 
-pub returns-in_default : goal.returns-in_default
-returns-in_default c = λ l g.
+pub returns-in_default-clause-issued : goal.returns-in_default-clause-issued
+returns-in_default-clause-issued c = λ l g.
     let h = shown c.self.inside.window c.self.inside.drains c.self.inside.has_skipped c.self.inside.room c.self.inside.is_between_calls l (subst (λ (d : LinuxDispatch). ShowsRequests d l) (sym c.self.view_is) g) in
     sym (asked l c.args.n false _ _ _ _ (outside_ended _ l.requests c.args.n h (sym c.in_default.is ∙ c.copy.ensures)) refl refl refl refl)
 
-pub returns-then-request : goal.returns-then-request
-returns-then-request c = λ l g.
+pub returns-then-request-clause-issued : goal.returns-then-request-clause-issued
+returns-then-request-clause-issued c = λ l g.
     let h = shown c.self.inside.window c.self.inside.drains c.self.inside.has_skipped c.self.inside.room c.self.inside.is_between_calls l (subst (λ (d : LinuxDispatch). ShowsRequests d l) (sym c.self.view_is) g) in
     let t = h.told c.args.n c.in-Some.request (sym c.in-Some.ensures) in
     sym (asked l c.args.n false _ _ _ _ (outstanding_ended _ l.requests c.args.n t c.if-request.true) refl refl refl refl)
 
-pub returns-then-request-2 : goal.returns-then-request-2
-returns-then-request-2 c = λ l g.
+pub returns-then-request-2-clause-issued : goal.returns-then-request-2-clause-issued
+returns-then-request-2-clause-issued c = λ l g.
     let h = shown c.self.inside.window c.self.inside.drains c.self.inside.has_skipped c.self.inside.room c.self.inside.is_between_calls l (subst (λ (d : LinuxDispatch). ShowsRequests d l) (sym c.self.view_is) g) in
     let here = sym c.in-Some.ensures in
     let t = h.told c.args.n c.in-Some.request here in
@@ -28,8 +30,8 @@ returns-then-request-2 c = λ l g.
 pub span_of-span-requires : goal.span_of-span-requires
 span_of-span-requires c = at_within _ c.args.n c.in-Some.request (sym c.in-Some.ensures)
 
-pub returns-then-not-is_in_turn : goal.returns-then-not-is_in_turn
-returns-then-not-is_in_turn c = λ l g.
+pub returns-then-not-is_in_turn-clause-issued : goal.returns-then-not-is_in_turn-clause-issued
+returns-then-not-is_in_turn-clause-issued c = λ l g.
     let h = shown c.self.inside.window c.self.inside.drains c.self.inside.has_skipped c.self.inside.room c.self.inside.is_between_calls l (subst (λ (d : LinuxDispatch). ShowsRequests d l) (sym c.self.view_is) g) in
     let here = sym c.in-Some.ensures in
     let t = h.told c.args.n c.in-Some.request here in
@@ -38,8 +40,8 @@ returns-then-not-is_in_turn c = λ l g.
     (asked l c.args.n true false false _ _ (outstanding_going _ _ l.requests c.args.n h here c.if-request.false) (sym t.running ∙ c.if-request-2.false)
     (sym (c.is_in_turn.ensures l.requests h m) ∙ c.if-not-is_in_turn.true) refl refl)
 
-pub returns-then-is_doomed : goal.returns-then-is_doomed
-returns-then-is_doomed c = λ l g.
+pub returns-then-is_doomed-clause-issued : goal.returns-then-is_doomed-clause-issued
+returns-then-is_doomed-clause-issued c = λ l g.
     let h = shown c.self.inside.window c.self.inside.drains c.self.inside.has_skipped c.self.inside.room c.self.inside.is_between_calls l (subst (λ (d : LinuxDispatch). ShowsRequests d l) (sym c.self.view_is) g) in
     let here = sym c.in-Some.ensures in
     let t = h.told c.args.n c.in-Some.request here in
@@ -51,8 +53,8 @@ returns-then-is_doomed c = λ l g.
     (asked l c.args.n true false true true _ (outstanding_going _ _ l.requests c.args.n h here c.if-request.false) (sym t.running ∙ c.if-request-2.false)
     (sym (c.is_in_turn.ensures l.requests h m) ∙ c.if-not-is_in_turn.false) (sym (c.is_doomed.ensures l.requests h m) ∙ c.if-is_doomed.true) refl)
 
-pub returns-then-is_deferred : goal.returns-then-is_deferred
-returns-then-is_deferred c = λ l g.
+pub returns-then-is_deferred-clause-issued : goal.returns-then-is_deferred-clause-issued
+returns-then-is_deferred-clause-issued c = λ l g.
     let f = subst (λ (d : LinuxDispatch). ShowsRequests d l) (sym c.self.view_is) g in
     let h = shown c.self.inside.window c.self.inside.drains c.self.inside.has_skipped c.self.inside.room c.self.inside.is_between_calls l f in
     let here = sym c.in-Some.ensures in
@@ -63,8 +65,8 @@ returns-then-is_deferred c = λ l g.
     (sym (c.is_in_turn.ensures l.requests h m) ∙ c.if-not-is_in_turn.false) (sym (c.is_doomed.ensures l.requests h m) ∙ c.if-is_doomed.false)
     (ap (λ (d : Drains). is_in_some d.deferred c.args.n) (sym f.held.drains) ∙ sym c.is_deferred.ensures ∙ c.if-is_deferred.true))
 
-pub returns : goal.returns
-returns c = λ l g.
+pub returns-clause-issued : goal.returns-clause-issued
+returns-clause-issued c = λ l g.
     let f = subst (λ (d : LinuxDispatch). ShowsRequests d l) (sym c.self.view_is) g in
     let h = shown c.self.inside.window c.self.inside.drains c.self.inside.has_skipped c.self.inside.room c.self.inside.is_between_calls l f in
     let here = sym c.in-Some.ensures in
@@ -77,3 +79,13 @@ returns c = λ l g.
     (asked l c.args.n true false true false false (outstanding_going _ _ l.requests c.args.n h here c.if-request.false) idle
     (sym (c.is_in_turn.ensures l.requests h m) ∙ c.if-not-is_in_turn.false) free
     (ap (λ (d : Drains). is_in_some d.deferred c.args.n) (sym f.held.drains) ∙ sym c.is_deferred.ensures ∙ c.if-is_deferred.false))
+
+pub returns-then-is_doomed-clause-open : goal.returns-then-is_doomed-clause-open
+returns-then-is_doomed-clause-open c = λ e.
+    subst (λ (d : LinuxDispatch). IsOpen d.held.window c.args.n false) c.self.view_is
+    (open_at c.self.inside.window c.args.n c.in-Some.request false (sym c.in-Some.ensures) c.if-request.false c.if-request-2.false)
+
+pub returns-clause-open : goal.returns-clause-open
+returns-clause-open c = λ e.
+    subst (λ (d : LinuxDispatch). IsOpen d.held.window c.args.n false) c.self.view_is
+    (open_at c.self.inside.window c.args.n c.in-Some.request false (sym c.in-Some.ensures) c.if-request.false c.if-request-2.false)

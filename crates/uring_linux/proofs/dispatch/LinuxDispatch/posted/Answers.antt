@@ -1,19 +1,22 @@
-use Rattle.std.proofs.Common.{rules, w32, sym, ◌∙◌, ap, subst, Some, None}
+use Rattle.std.proofs.Common.{rules, w32, true, not, sym, ◌∙◌, ap, subst, Some, None}
 use Rattle.std.specs.Prelude.{if◌then◌else◌}
+use Rattle.std.proofs.lemmas.Bool.{and_right}
 use Rattle.std.proofs.lemmas.Int.{to_z-of_z}
 use Rattle.uring_linux.specs.Issues.{posts_of}
 use Rattle.uring_linux.specs.LinuxDispatch.{LinuxDispatch, ShowsRequests}
+use Rattle.uring_linux.specs.Window.{IsOpen}
+use Rattle.uring_linux.proofs.WindowCounts.{open_at}
 use Rattle.uring_linux.proofs.WindowEvents.{at_within}
 use Rattle.uring_linux.proofs.Standings.{shown, outside_idle}
 use Rattle.uring_linux.proofs.dispatch.LinuxDispatch.posted.Goals as goal
 
-pub returns-in_default : goal.returns-in_default
-returns-in_default c = λ l g.
+pub returns-in_default-clause-posted : goal.returns-in_default-clause-posted
+returns-in_default-clause-posted c = λ l g.
     let h = shown c.self.inside.window c.self.inside.drains c.self.inside.has_skipped c.self.inside.room c.self.inside.is_between_calls l (subst (λ (d : LinuxDispatch). ShowsRequests d l) (sym c.self.view_is) g) in
     sym (ap (λ b. if b then Some (posts_of l.requests c.args.n c.args.res) else None) (outside_idle _ l.requests c.args.n h (sym c.in_default.is ∙ c.copy.ensures)))
 
-pub returns-then-not-request : goal.returns-then-not-request
-returns-then-not-request c = λ l g.
+pub returns-then-not-request-clause-posted : goal.returns-then-not-request-clause-posted
+returns-then-not-request-clause-posted c = λ l g.
     let h = shown c.self.inside.window c.self.inside.drains c.self.inside.has_skipped c.self.inside.room c.self.inside.is_between_calls l (subst (λ (d : LinuxDispatch). ShowsRequests d l) (sym c.self.view_is) g) in
     let t = h.told c.args.n c.in-Some.request (sym c.in-Some.ensures) in
     sym (ap (λ b. if b then Some (posts_of l.requests c.args.n c.args.res) else None) (sym t.running ∙ c.if-not-request.true))
@@ -21,10 +24,21 @@ returns-then-not-request c = λ l g.
 pub span_of-span-requires : goal.span_of-span-requires
 span_of-span-requires c = at_within _ c.args.n c.in-Some.request (sym c.in-Some.ensures)
 
-pub returns : goal.returns
-returns c = λ l g.
+pub returns-clause-posted : goal.returns-clause-posted
+returns-clause-posted c = λ l g.
     let h = shown c.self.inside.window c.self.inside.drains c.self.inside.has_skipped c.self.inside.room c.self.inside.is_between_calls l (subst (λ (d : LinuxDispatch). ShowsRequests d l) (sym c.self.view_is) g) in
     let t = h.told c.args.n c.in-Some.request (sym c.in-Some.ensures) in
     let posts = rw (to_z-of_z w32 c.args.res (search rules)) at c.posts.ensures in
     ap Some (posts l.requests h t (c.span_of-span.ensures l.requests h))
     ∙ sym (ap (λ b. if b then Some (posts_of l.requests c.args.n c.args.res) else None) (sym t.running ∙ c.if-not-request.false))
+
+pub returns-then-request-clause-posted : goal.returns-then-request-clause-posted
+returns-then-request-clause-posted c = λ l g.
+    let h = shown c.self.inside.window c.self.inside.drains c.self.inside.has_skipped c.self.inside.room c.self.inside.is_between_calls l (subst (λ (d : LinuxDispatch). ShowsRequests d l) (sym c.self.view_is) g) in
+    let t = h.told c.args.n c.in-Some.request (sym c.in-Some.ensures) in
+    sym (ap (λ b. if b then Some (posts_of l.requests c.args.n c.args.res) else None) (and_right _ _ (ap not (sym t.ended ∙ c.if-request.true))))
+
+pub returns-clause-open : goal.returns-clause-open
+returns-clause-open c = λ p e.
+    subst (λ (d : LinuxDispatch). IsOpen d.held.window c.args.n true) c.self.view_is
+    (open_at c.self.inside.window c.args.n c.in-Some.request true (sym c.in-Some.ensures) c.if-request.false c.if-not-request.false)

@@ -1,7 +1,8 @@
-use Rattle.std.proofs.Common.{arith, sym, ◌∙◌, ap, subst}
+use Rattle.std.proofs.Common.{arith, refl, sym, ◌∙◌, ap, subst}
 use Rattle.uring_entry.specs.Requests.{with_cut}
-use Rattle.uring_linux.specs.Window.{Window, Shows}
+use Rattle.uring_linux.specs.Window.{Window, unended_among, running_among, Shows}
 use Rattle.uring_linux.proofs.WindowLemmas.{not_none}
+use Rattle.uring_linux.proofs.WindowCounts.{unended_same, running_same}
 use Rattle.uring_linux.proofs.WindowEvents.{cut_shows, cut_shows_none}
 use Rattle.uring_linux.proofs.window.Window.close.Goals as goal
 
@@ -18,5 +19,13 @@ returns-in_default-clause-shows c = λ r h.
 pub returns-clause-shows : goal.returns-clause-shows
 returns-clause-shows c = λ r h.
     let first = ap (λ (s : Window). s.first) c.self.view_is in
-    subst (λ (s : Window). Shows s (with_cut r)) (sym c.write.ensures)
+    subst (λ (s : Window). Shows s (with_cut r)) (sym c.write.ensures.written)
     (cut_shows _ c.in-Some.request r _ h (sym c.in-Some.ensures) (omega arith))
+
+pub returns-clause-outstanding : goal.returns-clause-outstanding
+returns-clause-outstanding c =
+    ap (λ (s : Window). unended_among s.items) c.write.ensures.written ∙ unended_same _ _ c.in-Some.request _ (sym c.in-Some.ensures) refl
+
+pub returns-clause-running : goal.returns-clause-running
+returns-clause-running c =
+    ap (λ (s : Window). running_among s.items) c.write.ensures.written ∙ running_same _ _ c.in-Some.request _ (sym c.in-Some.ensures) refl

@@ -1,0 +1,206 @@
+-- Groups that are deferred: nothing has happened to their members, and once some went on, not all that is outstanding is deferred.
+use Rattle.std.proofs.Common.{◌≡◌, ℕ, suc, ◌-◌, ◌<◌, ◌≤◌, min, max, length, Bool, true, false, not, ◌&&◌, ◌⊎◌, List, [], ◌∷◌, ◌++◌, refl, ◌∙◌, ap, arith, inl, inr}
+use Rattle.std.specs.Prelude.{if◌then◌else◌}
+use Rattle.std.proofs.lemmas.Bool.{cases_lt, both_ways, and_left, and_right, and_from, and_parts, or_from, or_cases, or_parts, or_left, or_right, lt-ltb, le-ltb, lt-leb, le-leb, leb-true, ltb-true}
+use Rattle.uring_entry.specs.Requests.{Requests, entry_of, is_last, is_joined, is_in_group, is_soft, is_behind_failure, has_started, has_ended, has_failed}
+use Rattle.uring_entry.proofs.BelowLemmas.{some_below_none, some_below_some}
+use Rattle.uring_entry.proofs.RequestLemmas.{is_joined_no, has_failed_unended}
+use Rattle.uring_linux.specs.declared.deferred.Deferred.{Deferred}
+use Rattle.uring_linux.specs.Drains.{is_among, is_in_some, from_drain, still_deferred}
+use Rattle.uring_linux.specs.LinuxRequests.{has_fault, is_in_faulty_group, is_doomed, is_alone, after_going_on}
+
+-- nothing has happened to n
+pub record IsIdle (r : Requests) (n : ℕ) : Type 0 where
+  pub started : has_started r n ≡ false
+  pub ended : has_ended r n ≡ false
+
+-- a whole group without a fault, to whose members nothing has happened
+pub record IsWaiting (r : Requests) (g : Deferred) : Type 0 where
+  pub some : g.from < g.end
+  pub begins : (k : ℕ) → suc k ≡ g.from → is_last r k ≡ true
+  pub ends : (k : ℕ) → suc k ≡ g.end → is_last r k ≡ true
+  pub idle : (k : ℕ) → g.from ≤ k → k < g.end → IsIdle r k
+  pub healthy : (k : ℕ) → g.from ≤ k → k < g.end → has_fault r k ≡ false
+
+-- such groups, in order, from one number on and before another
+abbrev pub AreWaiting : Requests → ℕ → List Deferred → ℕ → Type 0
+AreWaiting r low [] high = low ≤ high
+AreWaiting r low (g ∷ rest) high = (low ≤ g.from) × IsWaiting r g × AreWaiting r g.end rest high
+
+waiting_order : (r : Requests) (low : ℕ) (xs : List Deferred) (high : ℕ) → AreWaiting r low xs high → low ≤ high
+waiting_order r low [] high h = h
+waiting_order r low (g ∷ rest) high h =
+    let later = waiting_order r g.end rest high h.2 in
+    let some = h.1.some in
+    omega (arith, h.0)
+
+waiting_lower : (r : Requests) (a low : ℕ) (xs : List Deferred) (high : ℕ) → a ≤ low
+    → AreWaiting r low xs high → AreWaiting r a xs high
+waiting_lower r a low [] high le h = omega (arith, le, h)
+waiting_lower r a low (g ∷ rest) high le h = (omega (arith, le, h.0), h.1, h.2)
+
+pub waiting_higher : (r : Requests) (low : ℕ) (xs : List Deferred) (high b : ℕ) → high ≤ b
+    → AreWaiting r low xs high → AreWaiting r low xs b
+waiting_higher r low [] high b le h = omega (arith, le, h)
+waiting_higher r low (g ∷ rest) high b le h = (h.0, h.1, waiting_higher r g.end rest high b le h.2)
+
+pub waiting_push : (r : Requests) (low : ℕ) (xs : List Deferred) (high : ℕ) (g : Deferred) → high ≤ g.from
+    → IsWaiting r g → AreWaiting r low xs high → AreWaiting r low (xs ++ g ∷ []) g.end
+waiting_push r low [] high g le w h = (omega (arith, le, h), w, omega arith)
+waiting_push r low (x ∷ rest) high g le w h = (h.0, h.1, waiting_push r x.end rest high g le w h.2)
+
+waiting_below : (r : Requests) (low : ℕ) (xs : List Deferred) (high n : ℕ) → AreWaiting r low xs high → n < low
+    → is_in_some xs n ≡ false
+waiting_below r low [] high n h lt = refl
+waiting_below r low (g ∷ rest) high n h lt =
+    let some = h.1.some in
+    or_from _ _ (and_left _ _ (lt-leb g.from n (omega (arith, lt, h.0)))) (waiting_below r g.end rest high n h.2 (omega (arith, lt, h.0)))
+
+pub waiting_past : (r : Requests) (low : ℕ) (xs : List Deferred) (high n : ℕ) → AreWaiting r low xs high → high ≤ n
+    → is_in_some xs n ≡ false
+waiting_past r low [] high n h le = refl
+waiting_past r low (g ∷ rest) high n h le =
+    let order = waiting_order r g.end rest high h.2 in
+    or_from _ _ (and_right _ _ (le-ltb n g.end (omega (arith, le, order)))) (waiting_past r g.end rest high n h.2 le)
+
+-- the group of a member
+pub record IsHeldBy (r : Requests) (xs : List Deferred) (n : ℕ) : Type 0 where
+  pub group : Deferred
+  pub waiting : IsWaiting r group
+  pub low : group.from ≤ n
+  pub high : n < group.end
+  pub members : (m : ℕ) → group.from ≤ m → m < group.end → is_in_some xs m ≡ true
+
+pub held_by : (r : Requests) (low : ℕ) (xs : List Deferred) (high n : ℕ) → AreWaiting r low xs high
+    → is_in_some xs n ≡ true → IsHeldBy r xs n
+held_by r low [] high n h e = absurd (both_ways false refl e)
+held_by r low (g ∷ rest) high n h e =
+    elim (or_cases (is_among n g) (is_in_some rest n) e) [
+      | inl here ↦
+          let parts = and_parts _ _ here in
+          record {
+            group = g;
+            waiting = h.1;
+            low = leb-true g.from n parts.0;
+            high = ltb-true n g.end parts.1;
+            members = λ m a b. or_left _ _ (and_from _ _ (le-leb g.from m a) (lt-ltb m g.end b));
+          }
+      | inr later ↦
+          let found = held_by r g.end rest high n h.2 later in
+          record {
+            group = found.group;
+            waiting = found.waiting;
+            low = found.low;
+            high = found.high;
+            members = λ m a b. or_right (is_among m g) (is_in_some rest m) (found.members m a b);
+          }
+    ]
+
+-- what changes something of n alone leaves the groups without it
+pub waiting_other : (r t : Requests) (n low : ℕ) (xs : List Deferred) (high : ℕ) → AreWaiting r low xs high
+    → is_in_some xs n ≡ false → ((g : Deferred) → is_among n g ≡ false → g.end ≤ high → IsWaiting r g → IsWaiting t g)
+    → AreWaiting t low xs high
+waiting_other r t n low [] high h out f = h
+waiting_other r t n low (g ∷ rest) high h out f =
+    let parts = or_parts (is_among n g) (is_in_some rest n) out in
+    (h.0, f g parts.0 (waiting_order r g.end rest high h.2) h.1, waiting_other r t n g.end rest high h.2 parts.1 f)
+
+-- Groups go on.
+
+waiting_from_drain : (r : Requests) (low : ℕ) (xs : List Deferred) (high : ℕ) → AreWaiting r low xs high
+    → AreWaiting r low (from_drain xs) high
+waiting_from_drain r low [] high h = h
+waiting_from_drain r low (g ∷ rest) high h =
+    let some = h.1.some in
+    go g.drains (waiting_lower r low g.end (from_drain rest) high (omega (arith, h.0)) (waiting_from_drain r g.end rest high h.2))
+  where
+    go : (b : Bool) → AreWaiting r low (from_drain rest) high → AreWaiting r low (if b then g ∷ rest else from_drain rest) high
+    go true later = h
+    go false later = later
+
+-- those behind the first that go on
+waiting_behind : (r : Requests) (g : Deferred) (rest : List Deferred) (high : ℕ) (b : Bool) → AreWaiting r g.end rest high
+    → AreWaiting r g.end (if b then rest else from_drain rest) high
+waiting_behind r g rest high true h = h
+waiting_behind r g rest high false h = waiting_from_drain r g.end rest high h
+
+pub still_waiting : (r : Requests) (low : ℕ) (xs : List Deferred) (high : ℕ) (alone : Bool) → AreWaiting r low xs high
+    → AreWaiting r low (still_deferred alone xs) high
+still_waiting r low [] high alone h = h
+still_waiting r low (g ∷ rest) high false h = h
+still_waiting r low (g ∷ rest) high true h =
+    let some = h.1.some in
+    waiting_lower r low g.end _ high (omega (arith, h.0)) (waiting_behind r g rest high g.drains h.2)
+
+pub not_alone : (r : Requests) (xs : List Deferred) (k : ℕ) → k < length r.accepted → has_ended r k ≡ false
+    → is_in_some xs k ≡ false → is_alone r xs ≡ false
+unfolding is_alone
+not_alone r xs k lt e out =
+    ap not
+    (some_below_some (λ j. not (has_ended r j) && not (is_in_some xs j)) (length r.accepted) k lt (and_from _ _ (ap not e) (ap not out)))
+
+-- nothing is deferred, or not all that is outstanding is
+abbrev pub HasGoneOn : Requests → List Deferred → Type 0
+HasGoneOn r xs = (xs ≡ []) ⊎ (is_alone r xs ≡ false)
+
+pub gone_on : (r : Requests) (low : ℕ) (xs : List Deferred) (high : ℕ) → high ≤ length r.accepted
+    → AreWaiting r low xs high → HasGoneOn r (after_going_on r xs)
+gone_on r low [] high within h = inl refl
+gone_on r low (g ∷ rest) high within h = go (is_alone r (g ∷ rest)) refl
+  where
+    go : (b : Bool) → is_alone r (g ∷ rest) ≡ b → HasGoneOn r (still_deferred b (g ∷ rest))
+    go false e = inr e
+    go true e =
+        let some = h.1.some in
+        let order = waiting_order r g.end rest high h.2 in
+        inr
+        (not_alone r _ g.from (omega arith) (h.1.idle g.from (omega arith) some).ended
+        (waiting_below r g.end (if g.drains then rest else from_drain rest) high g.from (waiting_behind r g rest high g.drains h.2) some))
+
+-- No member is doomed.
+
+first_of_three : (a b c : Bool) → a ≡ false → (a && b && c) ≡ false
+first_of_three false b c e = refl
+first_of_three true b c e = absurd (both_ways true e refl)
+
+outside_joined : (r : Requests) (g : Deferred) (m n : ℕ) → IsWaiting r g → m < g.from → g.from ≤ n
+    → is_joined r m n ≡ false
+outside_joined r g m n w lt le = is_joined_no r m n (g.from - 1) (omega arith) (omega arith) (w.begins (g.from - 1) (omega arith))
+
+pub behind_joined : (r : Requests) (g : Deferred) (n m : ℕ) → IsWaiting r g → n < g.end → g.end ≤ m
+    → is_joined r n m ≡ false
+behind_joined r g n m w lt le = is_joined_no r n m (g.end - 1) (omega arith) (omega arith) (w.ends (g.end - 1) (omega arith))
+
+in_group_up : (r : Requests) (m n : ℕ) → m ≤ n → is_in_group r m n ≡ is_joined r m n
+in_group_up r m n le =
+    let low : min m n ≡ m = omega arith in
+    let high : max m n ≡ n = omega arith in
+    ap (λ k. is_joined r k (max m n)) low ∙ ap (is_joined r m) high
+
+in_group_down : (r : Requests) (m n : ℕ) → n ≤ m → is_in_group r m n ≡ is_joined r n m
+in_group_down r m n le =
+    let low : min m n ≡ n = omega arith in
+    let high : max m n ≡ m = omega arith in
+    ap (λ k. is_joined r k (max m n)) low ∙ ap (is_joined r n) high
+
+pub not_doomed : (r : Requests) (g : Deferred) (n : ℕ) → IsWaiting r g → g.from ≤ n → n < g.end
+    → is_doomed r n ≡ false
+unfolding is_in_faulty_group is_behind_failure
+not_doomed r g n w low high =
+    or_from _ _
+    (some_below_none (λ m. is_in_group r m n && has_fault r m) (length r.accepted)
+    (λ m lt.
+    elim (cases_lt m g.from) [
+      | inl before ↦ and_left _ _ (in_group_up r m n (omega arith) ∙ outside_joined r g m n w before low)
+      | inr past ↦
+          elim (cases_lt m g.end) [
+            | inl inside ↦ and_right _ _ (w.healthy m past inside)
+            | inr behind ↦ and_left _ _ (in_group_down r m n (omega arith) ∙ behind_joined r g n m w high behind)
+          ]
+    ]))
+    (some_below_none (λ m. is_joined r m n && is_soft (entry_of r m) && has_failed r m) n
+    (λ m lt.
+    elim (cases_lt m g.from) [
+      | inl before ↦ first_of_three _ _ _ (outside_joined r g m n w before low)
+      | inr past ↦ and_right _ _ (has_failed_unended r m (w.idle m past (omega arith)).ended)
+    ]))

@@ -1,0 +1,103 @@
+-- With something outstanding, the least outstanding request that isn't deferred runs or can be issued.
+use Rattle.std.proofs.Common.{◌≡◌, ℕ, ◌<◌, ◌≤◌, length, Bool, true, false, not, ◌&&◌, ◌⊎◌, List, Some, is_some, ◌∙◌, ap, arith, inl, inr}
+use Rattle.std.proofs.lemmas.Bool.{cases_lt, cases_Bool, both_ways, and_left, and_right, and_from, and_parts, and_cases, or_right, not-true, not-false, lt-ltb}
+use Rattle.uring_entry.specs.Below.{some_below}
+use Rattle.uring_entry.specs.Requests.{Requests, is_outstanding, is_running, has_ended, least_of, running_in}
+use Rattle.uring_entry.proofs.BelowLemmas.{IsLeast, some_below_none, some_below_some, some_below_in, is_some_least_below, is_some_value, least_below_tells}
+use Rattle.uring_dispatch.proofs.Counting.{count_below_some}
+use Rattle.uring_linux.specs.declared.deferred.Deferred.{Deferred}
+use Rattle.uring_linux.specs.Drains.{is_in_some}
+use Rattle.uring_linux.specs.LinuxRequests.{LinuxRequests, is_alone, is_in_turn, keeps_back, is_deferred, is_doomed, is_issuable, next_of}
+use Rattle.uring_linux.specs.Happenings.{Happening, made_by, MayHaveHappened}
+use Rattle.uring_linux.specs.Laws.{least_free_of, GoesOn}
+use Rattle.uring_linux.proofs.Deferring.{HasGoneOn, held_by, behind_joined}
+use Rattle.uring_linux.proofs.Reaching.{IsSettled, all_between}
+
+abbrev is_free : LinuxRequests → ℕ → Bool
+is_free l n = is_outstanding l.requests n && not (is_deferred l n)
+
+some_apart : (r : Requests) (xs : List Deferred) → is_alone r xs ≡ false
+    → some_below (λ k. not (has_ended r k) && not (is_in_some xs k)) (length r.accepted) ≡ true
+unfolding is_alone
+some_apart r xs e = not-false _ e
+
+-- something that is outstanding isn't deferred
+some_free : (l : LinuxRequests) (n : ℕ) → HasGoneOn l.requests l.drains.deferred → n < length l.requests.accepted
+    → is_outstanding l.requests n ≡ true → some_below (is_free l) (length l.requests.accepted) ≡ true
+some_free l n (inl none) lt e =
+    some_below_some (is_free l) (length l.requests.accepted) n lt (and_from _ _ e (ap (λ xs. not (is_in_some xs n)) none))
+some_free l n (inr apart) lt e =
+    let found = some_below_in _ (length l.requests.accepted) (some_apart l.requests l.drains.deferred apart) in
+    let parts = and_parts _ _ found.2 in
+    some_below_some (is_free l) (length l.requests.accepted) found.0 found.1
+    (and_from _ _ (and_from _ _ (lt-ltb found.0 (length l.requests.accepted) found.1) parts.0) parts.1)
+
+-- the least of them is in its turn
+free_turn : (l : LinuxRequests) (m : ℕ) → IsSettled l → IsLeast (is_free l) (length l.requests.accepted) m
+    → is_in_turn l.requests m ≡ true
+unfolding is_in_turn
+free_turn l m s least =
+    let r = l.requests in
+    let below = least.below in
+    ap not
+    (some_below_none (keeps_back r m) m
+    (λ j lt.
+    elim (cases_Bool (has_ended r j)) [
+      | inl ended ↦ and_right _ _ (ap not ended)
+      | inr open_ ↦
+          elim (and_cases _ _ (least.before j lt)) [
+            | inl gone ↦
+                absurd (both_ways _ gone (and_from _ _ (lt-ltb j (length r.accepted) (omega (arith, lt, below))) (ap not open_)))
+            | inr kept ↦
+                let h = held_by r 0 l.drains.deferred l.drains.from j s.waiting (not-false _ kept) in
+                let low = h.low in
+                let past : h.group.from ≤ m = omega (arith, lt, low) in
+                let out = not-true (is_deferred l m) (and_parts (is_outstanding r m) (not (is_deferred l m)) least.holds).1 in
+                elim (cases_lt m h.group.end) [
+                  | inl inside ↦ absurd (both_ways (is_in_some l.drains.deferred m) out (h.members m past inside))
+                  | inr behind ↦ and_left _ _ (behind_joined r h.group j m h.waiting h.high behind)
+                ]
+          ]
+    ]))
+
+free_goes : (l : LinuxRequests) (m : ℕ) → IsSettled l → IsLeast (is_free l) (length l.requests.accepted) m
+    → (is_running l.requests m ≡ true) ⊎ (is_issuable l m ≡ true)
+free_goes l m s least =
+    let parts = and_parts (is_outstanding l.requests m) (not (is_deferred l m)) least.holds in
+    elim (cases_Bool (is_running l.requests m)) [
+      | inl runs ↦ inl runs
+      | inr idle ↦
+          inr
+          (and_from _ _ parts.0
+          (and_from _ _ (ap not idle)
+          (and_from _ _ (free_turn l m s least) (or_right (is_doomed l.requests m) (not (is_deferred l m)) parts.1))))
+    ]
+
+pub goes_on_from : (happened : List Happening) (n : ℕ) → MayHaveHappened happened
+    → least_of (made_by happened).requests ≡ Some n → GoesOn (made_by happened)
+goes_on_from happened n may e =
+    let l = made_by happened in
+    let s = (all_between happened may).settled in
+    let first = least_below_tells (is_outstanding l.requests) (length l.requests.accepted) n e in
+    let found = is_some_value (least_free_of l) (is_some_least_below (is_free l) (length l.requests.accepted) ∙ some_free l n s.gone first.below first.holds) in
+    record {
+      number = found.0;
+      least = found.1;
+      goes = free_goes l found.0 s (least_below_tells (is_free l) (length l.requests.accepted) found.0 found.1);
+    }
+
+not_running : (r : Requests) (m : ℕ) → running_in r ≡ 0 → m < length r.accepted → is_running r m ≡ true → ⊥
+not_running r m none lt e = let some = count_below_some (is_running r) (length r.accepted) m lt e in omega arith
+
+pub something_issuable : (happened : List Happening) (n : ℕ) → MayHaveHappened happened
+    → least_of (made_by happened).requests ≡ Some n → running_in (made_by happened).requests ≡ 0
+    → is_some (next_of (made_by happened)) ≡ true
+something_issuable happened n may e none =
+    let l = made_by happened in
+    let g = goes_on_from happened n may e in
+    let least = least_below_tells (is_free l) (length l.requests.accepted) g.number g.least in
+    is_some_least_below (is_issuable l) (length l.requests.accepted)
+    ∙ elim g.goes [
+      | inl runs ↦ absurd (not_running l.requests g.number none least.below runs)
+      | inr issuable ↦ some_below_some (is_issuable l) (length l.requests.accepted) g.number least.below issuable
+    ]

@@ -1,0 +1,369 @@
+-- What is so of the requests of a ring whatever happened: to the members of deferred groups nothing has happened, and not all that is outstanding is deferred.
+use Rattle.std.proofs.Common.{◌≡◌, ◌≢◌, ℕ, suc, ◌<◌, ◌≤◌, ℤ, length, Bool, true, false, not, ◌||◌, ◌==◌, List, [], ◌∷◌, refl, sym, ◌∙◌, ap, arith, inl, inr, length-append}
+use Rattle.std.specs.Prelude.{if◌then◌else◌, nat_lt}
+use Rattle.std.proofs.lemmas.Bool.{cases_lt, cases_Bool, both_ways, and_from, and_parts, or_left, or_cases, or_parts, ltb-true, ltb-false, ne_eqb, lt-ltb, le-leb}
+use Rattle.uring_entry.specs.Layout.{Sqe}
+use Rattle.uring_entry.specs.Requests as manual
+use Rattle.uring_entry.specs.Requests.{Requests, entry_of, is_linked, is_last, is_outstanding, is_running, has_started, has_ended}
+use Rattle.uring_entry.proofs.BelowLemmas.{some_below_out}
+use Rattle.uring_entry.proofs.RequestLemmas.{added_other, has_ended_other, entry_of_accepted_at}
+use Rattle.uring_entry.proofs.GroupEvents.{entry_same, is_last_cut_last}
+use Rattle.uring_entry.specs.Preparation.{is_faulty}
+use Rattle.uring_linux.specs.declared.deferred.Deferred.{Deferred}
+use Rattle.uring_linux.specs.Drains.{Drains, is_among, is_in_some, deferred_with, with_deferred, with_ring}
+use Rattle.uring_linux.specs.LinuxRequests.{LinuxRequests, is_refused_drain, has_fault, is_doomed, is_deferred, is_issuable, is_in_turn, is_alone, is_faulty_from, after_going_on, with_group, with_last_entry, no_request, with_accepted, with_cut, with_started, with_ended}
+use Rattle.uring_linux.specs.Happenings.{Happening, Call, Start, End, with_entries, after, made_by, MayHappen, MayHaveHappened}
+use Rattle.uring_linux.specs.Window.{IsNew}
+use Rattle.uring_linux.proofs.WindowEvents.{refused_accepted, last_accepted, last_kept, new_cut}
+use Rattle.uring_linux.proofs.Deferring.{IsIdle, IsWaiting, AreWaiting, HasGoneOn, waiting_higher, waiting_push, waiting_past, waiting_other, held_by, still_waiting, not_alone, gone_on, not_doomed}
+
+-- what is so whatever happened
+pub record IsSettled (l : LinuxRequests) : Type 0 where
+  pub low : l.drains.from ≤ length l.requests.accepted
+  pub begins : (k : ℕ) → suc k ≡ l.drains.from → is_last l.requests k ≡ true
+  pub amid : (k : ℕ) → l.drains.from ≤ k → k < length l.requests.accepted → IsIdle l.requests k
+  pub later : (k : ℕ) → length l.requests.accepted ≤ k → IsNew l.requests k
+  pub waiting : AreWaiting l.requests 0 l.drains.deferred l.drains.from
+  pub gone : HasGoneOn l.requests l.drains.deferred
+
+pub nothing_settled : IsSettled no_request
+nothing_settled = record {
+  low = omega arith;
+  begins = λ k e. absurd (omega (arith, e));
+  amid = λ k le lt. absurd (omega (arith, lt));
+  later = λ k le. record { started = refl; ended = refl; cut = refl };
+  waiting = omega arith;
+  gone = inl refl;
+}
+
+-- A group is accepted.
+
+-- a group is amid, to whose members nothing has happened
+record IsAmid (r : Requests) (from : ℕ) (deferred : List Deferred) : Type 0 where
+  pub low : from < length r.accepted
+  pub begins : (k : ℕ) → suc k ≡ from → is_last r k ≡ true
+  pub idle : (k : ℕ) → from ≤ k → k < length r.accepted → IsIdle r k
+  pub later : (k : ℕ) → length r.accepted ≤ k → IsNew r k
+  pub waiting : AreWaiting r 0 deferred from
+
+amid_alone : (r : Requests) (from : ℕ) (xs : List Deferred) → IsAmid r from xs → is_alone r xs ≡ false
+amid_alone r from xs a =
+    not_alone r xs from a.low (a.idle from (omega arith) a.low).ended (waiting_past r 0 xs from from a.waiting (omega arith))
+
+amid_settled : (r : Requests) (d : Drains) → IsAmid r d.from d.deferred
+    → IsSettled (record { requests = r; drains = d })
+amid_settled r d a = record {
+  low = let lt = a.low in omega (arith, lt);
+  begins = a.begins;
+  amid = a.idle;
+  later = a.later;
+  waiting = a.waiting;
+  gone = inr (amid_alone r d.from d.deferred a);
+}
+
+healthy_from : (r : Requests) (from : ℕ) → is_faulty_from r from ≡ false → (k : ℕ) → from ≤ k → k < length r.accepted
+    → has_fault r k ≡ false
+unfolding is_faulty_from
+healthy_from r from e k le lt =
+    elim (cases_Bool (has_fault r k)) [
+      | inl fault ↦ absurd (both_ways _ (some_below_out _ (length r.accepted) e k lt) (and_from _ _ (le-leb from k le) fault))
+      | inr healthy ↦ healthy
+    ]
+
+group_settled : (r : Requests) (d : Drains) → IsAmid r d.from d.deferred
+    → ((k : ℕ) → suc k ≡ length r.accepted → is_last r k ≡ true)
+    → IsSettled (record { requests = r; drains = with_group r d })
+group_settled r d a last = go (not d.ring || is_faulty_from r d.from) refl
+  where
+    go : (b : Bool) → (not d.ring || is_faulty_from r d.from) ≡ b
+        → IsSettled (record { requests = r; drains = if b then with_deferred d (length r.accepted) d.deferred else with_ring (with_deferred d (length r.accepted) (after_going_on r (deferred_with d (length r.accepted)))) d.group })
+    go true e = record {
+      low = omega arith;
+      begins = last;
+      amid = λ k le lt. absurd (omega (arith, le, lt));
+      later = a.later;
+      waiting = let lt = a.low in waiting_higher r 0 d.deferred d.from (length r.accepted) (omega (arith, lt)) a.waiting;
+      gone = inr (amid_alone r d.from d.deferred a);
+    }
+    go false e =
+        let g : Deferred = record { from = d.from; end = length r.accepted; drains = d.group } in
+        let w : IsWaiting r g = record {
+          some = a.low;
+          begins = a.begins;
+          ends = last;
+          idle = a.idle;
+          healthy = healthy_from r d.from (or_parts (not d.ring) (is_faulty_from r d.from) e).1;
+        } in
+        let all = waiting_push r 0 d.deferred d.from g (omega arith) w a.waiting in
+        record {
+          low = omega arith;
+          begins = last;
+          amid = λ k le lt. absurd (omega (arith, le, lt));
+          later = a.later;
+          waiting = still_waiting r 0 (deferred_with d (length r.accepted)) (length r.accepted) (is_alone r (deferred_with d (length r.accepted))) all;
+          gone = gone_on r 0 (deferred_with d (length r.accepted)) (length r.accepted) (omega arith) all;
+        }
+
+-- An entry is accepted.
+
+waiting_accepted : (r : Requests) (e : Sqe) (g : Deferred) → g.end ≤ length r.accepted → IsWaiting r g
+    → IsWaiting (manual.with_accepted r e) g
+waiting_accepted r e g within w =
+    let some = w.some in
+    record {
+      some = w.some;
+      begins = λ k is. last_accepted r e k (omega (arith, is)) ∙ w.begins k is;
+      ends = λ k is. last_accepted r e k (omega (arith, is)) ∙ w.ends k is;
+      idle = λ k le lt. record { started = (w.idle k le lt).started; ended = (w.idle k le lt).ended };
+      healthy = λ k le lt.
+          let low : k < length r.accepted = omega (arith, lt) in
+          ap (λ b. b || is_refused_drain (manual.with_accepted r e) k) (entry_same r e is_faulty k low)
+          ∙ ap (λ b. is_faulty (entry_of r k) || b) (refused_accepted r e k low) ∙ w.healthy k le lt;
+    }
+
+accepted_amid : (l : LinuxRequests) (e : Sqe) → IsSettled l
+    → IsAmid (manual.with_accepted l.requests e) l.drains.from l.drains.deferred
+accepted_amid l e s =
+    let r = l.requests in
+    let more = length-append r.accepted (e ∷ []) in
+    let low = s.low in
+    record {
+      low = omega arith;
+      begins = λ k is. last_accepted r e k (omega (arith, is)) ∙ s.begins k is;
+      idle = λ k le lt.
+          elim (cases_lt k (length r.accepted)) [
+            | inl before ↦ record { started = (s.amid k le before).started; ended = (s.amid k le before).ended }
+            | inr new ↦ record { started = (s.later k new).started; ended = (s.later k new).ended }
+          ];
+      later = λ k le. let new = s.later k (omega (arith, le)) in record { started = new.started; ended = new.ended; cut = new.cut };
+      waiting = waiting_other r (manual.with_accepted r e) (length r.accepted) 0 l.drains.deferred l.drains.from s.waiting
+          (waiting_past r 0 l.drains.deferred l.drains.from (length r.accepted) s.waiting s.low)
+          (λ g out within w. waiting_accepted r e g (omega (arith, within)) w);
+    }
+
+accepted_last : (r : Requests) (e : Sqe) → is_linked e ≡ false → (k : ℕ) → suc k ≡ length (manual.with_accepted r e).accepted
+    → is_last (manual.with_accepted r e) k ≡ true
+accepted_last r e free k is =
+    let more = length-append r.accepted (e ∷ []) in
+    let same : k ≡ length r.accepted = omega arith in
+    or_left _ _ (ap (λ n. not (is_linked (entry_of (manual.with_accepted r e) n))) same ∙ ap (λ x. not (is_linked x)) (entry_of_accepted_at r e) ∙ ap not free)
+
+pub accepted_settled : (l : LinuxRequests) (e : Sqe) → IsSettled l → IsSettled (with_accepted l e)
+accepted_settled l e s = go (is_linked e) refl
+  where
+    go : (b : Bool) → is_linked e ≡ b
+        → IsSettled (record { requests = manual.with_accepted l.requests e; drains = if b then with_last_entry (manual.with_accepted l.requests e) (length l.requests.accepted) l.drains else with_group (manual.with_accepted l.requests e) (with_last_entry (manual.with_accepted l.requests e) (length l.requests.accepted) l.drains) })
+    go true linked = amid_settled (manual.with_accepted l.requests e) (with_last_entry (manual.with_accepted l.requests e) (length l.requests.accepted) l.drains) (accepted_amid l e s)
+    go false free = group_settled (manual.with_accepted l.requests e) (with_last_entry (manual.with_accepted l.requests e) (length l.requests.accepted) l.drains) (accepted_amid l e s) (accepted_last l.requests e free)
+
+-- A call closes.
+
+waiting_cut : (r : Requests) (g : Deferred) → IsWaiting r g → IsWaiting (manual.with_cut r) g
+waiting_cut r g w = record {
+  some = w.some;
+  begins = λ k is. last_kept r k (w.begins k is);
+  ends = λ k is. last_kept r k (w.ends k is);
+  idle = λ k le lt. record { started = (w.idle k le lt).started; ended = (w.idle k le lt).ended };
+  healthy = w.healthy;
+}
+
+waiting_all_cut : (l : LinuxRequests) → IsSettled l → AreWaiting (manual.with_cut l.requests) 0 l.drains.deferred l.drains.from
+waiting_all_cut l s =
+    let r = l.requests in
+    waiting_other r (manual.with_cut r) (length r.accepted) 0 l.drains.deferred l.drains.from s.waiting
+    (waiting_past r 0 l.drains.deferred l.drains.from (length r.accepted) s.waiting s.low)
+    (λ g out within w. waiting_cut r g w)
+
+alone_cut : (r : Requests) (xs : List Deferred) → is_alone (manual.with_cut r) xs ≡ is_alone r xs
+unfolding is_alone
+alone_cut r xs = refl
+
+gone_same : (r t : Requests) (xs : List Deferred) → is_alone t xs ≡ is_alone r xs → HasGoneOn r xs → HasGoneOn t xs
+gone_same r t xs e (inl none) = inl none
+gone_same r t xs e (inr out) = inr (e ∙ out)
+
+-- settled, and no group is amid
+pub record IsBetween (l : LinuxRequests) : Type 0 where
+  pub settled : IsSettled l
+  pub closed : length l.requests.accepted ≤ l.drains.from
+
+group_closed : (r : Requests) (d : Drains) → length r.accepted ≤ (with_group r d).from
+group_closed r d = go (not d.ring || is_faulty_from r d.from)
+  where
+    go : (b : Bool) → length r.accepted ≤ (if b then with_deferred d (length r.accepted) d.deferred else with_ring (with_deferred d (length r.accepted) (after_going_on r (deferred_with d (length r.accepted)))) d.group).from
+    go true = omega arith
+    go false = omega arith
+
+pub cut_between : (l : LinuxRequests) → IsSettled l → IsBetween (with_cut l)
+cut_between l s = go (nat_lt l.drains.from (length l.requests.accepted)) refl
+  where
+    go : (b : Bool) → nat_lt l.drains.from (length l.requests.accepted) ≡ b
+        → IsBetween (record { requests = manual.with_cut l.requests; drains = if b then with_group (manual.with_cut l.requests) l.drains else l.drains })
+    go true e = record {
+      settled =
+          group_settled (manual.with_cut l.requests) l.drains
+          (record {
+            low = ltb-true _ _ e;
+            begins = λ k is. last_kept l.requests k (s.begins k is);
+            idle = λ k le lt. record { started = (s.amid k le lt).started; ended = (s.amid k le lt).ended };
+            later = λ k le. new_cut l.requests k le (s.later k le);
+            waiting = waiting_all_cut l s;
+          })
+          (λ k is. is_last_cut_last l.requests k is);
+      closed = group_closed (manual.with_cut l.requests) l.drains;
+    }
+    go false e = record {
+      settled = record {
+        low = s.low;
+        begins = λ k is. last_kept l.requests k (s.begins k is);
+        amid = λ k le lt. record { started = (s.amid k le lt).started; ended = (s.amid k le lt).ended };
+        later = λ k le. new_cut l.requests k le (s.later k le);
+        waiting = waiting_all_cut l s;
+        gone = gone_same l.requests (manual.with_cut l.requests) l.drains.deferred (alone_cut l.requests l.drains.deferred) s.gone;
+      };
+      closed = ltb-false _ _ e;
+    }
+
+pub entries_settled : (l : LinuxRequests) (entries : List Sqe) → IsSettled l → IsSettled (with_entries l entries)
+entries_settled l [] s = s
+entries_settled l (e ∷ rest) s = entries_settled (with_accepted l e) rest (accepted_settled l e s)
+
+-- A request starts or ends.
+
+-- who can be issued or runs isn't deferred
+record IsFree (l : LinuxRequests) (n : ℕ) : Type 0 where
+  pub low : n < length l.requests.accepted
+  pub out : is_in_some l.drains.deferred n ≡ false
+
+goes_not : (doomed held : Bool) → doomed ≡ false → held ≡ true → (doomed || not held) ≡ true → ⊥
+goes_not false true a b e = both_ways false refl e
+goes_not true held a b e = both_ways true a refl
+goes_not false false a b e = both_ways false refl b
+
+issuable_free : (l : LinuxRequests) (n : ℕ) → IsSettled l → is_issuable l n ≡ true → IsFree l n
+issuable_free l n s e =
+    let parts = and_parts (is_outstanding l.requests n) _ e in
+    let rest = and_parts (not (is_running l.requests n)) _ parts.1 in
+    let go = and_parts (is_in_turn l.requests n) _ rest.1 in
+    record {
+      low = ltb-true _ _ (and_parts _ _ parts.0).0;
+      out =
+          elim (cases_Bool (is_in_some l.drains.deferred n)) [
+            | inl held ↦
+                let h = held_by l.requests 0 l.drains.deferred l.drains.from n s.waiting held in
+                absurd (goes_not (is_doomed l.requests n) (is_deferred l n) (not_doomed l.requests h.group n h.waiting h.low h.high) held go.1)
+            | inr free ↦ free
+          ];
+    }
+
+running_free : (l : LinuxRequests) (n : ℕ) → IsSettled l → is_running l.requests n ≡ true → IsFree l n
+running_free l n s e =
+    let started = (and_parts _ _ e).0 in
+    record {
+      low =
+          elim (cases_lt n (length l.requests.accepted)) [
+            | inl low ↦ low
+            | inr past ↦ absurd (both_ways _ (s.later n past).started started)
+          ];
+      out =
+          elim (cases_Bool (is_in_some l.drains.deferred n)) [
+            | inl held ↦
+                let h = held_by l.requests 0 l.drains.deferred l.drains.from n s.waiting held in
+                absurd (both_ways _ (h.waiting.idle n h.low h.high).started started)
+            | inr free ↦ free
+          ];
+    }
+
+among_apart : (n k : ℕ) (g : Deferred) → is_among n g ≡ false → g.from ≤ k → k < g.end → k ≢ n
+among_apart n k g out low high e =
+    both_ways _ out (and_from _ _ (le-leb g.from n (omega (arith, e, low))) (lt-ltb n g.end (omega (arith, e, high))))
+
+alone_started : (r : Requests) (n : ℕ) (xs : List Deferred) → is_alone (manual.with_started r n) xs ≡ is_alone r xs
+unfolding is_alone
+alone_started r n xs = refl
+
+started_settled : (l : LinuxRequests) (n : ℕ) → IsBetween l → IsFree l n → IsBetween (with_started l n)
+started_settled l n b f =
+    let s = b.settled in
+    let r = l.requests in
+    record {
+      settled = record {
+        low = s.low;
+        begins = s.begins;
+        amid = λ k le lt. let c = b.closed in absurd (omega (arith, le, lt, c));
+        later = λ k le.
+            record {
+              started = added_other (λ m. m == k) r.started n (ne_eqb n k (λ e. let low = f.low in omega (arith, e, le, low))) ∙ (s.later k le).started;
+              ended = (s.later k le).ended;
+              cut = (s.later k le).cut;
+            };
+        waiting = waiting_other r (manual.with_started r n) n 0 l.drains.deferred l.drains.from s.waiting f.out
+            (λ g out within w.
+            record {
+              some = w.some;
+              begins = w.begins;
+              ends = w.ends;
+              idle = λ k le lt.
+                  record {
+                    started = added_other (λ m. m == k) r.started n (ne_eqb n k (λ e. among_apart n k g out le lt (sym e))) ∙ (w.idle k le lt).started;
+                    ended = (w.idle k le lt).ended;
+                  };
+              healthy = w.healthy;
+            });
+        gone = gone_same r (manual.with_started r n) l.drains.deferred (alone_started r n l.drains.deferred) s.gone;
+      };
+      closed = b.closed;
+    }
+
+ended_settled : (l : LinuxRequests) (n : ℕ) (res : ℤ) (bytes : List ℕ) → IsBetween l → IsFree l n
+    → IsBetween (with_ended l n res bytes)
+ended_settled l n res bytes b f =
+    let s = b.settled in
+    let r = l.requests in
+    let t = manual.with_ended r n res bytes in
+    let all = waiting_other r t n 0 l.drains.deferred l.drains.from s.waiting f.out
+    (λ g out within w.
+    record {
+      some = w.some;
+      begins = w.begins;
+      ends = w.ends;
+      idle = λ k le lt.
+          record {
+            started = (w.idle k le lt).started;
+            ended = has_ended_other r n res bytes k (among_apart n k g out le lt) ∙ (w.idle k le lt).ended;
+          };
+      healthy = w.healthy;
+    })
+    in
+    record {
+      settled = record {
+        low = s.low;
+        begins = s.begins;
+        amid = λ k le lt. let c = b.closed in absurd (omega (arith, le, lt, c));
+        later = λ k le.
+            record {
+              started = (s.later k le).started;
+              ended = has_ended_other r n res bytes k (λ e. let low = f.low in absurd (omega (arith, e, le, low))) ∙ (s.later k le).ended;
+              cut = (s.later k le).cut;
+            };
+        waiting = still_waiting t 0 l.drains.deferred l.drains.from (is_alone t l.drains.deferred) all;
+        gone = gone_on t 0 l.drains.deferred l.drains.from s.low all;
+      };
+      closed = b.closed;
+    }
+
+-- Whatever happened.
+
+happened_between : (l : LinuxRequests) (h : Happening) → IsBetween l → MayHappen l h → IsBetween (after l h)
+happened_between l (Call entries) b may = cut_between (with_entries l entries) (entries_settled l entries b.settled)
+happened_between l (Start n) b may = started_settled l n b (issuable_free l n b.settled may)
+happened_between l (End n res bytes) b may =
+    ended_settled l n res bytes b
+    (elim (or_cases _ _ may) [
+      | inl runs ↦ running_free l n b.settled runs
+      | inr issuable ↦ issuable_free l n b.settled issuable
+    ])
+
+pub all_between : (happened : List Happening) → MayHaveHappened happened → IsBetween (made_by happened)
+all_between [] may = record { settled = nothing_settled; closed = omega arith }
+all_between (h ∷ earlier) may = happened_between (made_by earlier) h (all_between earlier may.1) may.0

@@ -1,0 +1,239 @@
+-- What each event changes in the numbers, and that they stay right.
+use Rattle.std.proofs.Common.{◌≡◌, ℕ, ◌+◌, ◌-◌, ◌<◌, ◌≤◌, length, Bool, true, false, not, ◌&&◌, [], ◌∷◌, ◌++◌, set, Some, None, refl, sym, ◌∙◌, ap, subst, arith, inl, inr, length-append, length-set}
+use Rattle.std.proofs.Math.Bool.{and-true}
+use Rattle.std.proofs.lemmas.Bool.{cases_Bool, both_ways, not-true}
+use Rattle.uring_entry.specs.Layout.{Sqe}
+use Rattle.uring_entry.specs.Requests.{is_linked}
+use Rattle.uring_dispatch.specs.Window.{one_if}
+use Rattle.uring_linux.specs.declared.request.Request.{Request}
+use Rattle.uring_linux.specs.Drains.{no_drains}
+use Rattle.uring_linux.specs.KeptDrains.{KeptDrains}
+use Rattle.uring_linux.specs.Window.{Window, new_request, at, end_of, is_unended, runs, unended_among, running_among, IsOpen}
+use Rattle.uring_linux.specs.LinuxDispatch.{dispatch_of, IsDispatch}
+use Rattle.uring_linux.specs.Counts.{HasAccepted, HasStarted, HasEnded, HasFinished}
+use Rattle.uring_linux.proofs.WindowCounts.{unended_none, running_none, unended_pushed, running_pushed, unended_written, running_written, at_roomed}
+
+pub open_from : (s : Window) (n : ℕ) (q : Request) (b : Bool) → IsOpen (record s { room = 0 }) n b
+    → at s n ≡ Some q → (q.has_ended ≡ false) × (q.is_running ≡ b)
+open_from s n q b o e =
+    let here = at_roomed s 0 n ∙ e in
+    let open_ = not-true _ (ap is_unended (sym here) ∙ o.unended) in
+    (open_, sym (and-true q.is_running) ∙ sym (ap (λ x. q.is_running && not x) open_) ∙ ap runs (sym here) ∙ o.running)
+
+pub never_open : (s : Window) (n : ℕ) → is_unended (at (record s { room = 0 }) n) ≡ true → None ≡ at s n → ⊥
+never_open s n open_ none = both_ways _ (ap is_unended (at_roomed s 0 n ∙ sym none)) open_
+
+pub new_dispatch : (s : Window) (d : KeptDrains) → s ≡ record { first = 0; items = []; room = 0 }
+    → d ≡ record { drains = no_drains; room = 0 } → IsDispatch s d 0 0 0 true
+new_dispatch s d es ed =
+    subst (λ (x : Window). IsDispatch x d 0 0 0 true) (sym es)
+    (subst (λ (y : KeptDrains). IsDispatch (record { first = 0; items = []; room = 0 }) y 0 0 0 true) (sym ed)
+    (record {
+      outstanding = sym unended_none;
+      running = sym running_none;
+      window = omega arith;
+      groups = omega arith;
+      amid = λ lt. absurd (omega (arith, lt));
+      low = omega arith;
+      high = omega arith;
+      few = omega arith;
+      closed = λ e. omega arith;
+    }))
+
+-- A request is accepted.
+
+pub accepted_counts : (s t : Window) (d k : KeptDrains) (b c : Bool) (room left : ℕ) (between amid : Bool) (e : Sqe) (q : Request)
+    → t.first ≡ s.first → t.items ≡ s.items ++ q ∷ [] → q ≡ new_request e c → left + 1 ≡ room
+    → HasAccepted (dispatch_of s d b room between) (dispatch_of t k c left amid)
+accepted_counts s t d k b c room left between amid e q first items new is =
+    let long : length t.items ≡ length s.items + 1 = ap length items ∙ length-append s.items (q ∷ []) in
+    record {
+      accepted = omega (arith, first, long);
+      outstanding =
+          ap unended_among items ∙ unended_pushed s.items q
+          ∙ ap (λ (x : Request). unended_among s.items + one_if (not x.has_ended)) new;
+      running =
+          let none : one_if (runs (Some q)) ≡ 0 = ap (λ (x : Request). one_if (x.is_running && not x.has_ended)) new in
+          let more = ap running_among items ∙ running_pushed s.items q in
+          omega arith;
+      room = is;
+    }
+
+pub accepted_dispatch : (s t : Window) (d k : KeptDrains) (o r room left : ℕ) (between c : Bool) (e : Sqe) (q : Request)
+    → IsDispatch s d o r room between → t.first ≡ s.first → t.items ≡ s.items ++ q ∷ []
+    → q ≡ new_request e c → t.room + 1 ≡ s.room → left + 1 ≡ room
+    → (is_linked q.entry ≡ true → k.room ≡ d.room)
+    → (is_linked q.entry ≡ true → k.drains.from ≡ d.drains.from)
+    → (is_linked q.entry ≡ false → k.drains.from ≡ end_of t) → d.room ≤ k.room + 1
+    → (d.drains.from < end_of t → length d.drains.deferred ≤ d.drains.from → length k.drains.deferred ≤ k.drains.from)
+    → IsDispatch t k (o + 1) r left false
+accepted_dispatch s t d k o r room left between c e q i first items new less is same from_same closed less_groups few =
+    let long : length t.items ≡ length s.items + 1 = ap length items ∙ length-append s.items (q ∷ []) in
+    let counted = accepted_counts s t d k false c room left between false e q first items new is in
+    let low = i.low in
+    let high = i.high in
+    let windowed = i.window in
+    let grouped = i.groups in
+    record {
+      outstanding = ap (λ x. x + 1) i.outstanding ∙ sym counted.outstanding;
+      running = i.running ∙ sym counted.running;
+      window = omega arith;
+      groups = omega arith;
+      amid =
+          elim (cases_Bool (is_linked q.entry)) [
+            | inl linked ↦ λ lt. let a = same linked in omega arith
+            | inr last ↦ λ lt. let a = closed last in absurd (omega arith)
+          ];
+      low =
+          elim (cases_Bool (is_linked q.entry)) [
+            | inl linked ↦ let a = from_same linked in omega arith
+            | inr last ↦ let a = closed last in omega arith
+          ];
+      high =
+          elim (cases_Bool (is_linked q.entry)) [
+            | inl linked ↦ let a = from_same linked in omega arith
+            | inr last ↦ let a = closed last in omega arith
+          ];
+      few = few (omega arith) i.few;
+      closed = λ never. absurd (cc);
+    }
+
+-- A request starts.
+
+abbrev Starts : Window → Window → ℕ → Request → Type 0
+Starts s t n q = t ≡ record s { items = set s.items (n - s.first) (record q { is_running = true }) }
+
+pub started_counts : (s t : Window) (d : KeptDrains) (b : Bool) (room : ℕ) (between : Bool) (n : ℕ) (q : Request)
+    → at s n ≡ Some q → q.has_ended ≡ false → q.is_running ≡ false → Starts s t n q
+    → HasStarted (dispatch_of s d b room between) (dispatch_of t d b room between)
+started_counts s t d b room between n q here open_ idle et =
+    let long = length-set s.items (n - s.first) (record q { is_running = true }) in
+    let unended = unended_written s n q (record q { is_running = true }) here in
+    let running = running_written s n q (record q { is_running = true }) here in
+    let was : one_if (runs (Some q)) ≡ 0 = ap (λ x. one_if (x && not q.has_ended)) idle in
+    let now : one_if (runs (Some (record q { is_running = true }))) ≡ 1 = ap (λ x. one_if (not x)) open_ in
+    record {
+      accepted = ap (λ (x : Window). end_of x) et ∙ ap (λ x. s.first + x) long;
+      outstanding = ap (λ (x : Window). unended_among x.items) et ∙ omega arith;
+      running = ap (λ (x : Window). running_among x.items) et ∙ omega arith;
+      room = omega arith;
+      between = refl;
+    }
+
+pub started_dispatch : (s t : Window) (d : KeptDrains) (o r room : ℕ) (between : Bool) (n : ℕ) (q : Request)
+    → IsDispatch s d o r room between → at s n ≡ Some q → q.has_ended ≡ false → q.is_running ≡ false
+    → Starts s t n q → IsDispatch t d o (r + 1) room between
+started_dispatch s t d o r room between n q i here open_ idle et =
+    let counted = started_counts s t d false room between n q here open_ idle et in
+    let end : end_of t ≡ end_of s = counted.accepted in
+    let first = ap (λ (x : Window). x.first) et in
+    let spare = ap (λ (x : Window). x.room) et in
+    let windowed = i.window in
+    let low = i.low in
+    let high = i.high in
+    record {
+      outstanding = i.outstanding ∙ sym counted.outstanding;
+      running = ap (λ x. x + 1) i.running ∙ sym counted.running;
+      window = omega arith;
+      groups = i.groups;
+      amid = λ lt. i.amid (omega (arith, lt));
+      low = omega arith;
+      high = omega arith;
+      few = i.few;
+      closed = λ e. let c = i.closed e in omega arith;
+    }
+
+-- A request ends.
+
+abbrev Ends : Window → Window → ℕ → Request → Bool → Type 0
+Ends s t n q failed =
+    t ≡ record s { items = set s.items (n - s.first) (record q { is_running = false; has_ended = true; has_failed = failed }) }
+
+-- what an end changes in what is kept
+record Lessens (s t : Window) (q : Request) : Type 0 where
+  pub end : end_of t ≡ end_of s
+  pub first : t.first ≡ s.first
+  pub room : t.room ≡ s.room
+  pub outstanding : unended_among t.items + 1 ≡ unended_among s.items
+  pub running : running_among t.items + one_if q.is_running ≡ running_among s.items
+
+lessens : (s t : Window) (n : ℕ) (q : Request) (failed : Bool) → at s n ≡ Some q → q.has_ended ≡ false
+    → Ends s t n q failed → Lessens s t q
+lessens s t n q failed here open_ et =
+    let ended = record q { is_running = false; has_ended = true; has_failed = failed } in
+    let long = length-set s.items (n - s.first) ended in
+    let unended = unended_written s n q ended here in
+    let running = running_written s n q ended here in
+    let was : one_if (runs (Some q)) ≡ one_if q.is_running = ap (λ x. one_if (q.is_running && not x)) open_ ∙ ap one_if (and-true q.is_running) in
+    let open_one : one_if (is_unended (Some q)) ≡ 1 = ap (λ x. one_if (not x)) open_ in
+    let items : t.items ≡ set s.items (n - s.first) ended = ap (λ (x : Window). x.items) et in
+    let a = ap unended_among items in
+    let b = ap running_among items in
+    record {
+      end = ap (λ (x : Window). end_of x) et ∙ ap (λ x. s.first + x) long;
+      first = ap (λ (x : Window). x.first) et;
+      room = ap (λ (x : Window). x.room) et;
+      outstanding = omega arith;
+      running = omega arith;
+    }
+
+pub ended_counts : (s t : Window) (d k : KeptDrains) (b : Bool) (room : ℕ) (between : Bool) (n : ℕ) (q : Request) (failed : Bool)
+    → at s n ≡ Some q → q.has_ended ≡ false → q.is_running ≡ false → Ends s t n q failed
+    → HasEnded (dispatch_of s d b room between) (dispatch_of t k b room between)
+ended_counts s t d k b room between n q failed here open_ idle et =
+    let less = lessens s t n q failed here open_ et in
+    let none : one_if q.is_running ≡ 0 = ap one_if idle in
+    let runs_same = less.running in
+    record {
+      accepted = less.end;
+      outstanding = less.outstanding;
+      running = omega arith;
+      room = omega arith;
+      between = refl;
+    }
+
+pub finished_counts : (s t : Window) (d k : KeptDrains) (b : Bool) (room : ℕ) (between : Bool) (n : ℕ) (q : Request) (failed : Bool)
+    → at s n ≡ Some q → q.has_ended ≡ false → q.is_running ≡ true → Ends s t n q failed
+    → HasFinished (dispatch_of s d b room between) (dispatch_of t k b room between)
+finished_counts s t d k b room between n q failed here open_ busy et =
+    let less = lessens s t n q failed here open_ et in
+    let one : one_if q.is_running ≡ 1 = ap one_if busy in
+    let runs_less = less.running in
+    record {
+      accepted = less.end;
+      outstanding = less.outstanding;
+      running = omega arith;
+      room = omega arith;
+      between = refl;
+    }
+
+pub ended_dispatch : (s t : Window) (d k : KeptDrains) (o p r u room : ℕ) (between : Bool) (n : ℕ) (q : Request) (failed : Bool)
+    → IsDispatch s d o r room between → at s n ≡ Some q → q.has_ended ≡ false → Ends s t n q failed
+    → k.room ≡ d.room → k.drains.from ≡ d.drains.from
+    → length k.drains.deferred ≤ length d.drains.deferred → p + 1 ≡ o → u + one_if q.is_running ≡ r
+    → IsDispatch t k p u room between
+ended_dispatch s t d k o p r u room between n q failed i here open_ et spare from fewer less less_running =
+    let l = lessens s t n q failed here open_ et in
+    let la = l.outstanding in
+    let lb = l.running in
+    let end = l.end in
+    let first = l.first in
+    let roomy = l.room in
+    let ia = i.outstanding in
+    let ib = i.running in
+    let windowed = i.window in
+    let grouped = i.groups in
+    let low = i.low in
+    let high = i.high in
+    let few = i.few in
+    record {
+      outstanding = omega arith;
+      running = omega arith;
+      window = omega arith;
+      groups = omega arith;
+      amid = λ lt. let a = i.amid (omega (arith, lt)) in omega arith;
+      low = omega arith;
+      high = omega arith;
+      few = omega arith;
+      closed = λ e. let c = i.closed e in omega arith;
+    }

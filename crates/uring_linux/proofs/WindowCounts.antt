@@ -1,0 +1,205 @@
+-- How many of the requests that are kept haven't ended, and how many run: what each event changes in that.
+use Rattle.std.proofs.Common.{◌≡◌, ℕ, suc, ◌+◌, ◌-◌, ◌<◌, ◌≤◌, length, Bool, true, false, not, ◌&&◌, List, [], ◌∷◌, ◌++◌, set, slice_get, Option, Some, refl, sym, ◌∙◌, ap, subst, arith, inl, inr, length-append, length-set}
+use Rattle.std.proofs.lemmas.Bool.{and_right, lt-ltb}
+use Rattle.std.proofs.Math.Bool.{and-true}
+use Rattle.std.proofs.lemmas.Option.{slice_get_cases, slice_get_within}
+use Rattle.uring_entry.specs.Below.{count_below}
+use Rattle.uring_entry.specs.Requests.{Requests, has_ended, has_started, is_outstanding, is_running, outstanding_in, running_in}
+use Rattle.uring_dispatch.specs.Window.{one_if}
+use Rattle.uring_dispatch.proofs.Counting.{count_below_same, count_below_changed, count_below_within, count_below_some, count_below_zero, count_below_apart}
+use Rattle.uring_linux.specs.declared.request.Request.{Request}
+use Rattle.uring_linux.specs.Window.{Window, at, is_unended, runs, unended_among, running_among, Shows, IsOpen}
+use Rattle.uring_linux.proofs.WindowLemmas.{at_high}
+use Rattle.uring_linux.proofs.WindowEvents.{push_here, push_other, is_set_here, set_other, at_within}
+
+-- how many pass a test
+abbrev among : (Option Request → Bool) → List Request → ℕ
+among p xs = count_below (λ k. p (slice_get xs k)) (length xs)
+
+among_pushed : (p : Option Request → Bool) (xs : List Request) (q : Request)
+    → among p (xs ++ q ∷ []) ≡ among p xs + one_if (p (Some q))
+among_pushed p xs q =
+    let long : length (xs ++ q ∷ []) ≡ suc (length xs) = omega (arith, length-append xs (q ∷ [])) in
+    let before = count_below_same (λ k. p (slice_get (xs ++ q ∷ []) k)) (λ k. p (slice_get xs k)) (length xs) (λ k lt. ap p (push_other xs q k (λ e. omega (arith, e, lt)))) in
+    let last : one_if (p (slice_get (xs ++ q ∷ []) (length xs))) ≡ one_if (p (Some q)) = ap (λ o. one_if (p o)) (push_here xs q) in
+    ap (count_below (λ k. p (slice_get (xs ++ q ∷ []) k))) long ∙ omega arith
+
+among_set : (p : Option Request → Bool) (xs : List Request) (i : ℕ) (q : Request) → i < length xs
+    → among p (set xs i q) + one_if (p (slice_get xs i)) ≡ among p xs + one_if (p (Some q))
+among_set p xs i q lt =
+    let changed = count_below_changed (λ k. p (slice_get xs k)) (λ k. p (slice_get (set xs i q) k)) (length xs) i lt (λ j ne. ap p (set_other xs q i j ne)) in
+    let here : one_if (p (slice_get (set xs i q) i)) ≡ one_if (p (Some q)) = ap (λ o. one_if (p o)) (is_set_here xs q i lt) in
+    let long : among p (set xs i q) ≡ count_below (λ k. p (slice_get (set xs i q) k)) (length xs) = ap (count_below (λ k. p (slice_get (set xs i q) k))) (length-set xs i q) in
+    omega arith
+
+-- the same of both counts
+
+pub unended_pushed : (xs : List Request) (q : Request)
+    → unended_among (xs ++ q ∷ []) ≡ unended_among xs + one_if (is_unended (Some q))
+unfolding unended_among
+unended_pushed xs q = among_pushed is_unended xs q
+
+pub running_pushed : (xs : List Request) (q : Request)
+    → running_among (xs ++ q ∷ []) ≡ running_among xs + one_if (runs (Some q))
+unfolding running_among
+running_pushed xs q = among_pushed runs xs q
+
+pub unended_set : (xs : List Request) (i : ℕ) (q : Request) → i < length xs
+    → unended_among (set xs i q) + one_if (is_unended (slice_get xs i))
+    ≡ unended_among xs + one_if (is_unended (Some q))
+unfolding unended_among
+unended_set xs i q lt = among_set is_unended xs i q lt
+
+pub running_set : (xs : List Request) (i : ℕ) (q : Request) → i < length xs
+    → running_among (set xs i q) + one_if (runs (slice_get xs i))
+    ≡ running_among xs + one_if (runs (Some q))
+unfolding running_among
+running_set xs i q lt = among_set runs xs i q lt
+
+pub unended_none : unended_among [] ≡ 0
+unfolding unended_among
+unended_none = refl
+
+pub running_none : running_among [] ≡ 0
+unfolding running_among
+running_none = refl
+
+pub unended_within : (xs : List Request) → unended_among xs ≤ length xs
+unfolding unended_among
+unended_within xs = count_below_within _ (length xs)
+
+pub running_within : (xs : List Request) → running_among xs ≤ length xs
+unfolding running_among
+running_within xs = count_below_within _ (length xs)
+
+pub unended_some : (xs : List Request) (i : ℕ) → i < length xs → is_unended (slice_get xs i) ≡ true
+    → 0 < unended_among xs
+unfolding unended_among
+unended_some xs i lt e = count_below_some _ (length xs) i lt e
+
+pub running_some : (xs : List Request) (i : ℕ) → i < length xs
+    → one_if (runs (slice_get xs i)) ≤ running_among xs
+unfolding running_among
+running_some xs i lt = go (runs (slice_get xs i)) refl
+  where
+    go : (b : Bool) → runs (slice_get xs i) ≡ b → one_if b ≤ count_below (λ k. runs (slice_get xs k)) (length xs)
+    go true e = count_below_some _ (length xs) i lt e
+    go false e = omega arith
+
+-- What is kept shows how many are outstanding and running.
+
+pub there : (xs : List Request) (i : ℕ) → i < length xs → (q : Request) × (slice_get xs i ≡ Some q)
+there xs i lt =
+    elim (slice_get_cases xs i).1 [
+      | inl inside ↦ (inside.0, inside.2)
+      | inr past ↦ absurd (omega (arith, past.0))
+    ]
+
+among_shown : (p : Option Request → Bool) (P : ℕ → Bool) (xs : List Request) (first : ℕ)
+    → ((k : ℕ) (q : Request) → slice_get xs k ≡ Some q → p (Some q) ≡ P (first + k))
+    → ((n : ℕ) → n < first → P n ≡ false) → among p xs ≡ count_below P (first + length xs)
+among_shown p P xs first told none =
+    let apart = count_below_apart P first (length xs) in
+    let zero_ = count_below_zero P first none in
+    let same = count_below_same (λ k. p (slice_get xs k)) (λ k. P (first + k)) (length xs)
+    (λ k lt. let q = there xs k lt in ap p q.1 ∙ told k q.0 q.1) in
+    omega arith
+
+pub at_place : (s : Window) (k : ℕ) (q : Request) → slice_get s.items k ≡ Some q → at s (s.first + k) ≡ Some q
+at_place s k q e =
+    let place : (s.first + k) - s.first ≡ k = omega arith in
+    at_high s (s.first + k) (omega arith) ∙ ap (slice_get s.items) place ∙ e
+
+twice : (a b : Bool) → ((a && not b) && not b) ≡ (a && not b)
+twice true true = refl
+twice true false = refl
+twice false b = refl
+
+pub unended_shown : (s : Window) (r : Requests) → Shows s r → unended_among s.items ≡ outstanding_in r
+unfolding unended_among
+unended_shown s r h =
+    among_shown is_unended (is_outstanding r) s.items s.first
+    (λ k q e.
+    let here = at_place s k q e in
+    let w = at_within s (s.first + k) q here in
+    ap not (h.told (s.first + k) q here).ended
+    ∙ sym (ap (λ b. b && not (has_ended r (s.first + k))) (lt-ltb (s.first + k) (length r.accepted) (omega (arith, w.high, h.count)))))
+    (λ n lt. and_right _ _ (ap not (h.gone n lt)))
+    ∙ ap (count_below (is_outstanding r)) h.count
+
+pub running_shown : (s : Window) (r : Requests) → Shows s r → running_among s.items ≡ running_in r
+unfolding running_among
+running_shown s r h =
+    among_shown runs (is_running r) s.items s.first
+    (λ k q e.
+    let t = h.told (s.first + k) q (at_place s k q e) in
+    ap (λ b. b && not q.has_ended) t.running ∙ ap (λ b. is_running r (s.first + k) && not b) t.ended
+    ∙ twice (has_started r (s.first + k)) (has_ended r (s.first + k)))
+    (λ n lt. and_right _ _ (ap not (h.gone n lt)))
+    ∙ ap (count_below (is_running r)) h.count
+
+-- One request is written anew.
+
+pub kept_at : (s : Window) (n : ℕ) (q : Request) → at s n ≡ Some q → slice_get s.items (n - s.first) ≡ Some q
+kept_at s n q e = let w = at_within s n q e in sym (at_high s n w.low) ∙ e
+
+pub unended_written : (s : Window) (n : ℕ) (q t : Request) → at s n ≡ Some q
+    → unended_among (set s.items (n - s.first) t) + one_if (is_unended (Some q))
+    ≡ unended_among s.items + one_if (is_unended (Some t))
+unended_written s n q t e =
+    let here = kept_at s n q e in
+    ap (λ o. unended_among (set s.items (n - s.first) t) + one_if (is_unended o)) (sym here)
+    ∙ unended_set s.items (n - s.first) t (slice_get_within s.items (n - s.first) q here)
+
+pub running_written : (s : Window) (n : ℕ) (q t : Request) → at s n ≡ Some q
+    → running_among (set s.items (n - s.first) t) + one_if (runs (Some q))
+    ≡ running_among s.items + one_if (runs (Some t))
+running_written s n q t e =
+    let here = kept_at s n q e in
+    ap (λ o. running_among (set s.items (n - s.first) t) + one_if (runs o)) (sym here)
+    ∙ running_set s.items (n - s.first) t (slice_get_within s.items (n - s.first) q here)
+
+pub unended_same : (s : Window) (n : ℕ) (q t : Request) → at s n ≡ Some q
+    → is_unended (Some t) ≡ is_unended (Some q)
+    → unended_among (set s.items (n - s.first) t) ≡ unended_among s.items
+unended_same s n q t e same =
+    let all = unended_written s n q t e in
+    let one : one_if (is_unended (Some t)) ≡ one_if (is_unended (Some q)) = ap one_if same in
+    omega arith
+
+pub running_same : (s : Window) (n : ℕ) (q t : Request) → at s n ≡ Some q → runs (Some t) ≡ runs (Some q)
+    → running_among (set s.items (n - s.first) t) ≡ running_among s.items
+running_same s n q t e same =
+    let all = running_written s n q t e in
+    let one : one_if (runs (Some t)) ≡ one_if (runs (Some q)) = ap one_if same in
+    omega arith
+
+-- there is one at least
+pub unended_one : (s : Window) (n : ℕ) (q : Request) → at s n ≡ Some q → is_unended (Some q) ≡ true
+    → 0 < unended_among s.items
+unended_one s n q e open_ =
+    let here = kept_at s n q e in
+    unended_some s.items (n - s.first) (slice_get_within s.items (n - s.first) q here) (ap is_unended here ∙ open_)
+
+pub running_one : (s : Window) (n : ℕ) (q : Request) → at s n ≡ Some q
+    → one_if (runs (Some q)) ≤ running_among s.items
+running_one s n q e =
+    let here = kept_at s n q e in
+    subst (λ o. one_if (runs o) ≤ running_among s.items) here
+    (running_some s.items (n - s.first) (slice_get_within s.items (n - s.first) q here))
+
+-- Whatever room there is.
+
+pub at_roomed : (s : Window) (room n : ℕ) → at (record s { room = room }) n ≡ at s n
+unfolding at
+at_roomed s room n = refl
+
+-- what is open, from what is kept
+pub open_at : (s : Window) (n : ℕ) (q : Request) (running : Bool) → at s n ≡ Some q → q.has_ended ≡ false
+    → q.is_running ≡ running → IsOpen (record s { room = 0 }) n running
+open_at s n q running e open_ run =
+    let here = at_roomed s 0 n ∙ e in
+    record {
+      unended = ap is_unended here ∙ ap not open_;
+      running = ap runs here ∙ ap (λ b. q.is_running && not b) open_ ∙ and-true q.is_running ∙ run;
+    }

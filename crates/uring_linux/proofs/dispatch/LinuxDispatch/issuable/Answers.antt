@@ -1,0 +1,36 @@
+use Rattle.std.proofs.Common.{◌≡◌, length, sym, ◌∙◌, ap, arith}
+use Rattle.uring_entry.specs.Below.{count_below}
+use Rattle.uring_dispatch.proofs.Counting.{count_below_zero, length_all_below}
+use Rattle.uring_linux.specs.LinuxRequests.{is_issuable}
+use Rattle.uring_linux.specs.LinuxDispatch.{LinuxDispatch}
+use Rattle.uring_linux.proofs.Standings.{gone_issuable, next_count}
+use Rattle.uring_linux.proofs.dispatch.LinuxDispatch.issuable.Goals as goal
+
+pub loop-k-init : goal.loop-k-init
+loop-k-init c = record {
+  counted = λ l g.
+      sym
+      (count_below_zero (is_issuable l) c.first-k.result
+      (λ i lt. gone_issuable c.self.inside.window c.self.inside.drains c.self.inside.has_skipped c.self.inside.room c.self.inside.is_between_calls _ l i c.self.view_is g (omega arith)));
+  within = omega arith;
+}
+
+pub overflow_add-total : goal.overflow_add-total
+overflow_add-total c = omega (arith, c.loop-k.invariant.within, c.one-total.ensures.few)
+
+pub loop-k-preserved : goal.loop-k-preserved
+loop-k-preserved c = record {
+  counted = λ l g.
+      let so_far = c.loop-k.invariant.counted l g in
+      let more = next_count (is_issuable l) c.loop-k.k in
+      let here = c.one-total.ensures.value l g in
+      omega arith;
+  within = omega (arith, c.loop-k.invariant.within, c.one-total.ensures.few);
+}
+
+pub returns : goal.returns
+returns c = λ l g.
+    let end = ap (λ (d : LinuxDispatch). d.accepted) c.self.view_is in
+    let stop : c.loop-k.k ≡ length l.requests.accepted = omega (arith, end, g.accepted) in
+    c.loop-k.invariant.counted l g ∙ ap (count_below (is_issuable l)) stop
+    ∙ sym (length_all_below (is_issuable l) (length l.requests.accepted))

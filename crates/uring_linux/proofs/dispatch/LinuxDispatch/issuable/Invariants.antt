@@ -1,0 +1,11 @@
+use Rattle.std.proofs.Common.{◌≡◌, ◌≤◌}
+use Rattle.uring_entry.specs.Below.{count_below}
+use Rattle.uring_linux.specs.LinuxRequests.{LinuxRequests, is_issuable}
+use Rattle.uring_linux.specs.LinuxDispatch.{ShowsRequests}
+use Rattle.uring_linux.proofs.dispatch.LinuxDispatch.issuable.Given as goal
+
+abbrev pub invariant-loop-k : goal.invariant-loop-k
+invariant-loop-k l = record {
+  counted : (r : LinuxRequests) → ShowsRequests l.self r → l.total ≡ count_below (is_issuable r) l.k;
+  within : l.total ≤ l.k;
+}

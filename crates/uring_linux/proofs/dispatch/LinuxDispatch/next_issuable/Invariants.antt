@@ -1,0 +1,8 @@
+use Rattle.std.proofs.Common.{◌≡◌, ℕ, ◌<◌, ◌&&◌, leb, false}
+use Rattle.uring_linux.specs.LinuxRequests.{LinuxRequests, is_issuable}
+use Rattle.uring_linux.specs.LinuxDispatch.{ShowsRequests}
+use Rattle.uring_linux.proofs.dispatch.LinuxDispatch.next_issuable.Given as goal
+
+abbrev pub invariant-loop-k : goal.invariant-loop-k
+invariant-loop-k l = (r : LinuxRequests) → ShowsRequests l.self r → (i : ℕ) → i < l.k
+    → (leb l.n i && is_issuable r i) ≡ false

@@ -1,0 +1,8 @@
+use Rattle.std.proofs.Common.{◌≡◌, ◌+◌}
+use Rattle.uring_entry.specs.Below.{count_below}
+use Rattle.uring_linux.specs.LinuxRequests.{LinuxRequests, is_issuable}
+use Rattle.uring_linux.specs.LinuxDispatch.{ShowsRequests}
+use Rattle.uring_linux.proofs.dispatch.LinuxDispatch.nth_issuable.Given as goal
+
+abbrev pub invariant-loop-n : goal.invariant-loop-n
+invariant-loop-n l = (r : LinuxRequests) → ShowsRequests l.self r → l.left + count_below (is_issuable r) l.n ≡ l.k

@@ -1,0 +1,54 @@
+use Rattle.std.proofs.Common.{◌≡◌, ℕ, true, Some, sym, ◌∙◌, ap, arith, inl, inr}
+use Rattle.std.proofs.lemmas.Bool.{cases_lt, cases_Bool}
+use Rattle.uring_linux.specs.declared.request.Request.{Request}
+use Rattle.uring_linux.specs.Window.{Window, at}
+use Rattle.uring_linux.proofs.WindowEvents.{at_within}
+use Rattle.uring_linux.proofs.window.Window.over_to.Goals as goal
+
+pub loop-n-init : goal.loop-n-init
+loop-n-init c =
+    let first = ap (λ (s : Window). s.first) c.self.view_is in
+    record {
+      low = omega arith;
+      high = omega arith;
+      ended = λ k q lt e. let w = at_within _ k q e in absurd (omega (arith, w.low, lt));
+      last = λ k q is e. let w = at_within _ k q e in absurd (omega (arith, w.low, is));
+    }
+
+pub loop-n-preserved : goal.loop-n-preserved
+loop-n-preserved c =
+    let i = c.loop-n.invariant in
+    let low = i.low in
+    let high = i.high in
+    let only : (k : ℕ) (q : Request) → k ≡ c.loop-n.n → at c.args.self.now k ≡ Some q → q ≡ c.in-Some.request =
+    λ k q same e. let f : Some q ≡ Some c.in-Some.request = sym e ∙ ap (at c.args.self.now) same ∙ sym c.in-Some.ensures in cc
+    in
+    let ended : (k : ℕ) (q : Request) → k ≡ c.loop-n.n → at c.args.self.now k ≡ Some q → q.has_ended ≡ true =
+    λ k q same e. ap (λ (x : Request). x.has_ended) (only k q same e) ∙ c.if-not-request.false
+    in
+    elim (cases_Bool c.in-Some.request.is_last) [
+      | inl last ↦
+          let to = c.if_last-to.ensures.last last in
+          record {
+            low = omega arith;
+            high = omega arith;
+            ended = λ k q lt e.
+                elim (cases_lt k c.loop-n.n) [
+                  | inl before ↦ i.ended k q before e
+                  | inr here ↦ ended k q (omega (arith, lt, here)) e
+                ];
+            last = λ k q is e. ap (λ (x : Request). x.is_last) (only k q (omega (arith, is, to)) e) ∙ last;
+          }
+      | inr other ↦
+          let to = c.if_last-to.ensures.other other in
+          record {
+            low = omega arith;
+            high = omega arith;
+            ended = λ k q lt e.
+                elim (cases_lt k c.loop-n.n) [
+                  | inl before ↦ i.ended k q before e
+                  | inr here ↦ ended k q (omega (arith, lt, here)) e
+                ];
+            last = λ k q is e. i.last k q (omega (arith, is, to)) e;
+          }
+    ]

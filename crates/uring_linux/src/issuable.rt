@@ -1,0 +1,73 @@
+//! Which requests can be issued: they are looked at one after the other, from the first that is kept on.
+
+ghost use Rattle.std.specs.Prelude.{◌≡◌, ◌≤◌, IsTrue, length, slice_get};
+ghost use Rattle.uring_dispatch.specs.Window.{one_if};
+ghost use Rattle.uring_linux.specs.Issuable.{issuables_of, issuable_from};
+ghost use Rattle.uring_linux.specs.LinuxDispatch.{ShowsRequests};
+ghost use Rattle.uring_linux.specs.LinuxRequests as spec;
+ghost use Rattle.uring_linux.specs.LinuxRequests.{LinuxRequests};
+
+use crate::answers::Issued;
+use crate::dispatch::LinuxDispatch;
+
+impl LinuxDispatch {
+    /// The least request from `n` on, any number, that `issue` doesn't refuse, if there is one: so all of them, in order, from 0 on, each time from the number behind the last. It looks at one after the other. Our own rule.
+    pub fn next_issuable(&self, n: u64) -> Option<u64>
+        requires { IsTrue self.now.is_between_calls }
+        ensures { (l : LinuxRequests) → ShowsRequests self.now l → result ≡ issuable_from l n }
+    {
+        for k in self.window.first().max(n)..self.window.end() {
+            if self.is_issuable(k) {
+                return Some(k);
+            }
+        }
+        None
+    }
+
+    /// How many requests `issue` doesn't refuse. It looks at one after the other. Our own rule.
+    pub fn issuable(&self) -> u64
+        requires { IsTrue self.now.is_between_calls }
+        ensures { (l : LinuxRequests) → ShowsRequests self.now l → result ≡ length (issuables_of l) }
+    {
+        let mut total = 0;
+        for k in self.window.first()..self.window.end() {
+            total += self.one(k);
+        }
+        total
+    }
+
+    /// Of the requests that `issue` doesn't refuse, in the order of their numbers, the one that comes after `k` others: `Some` exactly if more than `k` can be issued. It looks at one after the other. Our own rule.
+    pub fn nth_issuable(&self, k: u64) -> Option<u64>
+        requires { IsTrue self.now.is_between_calls }
+        ensures { (l : LinuxRequests) → ShowsRequests self.now l
+            → result ≡ slice_get (issuables_of l) k }
+    {
+        let mut left = k;
+        for n in self.window.first()..self.window.end() {
+            let count = self.one(n);
+            if left < count {
+                return Some(n);
+            }
+            left -= count;
+        }
+        None
+    }
+
+    /// How many of request `n` alone can be issued: one or none.
+    fn one(&self, n: u64) -> u64
+        ensures few { result ≤ 1 }
+        ensures value { (l : LinuxRequests) → ShowsRequests self.now l → result ≡ one_if (spec.is_issuable l n) }
+    {
+        if self.is_issuable(n) { 1 } else { 0 }
+    }
+
+    /// Whether request `n` can be issued.
+    fn is_issuable(&self, n: u64) -> bool
+        ensures { (l : LinuxRequests) → ShowsRequests self.now l → result ≡ spec.is_issuable l n }
+    {
+        match self.answer(n) {
+            Issued::Run(_) | Issued::Ended(_, _) => true,
+            Issued::NotReady | Issued::Running | Issued::Unknown => false,
+        }
+    }
+}
