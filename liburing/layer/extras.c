@@ -75,7 +75,7 @@ void post_messages(struct ring *ring)
 {
     struct message *message;
     while (has_messages(ring) && can_post_extra(ring) && (message = take_message(&ring->inbox))) {
-        post_extra(ring, 0, message->user_data, message->res, 0);
+        post_extra(ring, NO_CALL, message->user_data, message->res, 0);
         free(message);
     }
 }
