@@ -139,7 +139,10 @@ bool hear(struct ring *ring, bool is_flushing)
 uint32_t count_ready(struct ring *ring)
 {
     show_ends(ring);
-    return wulgach_shown_ready(&ring->completions.at, load_word(&ring->memory.cq->head));
+    const struct wulgach_shown *at = &ring->completions.at;
+    uint32_t head = load_word(&ring->memory.cq->head);
+    /* (Where nothing was reaped since the head was last heard, these are all that stand in the ring.) */
+    return head == at->head ? at->shown : wulgach_shown_ready(at, head);
 }
 
 void free_completions(struct completions *completions)
