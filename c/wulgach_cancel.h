@@ -15,7 +15,9 @@ extern "C" {
 struct wulgach_sought {
     uint64_t user_data;
     uint64_t file;      /* a registered file, by a number that no other has */
-    uint32_t fd;
+    uint32_t fd;        /* a descriptor, or a slot */
+    uint8_t code;       /* an operation, */
+    bool is_of_operation;   /* and it looks for requests of that alone, as a removal does */
     bool is_any;        /* any request: IORING_ASYNC_CANCEL_ANY */
     bool is_all;        /* all that it finds, and not just the first: IORING_ASYNC_CANCEL_ALL */
     bool is_by_fd;      /* by what a request is carried out on: IORING_ASYNC_CANCEL_FD */
@@ -27,13 +29,29 @@ struct wulgach_outstanding {
     uint64_t user_data;
     uint64_t file;      /* the registered file that it is carried out on, or a number that none has */
     uint32_t fd;        /* the descriptor that its entry names */
+    uint8_t code;       /* its operation */
+    bool is_token;      /* it is carried out outside of the core: WULGACH_FORM_TOKEN */
     bool is_registered; /* its entry names a registered file */
     bool is_assigned;   /* on what it is carried out is known */
-    bool is_free;       /* a cancel may choose it: no other has yet, and it is no cancel itself */
+    bool is_cancelled;  /* a cancel has chosen it before */
     bool runs;          /* it has started */
-    bool is_waiting;    /* of one that runs: it waits for something */
+    bool is_stream;     /* it may have to wait for its descriptor */
     bool may_start;     /* of one that doesn't run: it could start now */
 };
+
+/* An entry of the submission ring: see wulgach_form.h. */
+struct wulgach_submission;
+
+/* Writes what is looked for by the entry of a cancel, or of a removal. If that is a registered file, `fd` is its slot, and `file` is 0: the
+ * caller's to write. */
+void wulgach_sought_of(const struct wulgach_submission *entry, struct wulgach_sought *sought);
+
+/* Why nothing is looked for, or 0: -9 (EBADF) exactly if it would be looked for by a descriptor that isn't open, or by a slot that has no
+ * file. */
+int32_t wulgach_seeking_fault(const struct wulgach_sought *sought, bool is_there);
+
+/* Whether a request that runs waits for something: for its descriptor, or as a timeout. A cancel ends no other. */
+bool wulgach_is_waiting(const struct wulgach_outstanding *request);
 
 /* A cancel that looks at requests, the oldest first. It is the caller's memory, and its fields are the library's. */
 struct wulgach_cancel {
@@ -47,8 +65,8 @@ void wulgach_cancel_begin(struct wulgach_cancel *cancel, const struct wulgach_so
 /* Whether it matters to the cancel if the next request, which doesn't run, could start now. If not, may_start may be anything. */
 bool wulgach_cancel_asks(const struct wulgach_cancel *cancel, const struct wulgach_outstanding *request);
 
-/* Looks at the next request, and says whether it is cancelled: it fits, and it waits for something or could start now; and the cancel is
- * of all, or has found none before. */
+/* Looks at the next request, and says whether it is cancelled: it fits, it is no cancel itself, none has chosen it before, and it waits for
+ * something or could start now; and the cancel is of all, or has found none before. */
 bool wulgach_cancel_sees(struct wulgach_cancel *cancel, const struct wulgach_outstanding *request);
 
 /* What the cancel ends with, once it has looked at all: how many it has cancelled, or of one 0, or -2 (ENOENT) if there was none. */
@@ -74,9 +92,6 @@ bool wulgach_search_sees(struct wulgach_search *search, const struct wulgach_out
 bool wulgach_search_has_cancelled(const struct wulgach_search *search);
 
 /* ---- updates ---- */
-
-/* An entry of the submission ring: see wulgach_form.h. */
-struct wulgach_submission;
 
 /* What a removal does with the poll or the timeout that it finds. */
 enum wulgach_removal {

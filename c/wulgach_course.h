@@ -78,13 +78,42 @@ struct wulgach_posted {
     uint32_t flags;
     uint64_t token;         /* the core's user data, */
     int32_t told;           /* and its result */
-    bool is_async;          /* it ended behind the call that submitted it */
+    uint64_t call;          /* the number of the call that submitted it, */
+    uint64_t ended;         /* and of that in which it ended */
 };
 
 /* A request has ended, and `core` is the completion that the core has posted of it, if it has posted one. Writes it into its row, with
  * the result of the request's course, whatever `end` has for that, and returns 1; returns 0 if there is none. -22 (EINVAL) exactly if
  * the request hasn't ended, the core's completion isn't its (token and told are the same), or there is no row; then nothing changes. */
 int32_t wulgach_shown_end(struct wulgach_shown *shown, struct wulgach_posted *rows, size_t room, const struct wulgach_course *course, const struct wulgach_posted *end, const struct wulgach_completion *core, bool has_core);
+
+/* An entry of the submission ring: see wulgach_form.h. */
+struct wulgach_submission;
+
+/* How an operation was carried out. */
+struct wulgach_carried {
+    uint64_t length;        /* how many bytes its vectors have */
+    uint32_t message_flags; /* of a message that was received: its flags */
+    bool has_message;       /* it has a message, as an operation of sockets */
+    bool is_cancelled;      /* a cancel has found it */
+};
+
+/* Whether a result is a success to the links behind the request of an entry that was carried out so: it moved all of its length, if it is
+ * to, and nothing that it has received was cut. */
+bool wulgach_has_succeeded(const struct wulgach_submission *entry, const struct wulgach_carried *carried, int32_t res);
+
+/* What a completion of a request tells of. */
+enum wulgach_part {
+    WULGACH_PART_EVENT = 0,     /* something has come, and the request goes on */
+    WULGACH_PART_SENT = 1,      /* a send without copies is done: another completion follows, once its memory is free */
+    WULGACH_PART_NOTICE = 2,    /* its memory is free */
+    WULGACH_PART_OWN = 3,       /* the request ends with a result of its operation */
+    WULGACH_PART_CANCELLED = 4  /* it ends without one: a cancel has found it */
+};
+
+/* The flags of a completion, where those of a provided buffer that was taken are `of_buffer`, or 0: IORING_CQE_F_MORE where another of the
+ * same request follows, and IORING_CQE_F_NOTIF. */
+uint32_t wulgach_completion_flags(uint32_t part, uint32_t of_buffer);
 
 /* What success is of an operation. */
 struct wulgach_success {

@@ -57,9 +57,13 @@ bool wulgach_shown_loads_head(const struct wulgach_shown *shown, uint32_t count,
  * outside it, or a call may bring something. */
 bool wulgach_shown_is_readable(const struct wulgach_shown *shown, uint32_t head, bool may_bring);
 
-/* The flags word of the submission ring: IORING_SQ_CQ_OVERFLOW, IORING_SQ_TASKRUN if a call may bring something, and
- * IORING_SQ_NEED_WAKEUP if a thread takes entries, which sleeps. */
-uint32_t wulgach_shown_flags(const struct wulgach_shown *shown, bool may_bring, bool has_thread);
+/* How many completions stand in the ring that the application hasn't reaped, by the head that it has stored: none, if that is past the
+ * tail. */
+uint32_t wulgach_shown_ready(const struct wulgach_shown *shown, uint32_t head);
+
+/* The flags word of the submission ring: IORING_SQ_CQ_OVERFLOW; IORING_SQ_TASKRUN if a call may bring something, since requests are
+ * outstanding or the ring's descriptor is readable; and IORING_SQ_NEED_WAKEUP if a thread takes entries, which sleeps. */
+uint32_t wulgach_shown_flags(const struct wulgach_shown *shown, uint64_t outstanding, bool is_readable, bool has_thread);
 
 /* ---- a descriptor that polls ---- */
 

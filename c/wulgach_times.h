@@ -119,6 +119,11 @@ bool wulgach_times_runs(const struct wulgach_times *times, const struct wulgach_
 /* So many completions were posted. */
 void wulgach_times_post(struct wulgach_times *times, uint64_t count);
 
+/* A request has ended, by this course of wulgach_course.h, and its completion was posted or skipped. It counts as one that was posted,
+ * unless it is that of a timeout which its time or its count has ended; one of a timeout that was removed or cancelled counts. */
+struct wulgach_course;
+void wulgach_times_count_end(struct wulgach_times *times, const struct wulgach_course *course, bool is_timeout, bool is_posted);
+
 /* A clock says that it is so late, or a call's own limit does. */
 void wulgach_times_move_to(struct wulgach_times *times, uint64_t now);
 

@@ -30,6 +30,9 @@ struct wulgach_needs {
 /* Writes what the operation of an entry needs. */
 void wulgach_needs_of(const struct wulgach_submission *entry, struct wulgach_needs *needs);
 
+/* On how many bytes an FADVISE or a MADVISE advises. 0 of an FADVISE: all from its offset on. */
+uint64_t wulgach_advised_length(const struct wulgach_submission *entry);
+
 /* Whether the call that has taken a request just now finds its files and its buffer: nothing links it, and nothing that drains is
  * outstanding, itself among that. Those of another are found when it starts, and may be what those before it open. */
 bool wulgach_drains_find_file(const struct wulgach_drains *drains, const struct wulgach_member *request);

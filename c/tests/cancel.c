@@ -1,5 +1,6 @@
 /* What a cancel finds: each call once, with what the manual page calls for, written by hand. */
 #include "wulgach_cancel.h"
+#include "wulgach_form.h"
 
 #include <stdio.h>
 #include <stdlib.h>
@@ -16,9 +17,9 @@ static void demand(bool holds, const char *what)
 static int32_t look(const struct wulgach_sought *sought, const bool *wanted)
 {
     static const struct wulgach_outstanding requests[] = {
-        {.user_data = 1, .fd = 4, .is_assigned = true, .is_free = true},
-        {.user_data = 1, .fd = 5, .is_assigned = true, .is_free = true, .runs = true, .is_waiting = true},
-        {.user_data = 2, .file = 9, .is_registered = true, .is_assigned = true, .is_free = true, .may_start = true},
+        {.user_data = 1, .fd = 4, .is_assigned = true, .is_token = true},
+        {.user_data = 1, .fd = 5, .is_assigned = true, .is_token = true, .runs = true, .is_stream = true},
+        {.user_data = 2, .file = 9, .is_registered = true, .is_assigned = true, .is_token = true, .may_start = true},
     };
     struct wulgach_cancel cancel;
     wulgach_cancel_begin(&cancel, sought);
@@ -27,10 +28,33 @@ static int32_t look(const struct wulgach_sought *sought, const bool *wanted)
     return wulgach_cancel_result(&cancel);
 }
 
+/* What entries look for, and what isn't found. */
+static void seek(void)
+{
+    enum { POLL_REMOVE = 7, TIMEOUT = 11, CANCEL = 14 };
+    struct wulgach_sought sought;
+    struct wulgach_cancel cancel;
+    struct wulgach_outstanding read = {.user_data = 5, .is_token = true, .runs = true, .is_stream = true, .code = 22}, poll = read, other = read, timeout = {.code = TIMEOUT};
+    poll.code = 6;
+    other.code = CANCEL;
+    wulgach_sought_of(&(struct wulgach_submission){.opcode = POLL_REMOVE, .addr = 5, .op_flags = 4}, &sought);
+    demand(sought.user_data == 5 && sought.is_of_operation && sought.code == 6 && !sought.is_any, "a removal looks by user data");
+    wulgach_cancel_begin(&cancel, &sought);
+    demand(!wulgach_cancel_sees(&cancel, &read) && wulgach_cancel_sees(&cancel, &poll), "and among requests of its operation");
+    wulgach_sought_of(&(struct wulgach_submission){.opcode = CANCEL, .fd = 3, .op_flags = 11}, &sought);
+    demand(sought.fd == 3 && sought.is_by_fd && sought.is_fixed && sought.is_all && !sought.is_any && !sought.is_of_operation, "all by a slot");
+    demand(wulgach_seeking_fault(&sought, false) == -9 && wulgach_seeking_fault(&sought, true) == 0, "an empty slot");
+    wulgach_sought_of(&(struct wulgach_submission){.opcode = CANCEL, .op_flags = 4}, &sought);
+    demand(wulgach_seeking_fault(&sought, false) == 0, "any needs no slot");
+    wulgach_cancel_begin(&cancel, &sought);
+    demand(!wulgach_cancel_sees(&cancel, &other) && wulgach_cancel_sees(&cancel, &read) && wulgach_cancel_result(&cancel) == 1, "a cancel finds none");
+    demand(wulgach_is_waiting(&read) && wulgach_is_waiting(&timeout) && !wulgach_is_waiting(&(struct wulgach_outstanding){0}), "what waits");
+}
+
 int main(void)
 {
     struct wulgach_cancel cancel;
-    struct wulgach_outstanding waits = {.user_data = 1, .is_free = true};
+    struct wulgach_outstanding waits = {.user_data = 1, .is_token = true};
     struct wulgach_sought one = {.user_data = 1}, nobody = {.user_data = 3}, any = {.is_any = true}, all = {.user_data = 1, .is_all = true};
     struct wulgach_sought fd = {.fd = 5, .is_by_fd = true}, file = {.file = 9, .is_by_fd = true, .is_fixed = true};
     demand(look(&one, (bool[]){false, true, false}) == 0, "one by its user data");
@@ -43,6 +67,7 @@ int main(void)
     demand(wulgach_cancel_asks(&cancel, &waits), "it matters whether one that fits could start");
     waits.may_start = true;
     demand(wulgach_cancel_sees(&cancel, &waits) && !wulgach_cancel_asks(&cancel, &waits), "once one is found, it doesn't");
+    seek();
     printf("cancel: as called for\n");
     return 0;
 }

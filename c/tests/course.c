@@ -1,5 +1,6 @@
 /* The course of a request, what is shown of its end, and its chain: each call once, with what the manual page calls for, written by hand. */
 #include "wulgach_course.h"
+#include "wulgach_form.h"
 #include "wulgach_times.h"
 
 #include <stdio.h>
@@ -96,6 +97,13 @@ static void judge_results(void)
     demand(wulgach_is_success(&whole, 512) && !wulgach_is_success(&whole, 511) && !wulgach_is_success(&cut, 512), "a transfer");
     demand(wulgach_is_success(&time, -62) && !wulgach_is_success(&time, -125), "a timeout");
     demand(wulgach_is_success(&linked, -62) && !wulgach_is_success(&gone, -125), "a linked timeout");
+    struct wulgach_submission read = {.opcode = 22}, splice = {.opcode = 30, .len = 9}, receive = {.opcode = 10, .op_flags = 256};
+    struct wulgach_carried carried = {.length = 5, .has_message = true}, short_message = {.length = 5, .has_message = true, .message_flags = 32};
+    demand(wulgach_has_succeeded(&read, &carried, 5) && !wulgach_has_succeeded(&read, &carried, 4), "a read");
+    demand(wulgach_has_succeeded(&splice, &carried, 9) && !wulgach_has_succeeded(&splice, &carried, 5), "a splice");
+    demand(wulgach_has_succeeded(&receive, &carried, 5) && !wulgach_has_succeeded(&receive, &carried, 4) && !wulgach_has_succeeded(&receive, &short_message, 5), "a message");
+    demand(wulgach_completion_flags(WULGACH_PART_EVENT, 1) == 3 && wulgach_completion_flags(WULGACH_PART_SENT, 0) == 2 && wulgach_completion_flags(WULGACH_PART_NOTICE, 0) == 8, "more follow, or memory is free");
+    demand(wulgach_completion_flags(WULGACH_PART_OWN, 1) == 1 && wulgach_completion_flags(WULGACH_PART_CANCELLED, 1) == 0, "an end");
     struct wulgach_ended_early faulty = {.is_faulty = true, .fault = -14}, cancel = {.is_cancel = true, .has_cancelled = true}, late = {.is_cancel = true};
     struct wulgach_ended_early fired = {.is_linked_timeout = true, .has_fired = true}, idle = {.is_linked_timeout = true};
     demand(wulgach_shown_of(&faulty, -22) == -14 && wulgach_shown_of(&faulty, -125) == -125, "an entry with a fault");

@@ -67,7 +67,7 @@ static void go_on(void)
 {
     struct wulgach_shown shown = {.posted = 3};
     struct wulgach_shot poll = {.is_multishot = true}, accept = {.is_multishot = true, .is_accept = true}, empty = {.is_multishot = true, .is_of_messages = true}, once = {.is_accept = true};
-    struct wulgach_posted late = {.is_async = true}, early = {.is_async = false};
+    struct wulgach_posted late = {.call = 1, .ended = 2}, early = {.call = 2, .ended = 2};
     demand(wulgach_goes_on(&shown, &poll, 1, 4) && !wulgach_goes_on(&shown, &poll, 0, 4) && !wulgach_goes_on(&shown, &poll, -9, 4) && !wulgach_goes_on(&shown, &poll, 1, 3), "a poll");
     demand(wulgach_goes_on(&shown, &accept, 0, 4) && !wulgach_goes_on(&shown, &empty, 16, 4) && !wulgach_goes_on(&shown, &once, 5, 4), "an accept, a message");
     demand(wulgach_tells(&late, true) && wulgach_tells(&early, false) && !wulgach_tells(&early, true), "an eventfd");

@@ -45,7 +45,8 @@ int main(void)
     }
     wulgach_shown_store(&shown, 1, &store);
     demand(!store.is_cell && store.position == 1, "the tail comes last");
-    demand(wulgach_shown_flags(&shown, false, false) == 2 && wulgach_shown_flags(&shown, true, true) == 7, "one has overflowed");
+    demand(wulgach_shown_flags(&shown, 0, false, false) == 2 && wulgach_shown_flags(&shown, 1, false, true) == 7 && wulgach_shown_flags(&shown, 0, true, false) == 6, "one has overflowed");
+    demand(wulgach_shown_ready(&shown, first) == 2 && wulgach_shown_ready(&shown, 0) == 1 && wulgach_shown_ready(&shown, 2) == 0, "two can be reaped");
     demand(wulgach_shown_heard(&shown, 2, &count) == -22 && count == 7, "a head past the tail is refused");
     demand(wulgach_shown_heard(&shown, 0, &count) == 0 && count == 1, "one was reaped");
     demand(!wulgach_shown_loads_head(&shown, 1, true, 2), "there is no room yet");
@@ -53,7 +54,7 @@ int main(void)
     demand(shown.head == 0 && shown.shown == 1 && shown.posted == 2, "it is gone");
     demand(wulgach_shown_loads_head(&shown, 1, true, 2) && !wulgach_shown_loads_head(&shown, 1, false, 2), "what has overflowed is asked for");
     wulgach_shown_store(&shown, 2, &store);
-    demand(store.is_cell && store.place == 1 && store.position == 1 && wulgach_shown_flags(&shown, false, true) == 1, "the last one is stored");
+    demand(store.is_cell && store.place == 1 && store.position == 1 && wulgach_shown_flags(&shown, 0, false, true) == 1, "the last one is stored");
     demand(wulgach_shown_loads_head(&shown, 1, false, 2) && !wulgach_shown_loads_head(&shown, 0, true, 2), "the head is loaded if any was reaped");
     watch();
     printf("shown: as called for\n");

@@ -76,7 +76,7 @@ static void post(void)
 
 static void search_and_update(void)
 {
-    struct wulgach_outstanding other = {.user_data = 1, .is_free = true, .runs = true, .is_waiting = true}, read = {.user_data = 2, .is_free = true, .runs = true}, poll = {.user_data = 2, .is_free = true, .runs = true, .is_waiting = true};
+    struct wulgach_outstanding other = {.user_data = 1, .is_token = true, .runs = true, .is_stream = true}, read = {.user_data = 2, .is_token = true, .runs = true}, poll = {.user_data = 2, .is_token = true, .runs = true, .is_stream = true};
     struct wulgach_search search;
     wulgach_search_begin(&search, 2);
     demand(!wulgach_search_sees(&search, &other) && wulgach_search_sees(&search, &poll) && !wulgach_search_sees(&search, &poll) && wulgach_search_has_cancelled(&search), "the oldest that waits");

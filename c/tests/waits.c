@@ -143,8 +143,17 @@ static void poll_one(void)
     demand(wulgach_poll_result(5, 4, true, &res) && res == 4 && wulgach_poll_result(5, 32, false, &res) && res == -9 && wulgach_poll_result(5, 0, true, &res) && res == 1, "its events");
 }
 
+static void advise(void)
+{
+    enum { FADVISE = 24, MADVISE = 25 };
+    demand(wulgach_advised_length(&(struct wulgach_submission){.opcode = FADVISE, .addr = 7, .len = 5, .off = 9}) == 7, "an advice on a file");
+    demand(wulgach_advised_length(&(struct wulgach_submission){.opcode = MADVISE, .addr = 7, .len = 5, .off = 9}) == 9, "one on memory");
+    demand(wulgach_advised_length(&(struct wulgach_submission){.opcode = FADVISE, .len = 5, .off = 9}) == 5, "a short length");
+}
+
 int main(void)
 {
+    advise();
     look_at_needs();
     find_files();
     look_at_descriptors();

@@ -16,11 +16,6 @@
 #include <errno.h>
 #include <fcntl.h>
 
-bool is_cancellable(const struct request *request)
-{
-    return request->standing.is_stream || request->entry.opcode == IORING_OP_TIMEOUT;
-}
-
 /* One that was passed over is looked at again. */
 static void look_again_at(struct ring *ring, const struct request *request)
 {
@@ -46,10 +41,18 @@ static struct wulgach_outstanding seen_of(const struct request *request)
         .fd = (uint32_t)request->entry.fd,
         .is_registered = request->entry.flags & IOSQE_FIXED_FILE,
         .is_assigned = request->is_assigned,
-        .is_free = request->mapping == TOKEN && !request->course.is_cancelled,
+        .code = request->entry.opcode,
+        .is_token = request->mapping == TOKEN,
+        .is_cancelled = request->course.is_cancelled,
         .runs = request->course.has_started,
-        .is_waiting = is_cancellable(request),
+        .is_stream = request->standing.is_stream,
     };
+}
+
+bool is_cancellable(const struct request *request)
+{
+    struct wulgach_outstanding seen = seen_of(request);
+    return wulgach_is_waiting(&seen);
 }
 
 /* Has a cancel look at a request. The core is asked whether that could start only where it matters. */
@@ -89,33 +92,27 @@ bool cancel_running(struct ring *ring, uint64_t user_data)
 static int32_t cancel_by(struct ring *ring, const struct request *canceller)
 {
     const struct io_uring_sqe *entry = &canceller->entry;
-    uint32_t flags = entry->cancel_flags;
-    struct wulgach_sought sought = {
-        .user_data = entry->addr,
-        .fd = (uint32_t)entry->fd,
-        .is_any = flags & IORING_ASYNC_CANCEL_ANY,
-        .is_all = flags & IORING_ASYNC_CANCEL_ALL,
-        .is_by_fd = flags & IORING_ASYNC_CANCEL_FD,
-        .is_fixed = flags & IORING_ASYNC_CANCEL_FD_FIXED || entry->flags & IOSQE_FIXED_FILE,
-    };
+    struct wulgach_sought sought;
+    wulgach_sought_of(submission_of(entry), &sought);
     struct file *file = sought.is_by_fd && sought.is_fixed ? use_file(ring, sought.fd) : NULL;
-    if (sought.is_by_fd && (sought.is_fixed ? !file : fcntl(entry->fd, F_GETFD) < 0))
-        return -EBADF;
+    bool is_there = sought.is_fixed ? file != NULL : sought.is_by_fd && fcntl(entry->fd, F_GETFD) >= 0;
     sought.file = (uintptr_t)file;
-    int32_t res = cancel_all(ring, &sought, canceller);
+    int32_t fault = wulgach_seeking_fault(&sought, is_there);
+    int32_t res = fault < 0 ? fault : cancel_all(ring, &sought, canceller);
     release_file(file);
     return res;
 }
 
-/* The oldest request of an operation and a user data that can be found. */
-static struct request *find_request(struct ring *ring, uint8_t code, uint64_t user_data)
+/* The request that a removal finds, or NULL. */
+static struct request *find_request(struct ring *ring, const struct io_uring_sqe *removal)
 {
-    struct wulgach_sought sought = {.user_data = user_data};
+    struct wulgach_sought sought;
     struct wulgach_cancel cancel;
+    wulgach_sought_of(submission_of(removal), &sought);
     wulgach_cancel_begin(&cancel, &sought);
     for (size_t i = 0; i < ring->requests.count; i++) {
         struct request *request = ring->requests.rows[i];
-        if (request->entry.opcode == code && look_for(ring, &cancel, request))
+        if (look_for(ring, &cancel, request))
             return request;
     }
     return NULL;
@@ -141,7 +138,7 @@ static int32_t change_poll(struct ring *ring, struct request *poll, const struct
 
 static int32_t remove_poll(struct ring *ring, const struct io_uring_sqe *removal)
 {
-    struct request *poll = find_request(ring, IORING_OP_POLL_ADD, removal->addr);
+    struct request *poll = find_request(ring, removal);
     if (!poll)
         return -ENOENT;
     if (wulgach_poll_removal(submission_of(removal)) == WULGACH_REMOVAL_UPDATES)
@@ -156,7 +153,7 @@ static int32_t remove_timeout(struct ring *ring, const struct request *removal)
     uint32_t what = wulgach_timeout_removal(submission_of(entry));
     if (what == WULGACH_REMOVAL_UPDATES_LINKED)
         return change_linked_timeout(ring, removal);
-    struct request *timeout = find_request(ring, IORING_OP_TIMEOUT, entry->addr);
+    struct request *timeout = find_request(ring, entry);
     if (!timeout)
         return -ENOENT;
     if (what == WULGACH_REMOVAL_UPDATES)

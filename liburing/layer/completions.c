@@ -46,7 +46,8 @@ bool note_end(struct ring *ring, const struct request *request, int32_t told)
         .flags = request->flags,
         .token = request->token,
         .told = told,
-        .is_async = request->call != ring->call_number,
+        .call = request->call,
+        .ended = ring->call_number,
     };
     int32_t posted = wulgach_shown_end(&completions->at, posted_at(completions, 0), completions->room - completions->first, &request->course, &end, &core, has_core);
     demand(posted >= 0, "the core posted something else");
@@ -87,8 +88,7 @@ static bool store_shown(struct ring *ring)
 void show_flags(struct ring *ring)
 {
     /* A call may bring something: so a peek that finds nothing calls, requests go on, and a descriptor that polls is readable no more. */
-    bool may_bring = ring->requests.count > 0 || ring->is_readable;
-    store_word(&ring->memory.sq->flags, wulgach_shown_flags(&ring->completions.at, may_bring, ring->flags & IORING_SETUP_SQPOLL));
+    store_word(&ring->memory.sq->flags, wulgach_shown_flags(&ring->completions.at, ring->requests.count, ring->is_readable, ring->flags & IORING_SETUP_SQPOLL));
 }
 
 void show(struct ring *ring)
@@ -140,7 +140,10 @@ bool hear(struct ring *ring, bool is_flushing)
 uint32_t count_ready(struct ring *ring)
 {
     show_ends(ring);
-    return load_word(&ring->memory.cq->tail) - load_word(&ring->memory.cq->head);
+    const struct wulgach_shown *at = &ring->completions.at;
+    uint32_t head = load_word(&ring->memory.cq->head);
+    /* (Where nothing was reaped since the head was last heard, these are all that stand in the ring.) */
+    return head == at->head ? at->shown : wulgach_shown_ready(at, head);
 }
 
 void free_completions(struct completions *completions)

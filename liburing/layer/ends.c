@@ -48,8 +48,7 @@ void end_of(struct ring *ring, struct request *request, int32_t res, int32_t tol
     note_outcome(request, told);
     if (told >= 0 && request->entry.flags & IOSQE_CQE_SKIP_SUCCESS)
         record_silent_end(ring, request);
-    if (note_end(ring, request, told) && !is_timeout(request))
-        wulgach_times_post(&ring->times, 1);
+    wulgach_times_count_end(&ring->times, &request->course, is_timeout(request), note_end(ring, request, told));
     if (is_timeout(request) || is_linked_timeout(request))
         stop_timeout(ring, request);
     note_counts(ring);

@@ -21,7 +21,7 @@ bool can_post_extra(struct ring *ring)
     return wulgach_drains_may_post(&ring->drains, ring->staged.count) && reserve_all(ring, 1);
 }
 
-void post_extra(struct ring *ring, uint64_t user_data, int32_t res, uint32_t flags)
+void post_extra(struct ring *ring, uint64_t call, uint64_t user_data, int32_t res, uint32_t flags)
 {
     int32_t ended;
     struct wulgach_entry entry;
@@ -29,6 +29,7 @@ void post_extra(struct ring *ring, uint64_t user_data, int32_t res, uint32_t fla
     demand(request != NULL, "out of memory");
     request->entry.user_data = request->token = user_data;
     request->flags = flags;
+    request->call = call;
     write_token(&entry, request);
     load_head(ring);
     fill_slot(ring, 0, &entry);
@@ -75,7 +76,7 @@ void post_messages(struct ring *ring)
 {
     struct message *message;
     while (has_messages(ring) && can_post_extra(ring) && (message = take_message(&ring->inbox))) {
-        post_extra(ring, message->user_data, message->res, message->flags);
+        post_extra(ring, NO_CALL, message->user_data, message->res, message->flags);
         free(message);
     }
 }

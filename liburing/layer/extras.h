@@ -29,8 +29,11 @@ struct inbox {
 /* Whether an extra completion can be posted now: no drain is outstanding, and there is memory. */
 bool can_post_extra(struct ring *ring);
 
-/* Posts one. It can be posted. */
-void post_extra(struct ring *ring, uint64_t user_data, int32_t res, uint32_t flags);
+/* What no call has submitted. */
+static const uint64_t NO_CALL = UINT64_MAX;
+
+/* Posts one, of a request that the call of this number has submitted, or NO_CALL. It can be posted. */
+void post_extra(struct ring *ring, uint64_t call, uint64_t user_data, int32_t res, uint32_t flags);
 
 /* A message that is yet to be put; NULL if memory was refused. */
 struct message *make_message_of(uint64_t user_data, int32_t res);

@@ -241,9 +241,9 @@ static int32_t call_system(struct ring *ring, struct request *request)
         return close_file(ring, request);
     case IORING_OP_FADVISE:
         /* This one returns the error number. */
-        return -posix_fadvise(request->fd, (off_t)entry->off, entry->len, (int)entry->fadvise_advice);
+        return -posix_fadvise(request->fd, (off_t)entry->off, (off_t)wulgach_advised_length(submission_of(entry)), (int)entry->fadvise_advice);
     case IORING_OP_MADVISE:
-        return result_of(madvise(address_of(request), entry->len, (int)entry->fadvise_advice));
+        return result_of(madvise(address_of(request), wulgach_advised_length(submission_of(entry)), (int)entry->fadvise_advice));
     case IORING_OP_SHUTDOWN:
         return result_of(shutdown(request->fd, (int)entry->len));
     case IORING_OP_SOCKET:
@@ -342,14 +342,12 @@ int32_t carry_out(struct ring *ring, struct request *request, enum injection fau
 
 bool is_success(const struct request *request, int32_t res)
 {
-    bool is_of_socket = is_of_sockets(request->entry.opcode);
-    struct wulgach_success asked = {
-        .length = is_splice(request) ? request->entry.len : request->length,
-        .is_whole = is_of_socket ? wants_whole(request) : is_splice(request) || is_transfer(request),
-        .is_cut = is_of_socket && is_cut(request),
-        .takes_time = is_timeout(request) && request->entry.timeout_flags & IORING_TIMEOUT_ETIME_SUCCESS,
-        .is_linked_timeout = is_linked_timeout(request),
+    const struct msghdr *received = request->entry.opcode == IORING_OP_RECVMSG ? request->value : NULL;
+    struct wulgach_carried carried = {
+        .length = request->length,
+        .message_flags = received ? (uint32_t)received->msg_flags : 0,
+        .has_message = request->value != NULL,
         .is_cancelled = request->course.is_cancelled,
     };
-    return wulgach_is_success(&asked, res);
+    return wulgach_has_succeeded(submission_of(&request->entry), &carried, res);
 }

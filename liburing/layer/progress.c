@@ -62,6 +62,12 @@ static bool goes_on_behind(const struct ring *ring, const struct request *reques
     return wulgach_goes_on(&ring->completions.at, &shot, res, ring->memory.cq_entries);
 }
 
+/* Posts a completion of a request before its end. It counts as of the call that submitted the request. */
+static void post_event(struct ring *ring, const struct request *request, int32_t res, enum wulgach_part part)
+{
+    post_extra(ring, request->call, request->entry.user_data, res, wulgach_completion_flags(part, request->flags));
+}
+
 /* Carries an operation out. False: it goes on running, since it would have to wait, or brought something and goes on. */
 static bool try_operation(struct ring *ring, struct request *request, int32_t *res)
 {
@@ -81,7 +87,7 @@ static bool try_operation(struct ring *ring, struct request *request, int32_t *r
     }
     if (request->needs.goes_on && goes_on_behind(ring, request, *res)) {
         note_fact(request, WULGACH_FACT_WENT_ON, 0);
-        post_extra(ring, request->entry.user_data, *res, request->flags | IORING_CQE_F_MORE);
+        post_event(ring, request, *res, WULGACH_PART_EVENT);
         return false;
     }
     demand(wulgach_course_done(&request->course, *res), "an operation is done that wasn't begun");
@@ -96,8 +102,8 @@ static int32_t notify(struct ring *ring, struct request *request, int32_t res)
     bool reports = request->entry.ioprio & IORING_SEND_ZC_REPORT_USAGE;
     if (!wulgach_course_notice(&request->course, reports, can_post_extra(ring), &shown))
         return res;
-    post_extra(ring, request->entry.user_data, res, IORING_CQE_F_MORE);
-    request->flags = IORING_CQE_F_NOTIF;
+    post_event(ring, request, res, WULGACH_PART_SENT);
+    request->flags = wulgach_completion_flags(WULGACH_PART_NOTICE, 0);
     note_fact(request, WULGACH_FACT_NOTIFIED, shown);
     return shown;
 }
@@ -111,7 +117,7 @@ static void finish_running(struct ring *ring, struct request *request)
             return;
     } else {
         /* (one that goes on has those of its last event) */
-        request->flags = 0;
+        request->flags = wulgach_completion_flags(WULGACH_PART_CANCELLED, request->flags);
     }
     int32_t told = is_success(request, res) ? TOLD_SUCCESS : TOLD_FAILURE;
     if (is_zero_copy(request))

@@ -92,6 +92,8 @@ static int cancel_at_once(struct ring *ring, uint32_t code, uint64_t at)
     if (result < 0)
         return result;
     struct request cancel = {.entry = {.opcode = IORING_OP_ASYNC_CANCEL, .addr = asked.addr, .fd = asked.fd, .cancel_flags = asked.flags}};
+    /* What it ends has ended behind the call that submitted it. */
+    ring->call_number++;
     result = act_on_others(ring, &cancel);
     end_cancelled(ring);
     show(ring);

@@ -280,14 +280,3 @@ int32_t call_socket(struct ring *ring, struct request *request)
         return fills ? filled : (int32_t)request->done;
     return turn == WULGACH_TURN_WAITS ? WOULD_WAIT : res;
 }
-
-bool wants_whole(const struct request *request)
-{
-    return request->entry.msg_flags & MSG_WAITALL && request->value && request->entry.opcode != IORING_OP_CONNECT;
-}
-
-bool is_cut(const struct request *request)
-{
-    const struct msghdr *message = request->value;
-    return request->entry.opcode == IORING_OP_RECVMSG && message && message->msg_flags & (MSG_TRUNC | MSG_CTRUNC);
-}

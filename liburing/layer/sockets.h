@@ -22,8 +22,4 @@ int32_t call_socket(struct ring *ring, struct request *request);
 /* Whether it ends with two completions: one that the bytes were taken, and one that their memory may be used again. */
 bool is_zero_copy(const struct request *request);
 
-/* Whether a transfer is a success only if it moves all, and whether what one received was cut. */
-bool wants_whole(const struct request *request);
-bool is_cut(const struct request *request);
-
 #endif

@@ -6,6 +6,7 @@
 #define _GNU_SOURCE
 #include "engines.h"
 
+#include <poll.h>
 #include <sys/eventfd.h>
 #include <sys/socket.h>
 #include <sys/uio.h>
@@ -373,6 +374,60 @@ static void test_eventfd(void)
     close_ring(&ring);
 }
 
+/* An eventfd for what ends asynchronously alone isn't told of an event that is there when its request is submitted, but of later ones,
+ * and of what a call of register ends. */
+static void test_async_eventfd(void)
+{
+    struct ring ring;
+    uint64_t count = 0;
+    int fd = eventfd(0, EFD_NONBLOCK), ends[2];
+    struct io_uring_sync_cancel_reg now = {.flags = IORING_ASYNC_CANCEL_ANY, .timeout = {-1, -1}};
+    check(pipe(ends) == 0 && write(ends[1], "x", 1) == 1);
+    make_ring(&ring, 8, 0, 0);
+    check(register_at(ring.fd, IORING_REGISTER_EVENTFD_ASYNC, &fd, 1) == 0);
+    struct io_uring_sqe *poll = put_plain(&ring, IORING_OP_POLL_ADD, 0, ends[0]);
+    poll->poll32_events = POLLIN;
+    poll->len = IORING_POLL_ADD_MULTI;
+    check(enter(&ring, 1, 0, 0) == 1);
+    check(next_of(&ring).flags == IORING_CQE_F_MORE);
+    check(read(fd, &count, sizeof count) < 0);
+    check(write(ends[1], "x", 1) == 1);
+    check(next_of(&ring).flags == IORING_CQE_F_MORE);
+    check(read(fd, &count, sizeof count) == sizeof count);
+    check(register_at(ring.fd, IORING_REGISTER_SYNC_CANCEL, &now, 1) == 1);
+    check(read(fd, &count, sizeof count) == sizeof count);
+    check(next_of(&ring).res == -ECANCELED);
+    close(ends[0]);
+    close(ends[1]);
+    close(fd);
+    close_ring(&ring);
+}
+
+/* An advice has its length in 64 bits, and in 32 only where that is 0. */
+static void test_advice(void)
+{
+    struct ring ring;
+    enum { PAGE = 4096 };
+    int fd = make_file();
+    char *pages = mmap(NULL, 3 * PAGE, PROT_READ | PROT_WRITE, MAP_PRIVATE | MAP_ANONYMOUS, -1, 0);
+    check(pages != MAP_FAILED);
+    make_ring(&ring, 8, 0, 0);
+    for (uint64_t length = 0; length <= 2; length += 2) {
+        memset(pages, 7, 3 * PAGE);
+        struct io_uring_sqe *entry = put_transfer(&ring, IORING_OP_MADVISE, 0, 0, -1, pages, PAGE, length * PAGE);
+        entry->fadvise_advice = MADV_DONTNEED;
+        check(result_of_one(&ring, 1) == 0);
+        check(pages[0] == 0 && pages[PAGE] == (length == 2 ? 0 : 7) && pages[2 * PAGE] == 7);
+    }
+    put_plain(&ring, IORING_OP_FADVISE, 0, fd)->addr = 1ull << 63;
+    check(result_of_one(&ring, 1) == -EINVAL);
+    put_plain(&ring, IORING_OP_FADVISE, 0, fd)->buf_index = 1;
+    check(result_of_one(&ring, 1) == -EINVAL);
+    munmap(pages, 3 * PAGE);
+    close(fd);
+    close_ring(&ring);
+}
+
 static void test_restrictions(void)
 {
     struct ring ring;
@@ -495,6 +550,8 @@ int main(int count, char **words)
         {"provided", test_provided},
         {"groups", test_groups},
         {"eventfd", test_eventfd},
+        {"async eventfd", test_async_eventfd},
+        {"advice", test_advice},
         {"restrictions", test_restrictions},
         {"rings by number", test_rings_by_number},
         {"sqpoll", test_sqpoll},

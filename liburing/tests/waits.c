@@ -166,6 +166,48 @@ static void test_cancels(void)
     close_ring(&ring);
 }
 
+/* Of two cancels of any in one submission neither finds the other. */
+static void test_cancels_of_any(void)
+{
+    struct ring ring;
+    int32_t results[4];
+    int ends[2];
+    check(pipe(ends) == 0);
+    make_ring(&ring, 8, 0, 0);
+    for (int i = 0; i < 2; i++)
+        put_plain(&ring, IORING_OP_POLL_ADD, (uint64_t)i, ends[0])->poll32_events = POLLIN;
+    check(enter(&ring, 2, 0, 0) == 2);
+    check(enter_for(&ring, 1, 1000) == -ETIME);
+    for (int i = 2; i < 4; i++)
+        put(&ring, IORING_OP_ASYNC_CANCEL, (uint64_t)i, 0)->cancel_flags = IORING_ASYNC_CANCEL_ANY;
+    check(enter(&ring, 2, 0, 0) == 2);
+    reap_all(&ring, 4, results);
+    check(results[0] == -ECANCELED && results[1] == -ECANCELED);
+    check(results[2] >= 0 && results[3] >= 0 && results[2] + results[3] == 2);
+    close(ends[0]);
+    close(ends[1]);
+    close_ring(&ring);
+}
+
+/* The completion of a timeout that is removed counts for another. */
+static void test_count_of_removed(void)
+{
+    struct ring ring;
+    int32_t results[3];
+    struct __kernel_timespec hour = {.tv_sec = 3600};
+    make_ring(&ring, 8, 0, 0);
+    put_transfer(&ring, IORING_OP_TIMEOUT, 0, 0, -1, &hour, 1, 0);
+    put_transfer(&ring, IORING_OP_TIMEOUT, 1, 0, -1, &hour, 1, 2);
+    check(enter(&ring, 2, 0, 0) == 2);
+    check(enter_for(&ring, 1, 1000) == -ETIME);
+    put(&ring, IORING_OP_TIMEOUT_REMOVE, 2, 0)->addr = 0;
+    check(enter(&ring, 1, 0, 0) == 1);
+    check(enter_for(&ring, 3, 1000) == 0);
+    reap_all(&ring, 3, results);
+    check(results[0] == -ECANCELED && results[1] == 0 && results[2] == 0);
+    close_ring(&ring);
+}
+
 static void test_polls(void)
 {
     struct ring ring;
@@ -379,6 +421,8 @@ int main(int count, char **words)
         {"linked update", test_linked_update},
         {"timeouts", test_timeouts},
         {"cancels", test_cancels},
+        {"cancels of any", test_cancels_of_any},
+        {"count of removed", test_count_of_removed},
         {"polls", test_polls},
         {"come and gone", test_come_and_gone},
         {"gone before", test_gone_before},

@@ -4,6 +4,8 @@ use Rattle.uring_enter.specs.declared.act.Fact.{Fact}
 use Rattle.uring_enter.specs.declared.act.Fact.TheVariants.{Started, Dropped, Cancelled, Waits, WentOn, Done, Notified, Ended}
 use Rattle.uring_enter.specs.declared.act.Act.{Act}
 use Rattle.uring_enter.specs.declared.act.Act.TheVariants.{Nothing, CarryOut, End}
+use Rattle.uring_enter.specs.declared.shot.Part.{Part}
+use Rattle.uring_enter.specs.declared.shot.Part.TheVariants as part
 use Rattle.uring_enter.specs.declared.member.Entry.{Entry}
 use Rattle.uring_enter.specs.declared.posted.Completion.{Completion}
 use Rattle.uring_c.specs.declared.completion_words.CompletionWords.{CompletionWords}
@@ -19,6 +21,14 @@ fact_of kind res =
     if kind == 5 then Some (Done res) else
     if kind == 6 then Some (Notified res) else
     if kind == 7 then Some Ended else None
+
+-- what a completion tells of counts in the order of `Part`, from 0; past the last, it is the last. Our own rule
+abbrev pub part_of : ℕ → Part
+part_of word =
+    if word == 0 then part.Event else
+    if word == 1 then part.Sent else
+    if word == 2 then part.Notice else
+    if word == 3 then part.Own else part.Cancelled
 
 -- kinds count what is to be done in its order, from 0. Our own rule
 abbrev pub word_of_act : Act → ℕ

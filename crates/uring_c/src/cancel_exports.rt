@@ -2,9 +2,37 @@
 ghost use Rattle.std.specs.Prelude.{◌≡◌, ℕ, List, [], ◌∷◌};
 ghost use Rattle.uring_enter.specs.declared.cancel.Outstanding.{Outstanding};
 ghost use Rattle.uring_enter.specs.declared.cancel.Sought.{Sought};
+ghost use Rattle.uring_enter.specs.Cancels.{is_waiting as waits};
+ghost use Rattle.uring_enter.specs.Seeking as seeking;
 ghost use Rattle.uring_enter.specs.Cancels.{result_of, is_cancelled, is_asked, HasSeen, HasSought, oldest, is_stopped, has_cancelled};
 
-use uring_enter::{Cancel, Outstanding, Search, Sought};
+use uring_enter::{
+    Cancel, Outstanding, Search, Sought, Submission, is_waiting, seeking_fault, sought_of,
+};
+
+/// Writes what is looked for by the entry of a cancel, or of a removal.
+#[unsafe(no_mangle)]
+pub extern "C" fn wulgach_sought_of(entry: &Submission, sought: &mut Sought)
+    ensures { sought.new ≡ seeking.sought_of entry.now }
+{
+    *sought = sought_of(entry);
+}
+
+/// Why nothing is looked for, or 0.
+#[unsafe(no_mangle)]
+pub extern "C" fn wulgach_seeking_fault(sought: &Sought, is_there: bool) -> i32
+    ensures { result ≡ seeking.seeking_fault sought.now is_there }
+{
+    seeking_fault(sought, is_there)
+}
+
+/// Whether a request that runs waits for something. A cancel ends no other.
+#[unsafe(no_mangle)]
+pub extern "C" fn wulgach_is_waiting(request: &Outstanding) -> bool
+    ensures { result ≡ waits request.now }
+{
+    is_waiting(request)
+}
 
 /// A cancel that hasn't looked at any request.
 #[unsafe(no_mangle)]

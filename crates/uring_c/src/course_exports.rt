@@ -6,18 +6,19 @@ ghost use Rattle.uring_enter.specs.declared.act.Fact.TheVariants.{Ended as HasEn
 ghost use Rattle.uring_enter.specs.declared.member.Entry.{Entry};
 ghost use Rattle.uring_enter.specs.Courses.{KeepsCourse, act, behind_act, fits, notice_of, starts_time};
 ghost use Rattle.uring_enter.specs.Courses.{shown as shown_by};
-ghost use Rattle.uring_enter.specs.Outcomes.{is_success, looks_for_running, shown_of};
+ghost use Rattle.uring_enter.specs.Outcomes.{is_success, looks_for_running, shown_of, success_of_entry};
+ghost use Rattle.uring_enter.specs.Shots as shots;
 ghost use Rattle.uring_enter.specs.Chains.{member_of, limits};
 ghost use Rattle.uring_enter.specs.Showing.{Change, KeepsShown};
 ghost use Rattle.uring_enter.specs.Showing.{Posted as WasPosted};
 ghost use Rattle.uring_enter.specs.Postings.{Posting, Ended, KeepsPosted, is_taken, with_res, posts};
-ghost use Rattle.uring_c.specs.CourseForm.{fact_of, word_of_act, res_of_act, last_of, word_of_end, is_refused};
+ghost use Rattle.uring_c.specs.CourseForm.{fact_of, word_of_act, res_of_act, last_of, word_of_end, is_refused, part_of};
 
 use crate::completion_words::CompletionWords;
-use crate::course_words::{act_res, act_word, fact, last};
+use crate::course_words::{act_res, act_word, fact, last, part};
 use uring_enter::{
-    Course, EndedEarly, Entry, Fact, Member, Posted, Shown, Success, is_success, looks_for_running,
-    shown_of,
+    Carried, Course, EndedEarly, Entry, Fact, Member, Posted, Shown, Submission, Success,
+    completion_flags, has_succeeded, is_success, looks_for_running, shown_of,
 };
 
 /// A request that was accepted just now.
@@ -134,6 +135,22 @@ pub extern "C" fn wulgach_course_notice(
     };
     *res = shows;
     true
+}
+
+/// Whether a result is a success to the links behind the request of an entry that was carried out so.
+#[unsafe(no_mangle)]
+pub extern "C" fn wulgach_has_succeeded(entry: &Submission, carried: &Carried, res: i32) -> bool
+    ensures { result ≡ is_success (success_of_entry entry.now carried.now) res }
+{
+    has_succeeded(entry, carried, res)
+}
+
+/// The flags of a completion, where those of a provided buffer that was taken are `of_buffer`, or 0.
+#[unsafe(no_mangle)]
+pub extern "C" fn wulgach_completion_flags(of: u32, of_buffer: u32) -> u32
+    ensures { result ≡ shots.completion_flags (part_of of) of_buffer }
+{
+    completion_flags(part(of), of_buffer)
 }
 
 /// Whether a result is a success to the links behind the request.

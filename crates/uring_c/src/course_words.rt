@@ -3,7 +3,7 @@ ghost use Rattle.std.specs.Prelude.{◌≡◌};
 ghost use Rattle.uring_c.specs.CourseForm as spec;
 
 use crate::completion_words::CompletionWords;
-use uring_enter::{Act, Completion, Entry, Fact};
+use uring_enter::{Act, Completion, Entry, Fact, Part};
 
 /// What has happened, by its kind and its result, if there is such a kind.
 pub(crate) fn fact(kind: u32, res: i32) -> Option<Fact>
@@ -19,6 +19,19 @@ pub(crate) fn fact(kind: u32, res: i32) -> Option<Fact>
         6 => Some(Fact::Notified(res)),
         7 => Some(Fact::Ended),
         _ => None,
+    }
+}
+
+/// What a completion tells of, by its word.
+pub(crate) fn part(word: u32) -> Part
+    ensures { result ≡ spec.part_of word }
+{
+    match word {
+        0 => Part::Event,
+        1 => Part::Sent,
+        2 => Part::Notice,
+        3 => Part::Own,
+        _ => Part::Cancelled,
     }
 }
 

@@ -1,6 +1,6 @@
 //! What the application is shown, for C: the functions of `c/wulgach_shown.h`.
 ghost use Rattle.std.specs.Prelude.{◌≡◌, ◌+◌, ◌-◌, ◌^◌, ◌<◌, ◌≤◌, ℕ, pos, negsuc, drop, MatchOption, List, [], ◌∷◌, nat_le};
-ghost use Rattle.uring_enter.specs.Showing.{Change, Posted, Reaped, KeepsShown, IsTold, posted, written, reaped, store_of, behind_store, heard_of, overflows, loads_head, is_readable, flags_of};
+ghost use Rattle.uring_enter.specs.Showing.{Change, Posted, Reaped, KeepsShown, IsTold, posted, written, reaped, store_of, behind_store, heard_of, overflows, loads_head, is_readable, may_bring, ready, flags_of};
 ghost use Rattle.uring_enter.specs.declared.posted.Posted.{Posted as Row};
 ghost use Rattle.uring_enter.specs.Postings.{Posting, Reaped as RowsReaped, KeepsPosted};
 ghost use Rattle.uring_c.specs.ShownForm.{words_of_store};
@@ -127,11 +127,25 @@ pub extern "C" fn wulgach_shown_is_readable(shown: &Shown, head: u32, may_bring:
     shown.is_readable(head, may_bring)
 }
 
+/// How many completions stand in the ring that the application hasn't reaped, by the head that it has stored.
+#[unsafe(no_mangle)]
+pub extern "C" fn wulgach_shown_ready(shown: &Shown, head: u32) -> u32
+    ensures { (log : List Change) (n : ℕ) → KeepsShown log shown.now → IsTold log head n
+        → result ≡ ready log n }
+{
+    shown.ready(head)
+}
+
 /// The flags word of the submission ring.
 #[unsafe(no_mangle)]
-pub extern "C" fn wulgach_shown_flags(shown: &Shown, may_bring: bool, has_thread: bool) -> u32
+pub extern "C" fn wulgach_shown_flags(
+    shown: &Shown,
+    outstanding: u64,
+    is_readable: bool,
+    has_thread: bool,
+) -> u32
     ensures { (log : List Change) → KeepsShown log shown.now
-        → result ≡ flags_of (overflows log) may_bring has_thread }
+        → result ≡ flags_of (overflows log) (may_bring outstanding is_readable) has_thread }
 {
-    shown.flags(may_bring, has_thread)
+    shown.flags(outstanding, is_readable, has_thread)
 }

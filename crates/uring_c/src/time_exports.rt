@@ -1,5 +1,7 @@
 //! The time of a ring and its timeouts for C: the functions of `c/wulgach_times.h`. Rows are the caller's memory.
-ghost use Rattle.std.specs.Prelude.{◌≡◌, ◌↔◌, ◌⊎◌, ◌≤◌, ◌-◌, pos, negsuc, length, true, false, MatchOption, List, [], ◌∷◌, None, Some, if◌then◌else◌};
+ghost use Rattle.std.specs.Prelude.{◌≡◌, ◌↔◌, ◌⊎◌, ◌≤◌, ◌-◌, pos, negsuc, length, true, false, MatchOption, List, [], ◌∷◌, None, Some, ◌&&◌, if◌then◌else◌};
+ghost use Rattle.uring_enter.specs.declared.act.Fact.{Fact};
+ghost use Rattle.uring_enter.specs.Courses.{KeepsCourse, counts};
 ghost use Rattle.uring_enter.specs.declared.wait.Wait.{Wait};
 ghost use Rattle.uring_enter.specs.declared.wait.Woken.{Woken};
 ghost use Rattle.uring_enter.specs.Timeouts.{Event, Started, Posted, Changed, Stopped, Clock, Slept, Passed, Ended};
@@ -15,7 +17,7 @@ use crate::time_words::{
     LimitWords, WaitWords, WokenWords, clock_word, limit_words, wait_words, woken_words,
 };
 use uring_enter::{
-    Start, Timeout, Times, WakeSources, clock_of, lasts, later, left_until, linked_outcome,
+    Course, Start, Timeout, Times, WakeSources, clock_of, lasts, later, left_until, linked_outcome,
     nanoseconds_of,
 };
 
@@ -157,6 +159,21 @@ pub extern "C" fn wulgach_times_post(times: &mut Times, count: u64)
         → KeepsTime (Posted count ∷ log) times.new rows }
 {
     times.post(count);
+}
+
+/// A request has ended, by this course, and its completion was posted or skipped. It counts, unless it is that of a timeout which its time or its count has ended.
+#[unsafe(no_mangle)]
+pub extern "C" fn wulgach_times_count_end(
+    times: &mut Times,
+    course: &Course,
+    is_timeout: bool,
+    is_posted: bool,
+)
+    ensures { (facts : List Fact) (log : List Event) (rows : List Timeout) → KeepsCourse facts course.now
+        → KeepsTime log times.old rows
+        → KeepsTime (if is_posted && counts facts is_timeout then Posted 1 ∷ log else log) times.new rows }
+{
+    times.count_end(course, is_timeout, is_posted);
 }
 
 /// A clock says that it is so late, or a call's own limit does.

@@ -14,7 +14,8 @@ use crate::wait_words::{
 };
 use uring_enter::{
     Call, Course, Known, Moment, Needs, Patience, Standing, Submission, Transfer, Trial,
-    is_impatient, needs_of, next_finding, next_look, next_step, next_turn, offset_of, poll_result,
+    advised_length, is_impatient, needs_of, next_finding, next_look, next_step, next_turn,
+    offset_of, poll_result,
 };
 
 /// Writes what the operation of an entry needs.
@@ -23,6 +24,14 @@ pub extern "C" fn wulgach_needs_of(entry: &Submission, needs: &mut Needs)
     ensures { needs.new ≡ needed.needs_of entry.now }
 {
     *needs = needs_of(entry);
+}
+
+/// On how many bytes an FADVISE or a MADVISE advises.
+#[unsafe(no_mangle)]
+pub extern "C" fn wulgach_advised_length(entry: &Submission) -> u64
+    ensures { result ≡ needed.advised_length entry.now }
+{
+    advised_length(entry)
 }
 
 /// Returns what is to be asked next of a descriptor, or what the request of an entry is on it.

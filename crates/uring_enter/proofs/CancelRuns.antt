@@ -3,7 +3,7 @@ use Rattle.std.proofs.Common.{◌≡◌, ℕ, ◌≤◌, Bool, true, false, not,
 use Rattle.std.proofs.lemmas.Bool.{false≢true, true≢false}
 use Rattle.uring_enter.specs.declared.cancel.Sought.{Sought}
 use Rattle.uring_enter.specs.declared.cancel.Outstanding.{Outstanding}
-use Rattle.uring_enter.specs.Cancels.{is_of_all, fits, can_be_found, finds_any, one_more, count_of}
+use Rattle.uring_enter.specs.Cancels.{is_of_all, fits, is_free, is_waiting, can_be_found, finds_any, one_more, count_of}
 use Rattle.uring_enter.specs.CancelLaws.{CancelsWhatFits, CancelsAllThatFit, CancelsTheOldest, AsksWhatMatters}
 
 fits_by : (b f g : Bool) → (b && f && g) ≡ true → (f ≡ true) × (g ≡ true)
@@ -69,4 +69,4 @@ asks_by true true true false waiting is = absurd (true≢false is)
 
 pub asks_what_matters : AsksWhatMatters
 asks_what_matters s earlier r is =
-    asks_by (is_of_all s || not (finds_any s earlier)) (fits s r) r.is_free r.runs r.is_waiting is
+    asks_by (is_of_all s || not (finds_any s earlier)) (fits s r) (is_free r) r.runs (is_waiting r) is

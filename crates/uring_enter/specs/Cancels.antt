@@ -16,16 +16,25 @@ fits_fd s r =
     if s.is_fixed then r.is_registered && r.file == s.file else
     not r.is_registered && r.is_assigned && r.fd == s.fd
 
--- whether a request is what a cancel looks for: any, by what it is carried out on, or by its user data
+-- whether a request is what a cancel looks for: any, by what it is carried out on, or by its user data; and of one operation, where it looks for that alone
 abbrev pub fits : Sought → Outstanding → Bool
 fits s r =
+    if s.is_of_operation && not (r.code == s.code) then false else
     if s.is_any then true else
     if s.is_by_fd then fits_fd s r else
     r.user_data == s.user_data
 
+-- whether a cancel may choose a request: no other has, and it is no cancel itself (14). The second is what Linux 6.18 does
+abbrev pub is_free : Outstanding → Bool
+is_free r = r.is_token && not r.is_cancelled && not (r.code == 14)
+
+-- whether a request that runs waits for something: for its descriptor, or as a timeout (11)
+abbrev pub is_waiting : Outstanding → Bool
+is_waiting r = r.is_stream || r.code == 11
+
 -- whether a request can be found at all: it waits for something, or could start now. One behind a link or a drain can't; what the kernel does
 abbrev pub can_be_found : Outstanding → Bool
-can_be_found r = r.is_free && (if r.runs then r.is_waiting else r.may_start)
+can_be_found r = is_free r && (if r.runs then is_waiting r else r.may_start)
 
 -- whether any of these fits and can be found
 abbrev pub finds_any : Sought → List Outstanding → Bool
@@ -53,7 +62,7 @@ result_of s seen =
 -- whether it matters that a request could start now
 abbrev pub is_asked : Sought → List Outstanding → Outstanding → Bool
 is_asked s earlier r =
-    (is_of_all s || not (finds_any s earlier)) && fits s r && r.is_free && not r.runs
+    (is_of_all s || not (finds_any s earlier)) && fits s r && is_free r && not r.runs
 
 abbrev pub is_none : Option Outstanding → Bool
 is_none None = true
@@ -71,12 +80,12 @@ oldest user_data (r ∷ earlier) = first_of (oldest user_data earlier) (r.user_d
 -- whether a running request is cancelled then: it is the oldest, and waits for something. One that is carried out isn't
 abbrev pub is_stopped : ℕ → List Outstanding → Outstanding → Bool
 is_stopped user_data earlier r =
-    is_none (oldest user_data earlier) && r.user_data == user_data && r.is_free && r.is_waiting
+    is_none (oldest user_data earlier) && r.user_data == user_data && not r.is_cancelled && is_waiting r
 
 -- whether the cancel has cancelled the one that it found: that waits, or another cancel has chosen it
 abbrev pub has_cancelled : Option Outstanding → Bool
 has_cancelled None = false
-has_cancelled (Some r) = not r.is_free || r.is_waiting
+has_cancelled (Some r) = r.is_cancelled || is_waiting r
 
 -- glue: a search that has looked at these, the newest first
 pub record HasSought (user_data : ℕ) (seen : List Outstanding) (s : Search) : Type 0 where

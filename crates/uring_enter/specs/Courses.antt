@@ -59,6 +59,10 @@ ending log = end_by (result log) (is_cancelled log)
 abbrev pub shown : List Fact → Option ℤ
 shown log = if has_ended log then ending log else None
 
+-- whether its completion counts for timeouts with a count: not that of a timeout which its time or its count has ended; but that of one which was removed, cancelled, or never started. What Linux 6.18 does
+abbrev pub counts : List Fact → Bool → Bool
+counts log is_timeout = not (is_timeout && has_started log && not (is_cancelled log))
+
 -- it has started, hasn't ended, and isn't being carried out
 abbrev pub may_go_on : List Fact → Bool
 may_go_on log = has_started log && not (has_ended log) && not (is_tried log)

@@ -4,7 +4,7 @@ use Rattle.std.specs.Ordering.{int_eq}
 use Rattle.std.specs.Int.RustNames.{bit_and}
 use Rattle.uring_enter.specs.declared.submission.Submission.{Submission}
 use Rattle.uring_enter.specs.declared.form.Rule.{Rule}
-use Rattle.uring_enter.specs.declared.form.Rule.TheVariants.{Plain, Transfer, Vectors, Fsync, Timeout, LinkedTimeout, TimeoutRemoval, Cancel, Poll, PollRemoval, Open, OpenHow, Close, FilesUpdate, Provision, ProvisionRemoval, Message, Shutdown, Socket, Splice, Tee, Send, Receive, ReceiveMessage, SendZeroCopy, SendMessageZeroCopy, Connect, Accept}
+use Rattle.uring_enter.specs.declared.form.Rule.TheVariants.{Plain, Transfer, Vectors, Fsync, Advice, Timeout, LinkedTimeout, TimeoutRemoval, Cancel, Poll, PollRemoval, Open, OpenHow, Close, FilesUpdate, Provision, ProvisionRemoval, Message, Shutdown, Socket, Splice, Tee, Send, Receive, ReceiveMessage, SendZeroCopy, SendMessageZeroCopy, Connect, Accept}
 use Rattle.uring_enter.specs.declared.form.Form.{Form}
 use Rattle.uring_enter.specs.declared.form.Form.TheVariants as form
 use Rattle.uring_enter.specs.Clocks.{has_some, are_timeout_flags}
@@ -40,6 +40,8 @@ rule_of code =
     if code == 18 then Some Open else
     if code == 19 then Some Close else
     if code == 20 then Some FilesUpdate else
+    -- FADVISE and MADVISE
+    if code == 24 || code == 25 then Some Advice else
     if code == 28 then Some OpenHow else
     -- SPLICE, PROVIDE_BUFFERS, REMOVE_BUFFERS, TEE and SHUTDOWN
     if code == 30 then Some Splice else
@@ -152,6 +154,7 @@ meets Plain e = e.ioprio == 0
 meets Transfer e = nat_lt e.ioprio 32768
 meets Vectors e = nat_lt e.ioprio 32768 && nat_le e.len 1024
 meets Fsync e = is_fsync e
+meets Advice e = has_no_buffer e && e.file_index == 0
 meets Timeout e = is_timeout e
 meets LinkedTimeout e = is_timeout e && e.off == 0
 meets TimeoutRemoval e = is_timeout_removal e

@@ -10,6 +10,7 @@ pub mod Showing
 pub mod ShowingLaws
 pub mod Cancels
 pub mod CancelLaws
+pub mod Seeking
 pub mod Courses
 pub mod CourseLaws
 pub mod Outcomes

@@ -42,6 +42,12 @@ needs_file code =
     is_transfer code || is_of_sockets code || is_splice code || is_poll code
     || code == 3 || code == 8 || code == 17 || code == 24 || code == 34 || code == 41 || code == 43
 
+-- the length of an advice: that of 64 bits, which FADVISE (24) has for an address and MADVISE for an offset; or that of 32 bits, where the long one is 0. What Linux 6.18 does
+abbrev pub advised_length : Submission → ℕ
+advised_length e =
+    let long = if e.opcode == 24 then e.addr else e.off in
+    if long == 0 then e.len else long
+
 -- READ_FIXED and WRITE_FIXED; a SEND_ZC with IORING_RECVSEND_FIXED_BUF (4)
 abbrev pub uses_buffer : Submission → Bool
 uses_buffer e = e.opcode == 4 || e.opcode == 5 || e.opcode == 47 && has_some e.ioprio 4

@@ -3,8 +3,33 @@ use Rattle.std.specs.Prelude.{ℤ, pos, negsuc, Bool, false, not, ◌&&◌, ◌|
 use Rattle.std.specs.Ordering.{int_eq}
 use Rattle.uring_enter.specs.declared.outcome.Success.{Success}
 use Rattle.uring_enter.specs.declared.outcome.EndedEarly.{EndedEarly}
+use Rattle.uring_enter.specs.declared.outcome.Carried.{Carried}
+use Rattle.uring_enter.specs.declared.submission.Submission.{Submission}
+use Rattle.uring_enter.specs.Clocks.{has_some}
+use Rattle.uring_enter.specs.Needs.{is_of_sockets, is_splice, is_transfer}
 use Rattle.uring_entry.specs.Errors.{error}
 use Rattle.uring_enter.specs.Timeouts.{linked_outcome}
+
+-- an operation of sockets wants all of its length with MSG_WAITALL (256), but a CONNECT (16) has none; a transfer, a SPLICE and a TEE always do. recv(2); IOSQE_IO_LINK
+abbrev pub wants_whole : Submission → Bool → Bool
+wants_whole e has_message =
+    if is_of_sockets e.opcode then has_message && not (e.opcode == 16) && has_some e.op_flags 256 else
+    is_splice e.opcode || is_transfer e.opcode
+
+-- a RECVMSG (10) was cut if its message says so: MSG_CTRUNC is 8, MSG_TRUNC 32. recvmsg(2)
+abbrev pub cuts : Submission → Carried → Bool
+cuts e c = e.opcode == 10 && c.has_message && has_some c.message_flags 40
+
+-- what success is of the operation of an entry: a splice's length is the entry's, and IORING_TIMEOUT_ETIME_SUCCESS 32 of a timeout's (11) flags. LINK_TIMEOUT is 15
+abbrev pub success_of_entry : Submission → Carried → Success
+success_of_entry e c = record {
+  length = if is_splice e.opcode then e.len else c.length;
+  is_whole = wants_whole e c.has_message;
+  is_cut = cuts e c;
+  takes_time = e.opcode == 11 && has_some e.op_flags 32;
+  is_linked_timeout = e.opcode == 15;
+  is_cancelled = c.is_cancelled;
+}
 
 -- a transfer has moved all that it was asked to, and nothing was cut: a short one breaks a link
 abbrev pub is_whole : Success → ℤ → Bool

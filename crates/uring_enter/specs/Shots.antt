@@ -1,6 +1,9 @@
--- Requests that go on, and of which completions an eventfd is told. io_uring_enter(2), IORING_POLL_ADD_MULTI, IORING_ACCEPT_MULTISHOT and IORING_RECV_MULTISHOT; io_uring_register(2), IORING_REGISTER_EVENTFD_ASYNC.
-use Rattle.std.specs.Prelude.{ℕ, ℤ, pos, negsuc, ◌-◌, Bool, false, not, ◌&&◌, ◌||◌, nat_lt, List}
+-- Requests that go on, and of which completions an eventfd is told. io_uring_enter(2), IORING_POLL_ADD_MULTI, IORING_ACCEPT_MULTISHOT and IORING_RECV_MULTISHOT; io_uring_register(2), IORING_REGISTER_EVENTFD_ASYNC. io_uring_enter(2), IORING_CQE_F_MORE and IORING_CQE_F_NOTIF.
+use Rattle.std.specs.Prelude.{ℕ, ℤ, pos, negsuc, ◌-◌, Bool, false, not, ◌&&◌, ◌||◌, ◌==◌, nat_lt, List}
 use Rattle.uring_enter.specs.declared.shot.Shot.{Shot}
+use Rattle.uring_enter.specs.declared.shot.Part.{Part}
+use Rattle.uring_enter.specs.declared.shot.Part.TheVariants.{Event, Sent, Notice, Own, Cancelled}
+use Rattle.std.specs.Int.RustNames.{bit_or}
 use Rattle.uring_enter.specs.declared.posted.Posted.{Posted}
 use Rattle.uring_enter.specs.Showing.{Change, posted, reaped}
 
@@ -17,6 +20,14 @@ has_room log entries = nat_lt (posted log - reaped log) entries
 abbrev pub goes_on : Shot → ℤ → Bool → Bool
 goes_on s res room = s.is_multishot && brings s res && room
 
+-- the flags of a completion: IORING_CQE_F_MORE is 2, where another of the same request follows; IORING_CQE_F_NOTIF is 8. A buffer is told of where the operation has taken one
+abbrev pub completion_flags : Part → ℕ → ℕ
+completion_flags Event of_buffer = bit_or of_buffer 2
+completion_flags Sent _ = 2
+completion_flags Notice _ = 8
+completion_flags Own of_buffer = of_buffer
+completion_flags Cancelled _ = 0
+
 -- an eventfd is told of each completion, or only of those of requests that ended behind the call that submitted them
 abbrev pub tells : Posted → Bool → Bool
-tells end is_async_alone = end.is_async || not is_async_alone
+tells end is_async_alone = not (end.call == end.ended) || not is_async_alone

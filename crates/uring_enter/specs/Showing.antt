@@ -44,6 +44,10 @@ behind_store log n = if nat_lt (written log) n then Written ∷ log else log
 abbrev pub heard_of : List Change → ℕ → Option ℕ
 heard_of log n = if nat_le n (written log) then Some (n - reaped log) else None
 
+-- how many stand in the ring beyond those that a head of this count has reaped. io_uring(7), Reading completion events
+abbrev pub ready : List Change → ℕ → ℕ
+ready log n = written log - n
+
 -- some were posted that don't stand in the ring. IORING_SQ_CQ_OVERFLOW
 abbrev pub overflows : List Change → Bool
 overflows log = nat_lt (written log) (posted log)
@@ -52,6 +56,10 @@ overflows log = nat_lt (written log) (posted log)
 abbrev pub loads_head : List Change → ℕ → Bool → ℕ → Bool
 loads_head log count is_asked entries =
     if overflows log then is_asked && nat_lt (written log - reaped log) entries else nat_lt 0 count
+
+-- whether a call may bring something: a request hasn't ended, or the descriptor is readable, which it stays until a call. So a peek that finds nothing calls. io_uring_setup(2), IORING_SQ_TASKRUN; else our own rule
+abbrev pub may_bring : ℕ → Bool → Bool
+may_bring outstanding is_readable = nat_lt 0 outstanding || is_readable
 
 -- IORING_SQ_NEED_WAKEUP is 1, IORING_SQ_CQ_OVERFLOW 2, IORING_SQ_TASKRUN 4
 abbrev pub flags_of : Bool → Bool → Bool → ℕ

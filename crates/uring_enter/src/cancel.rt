@@ -3,7 +3,7 @@
 ghost use Rattle.std.specs.Prelude.{◌≡◌, List, [], ◌∷◌};
 ghost use Rattle.uring_enter.specs.declared.cancel.Outstanding.{Outstanding};
 ghost use Rattle.uring_enter.specs.declared.cancel.Sought.{Sought};
-ghost use Rattle.uring_enter.specs.Cancels.{is_of_all, fits, fits_fd, can_be_found, one_more, result_of, is_cancelled, is_asked, HasSeen};
+ghost use Rattle.uring_enter.specs.Cancels.{is_of_all, fits, fits_fd, is_free, is_waiting, can_be_found, one_more, result_of, is_cancelled, is_asked, HasSeen};
 
 /// What a cancel looks for, and whether it is content with one.
 #[repr(C)]
@@ -17,6 +17,12 @@ pub struct Sought {
 
     /// The descriptor, if it looks by one.
     pub fd: u32,
+
+    /// The operation, if it looks for those of one alone.
+    pub code: u8,
+
+    /// It looks for requests of one operation alone, as a removal does.
+    pub is_of_operation: bool,
 
     /// It looks for any request. IORING_ASYNC_CANCEL_ANY.
     pub is_any: bool,
@@ -43,20 +49,26 @@ pub struct Outstanding {
     /// The descriptor that its entry names.
     pub fd: u32,
 
+    /// Its operation.
+    pub code: u8,
+
+    /// It is carried out outside of the core, which has neither ended it by itself nor cancels by it.
+    pub is_token: bool,
+
     /// Its entry names a registered file.
     pub is_registered: bool,
 
     /// On what it is carried out is known.
     pub is_assigned: bool,
 
-    /// A cancel may choose it: no other has yet, and it is no cancel itself.
-    pub is_free: bool,
+    /// A cancel has chosen it before.
+    pub is_cancelled: bool,
 
     /// It has started.
     pub runs: bool,
 
-    /// Of one that runs: it waits for something.
-    pub is_waiting: bool,
+    /// It may have to wait for its descriptor.
+    pub is_stream: bool,
 
     /// Of one that doesn't run: it could start now.
     pub may_start: bool,
@@ -87,7 +99,7 @@ impl Cancel {
     {
         let is_meant = fits(self.sought, request);
         let is_of_all = is_of_all(self.sought);
-        (is_of_all || self.count == 0) && is_meant && request.is_free && !request.runs
+        (is_of_all || self.count == 0) && is_meant && is_free(request) && !request.runs
     }
 
     /// Looks at the next request, and says whether it is cancelled.
@@ -131,7 +143,9 @@ fn is_of_all(sought: Sought) -> bool
 fn fits(sought: Sought, request: &Outstanding) -> bool
     ensures { result ≡ fits sought request.now }
 {
-    if sought.is_any {
+    if sought.is_of_operation && request.code != sought.code {
+        false
+    } else if sought.is_any {
         true
     } else if sought.is_by_fd {
         fits_fd(sought, request)
@@ -151,13 +165,27 @@ fn fits_fd(sought: Sought, request: &Outstanding) -> bool
     }
 }
 
+/// Whether a cancel may choose a request: no other has, and it is no cancel itself.
+fn is_free(request: &Outstanding) -> bool
+    ensures { result ≡ is_free request.now }
+{
+    request.is_token && !request.is_cancelled && request.code != 14
+}
+
+/// Whether a request that runs waits for something: for its descriptor, or as a timeout. A cancel ends no other.
+pub fn is_waiting(request: &Outstanding) -> bool
+    ensures { result ≡ is_waiting request.now }
+{
+    request.is_stream || request.code == 11
+}
+
 /// Whether a request can be found at all.
 fn can_be_found(request: &Outstanding) -> bool
     ensures { result ≡ can_be_found request.now }
 {
-    request.is_free
+    is_free(request)
         && if request.runs {
-            request.is_waiting
+            is_waiting(request)
         } else {
             request.may_start
         }

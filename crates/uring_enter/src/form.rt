@@ -24,6 +24,9 @@ pub enum Rule {
 
     Fsync,
 
+    /// Advice on a file or on memory.
+    Advice,
+
     /// A timeout, or one that is linked.
     Timeout,
 
@@ -115,6 +118,7 @@ pub fn rule_of(code: u8) -> Option<Rule>
         18 => Some(Rule::Open),
         19 => Some(Rule::Close),
         20 => Some(Rule::FilesUpdate),
+        24 | 25 => Some(Rule::Advice),
         27 => Some(Rule::Receive),
         28 => Some(Rule::OpenHow),
         30 => Some(Rule::Splice),
@@ -141,6 +145,7 @@ fn meets(rule: Rule, entry: &Submission) -> bool
         Rule::Transfer => entry.ioprio < 32768,
         Rule::Vectors => entry.ioprio < 32768 && entry.len <= 1024,
         Rule::Fsync => is_fsync(entry),
+        Rule::Advice => has_no_buffer(entry) && entry.file_index == 0,
         Rule::Timeout => is_timeout(entry),
         Rule::LinkedTimeout => is_timeout(entry) && entry.off == 0,
         Rule::TimeoutRemoval => is_timeout_removal(entry),

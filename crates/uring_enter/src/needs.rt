@@ -102,6 +102,18 @@ fn needs_file(code: u8) -> bool
     )
 }
 
+/// On how many bytes an FADVISE or a MADVISE advises. 0 of an FADVISE: all from its offset on.
+pub fn advised_length(entry: &Submission) -> u64
+    ensures { result ≡ spec.advised_length entry.now }
+{
+    let long = if entry.opcode == 24 {
+        entry.addr
+    } else {
+        entry.off
+    };
+    if long == 0 { entry.len as u64 } else { long }
+}
+
 fn uses_buffer(entry: &Submission) -> bool
     ensures { result ≡ spec.uses_buffer entry.now }
 {

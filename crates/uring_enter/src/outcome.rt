@@ -1,8 +1,10 @@
 //! What of a request's result is a success to the links behind it, and what is shown of one that the core ends by itself.
 
 ghost use Rattle.std.specs.Prelude.{◌≡◌};
-ghost use Rattle.uring_enter.specs.Outcomes.{is_success, is_whole, looks_for_running, shown_of};
+ghost use Rattle.uring_enter.specs.Outcomes.{cuts, is_success, is_whole, success_of_entry, wants_whole, looks_for_running, shown_of};
 
+use crate::needs::{is_of_sockets, is_splice, is_transfer};
+use crate::submission::Submission;
 use crate::timeout::linked_outcome;
 
 /// What success is of an operation.
@@ -26,6 +28,67 @@ pub struct Success {
 
     /// A cancel has found it.
     pub is_cancelled: bool,
+}
+
+/// How an operation was carried out.
+#[repr(C)]
+#[derive(Clone, Copy, Drop)]
+pub struct Carried {
+    /// How many bytes its vectors have.
+    pub length: u64,
+
+    /// Of a message that was received: its flags.
+    pub message_flags: u32,
+
+    /// It has a message, as an operation of sockets.
+    pub has_message: bool,
+
+    /// A cancel has found it.
+    pub is_cancelled: bool,
+}
+
+/// What success is of the operation of an entry.
+pub fn success_of(entry: &Submission, carried: &Carried) -> Success
+    ensures { result ≡ success_of_entry entry.now carried.now }
+{
+    let is_splice = is_splice(entry.opcode);
+    Success {
+        length: if is_splice {
+            entry.len as u64
+        } else {
+            carried.length
+        },
+        is_whole: wants_whole(entry, carried.has_message),
+        is_cut: cuts(entry, carried),
+        takes_time: entry.opcode == 11 && entry.op_flags & 32 != 0,
+        is_linked_timeout: entry.opcode == 15,
+        is_cancelled: carried.is_cancelled,
+    }
+}
+
+/// Whether an operation is a success only if it moves all that it is asked to.
+fn wants_whole(entry: &Submission, has_message: bool) -> bool
+    ensures { result ≡ wants_whole entry.now has_message }
+{
+    if is_of_sockets(entry.opcode) {
+        has_message && entry.opcode != 16 && entry.op_flags & 256 != 0
+    } else {
+        is_splice(entry.opcode) || is_transfer(entry.opcode)
+    }
+}
+
+/// Whether the message that an operation has received was cut.
+fn cuts(entry: &Submission, carried: &Carried) -> bool
+    ensures { result ≡ cuts entry.now carried.now }
+{
+    entry.opcode == 10 && carried.has_message && carried.message_flags & 40 != 0
+}
+
+/// Whether a result is a success to the links behind the request of an entry.
+pub fn has_succeeded(entry: &Submission, carried: &Carried, res: i32) -> bool
+    ensures { result ≡ is_success (success_of_entry entry.now carried.now) res }
+{
+    is_success(success_of(entry, carried), res)
 }
 
 /// Whether a result is a success to the links behind the request.

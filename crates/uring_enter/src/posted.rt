@@ -34,8 +34,11 @@ pub struct Posted {
     /// The result that the core was told or gave.
     pub told: i32,
 
-    /// Its request ended behind the call that submitted it.
-    pub is_async: bool,
+    /// The number of the call that submitted its request,
+    pub call: u64,
+
+    /// and of that in which it ended.
+    pub ended: u64,
 }
 
 /// A request hasn't ended, or the core has posted something else, or there is no room for another completion. Nothing changes.

@@ -4,7 +4,7 @@ ghost use Rattle.std.specs.Prelude.{◌≡◌, ℕ, List, [], ◌∷◌};
 ghost use Rattle.uring_enter.specs.declared.cancel.Outstanding.{Outstanding};
 ghost use Rattle.uring_enter.specs.Cancels.{HasSought, oldest, is_stopped, has_cancelled};
 
-use crate::cancel::Outstanding;
+use crate::cancel::{Outstanding, is_waiting};
 
 /// A search among the running requests, the oldest first.
 #[repr(C)]
@@ -42,9 +42,9 @@ impl Search {
         let is_it = !self.has_found && request.user_data == self.user_data;
         if is_it {
             self.has_found = true;
-            self.has_cancelled = !request.is_free || request.is_waiting;
+            self.has_cancelled = request.is_cancelled || is_waiting(request);
         }
-        is_it && request.is_free && request.is_waiting
+        is_it && !request.is_cancelled && is_waiting(request)
     }
 
     /// Whether the one that was found is cancelled, by this cancel or another.

@@ -2,7 +2,7 @@
 
 ghost use Rattle.std.specs.Prelude.{◌≡◌, List};
 ghost use Rattle.uring_enter.specs.Showing.{Change, KeepsShown};
-ghost use Rattle.uring_enter.specs.Shots.{brings, goes_on, has_room, tells};
+ghost use Rattle.uring_enter.specs.Shots.{brings, completion_flags, goes_on, has_room, tells};
 
 use crate::posted::Posted;
 use crate::showing::Shown;
@@ -45,11 +45,43 @@ fn brings(shot: Shot, res: i32) -> bool
     }
 }
 
+/// What a completion of a request tells of.
+#[derive(Clone, Copy, Drop)]
+pub enum Part {
+    /// Something has come, and the request goes on.
+    Event,
+
+    /// A send without copies is done. Another completion follows, once its memory is free.
+    Sent,
+
+    /// Its memory is free.
+    Notice,
+
+    /// The request ends with a result of its operation.
+    Own,
+
+    /// The request ends without one: a cancel has found it.
+    Cancelled,
+}
+
+/// The flags of a completion, where those of a provided buffer that was taken are `of_buffer`, or 0.
+pub fn completion_flags(part: Part, of_buffer: u32) -> u32
+    ensures { result ≡ completion_flags part of_buffer }
+{
+    match part {
+        Part::Event => of_buffer | 2,
+        Part::Sent => 2,
+        Part::Notice => 8,
+        Part::Own => of_buffer,
+        Part::Cancelled => 0,
+    }
+}
+
 impl Posted {
     /// Whether an eventfd is told of this completion, where it is registered for all, or only for what ends behind the call that submitted it.
     pub fn tells(&self, is_async_alone: bool) -> bool
         ensures { result ≡ tells self.now is_async_alone }
     {
-        self.is_async || !is_async_alone
+        self.call != self.ended || !is_async_alone
     }
 }

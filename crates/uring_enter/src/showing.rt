@@ -1,7 +1,7 @@
 //! Which completions the application is shown in ring memory, and what it has reaped.
 
 ghost use Rattle.std.specs.Prelude.{◌≡◌, ◌+◌, ◌<◌, ◌≤◌, ◌%◌, ◌^◌, ◌-◌, ℕ, drop, List, [], ◌∷◌, nat_le};
-ghost use Rattle.uring_enter.specs.Showing.{Change, Posted, Reaped, KeepsShown, IsTold, posted, written, reaped, store_of, behind_store, heard_of, overflows, loads_head, is_readable, flags_of};
+ghost use Rattle.uring_enter.specs.Showing.{Change, Posted, Reaped, KeepsShown, IsTold, posted, written, reaped, store_of, behind_store, heard_of, ready, overflows, loads_head, is_readable, may_bring, flags_of};
 ghost use Rattle.uring_enter.specs.declared.posted.Posted.{Posted as Row};
 ghost use Rattle.uring_enter.specs.Postings.{Posting, Reaped as RowsReaped, KeepsPosted};
 
@@ -86,6 +86,14 @@ impl Shown {
         }
     }
 
+    /// How many completions stand in the ring that the application hasn't reaped, by the head that it has stored. None, if that is past the tail.
+    pub fn ready(&self, head: u32) -> u32
+        ensures { (log : List Change) (n : ℕ) → KeepsShown log self.now → IsTold log head n
+            → result ≡ ready log n }
+    {
+        self.shown.saturating_sub(distance(self.head, head))
+    }
+
     /// The core's application has reaped so many. Their rows are the first.
     pub fn reap(&mut self, count: u32)
         ensures counts { (log : List Change) → KeepsShown log self.old → reaped log + count ≤ written log
@@ -125,13 +133,24 @@ impl Shown {
         distance(self.head, head) != self.shown || (self.shown as u64) < self.posted || may_bring
     }
 
-    /// The flags word of the submission ring: whether some have overflowed, whether a call may bring something, and whether a thread takes entries, which sleeps.
-    pub fn flags(&self, may_bring: bool, has_thread: bool) -> u32
+    /// The flags word of the submission ring: whether some have overflowed, whether a call may bring something, and whether a thread takes entries, which sleeps. So many requests haven't ended, and its descriptor is readable or not.
+    pub fn flags(&self, outstanding: u64, is_readable: bool, has_thread: bool) -> u32
         ensures { (log : List Change) → KeepsShown log self.now
-            → result ≡ flags_of (overflows log) may_bring has_thread }
+            → result ≡ flags_of (overflows log) (may_bring outstanding is_readable) has_thread }
     {
-        flags_of((self.shown as u64) < self.posted, may_bring, has_thread)
+        flags_of(
+            (self.shown as u64) < self.posted,
+            may_bring(outstanding, is_readable),
+            has_thread,
+        )
     }
+}
+
+/// Whether a call may bring something.
+fn may_bring(outstanding: u64, is_readable: bool) -> bool
+    ensures { result ≡ may_bring outstanding is_readable }
+{
+    0 < outstanding || is_readable
 }
 
 /// The bits of the flags word.

@@ -1,11 +1,14 @@
 //! The time of a ring, and its timeouts.
 
-ghost use Rattle.std.specs.Prelude.{◌≡◌, ◌≤◌, ◌↔◌, length, List, [], ◌∷◌, MatchOption, true, false, IsErr, OnOk, OnErr, IfSome, None, Some};
+ghost use Rattle.std.specs.Prelude.{◌≡◌, ◌≤◌, ◌↔◌, length, List, [], ◌∷◌, MatchOption, true, false, IsErr, OnOk, OnErr, IfSome, None, Some, ◌&&◌, if◌then◌else◌};
+ghost use Rattle.uring_enter.specs.declared.act.Fact.{Fact};
+ghost use Rattle.uring_enter.specs.Courses.{KeepsCourse, counts};
 ghost use Rattle.uring_enter.specs.Timeouts.{Event, Started, Posted, Changed, Stopped, Clock, Slept, Passed, Ended};
 ghost use Rattle.uring_enter.specs.Timeouts.{running, posted, started, enough_after, expired_with, IsNextOf, IsReachedOf, IsDueOf, IsEarliest};
 ghost use Rattle.uring_enter.specs.Timeouts.{outcome, AreApart, HasNone, IsRow, EndsNone, EndsWith};
 ghost use Rattle.uring_enter.specs.Kept.{KeepsTime, due_of, earliest_of, outcome_at, outcome_found};
 
+use crate::course::Course;
 use crate::timeout::{Start, Timeout, is_reached_by, later};
 use crate::timeout_rows::{next_of, reached_of, row_of, set_expiry, take_out};
 
@@ -118,6 +121,18 @@ impl Times {
             → KeepsTime (Posted count ∷ log) self.new rows }
     {
         self.posted = self.posted.saturating_add(count);
+    }
+
+    /// A request has ended, by this course, and its completion was posted or skipped. It counts as one that was posted, unless it is that of a timeout which its time or its count has ended.
+    pub fn count_end(&mut self, course: &Course, is_timeout: bool, is_posted: bool)
+        ensures { (facts : List Fact) (log : List Event) (rows : List Timeout) → KeepsCourse facts course.now
+            → KeepsTime log self.old rows
+            → KeepsTime (if is_posted && counts facts is_timeout then Posted 1 ∷ log else log) self.new rows }
+    {
+        let ends_itself = is_timeout && course.has_started && !course.is_cancelled;
+        if is_posted && !ends_itself {
+            self.post(1);
+        }
     }
 
     /// A clock says that it is so late, or a call's own limit does. Time never goes back.

@@ -1,0 +1,31 @@
+-- What a cancel or a removal looks for, by its entry. io_uring_enter(2), IORING_OP_ASYNC_CANCEL, IORING_OP_POLL_REMOVE and IORING_OP_TIMEOUT_REMOVE.
+use Rattle.std.specs.Prelude.{ℕ, ℤ, pos, Bool, not, ◌&&◌, ◌||◌, ◌==◌, if◌then◌else◌}
+use Rattle.std.specs.Int.{w32, cast_unsigned}
+use Rattle.uring_enter.specs.declared.submission.Submission.{Submission}
+use Rattle.uring_enter.specs.declared.cancel.Sought.{Sought}
+use Rattle.uring_enter.specs.Clocks.{has_some}
+use Rattle.uring_entry.specs.Errors.{error}
+
+-- a removal of a poll (7) is of requests of POLL_ADD (6), one of a timeout (12) of those of TIMEOUT (11)
+abbrev pub code_removed : ℕ → ℕ
+code_removed code = if code == 7 then 6 else if code == 12 then 11 else 0
+
+-- a removal looks by user data. A cancel (14) does, or as its flags say: IORING_ASYNC_CANCEL_ALL is 1, FD 2, ANY 4 and FD_FIXED 8; IOSQE_FIXED_FILE, 1 of an entry's flags, says the same as the last
+abbrev pub sought_of : Submission → Sought
+sought_of e =
+    let is_cancel = e.opcode == 14 in
+    record {
+      user_data = e.addr;
+      file = 0;
+      fd = cast_unsigned w32 e.fd;
+      code = code_removed e.opcode;
+      is_of_operation = not is_cancel;
+      is_any = is_cancel && has_some e.op_flags 4;
+      is_all = is_cancel && has_some e.op_flags 1;
+      is_by_fd = is_cancel && has_some e.op_flags 2;
+      is_fixed = is_cancel && (has_some e.op_flags 8 || has_some e.flags 1);
+    }
+
+-- -9 (EBADF) where it looks by a descriptor that isn't open, or by a slot that has no file; then it looks at nothing. What Linux 6.18 does
+abbrev pub seeking_fault : Sought → Bool → ℤ
+seeking_fault s is_there = if s.is_by_fd && not is_there then error 9 else pos 0

@@ -1,0 +1,43 @@
+//! What a cancel or a removal looks for, by its entry. io_uring_enter(2), IORING_OP_ASYNC_CANCEL, IORING_OP_POLL_REMOVE and IORING_OP_TIMEOUT_REMOVE.
+
+ghost use Rattle.std.specs.Prelude.{◌≡◌};
+ghost use Rattle.uring_enter.specs.Seeking as spec;
+
+use crate::cancel::Sought;
+use crate::submission::Submission;
+
+/// What is looked for by the entry of a cancel, or of a removal. If that is a registered file, its slot stands in `fd`, and `file` is for who knows what that slot has.
+pub fn sought_of(entry: &Submission) -> Sought
+    ensures { result ≡ spec.sought_of entry.now }
+{
+    let is_cancel = entry.opcode == 14;
+    Sought {
+        user_data: entry.addr,
+        file: 0,
+        fd: entry.fd.cast_unsigned(),
+        code: code_removed(entry.opcode),
+        is_of_operation: !is_cancel,
+        is_any: is_cancel && entry.op_flags & 4 != 0,
+        is_all: is_cancel && entry.op_flags & 1 != 0,
+        is_by_fd: is_cancel && entry.op_flags & 2 != 0,
+        is_fixed: is_cancel && (entry.op_flags & 8 != 0 || entry.flags & 1 != 0),
+    }
+}
+
+/// Of which operation the requests are that an operation removes: a poll's or a timeout's.
+fn code_removed(code: u8) -> u8
+    ensures { result ≡ spec.code_removed code }
+{
+    match code {
+        7 => 6,
+        12 => 11,
+        _ => 0,
+    }
+}
+
+/// Why nothing is looked for, or 0: -9, where it would be looked for by a descriptor that isn't open, or by a slot that has no file.
+pub fn seeking_fault(sought: &Sought, is_there: bool) -> i32
+    ensures { result ≡ spec.seeking_fault sought.now is_there }
+{
+    if sought.is_by_fd && !is_there { -9 } else { 0 }
+}
