@@ -389,8 +389,10 @@ static void test_async_eventfd(void)
     poll->poll32_events = POLLIN;
     poll->len = IORING_POLL_ADD_MULTI;
     check(enter(&ring, 1, 0, 0) == 1);
+    /* (of a lazy layer it comes in the call that waits for it) */
+    bool came = count_ready(&ring) > 0;
     check(next_of(&ring).flags == IORING_CQE_F_MORE);
-    check(read(fd, &count, sizeof count) < 0);
+    check((read(fd, &count, sizeof count) < 0) == came);
     check(write(ends[1], "x", 1) == 1);
     check(next_of(&ring).flags == IORING_CQE_F_MORE);
     check(read(fd, &count, sizeof count) == sizeof count);
