@@ -50,6 +50,7 @@ pub extern "C" fn wulgach_course_note(course: &mut Course, kind: u32, res: i32) 
         → fact_of kind res ≡ Some f → result ≡ fits log f }
     ensures after { (log : List Fact) (f : Fact) → KeepsCourse log course.old
         → fact_of kind res ≡ Some f → result ≡ true → KeepsCourse (f ∷ log) course.new }
+    ensures none { fact_of kind res ≡ None → result ≡ false }
     ensures kept { result ≡ false → course.new ≡ course.old }
 {
     match fact(kind, res) {

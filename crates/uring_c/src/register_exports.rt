@@ -29,7 +29,7 @@ pub extern "C" fn wulgach_restrictions_begin(restrictions: &mut Restrictions)
     *restrictions = Restrictions::begin();
 }
 
-/// Takes the next row of a list. Returns 0, or its fault.
+/// Takes the next row of a list. Returns 0, or its fault: then nothing changes.
 #[unsafe(no_mangle)]
 pub extern "C" fn wulgach_restrictions_take(
     restrictions: &mut Restrictions,
@@ -38,6 +38,7 @@ pub extern "C" fn wulgach_restrictions_take(
     ensures fault { result ≡ row_fault row.now }
     ensures after { (rows : List Restriction) → KeepsRestrictions (Some rows) restrictions.old
         → result ≡ pos 0 → KeepsRestrictions (Some (row.now ∷ rows)) restrictions.new }
+    ensures kept { (result ≡ pos 0 → ⊥) → restrictions.new ≡ restrictions.old }
 {
     restrictions.takes(*row)
 }

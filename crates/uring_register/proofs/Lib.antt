@@ -4,3 +4,4 @@ mod UseRuns
 mod GroupRuns
 mod GroupKept
 mod IssuingLaws
+mod CallRuns

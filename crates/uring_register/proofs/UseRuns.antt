@@ -1,7 +1,8 @@
 -- The laws of registered files and buffers.
-use Rattle.std.proofs.Common.{◌≡◌, true, List, [], ◌∷◌, ◌++◌, arith}
-use Rattle.uring_register.specs.Uses.{Use, Put, Lost, Taken, Given, Dropped, is_gone}
-use Rattle.uring_register.specs.UseLaws.{IsUsing, IsGoneOnce}
+use Rattle.std.proofs.Common.{◌≡◌, Bool, true, false, not, ◌↔◌, List, [], ◌∷◌, ◌++◌, if◌then◌else◌, refl, arith}
+use Rattle.uring_register.specs.declared.uses.Ending.TheVariants.{Stays, Goes, Tells}
+use Rattle.uring_register.specs.Uses.{Use, Put, Lost, Taken, Given, Dropped, is_had, is_gone, is_told}
+use Rattle.uring_register.specs.UseLaws.{IsUsing, IsGoneOnce, EndsAsItIs}
 
 -- nothing happens to what no one has any more
 last : (next : Use) (log : List Use) → IsUsing (next ∷ log) → is_gone log ≡ true → ⊥
@@ -23,6 +24,17 @@ earlier_runs Taken log run = run.0
 earlier_runs Lost log run = run.0
 earlier_runs Given log run = run.0
 earlier_runs Dropped log run = run.0
+
+-- what becomes of it, by whether one has it and whether its tag is to be told
+ends : (had told : Bool)
+    → (((if had then Stays else if told then Tells else Goes) ≡ Stays) ↔ (not had ≡ false))
+    × (((if had then Stays else if told then Tells else Goes) ≡ Tells) ↔ ((not had ≡ true) × (told ≡ true)))
+ends true told = ((λ _. refl, λ _. refl), (λ e. cc, λ x. cc))
+ends false true = ((λ e. cc, λ e. cc), (λ _. (refl, refl), λ _. refl))
+ends false false = ((λ e. cc, λ e. cc), (λ e. cc, λ x. cc))
+
+pub ends_as_it_is : EndsAsItIs
+ends_as_it_is has_tag last log = ends (is_had (last ∷ log)) (is_told has_tag (last ∷ log))
 
 pub is_gone_once : IsGoneOnce
 is_gone_once [] next log run gone = last next log run gone

@@ -12,4 +12,4 @@ CanBeAllowed = (row : Restriction) → row.kind ≡ 0 → is_call (call_of row.n
 -- and is made only by a thread that may call, on a ring that allows it
 abbrev pub IsMadeByRight : Type 0
 IsMadeByRight = (code : ℕ) (c : Caller) → calling_fault code c ≡ pos 0
-    → (c.is_ring ≡ true) × (c.is_another ≡ false) × (c.is_allowed ≡ true) × (is_call (call_of code) ≡ true)
+    → (c.is_open ≡ true) × (c.is_ring ≡ true) × (c.is_another ≡ false) × (c.is_allowed ≡ true) × (is_call (call_of code) ≡ true)

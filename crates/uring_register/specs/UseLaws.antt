@@ -1,6 +1,7 @@
 -- What holds of every registered file and buffer. io_uring_register(2), but where our own rule is named.
-use Rattle.std.specs.Prelude.{◌≡◌, ◌<◌, Bool, true, List, [], ◌∷◌, ◌++◌}
-use Rattle.uring_register.specs.Uses.{Use, Put, Lost, Taken, Given, Dropped, slots, requests, is_had, is_gone}
+use Rattle.std.specs.Prelude.{◌≡◌, ◌<◌, ◌↔◌, Bool, true, false, List, [], ◌∷◌, ◌++◌}
+use Rattle.uring_register.specs.declared.uses.Ending.TheVariants.{Stays, Tells}
+use Rattle.uring_register.specs.Uses.{Use, Put, Lost, Taken, Given, Dropped, slots, requests, is_had, is_gone, is_told, ending_of}
 
 -- whoever gets it is the first, or gets it from one who has it
 abbrev pub may_get : List Use → Bool
@@ -20,6 +21,12 @@ IsUsing (Dropped ∷ earlier) = IsUsing earlier × (0 < slots earlier)
 abbrev pub IsGoneOnce : Type 0
 IsGoneOnce = (later : List Use) (next : Use) (log : List Use) → IsUsing (later ++ next ∷ log)
     → is_gone log ≡ true → ⊥
+
+-- what becomes of it as a slot loses it or a request gives it back: it stays exactly while one has it, and its tag is told exactly if it is gone then, and is to be told
+abbrev pub EndsAsItIs : Type 0
+EndsAsItIs = (has_tag : Bool) (last : Use) (log : List Use)
+    → ((ending_of has_tag (last ∷ log) ≡ Stays) ↔ (is_gone (last ∷ log) ≡ false))
+    × ((ending_of has_tag (last ∷ log) ≡ Tells) ↔ ((is_gone (last ∷ log) ≡ true) × (is_told has_tag (last ∷ log) ≡ true)))
 
 -- it is never gone while a slot or a request has it
 abbrev pub GoesWhenFree : Type 0

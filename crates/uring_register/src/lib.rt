@@ -41,5 +41,5 @@ pub use registering::{Row, buffer_row, file_row, updated};
 pub use restrictions::{Restriction, Restrictions, enabling_fault, restricting_fault};
 pub use table::Table;
 pub use table_laws::{gives_free_slots, gives_what_is_free, keeps_others};
-pub use use_laws::{goes_when_free, is_gone_once};
+pub use use_laws::{ends_as_it_is, goes_when_free, is_gone_once};
 pub use uses::{Ending, Uses};

@@ -62,11 +62,12 @@ impl Restrictions {
         }
     }
 
-    /// Takes the next row of a list. Returns 0, or its fault: then the list isn't registered.
+    /// Takes the next row of a list. Returns 0, or its fault: then nothing changes, and the list isn't to be registered.
     pub fn takes(&mut self, row: Restriction) -> i32
         ensures fault { result ≡ spec.row_fault row }
         ensures after { (rows : List Restriction) → spec.KeepsRestrictions (Some rows) self.old
             → result ≡ pos 0 → spec.KeepsRestrictions (Some (row ∷ rows)) self.new }
+        ensures kept { (result ≡ pos 0 → ⊥) → self.new ≡ self.old }
     {
         if !is_row(row) {
             return -22;

@@ -1,10 +1,15 @@
 //! What holds of every registered file and buffer, whoever has it. Each law is the contract of a function that does nothing.
 
-ghost use Rattle.uring_register.specs.UseLaws.{IsGoneOnce, GoesWhenFree};
+ghost use Rattle.uring_register.specs.UseLaws.{IsGoneOnce, EndsAsItIs, GoesWhenFree};
 
 /// It is gone once.
 pub fn is_gone_once()
     ensures { IsGoneOnce }
+{}
+
+/// What becomes of it is what has happened to it.
+pub fn ends_as_it_is()
+    ensures { EndsAsItIs }
 {}
 
 /// It is never gone while a slot or a request has it.
