@@ -2,7 +2,6 @@
  * after one that does, begins behind others, and may use a file that these open.
  */
 #define _GNU_SOURCE
-#include "enter.h"
 #include "files.h"
 #include "operations.h"
 #include "passing.h"
@@ -46,7 +45,6 @@ static void ask_access(const struct request *request, struct wulgach_nature *nat
 /* Asks a descriptor what the library wants to know of it. */
 static void ask(const struct request *request, uint32_t question, struct wulgach_known *known)
 {
-    block_before_waiting();
     switch (question) {
     case WULGACH_ASK_STATUS:
         ask_status(request, &known->nature);

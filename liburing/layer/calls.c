@@ -1,8 +1,7 @@
 /* What a program calls in the place of the C library's syscall(), mmap() and close(): the layer answers the three calls of
  * io_uring, and hands on all others. liburing's sources call wulgach_polled_syscall, wulgach_mmap and wulgach_close. A program
  * that maps its rings by mmap itself calls wulgach_syscall: its descriptors are memory, and don't poll. Where a call was trapped,
- * all signals are blocked already, and where it is rewritten they are put off: wulgach_blocked_enter is told which the thread has blocked
- * else, and how to block them before anything that may wait.
+ * all signals are blocked already: wulgach_blocked_enter is told which the thread has blocked else.
  */
 #define _GNU_SOURCE
 #include "callers.h"
@@ -19,7 +18,7 @@
 #define SEEN __attribute__((visibility("default")))
 SEEN long wulgach_syscall(long call, ...);
 SEEN long wulgach_polled_syscall(long call, ...);
-SEEN long wulgach_blocked_enter(const long words[6], const sigset_t *signals, block_function *block);
+SEEN long wulgach_blocked_enter(const long words[6], const sigset_t *signals);
 SEEN void *wulgach_mmap(void *at, size_t size, int protection, int flags, int fd, off_t offset);
 SEEN int wulgach_close(int fd);
 
@@ -59,7 +58,7 @@ static long call_enter(va_list arguments)
     uint32_t min_complete = va_arg(arguments, uint32_t);
     uint32_t flags = va_arg(arguments, uint32_t);
     const void *argument = va_arg(arguments, const void *);
-    return enter(fd, to_submit, min_complete, flags, argument, va_arg(arguments, size_t), NULL, NULL);
+    return enter(fd, to_submit, min_complete, flags, argument, va_arg(arguments, size_t), NULL);
 }
 
 static long call_register(va_list arguments)
@@ -120,11 +119,11 @@ long wulgach_polled_syscall(long call, ...)
     return result;
 }
 
-long wulgach_blocked_enter(const long words[6], const sigset_t *signals, block_function *block)
+long wulgach_blocked_enter(const long words[6], const sigset_t *signals)
 {
     note_caller(__builtin_return_address(0));
     int before = forbid_cancellation();
-    long result = enter((int)words[0], (uint32_t)words[1], (uint32_t)words[2], (uint32_t)words[3], (const void *)words[4], (size_t)words[5], signals, block);
+    long result = enter((int)words[0], (uint32_t)words[1], (uint32_t)words[2], (uint32_t)words[3], (const void *)words[4], (size_t)words[5], signals);
     allow_cancellation(before);
     return result;
 }

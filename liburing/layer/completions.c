@@ -121,12 +121,11 @@ static void reap(struct ring *ring, uint32_t count)
 bool hear(struct ring *ring, bool is_flushing)
 {
     struct wulgach_shown *at = &ring->completions.at;
-    uint32_t head = load_word(&ring->memory.cq->head), count;
-    /* (none is reaped: so it is most often) */
-    if (head == at->head && !is_flushing)
-        return true;
-    if (wulgach_shown_heard(at, head, &count) != 0)
+    uint32_t count;
+    if (wulgach_shown_heard(at, load_word(&ring->memory.cq->head), &count) != 0)
         return false;
+    if (count == 0 && !is_flushing)
+        return true;
     show_ends(ring);
     if (count > 0)
         reap(ring, count);

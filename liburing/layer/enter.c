@@ -7,7 +7,6 @@
 #include "descriptors.h"
 #include "enrolling.h"
 #include "fault.h"
-#include "log.h"
 #include "outlook.h"
 #include "pipes.h"
 #include "policy.h"
@@ -146,7 +145,6 @@ static enum wulgach_reply_kind go_on_fully(struct ring *ring)
 
 static enum wulgach_reply_kind sleep_on(struct ring *ring, struct waiting *waiting, struct wulgach_reply *reply)
 {
-    block_before_waiting();
     int fault = waiting->fault < 0 ? waiting->fault : read_mask(waiting);
     if (fault < 0) {
         reply->number = (uint32_t)-fault;
@@ -262,27 +260,8 @@ static void block_signals(sigset_t *before)
     pthread_sigmask(SIG_BLOCK, &all, before);
 }
 
-/* How this thread's call blocks them before it waits, if it hasn't. */
-static __thread block_function *to_block;
-
-void block_before_waiting(void)
+int enter(int fd, uint32_t to_submit, uint32_t min_complete, uint32_t flags, const void *argument, size_t size, const sigset_t *signals)
 {
-    block_function *block = to_block;
-    to_block = NULL;
-    if (block)
-        block();
-}
-
-/* Whether a call makes no calls of the kernel's that a signal ends, but those before which they are blocked: nothing is left of calls
- * before, nobody is told of what it does, and nothing is chosen or written down. */
-static bool begins_unblocked(const struct ring *ring)
-{
-    return ring->requests.count == 0 && ring->eventfd < 0 && !is_traced(ring) && !is_logging() && (policy() == IN_ORDER || policy() == LAZY) && !is_recording_ways();
-}
-
-int enter(int fd, uint32_t to_submit, uint32_t min_complete, uint32_t flags, const void *argument, size_t size, const sigset_t *signals, block_function *block)
-{
-    to_block = block;
     if (flags & ~(uint32_t)SERVED_FLAGS)
         return -EINVAL;
     if (flags & IORING_ENTER_REGISTERED_RING && (fd = enrolled_fd((uint32_t)fd)) < 0)
@@ -303,8 +282,6 @@ int enter(int fd, uint32_t to_submit, uint32_t min_complete, uint32_t flags, con
     };
     if (!signals)
         block_signals(&own);
-    if (!begins_unblocked(ring))
-        block_before_waiting();
     int result = enter_ring(ring, flags, &waiting);
     unlock_ring(ring);
     if (!signals)

@@ -12,15 +12,9 @@
 
 struct io_uring_params;
 
-/* Blocks all signals. */
-typedef void block_function(void);
-
 int setup(uint32_t entries, struct io_uring_params *params, bool is_polled);
-/* `signals`: NULL, or all signals are blocked already, and these are what the thread has blocked else. `block`: NULL, or they aren't yet,
- * their handlers are put off, and it is called before anything that may wait, or be ended by a signal; then they stand there. */
-int enter(int fd, uint32_t to_submit, uint32_t min_complete, uint32_t flags, const void *argument, size_t size, const sigset_t *signals, block_function *block);
-/* What may wait, or be ended by a signal, calls this before. */
-void block_before_waiting(void);
+/* `signals`: NULL, or all signals are blocked already, and these are what the thread has blocked else. */
+int enter(int fd, uint32_t to_submit, uint32_t min_complete, uint32_t flags, const void *argument, size_t size, const sigset_t *signals);
 int register_at(int fd, uint32_t code, void *argument, uint32_t count);
 
 /* Maps a part of a ring whose descriptor polls; any other file as mmap does. */

@@ -3,7 +3,6 @@
 #include "operations.h"
 #include "cancels.h"
 #include "descriptors.h"
-#include "enter.h"
 #include "extras.h"
 #include "files.h"
 #include "groups.h"
@@ -163,8 +162,6 @@ static int32_t carry_transfer_out(struct request *request)
     uint32_t step = 0;
     int32_t res = 0;
     while ((step = wulgach_transfer_next(&transfer, step, res, &res)) > WULGACH_TRY_WAITS) {
-        if (step != WULGACH_CALL_AT_ONCE)
-            block_before_waiting();
         if (step == WULGACH_TRY_FINDS) {
             find_untried(request);
             transfer = transfer_of(request);
@@ -326,8 +323,6 @@ int32_t carry_out(struct ring *ring, struct request *request, enum injection fau
         return request->started;
     if (request->entry.opcode == IORING_OP_NOP)
         return 0;
-    if (!request->is_tried_at_once)
-        block_before_waiting();
     if (fault == FAULT_EIO)
         return -EIO;
     if (fault == FAULT_ENOSPC)

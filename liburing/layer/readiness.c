@@ -59,17 +59,6 @@ bool is_polled_by(const struct ring *ring, int fd)
     return epoll_ctl(fd, EPOLL_CTL_MOD, ring->ready_fd, &event) == 0;
 }
 
-/* The eventfd stands in this ring's instance alone. Where it stands it isn't added again; where it doesn't, it is taken out at once, and has
- * told nobody, since no event was asked for. */
-bool is_still_polled_by(const struct ring *ring, int fd)
-{
-    struct epoll_event none = {.events = 0};
-    if (epoll_ctl(fd, EPOLL_CTL_ADD, ring->ready_fd, &none) < 0)
-        return errno == EEXIST;
-    epoll_ctl(fd, EPOLL_CTL_DEL, ring->ready_fd, &none);
-    return false;
-}
-
 static int by_descriptor(const void *one, const void *other)
 {
     const struct watched *first = one, *second = other;

@@ -11,9 +11,6 @@ void free_polled(struct ring *ring);
 /* Whether a descriptor is open on this ring, which has one that polls. */
 bool is_polled_by(const struct ring *ring, int fd);
 
-/* The same, of one that was: it takes less if it still is, and more if it isn't. */
-bool is_still_polled_by(const struct ring *ring, int fd);
-
 /* A descriptor of the layer's may be closed: it isn't polled for any more, until the next call lists it again. */
 void unwatch(struct ring *ring, int fd);
 

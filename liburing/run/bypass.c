@@ -5,7 +5,6 @@
  * the stack finds the program's function.
  */
 #define _GNU_SOURCE
-#include "deferring.h"
 #include "rewriting.h"
 #include "run.h"
 
@@ -13,7 +12,7 @@
 #include <errno.h>
 #include <string.h>
 
-long wulgach_blocked_enter(const long words[6], const sigset_t *signals, void (*block)(void));
+long wulgach_blocked_enter(const long words[6], const sigset_t *signals);
 long enter_bypassed(const long words[6]);
 extern const uint8_t bypass_all[];
 __thread uintptr_t bypass_stack;
@@ -23,42 +22,21 @@ __thread uintptr_t bypass_stack;
 enum { VECTORS = 0xe7, ROOM = 2560 };
 uint32_t bypassed_vectors __attribute__((visibility("hidden")));
 
-/* By xsavec that takes a tenth of a microsecond. Where the upper halves of the first 16 vectors aren't in use, as behind any compiled code that
- * calls, the others are saved one by one, in a fifth of that; x87 isn't then, which the layer and what it calls don't touch (tests/often looks
- * for that). If all bits stand here, the processor doesn't say what is in use. */
-enum { WHOLLY = 0x44 };
-uint32_t bypassed_wholly __attribute__((visibility("hidden")));
-
-#define HALVES(move) move(0) move(1) move(2) move(3) move(4) move(5) move(6) move(7) move(8) move(9) move(10) move(11) move(12) move(13) move(14) move(15)
-#define WHOLES(move) move(16) move(17) move(18) move(19) move(20) move(21) move(22) move(23) move(24) move(25) move(26) move(27) move(28) move(29) move(30) move(31)
-#define MASKS(move) move(0) move(1) move(2) move(3) move(4) move(5) move(6) move(7)
-#define PUT_HALF(n) "movaps %xmm" #n ", 16*" #n "(%rsp)\n\t"
-#define GET_HALF(n) "movaps 16*" #n "(%rsp), %xmm" #n "\n\t"
-#define PUT_WHOLE(n) "vmovdqa64 %zmm" #n ", 64*(" #n "-11)(%rsp)\n\t"
-#define GET_WHOLE(n) "vmovdqa64 64*(" #n "-11)(%rsp), %zmm" #n "\n\t"
-#define PUT_MASK(n) "kmovq %k" #n ", 1344+8*" #n "(%rsp)\n\t"
-#define GET_MASK(n) "kmovq 1344+8*" #n "(%rsp), %k" #n "\n\t"
-
-/* All signals are put off, or blocked as in the trap, and may come as it ends. */
+/* All signals are blocked as in the trap, and may come as it ends. */
 __attribute__((used)) long enter_bypassed(const long words[6])
 {
     int kept = errno;
     sigset_t before;
     sigemptyset(&before);
-    block_function *block = begin_deferring(&before);
-    if (!block)
-        set_mask(~OPEN_IN_TRAP, &before);
-    long result = wulgach_blocked_enter(words, &before, block);
-    if (block)
-        end_deferring();
-    else
-        put_mask_back(&before);
+    set_mask(~OPEN_IN_TRAP, &before);
+    long result = wulgach_blocked_enter(words, &before);
+    put_mask_back(&before);
     errno = kept;
     return result;
 }
 
-/* On the stack stand the end of the call and the program's 128 bytes. The flags are put as a handler has them, as far as that matters here: a
- * program that is stepped through isn't in the layer, nor is alignment checked there. */
+/* On the stack stand the end of the call and the program's 128 bytes. The flags are put as a handler has them: a program that is stepped
+ * through isn't while signals are blocked. */
 __asm__(".text\n"
         ".hidden bypass_all\n"
         ".globl bypass_all\n"
@@ -68,12 +46,8 @@ __asm__(".text\n"
         ".cfi_def_cfa %rsp, 136\n\t"
         ".cfi_offset %rip, -136\n\t"
         "pushfq\n\t"
-        "cld\n\t"
-        "testl $0x40100, (%rsp)\n\t"
-        "jz 1f\n\t"
         "pushq $0x202\n\t"
-        "popfq\n"
-        "1:\n\t"
+        "popfq\n\t"
         "mov bypass_stack@gottpoff(%rip), %rax\n\t"
         "mov %fs:(%rax), %rcx\n\t"
         "movq $0, %fs:(%rax)\n\t"
@@ -88,30 +62,10 @@ __asm__(".text\n"
         ".cfi_def_cfa %rbp, 200\n\t"
         ".cfi_offset %rbp, -200\n\t"
         "push %rcx\n\t"
-        "mov %rcx, %r11\n\t"
-        "mov bypassed_wholly(%rip), %eax\n\t"
-        "test %eax, %eax\n\t"
-        "js 2f\n\t"
-        "mov $1, %ecx\n\t"
-        "xgetbv\n\t"
-        "and bypassed_wholly(%rip), %eax\n"
-        "2:\n\t"
-        "push %rax\n\t"
-        "mov %r11, %rcx\n\t"
         "cmp $1, %rcx\n\t"
         "cmove %rsp, %rcx\n\t"
         "and $-64, %rcx\n\t"
         "lea -2560(%rcx), %rsp\n\t"
-        "test %eax, %eax\n\t"
-        "jnz 3f\n\t"
-        HALVES(PUT_HALF)
-        "stmxcsr 256(%rsp)\n\t"
-        "testb $0x80, bypassed_vectors(%rip)\n\t"
-        "jz 4f\n\t"
-        WHOLES(PUT_WHOLE)
-        MASKS(PUT_MASK)
-        "jmp 4f\n"
-        "3:\n\t"
         "xor %eax, %eax\n\t"
         "mov %rax, 512(%rsp)\n\t"
         "mov %rax, 520(%rsp)\n\t"
@@ -123,29 +77,13 @@ __asm__(".text\n"
         "mov %rax, 568(%rsp)\n\t"
         "mov bypassed_vectors(%rip), %eax\n\t"
         "xor %edx, %edx\n\t"
-        "xsavec64 (%rsp)\n"
-        "4:\n\t"
+        "xsavec64 (%rsp)\n\t"
         "lea 8(%rbp), %rdi\n\t"
         "call enter_bypassed\n\t"
         "mov %rax, %r8\n\t"
-        "cmpl $0, -16(%rbp)\n\t"
-        "jne 5f\n\t"
-        "testb $4, bypassed_vectors(%rip)\n\t"
-        "jz 6f\n\t"
-        "vzeroupper\n"
-        "6:\n\t"
-        HALVES(GET_HALF)
-        "ldmxcsr 256(%rsp)\n\t"
-        "testb $0x80, bypassed_vectors(%rip)\n\t"
-        "jz 7f\n\t"
-        WHOLES(GET_WHOLE)
-        MASKS(GET_MASK)
-        "jmp 7f\n"
-        "5:\n\t"
         "mov bypassed_vectors(%rip), %eax\n\t"
         "xor %edx, %edx\n\t"
-        "xrstor64 (%rsp)\n"
-        "7:\n\t"
+        "xrstor64 (%rsp)\n\t"
         "lea -8(%rbp), %rsp\n\t"
         "pop %rcx\n\t"
         "mov bypass_stack@gottpoff(%rip), %rax\n\t"
@@ -185,14 +123,12 @@ static uint32_t room_of(uint32_t vectors)
 
 bool can_bypass(void)
 {
-    enum { SYSTEM_SAVES = 1 << 27, SAVES_COMPACTLY = 2, SAYS_WHAT_IS_USED = 4, LONGEST = 0xe0, HAS_LONG_MASKS = 1 << 30 };
-    uint32_t a, b, c, d, low, high, none, features = 0;
+    enum { SYSTEM_SAVES = 1 << 27, SAVES_COMPACTLY = 2 };
+    uint32_t a, b, c, d, low, high;
     if (!__get_cpuid(1, &a, &b, &c, &d) || !(c & SYSTEM_SAVES) || !__get_cpuid_count(13, 1, &a, &b, &c, &d) || !(a & SAVES_COMPACTLY))
         return false;
     __asm__("xgetbv" : "=a"(low), "=d"(high) : "c"(0));
     bypassed_vectors = low & VECTORS;
-    bool has_long = bypassed_vectors & LONGEST, can_move_long = __get_cpuid_count(7, 0, &none, &features, &none, &none) && features & HAS_LONG_MASKS;
-    bypassed_wholly = a & SAYS_WHAT_IS_USED && (!has_long || can_move_long) ? WHOLLY : UINT32_MAX;
     return room_of(bypassed_vectors) <= ROOM;
 }
 

@@ -6,7 +6,6 @@
  * the kernel ends the program with that signal.
  */
 #define _GNU_SOURCE
-#include "deferring.h"
 #include "run.h"
 
 #include <dlfcn.h>
@@ -79,32 +78,17 @@ SEEN int sigaction(int number, const struct sigaction *action, struct sigaction 
             asked = *action;
         return 0;
     }
-    struct sigaction copy;
-    if (action) {
-        copy = *action;
-        sigdelset(&copy.sa_mask, SIGSYS);
-        make_deferrable(number, &copy);
-    }
-    int result = real_sigaction(number, action ? &copy : NULL, before);
-    if (result == 0 && before)
-        tell_as_asked(before);
-    return result;
+    if (!action)
+        return real_sigaction(number, NULL, before);
+    struct sigaction copy = *action;
+    sigdelset(&copy.sa_mask, SIGSYS);
+    return real_sigaction(number, &copy, before);
 }
 
 SEEN sighandler_t signal(int number, sighandler_t handler)
 {
     struct sigaction action = {.sa_handler = handler, .sa_flags = SA_RESTART}, before;
     return sigaction(number, &action, &before) == 0 ? before.sa_handler : SIG_ERR;
-}
-
-/* What it sets isn't known. */
-SEEN sighandler_t sigset(int number, sighandler_t handler)
-{
-    static sighandler_t (*call)(int, sighandler_t);
-    if (!call)
-        *(void **)&call = next("sigset");
-    note_unknown_handler();
-    return call(number, handler);
 }
 
 SEEN int pthread_sigmask(int how, const sigset_t *set, sigset_t *before)

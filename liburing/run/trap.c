@@ -8,7 +8,6 @@
  * need this library too: programs.c sees to that.
  */
 #define _GNU_SOURCE
-#include "deferring.h"
 #include "files.h"
 #include "../layer/log.h"
 #include "../layer/passing.h"
@@ -34,7 +33,7 @@
 #include <unistd.h>
 
 long wulgach_polled_syscall(long call, ...);
-long wulgach_blocked_enter(const long words[6], const sigset_t *signals, void (*block)(void));
+long wulgach_blocked_enter(const long words[6], const sigset_t *signals);
 void *wulgach_mmap(void *at, size_t size, int protection, int flags, int fd, off_t offset);
 
 /* The code of a SIGSYS that a filter raised: the kernel's header has it as SYS_SECCOMP, and can't stand beside the C
@@ -96,20 +95,6 @@ static sigset_t mask_of(const ucontext_t *at)
     return mask;
 }
 
-/* A handler that wasn't known, since the program set it by a call of its own, has come in the middle of a call of this thread: the layer
- * can't begin another. */
-static long refuse(void)
-{
-    note_unknown_handler();
-    say("a signal's handler that was set by a system call of the program's own calls io_uring in the middle of another call: it is told to try again", "");
-    return -EAGAIN;
-}
-
-static bool is_of_rings(long call)
-{
-    return call == SYS_io_uring_setup || call == SYS_io_uring_enter || call == SYS_io_uring_register;
-}
-
 /* The result of a trapped call. Leaving the handler puts the thread's mask back: so one of enter, which wants all signals
  * blocked, takes no call for that; the others have the thread's mask. */
 static long serve(long call, const ucontext_t *at)
@@ -118,10 +103,8 @@ static long serve(long call, const ucontext_t *at)
     const long words[6] = {registers[REG_RDI], registers[REG_RSI], registers[REG_RDX], registers[REG_R10], registers[REG_R8], registers[REG_R9]};
     const sigset_t mask = mask_of(at);
     long result;
-    if (is_deferring() && is_of_rings(call))
-        return refuse();
     if (call == SYS_io_uring_enter) {
-        result = wulgach_blocked_enter(words, &mask, NULL);
+        result = wulgach_blocked_enter(words, &mask);
         note_site(at);
         return result;
     }

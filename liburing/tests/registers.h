@@ -35,17 +35,6 @@ static struct {
                      : "b"(&seen), [call] "i"(SYS_io_uring_enter)                                                      \
                      : "rax", "rcx", "rdx", "rsi", "rdi", "r8", "r9", "r10", "r11", "r12", "r13", "r14", "r15", "xmm0", "xmm1", "xmm2", "xmm3", "xmm4", "xmm5", "xmm6", "xmm7", "xmm8", "xmm9", "xmm10", "xmm11", "xmm12", "xmm13", "xmm14", "xmm15", "memory", "cc")
 
-/* The same, with the upper halves not in use, and what is in them behind the call. */
-static inline void call_with_halves(bool has_upper_halves)
-{
-    if (has_upper_halves) {
-        __asm__ volatile("vzeroupper");
-        CALL(LOAD_HALF, STORE);
-    } else {
-        CALL(LOAD_HALF, STORE_HALF);
-    }
-}
-
 /* Calls with the arguments and vectors of `seen`, and the carry set. */
 static void call_with_registers(bool has_upper_halves)
 {
