@@ -7,7 +7,7 @@ ghost use Rattle.uring_entry.specs.Setup.{IsBadCq};
 use crate::bad_setup::BadSetup;
 use std::marker::Model;
 
-/// The sizes of a pair of rings, the number of its files, the word at which both rings begin, and whether a submission call stops behind an entry with a fault. io_uring_setup(2); the files and the word are our own rule.
+/// The sizes of a pair of rings, the number of its files, the word at which both rings begin, whether a submission call stops behind an entry with a fault, and whether requests are kept by Linux's rules. io_uring_setup(2); the files and the word are our own rule.
 #[derive(Clone, Copy, Debug, PartialEq, Eq)]
 pub struct Setup {
     sq: u32,
@@ -15,6 +15,7 @@ pub struct Setup {
     files: u32,
     start: u32,
     stops: bool,
+    linux: bool,
 }
 
 impl Model for Setup {
@@ -22,12 +23,12 @@ impl Model for Setup {
 
     ghost Value = { Setup };
 
-    ghost view = { λ s. record { sq = s.sq; cq = s.cq; files = s.files; start = s.start; stops = s.stops } };
+    ghost view = { λ s. record { sq = s.sq; cq = s.cq; files = s.files; start = s.start; stops = s.stops; linux = s.linux } };
 
     ghost invariant = { λ s. IsWithinLimits
-        (record { sq = s.sq; cq = s.cq; files = s.files; start = s.start; stops = s.stops }) };
+        (record { sq = s.sq; cq = s.cq; files = s.files; start = s.start; stops = s.stops; linux = s.linux }) };
 
-    ghost inverse = { λ s. record { sq = s.sq; cq = s.cq; files = s.files; start = s.start; stops = s.stops } };
+    ghost inverse = { λ s. record { sq = s.sq; cq = s.cq; files = s.files; start = s.start; stops = s.stops; linux = s.linux } };
 }
 
 impl Setup {
@@ -44,7 +45,7 @@ impl Setup {
 
     /// A set-up with a submission ring of `sq` entries (1 to 4,096) and a completion ring of `cq` entries (1 to 8,192), or of twice the submission ring's, each rounded up to a power of two; `files` files (1 to 64); and rings that begin at the index word `start`.
     ///
-    /// A submission call goes on behind an entry with a fault: `stopping` asks for the other.
+    /// A submission call goes on behind an entry with a fault, and requests are kept by the manual pages' rules: `stopping` and `linux` ask for the others.
     ///
     /// `BadSq`, `BadCq` and `BadFiles` come in that order, each if its limit is broken; `BadCq` also if the completion ring is smaller after rounding than the submission ring. Sizes are rounded as in io_uring_setup(2), IORING_SETUP_CQSIZE; the limits are our own rule, and so is that a completion ring of the submission ring's size is taken.
     pub fn new(sq: u32, cq: Option<u32>, files: u32, start: u32) -> Result<Setup, BadSetup>
@@ -71,6 +72,7 @@ impl Setup {
             files,
             start,
             stops: false,
+            linux: false,
         })
     }
 
@@ -80,6 +82,16 @@ impl Setup {
     {
         Setup {
             stops: true,
+            ..self
+        }
+    }
+
+    /// The same set-up for a ring that keeps requests by Linux's rules, as 6.18 was seen to keep them, where they differ from the manual pages': which groups end as cancelled, who waits for a drain, whom a cancel finds, and whose end posts a completion. Our own rule; docs/PROTOCOL.md tells the two side by side.
+    pub fn linux(self) -> Setup
+        ensures { result ≡ record self { linux = true } }
+    {
+        Setup {
+            linux: true,
             ..self
         }
     }
@@ -122,6 +134,14 @@ impl Setup {
         ensures limits { IsWithinLimits self }
     {
         self.stops
+    }
+
+    /// Whether requests are kept by Linux's rules: not unless `linux` asked for it.
+    pub fn is_linux(self) -> bool
+        ensures value { result ≡ self.linux }
+        ensures limits { IsWithinLimits self }
+    {
+        self.linux
     }
 }
 

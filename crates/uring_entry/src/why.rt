@@ -38,6 +38,9 @@ pub enum Doom {
 
     /// A cancel that chose it.
     Cancel,
+
+    /// It asks to drain in a ring that has used skipped success, which Linux's rules refuse. docs/PROTOCOL.md, Drains.
+    RefusedDrain,
 }
 
 /// Why a request waits for an earlier one: the first of these that holds. io_uring_enter(2), IOSQE_IO_LINK and IOSQE_IO_DRAIN; their order is our own rule.
@@ -51,4 +54,7 @@ pub enum Since {
 
     /// The later one's group drains.
     OwnDrains,
+
+    /// The later one's group is deferred, by Linux's rules: until nothing else is outstanding. docs/PROTOCOL.md, Drains.
+    Deferred,
 }

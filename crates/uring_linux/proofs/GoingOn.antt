@@ -9,7 +9,8 @@ use Rattle.uring_linux.specs.declared.deferred.Deferred.{Deferred}
 use Rattle.uring_linux.specs.Drains.{is_in_some}
 use Rattle.uring_linux.specs.LinuxRequests.{LinuxRequests, is_alone, is_in_turn, keeps_back, is_deferred, is_doomed, is_issuable, next_of}
 use Rattle.uring_linux.specs.Happenings.{Happening, made_by, MayHaveHappened}
-use Rattle.uring_linux.specs.Laws.{least_free_of, GoesOn}
+use Rattle.uring_linux.specs.Laws.{GoesOn}
+use Rattle.uring_linux.specs.LinuxWhy.{least_free_of}
 use Rattle.uring_linux.proofs.Deferring.{HasGoneOn, held_by, behind_joined}
 use Rattle.uring_linux.proofs.Reaching.{IsSettled, all_between}
 

@@ -7,6 +7,7 @@ use Rattle.uring_linux.specs.declared.answers.Issued.TheVariants.{Run, Ended, No
 use Rattle.uring_linux.specs.Happenings.{Happening, made_by, MayHaveHappened}
 use Rattle.uring_linux.specs.LinuxRequests.{LinuxRequests, is_deferred, is_issuable, next_of}
 use Rattle.uring_linux.specs.Issues.{issued}
+use Rattle.uring_linux.specs.LinuxWhy.{least_free_of}
 
 -- whether an issue was refused, and so changed nothing
 abbrev pub is_refusal : Issued → Bool
@@ -19,11 +20,6 @@ is_refusal Unknown = true
 -- The requests that can be issued are those whose issue isn't refused.
 abbrev pub IssuableIsNotRefused : Type 0
 IssuableIsNotRefused = (l : LinuxRequests) (n : ℕ) → is_issuable l n ≡ not (is_refusal (issued l n))
-
--- the least outstanding request that isn't deferred
-abbrev pub least_free_of : LinuxRequests → Option ℕ
-least_free_of l =
-    least_below (λ n. is_outstanding l.requests n && not (is_deferred l n)) (length l.requests.accepted)
 
 -- The least outstanding request that isn't deferred: it runs, or can be issued.
 pub record GoesOn (l : LinuxRequests) : Type 0 where

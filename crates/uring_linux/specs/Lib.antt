@@ -8,4 +8,6 @@ pub mod Window
 pub mod Members
 pub mod KeptDrains
 pub mod LinuxDispatch
+pub mod LinuxWhy
+pub mod LinuxCancels
 pub mod Counts
