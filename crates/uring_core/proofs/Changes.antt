@@ -7,9 +7,10 @@ use Rattle.uring_entry.specs.Setup.{Setup}
 use Rattle.uring_entry.specs.Layout.{Sqe, Cqe}
 use Rattle.uring_entry.specs.Preparation.{is_cancel}
 use Rattle.uring_entry.specs.Submission.{Call, Place, taken, is_busy, is_full, call_length, entries_of, places_from}
-use Rattle.uring_entry.specs.Requests.{entry_of, is_outstanding, is_running, is_doomed, is_ready, doomed_result, cancel_result, no_bytes}
+use Rattle.uring_entry.specs.Requests.{entry_of, is_outstanding, is_running, no_bytes}
+use Rattle.uring_rules.specs.Rules.{ends_doomed, may_start, doomed_result, cancel_result}
 use Rattle.uring_entry.specs.Completions.{next_to_reap}
-use Rattle.uring_core.specs.World.{World, happens}
+use Rattle.uring_core.specs.World.{World, requests_of, happens}
 use Rattle.uring_core.specs.StepAnswers.{CalledForApart, OrAgain, FinishesApart, entry_answer, place_answer, take_answer_in, end_answer_in, reap_answer_of, next_answer_of, is_spent}
 use Rattle.uring_core.specs.Histories.{Event}
 use Rattle.uring_core.specs.Events.{started_by, end_told_by, reaped_by, staged_by, filled_by, entry_taken_by, takes_position, opened_by, opens_call, accepted_by, closes_call, closes_ring, is_store_tail, is_load_head, is_flush, is_load_cq_tail, is_store_cq_head, takes_in}
@@ -50,9 +51,9 @@ pub data Change (g : Setup) (w : World) : Step → Answer → Type 0 where
   takes : (entry : Sqe) (call : Call) (place : Place) → w.submission.call ≡ Some call → eqb call.taken call.count ≡ false → slice_get w.submission.published (taken w.submission + call.taken) ≡ Some place → place.entry ≡ Some entry → Change g w step.Take (answer.Entry entry)
   drops : (call : Call) (place : Place) → w.submission.call ≡ Some call → eqb call.taken call.count ≡ false → slice_get w.submission.published (taken w.submission + call.taken) ≡ Some place → place.entry ≡ None → Change g w step.Take answer.Dropped
   closes : (accepted missed head : ℕ) (call : Call) → w.submission.call ≡ Some call → nat_lt call.taken call.count ≡ false → accepted ≡ length (entries_of (places_from w.submission call.count)) → Change g w step.End (answer.Taken accepted missed head)
-  runs : (n : ℕ) → is_outstanding w.requests n ≡ true → is_running w.requests n ≡ false → is_doomed w.requests n ≡ false → is_ready w.requests n ≡ true → is_cancel (entry_of w.requests n) ≡ false → Change g w (step.Issue n) answer.Run
-  dooms : (n : ℕ) → is_outstanding w.requests n ≡ true → is_running w.requests n ≡ false → is_doomed w.requests n ≡ true → Change g w (step.Issue n) (answer.Ended (doomed_result w.requests n) no_bytes)
-  cancels : (n : ℕ) → is_outstanding w.requests n ≡ true → is_running w.requests n ≡ false → is_doomed w.requests n ≡ false → is_ready w.requests n ≡ true → is_cancel (entry_of w.requests n) ≡ true → Change g w (step.Issue n) (answer.Ended (cancel_result w.requests n) no_bytes)
+  runs : (n : ℕ) → is_outstanding w.requests n ≡ true → is_running w.requests n ≡ false → ends_doomed g.linux w.requests n ≡ false → may_start g.linux (requests_of w) n ≡ true → is_cancel (entry_of w.requests n) ≡ false → Change g w (step.Issue n) answer.Run
+  dooms : (n : ℕ) → is_outstanding w.requests n ≡ true → is_running w.requests n ≡ false → ends_doomed g.linux w.requests n ≡ true → Change g w (step.Issue n) (answer.Ended (doomed_result g.linux w.requests n) no_bytes)
+  cancels : (n : ℕ) → is_outstanding w.requests n ≡ true → is_running w.requests n ≡ false → ends_doomed g.linux w.requests n ≡ false → may_start g.linux (requests_of w) n ≡ true → is_cancel (entry_of w.requests n) ≡ true → Change g w (step.Issue n) (answer.Ended (cancel_result g.linux w.requests n) no_bytes)
   finishes : (n : ℕ) (res : ℤ) (bytes : List ℕ) → is_running w.requests n ≡ true → Change g w (step.Finish n) (answer.Ended res bytes)
   flushes : (moved : ℕ) → Change g w step.Flush (answer.Moved moved)
   sees_tail : (tail : ℕ) → Change g w step.LoadCqTail (answer.Tail tail)
@@ -109,9 +110,9 @@ module _ (g : Setup) (w : World) where
   end_of None e = refuses _ _ (λ v. refl) (search rules)
   end_of (Some call) e = end_in_call call _ _ _ _ e refl refl
 
-  issue_of : (n : ℕ) (outstanding running doomed ready cancel : Bool) → is_outstanding w.requests n ≡ outstanding → is_running w.requests n ≡ running → is_doomed w.requests n ≡ doomed → is_ready w.requests n ≡ ready → is_cancel (entry_of w.requests n) ≡ cancel
+  issue_of : (n : ℕ) (outstanding running doomed ready cancel : Bool) → is_outstanding w.requests n ≡ outstanding → is_running w.requests n ≡ running → ends_doomed g.linux w.requests n ≡ doomed → may_start g.linux (requests_of w) n ≡ ready → is_cancel (entry_of w.requests n) ≡ cancel
       → Change g w (step.Issue n)
-      (if not outstanding then answer.Unknown else (if running then answer.Running else (if doomed then answer.Ended (doomed_result w.requests n) no_bytes else (if not ready then answer.NotReady else (if cancel then answer.Ended (cancel_result w.requests n) no_bytes else answer.Run)))))
+      (if not outstanding then answer.Unknown else (if running then answer.Running else (if doomed then answer.Ended (doomed_result g.linux w.requests n) no_bytes else (if not ready then answer.NotReady else (if cancel then answer.Ended (cancel_result g.linux w.requests n) no_bytes else answer.Run)))))
   issue_of n true false true ready cancel e f h i j = dooms n e f h
   issue_of n true false false true true e f h i j = cancels n e f h i j
   issue_of n true false false true false e f h i j = runs n e f h i j

@@ -4,9 +4,10 @@ use Rattle.std.proofs.Common.{◌≡◌, ℕ, ℤ, Bool, false, List, [], ◌∷
 use Rattle.uring_entry.specs.Setup.{Setup}
 use Rattle.uring_entry.specs.Layout.{Sqe, Cqe}
 use Rattle.uring_entry.specs.Submission.{Submission, entries_of, places_from}
-use Rattle.uring_entry.specs.Requests.{Requests, entry_of}
-use Rattle.uring_entry.specs.Completions.{next_to_reap, with_end, with_flushed, with_tail_loaded, with_reaped, with_head_stored}
-use Rattle.uring_core.specs.World.{World, happens, taking_of, taking_entry_of, ending_of}
+use Rattle.uring_entry.specs.Requests.{Requests}
+use Rattle.uring_linux.specs.LinuxRequests.{LinuxRequests}
+use Rattle.uring_entry.specs.Completions.{next_to_reap, with_flushed, with_tail_loaded, with_reaped, with_head_stored}
+use Rattle.uring_core.specs.World.{World, requests_of, with_end_of, happens, taking_of, taking_entry_of, ending_of}
 use Rattle.uring_core.specs.Histories.{Event, History, world, IsLawfulApart}
 use Rattle.uring_core.specs.Events.{end_told_by, reaped_by, is_flush, is_load_cq_tail, is_store_cq_head}
 use Rattle.uring_core.specs.declared.step.Step.{Step}
@@ -29,13 +30,13 @@ pub record LeavesEnds (r later : Requests) : Type 0 where
   pub ended : later.ended ≡ r.ended
 
 pub data CompletionMove (g : Setup) (w : World) : Step → Answer → World → Type 0 where
-  stays : (s : Step) (a : Answer) (l : Submission) (r : Requests) (is_closed : Bool) → IsOffCompletions (s, a) → end_told_by (s, a) ≡ None
-      → LeavesEnds w.requests r
-      → CompletionMove g w s a (record { submission = l; requests = r; completions = w.completions; is_closed = is_closed })
-  ends : (s : Step) (a : Answer) (n : ℕ) (res : ℤ) (bytes : List ℕ) (r : Requests) → IsOffCompletions (s, a)
+  stays : (s : Step) (a : Answer) (l : Submission) (r : LinuxRequests) (is_closed : Bool) → IsOffCompletions (s, a) → end_told_by (s, a) ≡ None
+      → LeavesEnds w.requests r.requests
+      → CompletionMove g w s a (record { submission = l; requests = r.requests; drains = r.drains; completions = w.completions; is_closed = is_closed })
+  ends : (s : Step) (a : Answer) (n : ℕ) (res : ℤ) (bytes : List ℕ) (r : LinuxRequests) → IsOffCompletions (s, a)
       → end_told_by (s, a) ≡ Some (record { number = n; res = res; bytes = bytes })
-      → r.accepted ≡ w.requests.accepted → r.ended ≡ w.requests.ended ++ record { number = n; res = res; bytes = bytes } ∷ []
-      → CompletionMove g w s a (record w { requests = r; completions = with_end g.cq w.completions (entry_of w.requests n) res bytes })
+      → r.requests.accepted ≡ w.requests.accepted → r.requests.ended ≡ w.requests.ended ++ record { number = n; res = res; bytes = bytes } ∷ []
+      → CompletionMove g w s a (record w { requests = r.requests; drains = r.drains; completions = with_end_of g w n res bytes })
   flushes : (moved : ℕ) → CompletionMove g w step.Flush (answer.Moved moved) (record w { completions = with_flushed g.cq w.completions })
   sees_tail : (tail : ℕ) → CompletionMove g w step.LoadCqTail (answer.Tail tail) (record w { completions = with_tail_loaded w.completions })
   reaps : (completion : Cqe) → next_to_reap w.completions ≡ Some completion
@@ -48,13 +49,13 @@ same_ends r = record { more = []; accepted = sym (append-nil r.accepted); ended 
 completion_by : (g : Setup) (w : World) (s : Step) (a : Answer) → Change g w s a
     → CompletionMove g w s a (happens g w s a)
 completion_by g w s a (event_refuses _ _ same i) =
-    subst (CompletionMove g w s a) (sym (same w)) (stays s a w.submission w.requests w.is_closed (assumption i) i.ends (same_ends w.requests))
+    subst (CompletionMove g w s a) (sym (same w)) (stays s a w.submission (requests_of w) w.is_closed (assumption i) i.ends (same_ends w.requests))
 completion_by g w s a (event_takes entry call place opened left at valid) =
     subst (λ o. CompletionMove g w step.Take (answer.Entry entry) (taking_entry_of g w entry o)) (sym opened) (stays _ _ _ _ _ (search rules) refl (same_ends w.requests))
 completion_by g w s a (event_drops call place opened left at invalid) =
     subst (λ o. CompletionMove g w step.Take answer.Dropped (taking_of w o)) (sym opened) (stays _ _ _ _ _ (search rules) refl (same_ends w.requests))
 completion_by g w s a (event_closes accepted missed head call opened all counted) =
-    subst (λ o. CompletionMove g w step.End (answer.Taken accepted missed head) (ending_of w o)) (sym opened) (stays _ _ _ _ _ (search rules) refl (record { more = entries_of (places_from w.submission call.count); accepted = refl; ended = refl }))
+    subst (λ o. CompletionMove g w step.End (answer.Taken accepted missed head) (ending_of g w o)) (sym opened) (stays _ _ _ _ _ (search rules) refl (record { more = entries_of (places_from w.submission call.count); accepted = refl; ended = refl }))
 completion_by g w s a (event_runs n outstanding idle spared ready no_cancel) = stays _ _ _ _ _ (search rules) refl (record { more = []; accepted = sym (append-nil w.requests.accepted); ended = refl })
 completion_by g w s a (event_dooms n outstanding idle doomed) =
     ends _ _ n _ _ _ (search rules) refl refl refl

@@ -1,11 +1,14 @@
 -- What an event makes of the requests, each with what is known of it because its answer was called for.
-use Rattle.std.proofs.Common.{◌≡◌, ℕ, ℤ, true, false, List, None, refl, sym, subst, ◌∷◌}
+use Rattle.std.proofs.Common.{◌≡◌, ℕ, ℤ, Bool, true, false, List, None, refl, sym, subst, ◌∷◌}
 use Rattle.uring_entry.specs.Setup.{Setup}
 use Rattle.uring_entry.specs.Layout.{Sqe}
 use Rattle.uring_entry.specs.Preparation.{is_cancel}
 use Rattle.uring_entry.specs.Submission.{entries_of, places_from}
-use Rattle.uring_entry.specs.Requests.{Requests, entry_of, is_outstanding, is_running, is_doomed, is_ready, doomed_result, cancel_result, no_bytes, with_call, with_started, with_ended, with_issued_end}
-use Rattle.uring_core.specs.World.{World, happens, taking_of, taking_entry_of, ending_of}
+use Rattle.uring_entry.specs.Requests.{Requests, entry_of, is_outstanding, is_running, no_bytes, with_call, with_started, with_ended}
+use Rattle.uring_linux.specs.LinuxRequests.{LinuxRequests}
+use Rattle.uring_rules.specs.Rules as by_rules
+use Rattle.uring_rules.specs.Rules.{may_start, doomed_result, cancel_result, with_issued_end}
+use Rattle.uring_core.specs.World.{World, requests_of, happens, taking_of, taking_entry_of, ending_of}
 use Rattle.uring_core.specs.Events.{started_by, end_told_by}
 use Rattle.uring_core.specs.declared.step.Step.{Step}
 use Rattle.uring_core.specs.declared.step.Step.TheVariants as step
@@ -14,25 +17,26 @@ use Rattle.uring_core.specs.declared.answer.Answer.TheVariants as answer
 use Rattle.uring_core.proofs.Changes.{Change, refuses, takes, drops, closes, runs, dooms, cancels, finishes, change_of}
 use Rattle.uring_core.specs.Histories.{History, world, IsLawfulApart}
 
-pub data Move (r : Requests) : Step → Answer → Requests → Type 0 where
-  stays : (s : Step) (a : Answer) → started_by (s, a) ≡ None → end_told_by (s, a) ≡ None → Move r s a r
-  accepts : (accepted missed head : ℕ) (entries : List Sqe) → Move r step.End (answer.Taken accepted missed head) (with_call r entries)
-  starts : (n : ℕ) → is_outstanding r n ≡ true → is_running r n ≡ false → is_doomed r n ≡ false → is_ready r n ≡ true → is_cancel (entry_of r n) ≡ false
-      → Move r (step.Issue n) answer.Run (with_started r n)
-  ends_doomed : (n : ℕ) → is_outstanding r n ≡ true
-      → Move r (step.Issue n) (answer.Ended (doomed_result r n) no_bytes) (with_issued_end r n (doomed_result r n))
-  ends_cancel : (n : ℕ) → is_outstanding r n ≡ true → is_doomed r n ≡ false → is_ready r n ≡ true → is_cancel (entry_of r n) ≡ true
-      → Move r (step.Issue n) (answer.Ended (cancel_result r n) no_bytes) (with_issued_end r n (cancel_result r n))
-  ends_run : (n : ℕ) (res : ℤ) (bytes : List ℕ) → is_running r n ≡ true → Move r (step.Finish n) (answer.Ended res bytes) (with_ended r n res bytes)
+-- by Linux's rules or the manual pages', from these requests
+pub data Move (linux : Bool) (l : LinuxRequests) : Step → Answer → Requests → Type 0 where
+  stays : (s : Step) (a : Answer) → started_by (s, a) ≡ None → end_told_by (s, a) ≡ None → Move linux l s a l.requests
+  accepts : (accepted missed head : ℕ) (entries : List Sqe) → Move linux l step.End (answer.Taken accepted missed head) (with_call l.requests entries)
+  starts : (n : ℕ) → is_outstanding l.requests n ≡ true → is_running l.requests n ≡ false → by_rules.ends_doomed linux l.requests n ≡ false → may_start linux l n ≡ true → is_cancel (entry_of l.requests n) ≡ false
+      → Move linux l (step.Issue n) answer.Run (with_started l.requests n)
+  ends_doomed : (n : ℕ) → is_outstanding l.requests n ≡ true
+      → Move linux l (step.Issue n) (answer.Ended (doomed_result linux l.requests n) no_bytes) (with_issued_end linux l.requests n (doomed_result linux l.requests n))
+  ends_cancel : (n : ℕ) → is_outstanding l.requests n ≡ true → by_rules.ends_doomed linux l.requests n ≡ false → may_start linux l n ≡ true → is_cancel (entry_of l.requests n) ≡ true
+      → Move linux l (step.Issue n) (answer.Ended (cancel_result linux l.requests n) no_bytes) (with_issued_end linux l.requests n (cancel_result linux l.requests n))
+  ends_run : (n : ℕ) (res : ℤ) (bytes : List ℕ) → is_running l.requests n ≡ true → Move linux l (step.Finish n) (answer.Ended res bytes) (with_ended l.requests n res bytes)
 
 move_by : (g : Setup) (w : World) (s : Step) (a : Answer) → Change g w s a
-    → Move w.requests s a (happens g w s a).requests
+    → Move g.linux (requests_of w) s a (happens g w s a).requests
 move_by g w s a (refuses _ _ same silent) =
-    subst (λ v. Move w.requests s a v.requests) (sym (same w)) (stays s a silent.starts silent.ends)
-move_by g w s a (takes entry call place opened left at valid) = subst (λ o. Move w.requests s a (taking_entry_of g w entry o).requests) (sym opened) (stays _ _ refl refl)
+    subst (λ v. Move g.linux (requests_of w) s a v.requests) (sym (same w)) (stays s a silent.starts silent.ends)
+move_by g w s a (takes entry call place opened left at valid) = subst (λ o. Move g.linux (requests_of w) s a (taking_entry_of g w entry o).requests) (sym opened) (stays _ _ refl refl)
 move_by g w s a (drops call place opened left at invalid) =
-    subst (λ o. Move w.requests s a (taking_of w o).requests) (sym opened) (stays _ _ refl refl)
-move_by g w s a (closes accepted missed head call opened all told) = subst (λ o. Move w.requests s a (ending_of w o).requests) (sym opened) (accepts accepted missed head (entries_of (places_from w.submission call.count)))
+    subst (λ o. Move g.linux (requests_of w) s a (taking_of w o).requests) (sym opened) (stays _ _ refl refl)
+move_by g w s a (closes accepted missed head call opened all told) = subst (λ o. Move g.linux (requests_of w) s a (ending_of g w o).requests) (sym opened) (accepts accepted missed head (entries_of (places_from w.submission call.count)))
 move_by g w s a (runs n outstanding idle spared ready no_cancel) =
     starts n outstanding idle spared ready no_cancel
 move_by g w s a (dooms n outstanding idle doomed) = ends_doomed n outstanding
@@ -42,5 +46,5 @@ move_by g w s a (finishes n res bytes running) = ends_run n res bytes running
 move_by g w s a _ = stays _ _ refl refl
 
 pub move_of : (g : Setup) (s : Step) (a : Answer) (h : History) → IsLawfulApart g ((s, a) ∷ h)
-    → Move (world g h).requests s a (world g ((s, a) ∷ h)).requests
+    → Move g.linux (requests_of (world g h)) s a (world g ((s, a) ∷ h)).requests
 move_of g s a h lawful = move_by g (world g h) s a (change_of g (world g h) s a lawful.0)

@@ -4,9 +4,9 @@ use Rattle.std.proofs.Common.{◌≡◌, ℕ, Bool, false, ◌||◌, nat_lt, eqb
 use Rattle.uring_entry.specs.Setup.{Setup}
 use Rattle.uring_entry.specs.Layout.{Sqe}
 use Rattle.uring_entry.specs.Submission.{Call, Place, taken, is_full, call_length, entries_of, places_from, with_filled, with_staged, with_published, with_head_loaded, with_begun}
-use Rattle.uring_entry.specs.Requests.{Requests}
+use Rattle.uring_linux.specs.LinuxRequests.{LinuxRequests}
 use Rattle.uring_entry.specs.Completions.{Completions}
-use Rattle.uring_core.specs.World.{World, happens, taking_of, taking_entry_of, ending_of}
+use Rattle.uring_core.specs.World.{World, requests_of, happens, taking_of, taking_entry_of, ending_of}
 use Rattle.uring_core.specs.Histories.{Event, History, world, IsLawfulApart}
 use Rattle.uring_core.specs.Events.{staged_by, filled_by, entry_taken_by, takes_position, opened_by, opens_call, accepted_by, closes_call, closes_ring, is_store_tail, is_load_head, takes_in}
 use Rattle.uring_core.specs.declared.step.Step.{Step}
@@ -31,14 +31,14 @@ pub record IsOffSubmission (e : Event) : Type 0 where
   pub loads_head : is_load_head e ≡ false
 
 -- what such an event leaves: no call is accepted, and the ring closes only by the event that says so
-pub record LeavesCalls (w : World) (e : Event) (r : Requests) (is_closed : Bool) : Type 0 where
-  pub accepted : r.accepted ≡ w.requests.accepted
-  pub cuts : r.cuts ≡ w.requests.cuts
+pub record LeavesCalls (w : World) (e : Event) (r : LinuxRequests) (is_closed : Bool) : Type 0 where
+  pub accepted : r.requests.accepted ≡ w.requests.accepted
+  pub cuts : r.requests.cuts ≡ w.requests.cuts
   pub shut : is_closed ≡ (closes_ring e || w.is_closed)
 
 pub data SubmissionMove (g : Setup) (w : World) : Step → Answer → World → Type 0 where
-  stays : (s : Step) (a : Answer) (r : Requests) (c : Completions) (is_closed : Bool) → IsOffSubmission (s, a) → LeavesCalls w (s, a) r is_closed
-      → SubmissionMove g w s a (record { submission = w.submission; requests = r; completions = c; is_closed = is_closed })
+  stays : (s : Step) (a : Answer) (r : LinuxRequests) (c : Completions) (is_closed : Bool) → IsOffSubmission (s, a) → LeavesCalls w (s, a) r is_closed
+      → SubmissionMove g w s a (record { submission = w.submission; requests = r.requests; drains = r.drains; completions = c; is_closed = is_closed })
   fills : (slot : ℕ) (entry : Sqe)
       → SubmissionMove g w (step.Fill slot entry) answer.Filled (record w { submission = with_filled w.submission slot entry })
   stages : (word : ℕ) → is_full g.sq w.submission ≡ false
@@ -55,7 +55,7 @@ pub data SubmissionMove (g : Setup) (w : World) : Step → Answer → World → 
       → SubmissionMove g w step.Take answer.Dropped (taking_of w (Some call))
   closes : (accepted missed head : ℕ) (call : Call) → w.submission.call ≡ Some call → nat_lt call.taken call.count ≡ false
       → accepted ≡ length (entries_of (places_from w.submission call.count))
-      → SubmissionMove g w step.End (answer.Taken accepted missed head) (ending_of w (Some call))
+      → SubmissionMove g w step.End (answer.Taken accepted missed head) (ending_of g w (Some call))
 
 off_silent : {e : Event} → IsSilent e → IsOffSubmission e
 off_silent i = assumption i
@@ -63,7 +63,7 @@ off_silent i = assumption i
 submission_by : (g : Setup) (w : World) (s : Step) (a : Answer) → Change g w s a
     → SubmissionMove g w s a (happens g w s a)
 submission_by g w s a (event_refuses _ _ same silent) =
-    subst (SubmissionMove g w s a) (sym (same w)) (stays s a w.requests w.completions w.is_closed (off_silent silent) (record { accepted = refl; cuts = refl; shut = sym (ap (λ b. b || w.is_closed) silent.shuts_none) }))
+    subst (SubmissionMove g w s a) (sym (same w)) (stays s a (requests_of w) w.completions w.is_closed (off_silent silent) (record { accepted = refl; cuts = refl; shut = sym (ap (λ b. b || w.is_closed) silent.shuts_none) }))
 submission_by g w s a (event_fills slot entry free) = fills slot entry
 submission_by g w s a (event_stages word room) = stages word room
 submission_by g w s a (event_stores tail) = stores tail
@@ -75,7 +75,7 @@ submission_by g w s a (event_takes entry call place opened left at valid) =
 submission_by g w s a (event_drops call place opened left at invalid) =
     subst (λ o. SubmissionMove g w step.Take answer.Dropped (taking_of w o)) (sym opened) (drops call place opened left at invalid)
 submission_by g w s a (event_closes accepted missed head call opened all counted) =
-    subst (λ o. SubmissionMove g w step.End (answer.Taken accepted missed head) (ending_of w o)) (sym opened) (closes accepted missed head call opened all counted)
+    subst (λ o. SubmissionMove g w step.End (answer.Taken accepted missed head) (ending_of g w o)) (sym opened) (closes accepted missed head call opened all counted)
 submission_by g w s a _ = stays _ _ _ _ _ (search rules) (search rules)
 
 pub submission_move : (g : Setup) (s : Step) (a : Answer) (h : History)

@@ -5,8 +5,8 @@ use Rattle.uring_entry.specs.Layout.{Sqe}
 use Rattle.uring_entry.specs.Submission.{Submission, Call, call_length, entries_from}
 use Rattle.uring_rings.specs.Sq.{Sq, ShowsSubmission}
 use Rattle.uring_rings.specs.Cq.{Cq, ShowsCompletions}
-use Rattle.uring_dispatch.specs.Dispatch.{Dispatch, ShowsRequests}
-use Rattle.uring_core.specs.World.{World}
+use Rattle.uring_rules.specs.RulesDispatch.{Rules, ShowsRequests}
+use Rattle.uring_core.specs.World.{World, requests_of}
 use Rattle.uring_core.specs.Histories.{History, world, IsLawfulApart}
 use Rattle.uring_entry.specs.Requests.{is_running, outstanding_in, running_in}
 use Rattle.uring_entry.specs.declared.operation.Outcome.{Outcome}
@@ -21,7 +21,7 @@ pub record Core : Type 0 where
   pub setup : Setup
   pub sq : Sq
   pub cq : Cq
-  pub dispatch : Dispatch
+  pub dispatch : Rules
   pub held : List Sqe
   pub is_closed : Bool
 
@@ -39,7 +39,8 @@ positions_of (Some call) = call.count
 pub record ShowsWorld (p : Core) (w : World) : Type 0 where
   pub submission : ShowsSubmission p.setup p.sq w.submission
   pub completions : ShowsCompletions p.setup p.cq w.completions
-  pub requests : ShowsRequests p.dispatch w.requests
+  pub requests : ShowsRequests p.dispatch (requests_of w)
+  pub rules : p.dispatch.linux ≡ p.setup.linux
   pub held : p.held ≡ held_by w.submission w.submission.call
   pub closed : p.is_closed ≡ w.is_closed
   pub between : p.dispatch.is_between_calls ≡ true

@@ -5,9 +5,10 @@ use Rattle.uring_entry.specs.IndexWords.{word_of}
 use Rattle.uring_entry.specs.Layout.{Sqe, Cqe}
 use Rattle.uring_entry.specs.Preparation.{is_cancel}
 use Rattle.uring_entry.specs.Submission.{Call, Place, staged, taken, is_busy, is_full, call_length, entries_from, dropped, with_closed}
-use Rattle.uring_entry.specs.Requests.{entry_of, is_outstanding, is_running, is_doomed, is_ready, doomed_result, cancel_result, no_bytes, next_of}
+use Rattle.uring_entry.specs.Requests.{entry_of, is_outstanding, is_running, no_bytes}
+use Rattle.uring_rules.specs.Rules.{ends_doomed, may_start, doomed_result, cancel_result, next_of}
 use Rattle.uring_entry.specs.Completions.{put_by_flush, next_to_reap}
-use Rattle.uring_core.specs.World.{World}
+use Rattle.uring_core.specs.World.{World, requests_of}
 use Rattle.uring_core.specs.declared.step.Step.{Step}
 use Rattle.uring_core.specs.declared.step.Step.TheVariants as step
 use Rattle.uring_core.specs.declared.answer.Answer.{Answer}
@@ -71,14 +72,16 @@ end_answer_in g w (Some call) =
 abbrev pub end_answer : Setup → World → Answer
 end_answer g w = end_answer_in g w w.submission.call
 
--- a request that isn't outstanding, or that runs already; a doomed one ends; one that may start runs, or ends if it is a cancel
-abbrev pub issue_answer : World → ℕ → Answer
-issue_answer w n =
+-- by the rules of the set-up: a request that isn't outstanding, or that runs already; a doomed one ends, by Linux's rules in its turn; one that may start runs, or ends if it is a cancel
+abbrev pub issue_answer : Setup → World → ℕ → Answer
+issue_answer g w n =
     if not (is_outstanding w.requests n) then answer.Unknown else
     if is_running w.requests n then answer.Running else
-    if is_doomed w.requests n then answer.Ended (doomed_result w.requests n) no_bytes else
-    if not (is_ready w.requests n) then answer.NotReady else
-    if is_cancel (entry_of w.requests n) then answer.Ended (cancel_result w.requests n) no_bytes else
+    if ends_doomed g.linux w.requests n
+    then answer.Ended (doomed_result g.linux w.requests n) no_bytes else
+    if not (may_start g.linux (requests_of w) n) then answer.NotReady else
+    if is_cancel (entry_of w.requests n)
+    then answer.Ended (cancel_result g.linux w.requests n) no_bytes else
     answer.Run
 
 -- an end, with any result
@@ -119,7 +122,7 @@ CalledForApart g w step.LoadHead a = a ≡ answer.Head (word_of g.start (taken w
 CalledForApart g w (step.Begin count) a = OrAgain (begin_answer w count) a
 CalledForApart g w step.Take a = a ≡ take_answer w
 CalledForApart g w step.End a = a ≡ end_answer g w
-CalledForApart g w (step.Issue n) a = a ≡ issue_answer w n
+CalledForApart g w (step.Issue n) a = a ≡ issue_answer g w n
 CalledForApart g w (step.Finish n) a = FinishesApart (is_running w.requests n) a
 CalledForApart g w step.Flush a =
     a ≡ answer.Moved (put_by_flush g.cq w.completions - w.completions.put)
@@ -128,4 +131,4 @@ CalledForApart g w step.Reap a = a ≡ reap_answer_of (next_to_reap w.completion
 CalledForApart g w step.StoreCqHead a =
     a ≡ answer.Head (word_of g.start (length w.completions.reaped))
 CalledForApart g w step.Close a = a ≡ close_answer w
-CalledForApart g w step.Next a = a ≡ next_answer_of (next_of w.requests)
+CalledForApart g w step.Next a = a ≡ next_answer_of (next_of g.linux (requests_of w))

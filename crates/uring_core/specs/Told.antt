@@ -1,4 +1,11 @@
--- Glue. What the submission ring answers, as answers to a step.
+-- Glue. What the layers answer, as answers to a step and as what is posted.
+use Rattle.std.specs.Prelude.{ℕ, ℤ, List}
+use Rattle.uring_entry.specs.Completions.{Completions, with_posted}
+use Rattle.uring_dispatch.specs.declared.answers.Posts.{Posts}
+use Rattle.uring_dispatch.specs.declared.answers.Posts.TheVariants.{Completion, Nothing}
+use Rattle.uring_rules.specs.declared.answers.Issued.{Issued}
+use Rattle.uring_rules.specs.declared.answers.Issued.TheVariants as issue
+use Rattle.uring_entry.specs.Requests.{no_bytes}
 use Rattle.uring_rings.specs.declared.answers.FillAnswer.{FillAnswer}
 use Rattle.uring_rings.specs.declared.answers.FillAnswer.TheVariants as fill
 use Rattle.uring_rings.specs.declared.answers.IndexAnswer.{IndexAnswer}
@@ -35,3 +42,17 @@ abbrev pub end_told : EndAnswer → Answer
 end_told (end.Taken taken) = answer.Taken taken.accepted taken.dropped taken.head
 end_told end.NotAll = answer.NotAll
 end_told end.NoCall = answer.NoCall
+
+-- an issue's answer
+abbrev pub issue_told : Issued → Answer
+issue_told issue.Run = answer.Run
+issue_told (issue.Ended res posts) = answer.Ended res no_bytes
+issue_told issue.NotReady = answer.NotReady
+issue_told issue.Running = answer.Running
+issue_told issue.Unknown = answer.Unknown
+
+-- the completions once the end of a request with this result and these bytes has posted what it posts
+abbrev pub with_told : ℕ → Completions → Posts → ℤ → List ℕ → Completions
+with_told size l (Completion user_data) res bytes =
+    with_posted size l (record { user_data = user_data; res = res; payload = bytes })
+with_told size l Nothing res bytes = l

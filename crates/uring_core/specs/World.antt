@@ -1,10 +1,13 @@
--- What all the steps so far have made: the three records of lists, and whether the ring is closed.
-use Rattle.std.specs.Prelude.{ℕ, Bool, true, false, Option, Some, None, length}
+-- What all the steps so far have made: the three records of lists, how the drains stand by Linux's rules, and whether the ring is closed.
+use Rattle.std.specs.Prelude.{ℕ, ℤ, List, Bool, true, false, Option, Some, None, length, if◌then◌else◌}
 use Rattle.uring_entry.specs.Setup.{Setup}
 use Rattle.uring_entry.specs.Layout.{Sqe}
 use Rattle.uring_entry.specs.Submission.{Submission, Call, no_submission, entries_from, with_filled, with_staged, with_published, with_head_loaded, with_begun, with_taken, stops_at, with_stopped, with_closed}
-use Rattle.uring_entry.specs.Requests.{Requests, no_request, entry_of, with_call, with_started, with_ended, with_issued_end, no_bytes}
-use Rattle.uring_entry.specs.Completions.{Completions, no_completion, with_end, with_flushed, with_tail_loaded, with_reaped, with_head_stored}
+use Rattle.uring_entry.specs.Requests.{Requests, no_request, entry_of, with_call, with_started, with_ended, no_bytes}
+use Rattle.uring_entry.specs.Completions.{Completions, no_completion, with_posted, completion_for, with_flushed, with_tail_loaded, with_reaped, with_head_stored}
+use Rattle.uring_linux.specs.Drains.{Drains, no_drains}
+use Rattle.uring_linux.specs.LinuxRequests.{LinuxRequests}
+use Rattle.uring_rules.specs.Rules.{posts, with_issued_end, drains_called, drains_ended}
 use Rattle.uring_core.specs.declared.step.Step.{Step}
 use Rattle.uring_core.specs.declared.step.Step.TheVariants as step
 use Rattle.uring_core.specs.declared.answer.Answer.{Answer}
@@ -13,6 +16,8 @@ use Rattle.uring_core.specs.declared.answer.Answer.TheVariants as answer
 pub record World : Type 0 where
   pub submission : Submission
   pub requests : Requests
+  -- how the drains stand, in a ring of Linux's rules; in another nothing is kept of them
+  pub drains : Drains
   pub completions : Completions
   pub is_closed : Bool
 
@@ -21,9 +26,14 @@ abbrev pub at_first : World
 at_first = record {
   submission = no_submission;
   requests = no_request;
+  drains = no_drains;
   completions = no_completion;
   is_closed = false;
 }
+
+-- the requests, with how the drains stand
+abbrev pub requests_of : World → LinuxRequests
+requests_of w = record { requests = w.requests; drains = w.drains }
 
 -- A step that was refused, or only answers, makes nothing. What each other makes, by its answer:
 
@@ -57,25 +67,34 @@ taking g w answer.Dropped = taking_of w w.submission.call
 taking g w _ = w
 
 -- the open call closes, and the entries that it took are accepted
-abbrev pub ending_of : World → Option Call → World
-ending_of w None = w
-ending_of w (Some call) =
+abbrev pub ending_of : Setup → World → Option Call → World
+ending_of g w None = w
+ending_of g w (Some call) =
     record w {
       submission = with_closed w.submission call;
       requests = with_call w.requests (entries_from w.submission call.count);
+      drains = drains_called g.linux (requests_of w) (entries_from w.submission call.count);
     }
 
-abbrev pub ending : World → Answer → World
-ending w (answer.Taken accepted dropped head) = ending_of w w.submission.call
-ending w _ = w
+abbrev pub ending : Setup → World → Answer → World
+ending g w (answer.Taken accepted dropped head) = ending_of g w w.submission.call
+ending g w _ = w
+
+-- the end of n with this result and these bytes: its completion is posted, if by the rules of the set-up it posts one. io_uring(7), DESCRIPTION, and io_uring_enter(2), IOSQE_CQE_SKIP_SUCCESS
+abbrev pub with_end_of : Setup → World → ℕ → ℤ → List ℕ → Completions
+with_end_of g w n res bytes =
+    if posts g.linux w.requests n res
+    then with_posted g.cq w.completions (completion_for (entry_of w.requests n) res bytes)
+    else w.completions
 
 -- a request runs, or ends as it is issued
 abbrev pub issuing : Setup → World → ℕ → Answer → World
 issuing g w n answer.Run = record w { requests = with_started w.requests n }
 issuing g w n (answer.Ended res bytes) =
     record w {
-      requests = with_issued_end w.requests n res;
-      completions = with_end g.cq w.completions (entry_of w.requests n) res no_bytes;
+      requests = with_issued_end g.linux w.requests n res;
+      drains = drains_ended g.linux (requests_of w) n res;
+      completions = with_end_of g w n res no_bytes;
     }
 issuing g w n _ = w
 
@@ -84,7 +103,8 @@ abbrev pub finishing : Setup → World → ℕ → Answer → World
 finishing g w n (answer.Ended res bytes) =
     record w {
       requests = with_ended w.requests n res bytes;
-      completions = with_end g.cq w.completions (entry_of w.requests n) res bytes;
+      drains = drains_ended g.linux (requests_of w) n res;
+      completions = with_end_of g w n res bytes;
     }
 finishing g w n _ = w
 
@@ -105,7 +125,7 @@ happens g w step.StoreTail a = record w { submission = with_published g.sq w.sub
 happens g w step.LoadHead a = record w { submission = with_head_loaded w.submission }
 happens g w (step.Begin count) a = beginning w count a
 happens g w step.Take a = taking g w a
-happens g w step.End a = ending w a
+happens g w step.End a = ending g w a
 happens g w (step.Issue n) a = issuing g w n a
 happens g w (step.Finish n) a = finishing g w n a
 happens g w step.Flush a = record w { completions = with_flushed g.cq w.completions }

@@ -3,12 +3,10 @@
 ghost use Rattle.std.specs.Prelude.{◌≡◌, ℕ, ◌+◌, ◌<◌, ◌≤◌, ◌∷◌, [], true, length, IsOk, IfOk, None};
 ghost use Rattle.uring_entry.specs.Setup.{Setup};
 ghost use Rattle.uring_entry.specs.Submission.{Submission, stops_at, with_stopped};
-ghost use Rattle.uring_entry.specs.Completions.{Completions, with_end};
-ghost use Rattle.uring_entry.specs.Requests.{Requests, with_call};
+ghost use Rattle.uring_entry.specs.Completions.{Completions};
 ghost use Rattle.uring_rings.specs.Cq.{ShowsCompletions};
 ghost use Rattle.uring_rings.specs.Sq.{ShowsSubmission};
-ghost use Rattle.uring_dispatch.specs.Dispatch.{ShowsRequests};
-ghost use Rattle.uring_dispatch.specs.IssueAndFinish.{posts_of};
+ghost use Rattle.uring_core.specs.Told.{with_told};
 ghost use Rattle.uring_core.specs.Histories.{History, world};
 ghost use Rattle.uring_core.specs.StepAnswers.{reap_answer_of};
 ghost use Rattle.uring_core.specs.declared.step.Step.TheVariants as step;
@@ -24,10 +22,11 @@ use crate::step::Step;
 use std::alloc::{AllocError, Global};
 use std::marker::Model;
 pub use submit::NotSubmitted;
-use uring_dispatch::{Dispatch, Issued, Posts, ReserveError};
-use uring_entry::{Cqe, Outcome, Setup, Sqe, prepare, succeeded};
+use uring_dispatch::{Posts, ReserveError};
+use uring_entry::{Cqe, Outcome, Setup, Sqe, prepare};
 use uring_memory::Memory;
 use uring_rings::{Cq, EndAnswer, Sq, TakeAnswer};
+use uring_rules::{Issued, Rules};
 
 /// A pair of rings and its requests, moved one step at a time, without files: how a running request ends comes from outside.
 #[derive(Drop)]
@@ -35,7 +34,7 @@ pub struct Core {
     setup: Setup,
     sq: Sq,
     cq: Cq,
-    dispatch: Dispatch,
+    dispatch: Rules,
     // The entries that the open call took, in order. There is room for those of a whole ring.
     held: Vec<Sqe>,
     // Whether a Close was answered Shut.
@@ -80,7 +79,7 @@ impl Core {
             setup: *setup,
             sq: Sq::new_in(memory, alloc, setup)?,
             cq: Cq::new_in(memory, alloc, setup)?,
-            dispatch: Dispatch::new(alloc),
+            dispatch: Rules::new(alloc, setup.is_linux()),
             held,
             is_closed: false,
         })
@@ -254,7 +253,7 @@ impl Core {
     {
         let answer = self.sq.end();
         if let EndAnswer::Taken(_) = answer {
-            accept_call(&mut self.dispatch, &self.held);
+            self.dispatch.accept_call(&self.held);
             self.held.clear();
         }
         Answer::from(answer)
@@ -267,13 +266,10 @@ impl Core {
             → FitsApart self.new ((step.Issue number, result) ∷ h) }
         ensures memory { HasNoLessMemory self.old self.new }
     {
-        let entry = self.dispatch.entry(number);
         match self.dispatch.issue(number) {
-            Issued::Run(_) => Answer::Run,
-            Issued::Ended(res) => {
-                let Some(entry) = entry else { unreachable!() };
+            Issued::Run => Answer::Run,
+            Issued::Ended { res, posts } => {
                 let bytes = [0; 64];
-                let posts = Posts::of(&entry, succeeded(&entry, res));
                 post_end(&mut self.cq, posts, res, bytes);
                 Answer::ended(res, bytes)
             }
@@ -388,30 +384,12 @@ fn stop_behind(sq: &mut Sq, setup: Setup, entry: &Sqe)
     }
 }
 
-/// Accepts the entries of a call, in order, and ends it.
-fn accept_call(dispatch: &mut Dispatch, entries: &[Sqe])
-    requires { length entries.now ≤ dispatch.old.room }
-    ensures shows { (r : Requests) → ShowsRequests dispatch.old r
-        → ShowsRequests dispatch.new (with_call r entries.now) }
-    ensures accepted { dispatch.new.accepted ≡ dispatch.old.accepted + length entries.now }
-    ensures outstanding { dispatch.new.outstanding ≡ dispatch.old.outstanding + length entries.now }
-    ensures memory { dispatch.old.accepted + dispatch.old.room
-        ≤ dispatch.new.accepted + dispatch.new.room }
-    ensures between { dispatch.new.is_between_calls ≡ true }
-{
-    for entry in entries {
-        dispatch.accept(*entry);
-    }
-    dispatch.end_call();
-}
-
 /// Posts what the end of a request is to post.
 #[inline(always)]
 fn post_end(cq: &mut Cq, posts: Posts, res: i32, bytes: [u8; 64])
     requires { 0 < cq.old.room }
-    ensures shows { (g : Setup) (l : Completions) (entry : Sqe) → posts ≡ posts_of entry res
-        → ShowsCompletions g cq.old l
-        → ShowsCompletions g cq.new (with_end g.cq l entry res bytes) }
+    ensures shows { (g : Setup) (l : Completions) → ShowsCompletions g cq.old l
+        → ShowsCompletions g cq.new (with_told g.cq l posts res bytes) }
     ensures room { cq.old.room ≤ cq.new.room + 1 }
     ensures promised { cq.old.room ≤ cq.old.spare → cq.new.room ≤ cq.new.spare }
     ensures kept { length cq.old.overflow + cq.old.spare ≤ length cq.new.overflow + cq.new.spare }

@@ -4,10 +4,9 @@ ghost use Rattle.std.specs.Prelude.{◌≡◌, drop, length, IfSome, slice_get};
 ghost use Rattle.uring_entry.specs.Setup.{IsWithinLimits};
 ghost use Rattle.uring_entry.specs.Submission.{dropped};
 ghost use Rattle.uring_entry.specs.Completions.{unreaped};
-ghost use Rattle.uring_entry.specs.Requests.{entry_outstanding, least_of, operation_running, next_of};
-ghost use Rattle.uring_entry.specs.Why.{why_of};
-ghost use Rattle.uring_dispatch.specs.Cancels.{found_by};
-ghost use Rattle.uring_dispatch.specs.Issuable.{issuables_of, issuable_from};
+ghost use Rattle.uring_entry.specs.Requests.{entry_outstanding, least_of, operation_running};
+ghost use Rattle.uring_rules.specs.Rules.{next_of, issuables_of, issuable_from, why_of, found_by};
+ghost use Rattle.uring_core.specs.World.{requests_of};
 ghost use Rattle.uring_files.specs.Operations.{IsForFiles};
 ghost use Rattle.uring_core.specs.Core.{FitsApart, IsCounts};
 ghost use Rattle.uring_core.specs.Histories.{History, world};
@@ -15,8 +14,9 @@ ghost use Rattle.uring_core.specs.StepAnswers.{begin_answer};
 
 use super::{Core, Counts};
 use crate::answer::Answer;
-use uring_dispatch::{Dispatch, Found};
+use uring_dispatch::Found;
 use uring_entry::{Cqe, Op, Setup, Sqe, Why};
+use uring_rules::Rules;
 
 impl Core {
     /// What a Begin of this many positions, any number, is answered if memory is there: the answer of `Step::Begin`, unless that is `Again`. It is no step, and so not part of a history.
@@ -31,7 +31,7 @@ impl Core {
             return Answer::InCall;
         }
         let length = count.min(self.sq.pending());
-        if u64::from(length) > Dispatch::MAX_ACCEPTED - self.dispatch.accepted() {
+        if u64::from(length) > Rules::MAX_ACCEPTED - self.dispatch.accepted() {
             return Answer::Spent;
         }
         Answer::Call(length)
@@ -57,7 +57,7 @@ impl Core {
     /// The least request that can be issued: what `Step::Next` is answered. It is no step, and so not part of a history.
     pub fn next(&self) -> Option<u64>
         ensures { (h : History) → FitsApart self.now h
-            → result ≡ next_of (world self.now.setup h).requests }
+            → result ≡ next_of self.now.setup.linux (requests_of (world self.now.setup h)) }
     {
         self.dispatch.next()
     }
@@ -65,7 +65,7 @@ impl Core {
     /// The least request from this number on, any number, that can be issued: so all of them, in order, from 0 on, each time from the number behind the last. It is no step, and so not part of a history.
     pub fn next_issuable(&self, number: u64) -> Option<u64>
         ensures { (h : History) → FitsApart self.now h
-            → result ≡ issuable_from (world self.now.setup h).requests number }
+            → result ≡ issuable_from self.now.setup.linux (requests_of (world self.now.setup h)) number }
     {
         self.dispatch.next_issuable(number)
     }
@@ -73,7 +73,7 @@ impl Core {
     /// How many requests can be issued. It looks once at each 64 numbers from the least outstanding one on. It is no step, and so not part of a history.
     pub fn issuable(&self) -> u64
         ensures { (h : History) → FitsApart self.now h
-            → result ≡ length (issuables_of (world self.now.setup h).requests) }
+            → result ≡ length (issuables_of self.now.setup.linux (requests_of (world self.now.setup h))) }
     {
         self.dispatch.issuable()
     }
@@ -81,7 +81,7 @@ impl Core {
     /// The request at this place, from 0, among those that can be issued, in the order of their numbers: `Some` exactly if the place is below their count. It looks once at each 64 numbers from the least outstanding one on. It is no step, and so not part of a history.
     pub fn nth_issuable(&self, place: u64) -> Option<u64>
         ensures { (h : History) → FitsApart self.now h
-            → result ≡ slice_get (issuables_of (world self.now.setup h).requests) place }
+            → result ≡ slice_get (issuables_of self.now.setup.linux (requests_of (world self.now.setup h))) place }
     {
         self.dispatch.nth_issuable(place)
     }
@@ -97,7 +97,7 @@ impl Core {
     /// Why the request of this number, any number, stands as it does. It is no step, and so not part of a history.
     pub fn why(&self, number: u64) -> Why
         ensures { (h : History) → FitsApart self.now h
-            → result ≡ why_of (world self.now.setup h).requests number }
+            → result ≡ why_of self.now.setup.linux (requests_of (world self.now.setup h)) number }
     {
         self.dispatch.why(number)
     }
@@ -105,7 +105,7 @@ impl Core {
     /// What the request of this number, any number, would find if it were carried out now: `Some` exactly if it is an outstanding cancel of one request, without a fault. It is no step, and so not part of a history.
     pub fn would_find(&self, number: u64) -> Option<Found>
         ensures { (h : History) → FitsApart self.now h
-            → result ≡ found_by (world self.now.setup h).requests number }
+            → result ≡ found_by self.now.setup.linux (world self.now.setup h).requests number }
     {
         self.dispatch.would_find(number)
     }
