@@ -4,15 +4,15 @@ use Rattle.std.specs.Prelude.{Result, Ok, Err, is_err, IsOk, OnOk}
 use Rattle.std.proofs.lemmas.Bool.{ltb-false}
 use Rattle.uring_entry.specs.Setup.{Setup}
 use Rattle.uring_entry.specs.Submission.{Submission, call_length, with_begun}
-use Rattle.uring_entry.specs.Requests.{Requests}
+use Rattle.uring_linux.specs.LinuxRequests.{LinuxRequests}
 use Rattle.uring_entry.specs.Completions.{Completions}
 use Rattle.uring_rings.specs.Sq.{Sq, ShowsSubmission}
 use Rattle.uring_rings.specs.SqAnswers as ring
 use Rattle.uring_rings.specs.Cq.{Cq, ShowsCompletions, KeepsMemory}
 use Rattle.uring_rings.specs.declared.answers.BeginAnswer.{BeginAnswer}
 use Rattle.uring_rings.specs.declared.answers.BeginAnswer.TheVariants as begin
-use Rattle.uring_dispatch.specs.Dispatch.{Dispatch, ShowsRequests, IsSameCount}
-use Rattle.uring_core.specs.World.{World}
+use Rattle.uring_rules.specs.RulesDispatch.{Rules, ShowsRequests, IsSameCount}
+use Rattle.uring_core.specs.World.{World, requests_of}
 use Rattle.uring_core.specs.StepAnswers.{OrAgain, begin_answer, is_spent}
 use Rattle.uring_core.specs.Histories.{History, world}
 use Rattle.uring_core.specs.Told.{begin_told}
@@ -58,8 +58,8 @@ opens_within p count n opens h f =
     subst (λ k. p.dispatch.accepted + k ≤ 2 ^ 63 - 1) (sym o.positions) (subst (λ k. k + call_length w.submission count ≤ 2 ^ 63 - 1) (sym f.shows.requests.accepted) few)
 
 -- a dispatcher with the same counts, and rings that show what they did
-same_shown : (p : Core) (w : World) (d : Dispatch) (q : Cq) → ShowsWorld p w
-    → IsSameCount p.dispatch d → d.is_between_calls ≡ true → ShowsRequests d w.requests
+same_shown : (p : Core) (w : World) (d : Rules) (q : Cq) → ShowsWorld p w
+    → IsSameCount p.dispatch d → d.is_between_calls ≡ true → ShowsRequests d (requests_of w)
     → ShowsCompletions p.setup q w.completions → p.cq.room ≤ q.room → q.room ≤ q.spare
     → ShowsWorld (record p { dispatch = d; cq = q }) w
 same_shown p w d q s same between shows shown room promised = grind arith
@@ -69,9 +69,9 @@ short_for_some : (p : Core) (w : World) (n : ℕ) → ShowsWorld p w → IsShort
 short_for_some p w n s (inl few_requests) = omega arith
 short_for_some p w n s (inr few_posts) = omega (arith, s.room_to_post, s.promised)
 
-pub again_goes : (p : Core) (d : Dispatch) (q : Cq) (count n : ℕ) → Opens p count n
+pub again_goes : (p : Core) (d : Rules) (q : Cq) (count n : ℕ) → Opens p count n
     → IsSameCount p.dispatch d → d.is_between_calls ≡ true
-    → ((r : Requests) → ShowsRequests p.dispatch r → ShowsRequests d r) → q ≡ p.cq → IsShortFor p n
+    → ((l : LinuxRequests) → ShowsRequests p.dispatch l → ShowsRequests d l) → q ≡ p.cq → IsShortFor p n
     → (h : History) → FitsApart p h
     → FitsApart (record p { dispatch = d; cq = q }) ((step.Begin count, answer.Again) ∷ h)
 again_goes p d q count n opens same between shows kept short h f =
@@ -84,12 +84,12 @@ opened : (l : Submission) (count n : ℕ) (r : BeginAnswer) → false ≡ is_som
     → n ≡ call_length l count → r ≡ ring.begin_answer l count → r ≡ begin.Call n
 opened l count n r none length answered = answered ∙ ap (ring.begin_beside l count) (not_some l.call (sym none)) ∙ ap (λ k. begin.Call k) (sym length)
 
-begun_shows : (p : Core) (w : World) (s' : Sq) (q : Cq) (d : Dispatch) (count n : ℕ)
+begun_shows : (p : Core) (w : World) (s' : Sq) (q : Cq) (d : Rules) (count n : ℕ)
     → ShowsWorld p w → w.submission.call ≡ None → n ≡ call_length w.submission count
     → ShowsSubmission p.setup s' (with_begun w.submission count)
     → ShowsCompletions p.setup q w.completions → q.room ≡ p.dispatch.outstanding + n
     → q.room ≤ q.spare
-    → IsSameCount p.dispatch d → n ≤ d.room → d.is_between_calls ≡ true → ShowsRequests d w.requests
+    → IsSameCount p.dispatch d → n ≤ d.room → d.is_between_calls ≡ true → ShowsRequests d (requests_of w)
     → p.dispatch.accepted + n ≤ 2 ^ 63 - 1
     → ShowsWorld (record p { sq = s'; cq = q; dispatch = d }) (record w { submission = with_begun w.submission count })
 begun_shows p w s' q d count n s none length shown kept room promised same fits between shows numbers =
@@ -99,10 +99,10 @@ begun_shows p w s' q d count n s none length shown kept room promised same fits 
     let below = subst (λ k. d.accepted + k ≤ 2 ^ 63 - 1) length (omega (arith, same, numbers)) in
     grind (arith, held, to_post, to_accept, below)
 
-pub call_goes : (p : Core) (s' : Sq) (q : Cq) (d : Dispatch) (count n : ℕ) (r : BeginAnswer)
+pub call_goes : (p : Core) (s' : Sq) (q : Cq) (d : Rules) (count n : ℕ) (r : BeginAnswer)
     → Opens p count n
     → IsSameCount p.dispatch d → n ≤ d.room → d.is_between_calls ≡ true
-    → ((r : Requests) → ShowsRequests p.dispatch r → ShowsRequests d r)
+    → ((l : LinuxRequests) → ShowsRequests p.dispatch l → ShowsRequests d l)
     → ((g : Setup) (l : Completions) → ShowsCompletions g p.cq l → ShowsCompletions g q l)
     → q.room ≡ p.dispatch.outstanding + n → KeepsMemory p.cq q
     → ((g : Setup) (l : Submission) → ShowsSubmission g p.sq l → r ≡ ring.begin_answer l count)
@@ -116,7 +116,7 @@ call_goes p s' q d count n r opens same fits between shows kept room memory answ
     let is : r ≡ begin.Call n = opened w.submission count n r o.no_call o.positions (answered p.setup w.submission s.submission) in
     let after : ShowsSubmission p.setup s' (with_begun w.submission count) = subst (λ b. ShowsSubmission p.setup s' (ring.after_begin w.submission count b)) is (shown p.setup w.submission s.submission) in
     subst (λ b. FitsApart (record p { sq = s'; cq = q; dispatch = d }) ((step.Begin count, begin_told b) ∷ h)) (sym is) (record {
-      shows = begun_shows p w s' q d count n s (not_some w.submission.call (sym o.no_call)) o.positions after (kept p.setup w.completions s.completions) room memory.promised same fits between (shows w.requests s.requests) (opens_within p count n opens h f);
+      shows = begun_shows p w s' q d count n s (not_some w.submission.call (sym o.no_call)) o.positions after (kept p.setup w.completions s.completions) room memory.promised same fits between (shows (requests_of w) s.requests) (opens_within p count n opens h f);
       lawful = (subst (λ a. OrAgain a (answer.Call n)) (sym (opens h f)) (inl refl), f.lawful);
     })
 

@@ -7,11 +7,11 @@ use Rattle.std.proofs.lemmas.List.Sums.{sum_by_push}
 use Rattle.uring_entry.specs.Setup.{Setup}
 use Rattle.uring_entry.specs.IndexWords.{word_of}
 use Rattle.uring_entry.specs.Layout.{Sqe, user_data_of}
-use Rattle.uring_entry.specs.Success.{posts_completion}
 use Rattle.uring_entry.specs.Submission.{Submission, Call, no_submission, taken, pending, entries_of, places_from, dropped, with_closed}
-use Rattle.uring_entry.specs.Requests.{Requests, no_request, entry_of, is_outstanding, is_running, is_doomed, is_ready, doomed_result, cancel_result, no_bytes, with_call, with_ended, with_issued_end, with_started, entry_outstanding}
+use Rattle.uring_entry.specs.Requests.{entry_of, is_outstanding, is_running, no_bytes}
+use Rattle.uring_linux.specs.LinuxRequests.{LinuxRequests, no_request, with_started}
 use Rattle.uring_entry.specs.Preparation.{is_cancel, operation_of}
-use Rattle.uring_entry.specs.Completions.{Completions, no_completion, with_end, with_posted}
+use Rattle.uring_entry.specs.Completions.{Completions, no_completion, with_posted}
 use Rattle.uring_entry.specs.declared.operation.Outcome.{Outcome}
 use Rattle.uring_entry.specs.declared.operation.Op.{Op}
 use Rattle.uring_rings.specs.Sq.{Sq, ShowsSubmission}
@@ -19,13 +19,16 @@ use Rattle.uring_rings.specs.SqAnswers as ring
 use Rattle.uring_rings.specs.Cq.{Cq, ShowsCompletions}
 use Rattle.uring_rings.specs.declared.answers.EndAnswer.TheVariants as ended_as
 use Rattle.uring_rings.specs.declared.answers.Taken.{Taken}
-use Rattle.uring_dispatch.specs.Dispatch.{Dispatch, ShowsRequests, HasStarted, HasEnded, HasFinished}
-use Rattle.uring_dispatch.specs.IssueAndFinish.{issued, posts_of, posted_by}
-use Rattle.uring_dispatch.specs.declared.answers.Issued.{Issued}
-use Rattle.uring_dispatch.specs.declared.answers.Issued.TheVariants as issue
+use Rattle.uring_rules.specs.Rules.{ends_doomed, may_start, doomed_result, cancel_result, posts}
+use Rattle.uring_rules.specs.RulesDispatch.{Rules, ShowsRequests, HasStarted, HasEnded, HasFinished, HasCalled}
+use Rattle.uring_rules.specs.RulesCalls.{called_by}
+use Rattle.uring_rules.specs.RulesIssues.{issued, posts_of, posted_by, ended_by, ended_at_issue}
+use Rattle.uring_rules.specs.declared.answers.Issued.{Issued}
+use Rattle.uring_rules.specs.declared.answers.Issued.TheVariants as issue
 use Rattle.uring_dispatch.specs.declared.answers.Posts.{Posts}
-use Rattle.uring_dispatch.specs.declared.answers.Posts.TheVariants as posts
-use Rattle.uring_core.specs.World.{World, ending_of}
+use Rattle.uring_dispatch.specs.declared.answers.Posts.TheVariants as post
+use Rattle.uring_core.specs.World.{World, requests_of, ending_of, with_end_of}
+use Rattle.uring_core.specs.Told.{issue_told, with_told}
 use Rattle.uring_core.specs.StepAnswers.{end_answer_in, issue_answer, FinishesApart}
 use Rattle.uring_core.specs.Histories.{History, world}
 use Rattle.uring_core.specs.Core.{Core, ShowsWorld, FitsApart, IsFinished, held_by, positions_of}
@@ -38,15 +41,17 @@ use Rattle.uring_core.proofs.CoreSteps.{told_if}
 -- End.
 
 -- what is known of the dispatcher once it accepted the entries of a call
-pub record Accepts (p : Core) (d : Dispatch) : Type 0 where
-  pub shows : (r : Requests) → ShowsRequests p.dispatch r → ShowsRequests d (with_call r p.held)
+pub record Accepts (p : Core) (d : Rules) : Type 0 where
+  pub rules : d.linux ≡ p.dispatch.linux
+  pub shows : (l : LinuxRequests) → ShowsRequests p.dispatch l
+      → ShowsRequests d (called_by p.dispatch.linux l p.held)
   pub accepted : d.accepted ≡ p.dispatch.accepted + length p.held
   pub outstanding : d.outstanding ≡ p.dispatch.outstanding + length p.held
   pub between : d.is_between_calls ≡ true
 
 -- what the end of a call shows and answers, by the call that is open
-pub record Ends (p : Core) (w : World) (q : Sq) (d : Dispatch) (a : Answer) (c : Option Call) : Type 0 where
-  pub shows : ShowsWorld (record p { sq = q; dispatch = d; held = [] }) (ending_of w c)
+pub record Ends (p : Core) (w : World) (q : Sq) (d : Rules) (a : Answer) (c : Option Call) : Type 0 where
+  pub shows : ShowsWorld (record p { sq = q; dispatch = d; held = [] }) (ending_of p.setup w c)
   pub answered : a ≡ end_answer_in p.setup w c
 
 -- what is told of a call that took all its positions
@@ -60,10 +65,10 @@ taken_as : (all : Bool) (t told : Taken)
 taken_as true t told e = (refl, cc)
 taken_as false t told e = absurd cc
 
-closed_shows : (p : Core) (w : World) (q : Sq) (d : Dispatch) (call : Call) → ShowsWorld p w
+closed_shows : (p : Core) (w : World) (q : Sq) (d : Rules) (call : Call) → ShowsWorld p w
     → w.submission.call ≡ Some call → call.taken ≡ call.count → Accepts p d
     → length p.held ≤ call.count → ShowsSubmission p.setup q (with_closed w.submission call)
-    → ShowsWorld (record p { sq = q; dispatch = d; held = [] }) (ending_of w (Some call))
+    → ShowsWorld (record p { sq = q; dispatch = d; held = [] }) (ending_of p.setup w (Some call))
 closed_shows p w q d call s is all accepts few shown =
     let a = accepts.accepted in
     let o = accepts.outstanding in
@@ -71,9 +76,11 @@ closed_shows p w q d call s is all accepts few shown =
     let numbers : p.dispatch.accepted + call.count ≤ 2 ^ 63 - 1 = subst (λ c. p.dispatch.accepted + positions_of c ≤ 2 ^ 63 - 1) is s.numbers in
     let posts = s.posts in
     let held : p.held ≡ entries_of (places_from w.submission call.count) = s.held ∙ ap (held_by w.submission) is ∙ ap (λ n. entries_of (places_from w.submission n)) all in
-    let requests = subst (λ xs. ShowsRequests d (with_call w.requests xs)) held (accepts.shows w.requests s.requests) in
+    let by_rules = subst (λ linux. ShowsRequests d (called_by linux (requests_of w) p.held)) s.rules (accepts.shows (requests_of w) s.requests) in
+    let requests = subst (λ xs. ShowsRequests d (called_by p.setup.linux (requests_of w) xs)) held by_rules in
+    let rules = accepts.rules ∙ s.rules in
     let none_held : ◌≡◌ {A = List Sqe} [] [] = refl in
-    grind (arith, requests, none_held)
+    grind (arith, requests, rules, none_held)
 
 closed_answer : (g : Setup) (w : World) (call : Call) (t : Taken)
     → ended_as.Taken t ≡ ring.end_of g w.submission (Some call)
@@ -84,7 +91,7 @@ closed_answer g w call t e =
     let not_less : nat_lt call.taken call.count ≡ false = le-ltb call.taken call.count (omega arith) in
     rw (is.1, not_less) (ap (λ n. answer.Taken (length (entries_of (places_from w.submission call.count))) (dropped (with_closed w.submission call)) (word_of g.start n)) (sum_by_push (λ x. x) w.submission.calls call.count))
 
-end_taken : (p : Core) (w : World) (q : Sq) (d : Dispatch) (t : Taken) (c : Option Call)
+end_taken : (p : Core) (w : World) (q : Sq) (d : Rules) (t : Taken) (c : Option Call)
     → ShowsWorld p w → w.submission.call ≡ c → Accepts p d
     → length p.held ≤ positions_of w.submission.call
     → ended_as.Taken t ≡ ring.end_of p.setup w.submission c
@@ -97,7 +104,7 @@ end_taken p w q d t (Some call) s is accepts few e shown = record {
   answered = closed_answer p.setup w call t e;
 }
 
-pub end_goes : (p : Core) (q : Sq) (d : Dispatch) (t : Taken)
+pub end_goes : (p : Core) (q : Sq) (d : Rules) (t : Taken)
     → ((g : Setup) (l : Submission) → ShowsSubmission g p.sq l → ended_as.Taken t ≡ ring.end_answer g l)
     → ((g : Setup) (l : Submission) → ShowsSubmission g p.sq l → ShowsSubmission g q (ring.after_end l (ended_as.Taken t)))
     → Accepts p d
@@ -137,48 +144,59 @@ end_not_all_goes p q answered same h f =
 
 -- The end of a request.
 
+-- what the end of n posts is what is told of it
+pub told_end : (g : Setup) (w : World) (n : ℕ) (res : ℤ) (bytes : List ℕ)
+    → with_told g.cq w.completions (posts_of g.linux w.requests n res) res bytes
+    ≡ with_end_of g w n res bytes
+told_end g w n res bytes = go (posts g.linux w.requests n res) where
+  go : (b : Bool) → with_told g.cq w.completions (cond b (post.Completion (user_data_of (entry_of w.requests n))) post.Nothing) res bytes
+      ≡ cond b (with_posted g.cq w.completions (record { user_data = user_data_of (entry_of w.requests n); res = res; payload = bytes })) w.completions
+  go true = refl
+  go false = refl
+
 -- an end posts one completion at most
-few_posted : (size : ℕ) (l : Completions) (entry : Sqe) (res : ℤ) (bytes : List ℕ)
-    → length (with_end size l entry res bytes).posted ≤ length l.posted + 1
-few_posted size l entry res bytes =
-    elim (cases_Bool (posts_completion entry res)) [
-      | inl told ↦ rw told (omega (arith, length-append l.posted (record { user_data = user_data_of entry; res = res; payload = bytes } ∷ [])))
+few_posted : (g : Setup) (w : World) (n : ℕ) (res : ℤ) (bytes : List ℕ)
+    → length (with_end_of g w n res bytes).posted ≤ length w.completions.posted + 1
+few_posted g w n res bytes =
+    elim (cases_Bool (posts g.linux w.requests n res)) [
+      | inl told ↦ rw told (omega (arith, length-append w.completions.posted (record { user_data = user_data_of (entry_of w.requests n); res = res; payload = bytes } ∷ [])))
       | inr skipped ↦ rw skipped (omega arith)
     ]
 
 -- The parts after an end: one request less is outstanding, and one promised post less is left at most.
-ended_shows : (p : Core) (w : World) (d : Dispatch) (q : Cq) (r : Requests) (entry : Sqe) (res : ℤ) (bytes : List ℕ)
+ended_shows : (p : Core) (w : World) (d : Rules) (q : Cq) (r : LinuxRequests) (n : ℕ) (res : ℤ) (bytes : List ℕ)
     → ShowsWorld p w
-    → ShowsRequests d r → d.accepted ≡ p.dispatch.accepted
+    → ShowsRequests d r → d.linux ≡ p.dispatch.linux → d.accepted ≡ p.dispatch.accepted
     → d.outstanding + 1 ≡ p.dispatch.outstanding → p.dispatch.room ≤ d.room
     → d.is_between_calls ≡ p.dispatch.is_between_calls
-    → ShowsCompletions p.setup q (with_end p.setup.cq w.completions entry res bytes)
+    → ShowsCompletions p.setup q (with_end_of p.setup w n res bytes)
     → p.cq.room ≤ q.room + 1 → (p.cq.room ≤ p.cq.spare → q.room ≤ q.spare)
-    → ShowsWorld (record p { dispatch = d; cq = q }) (record w { requests = r; completions = with_end p.setup.cq w.completions entry res bytes })
-ended_shows p w d q r entry res bytes s shows accepted outstanding room between shown left promised =
-    let few = few_posted p.setup.cq w.completions entry res bytes in
+    → ShowsWorld (record p { dispatch = d; cq = q }) (record w { requests = r.requests; drains = r.drains; completions = with_end_of p.setup w n res bytes })
+ended_shows p w d q r n res bytes s shows same_rules accepted outstanding room between shown left promised =
+    let few = few_posted p.setup w n res bytes in
+    let rules = same_rules ∙ s.rules in
     let in_between = between ∙ s.between in
     let to_post : d.outstanding + positions_of w.submission.call ≤ q.room = omega (arith, s.room_to_post) in
     let to_accept : positions_of w.submission.call ≤ d.room = omega (arith, s.room_to_accept) in
     let numbers : d.accepted + positions_of w.submission.call ≤ 2 ^ 63 - 1 = omega (arith, s.numbers) in
-    let posts : length (with_end p.setup.cq w.completions entry res bytes).posted + d.outstanding ≤ d.accepted = omega (arith, s.posts) in
+    let fewer : length (with_end_of p.setup w n res bytes).posted + d.outstanding ≤ d.accepted = omega (arith, s.posts) in
     let stays_promised = promised s.promised in
-    assumption (s, shown, shows, in_between, to_post, to_accept, numbers, posts, stays_promised)
-
--- an outstanding request's entry is there
-entry_there : (r : Requests) (n : ℕ) (entry : Sqe) → Some entry ≡ entry_outstanding r n
-    → entry ≡ entry_of r n
-entry_there r n entry e = sym (cond_some (is_outstanding r n) (entry_of r n) entry (sym e)).1
+    record {
+      submission = s.submission;
+      completions = shown;
+      requests = shows;
+      rules = rules;
+      held = s.held;
+      closed = s.closed;
+      between = in_between;
+      room_to_post = to_post;
+      room_to_accept = to_accept;
+      promised = stays_promised;
+      numbers = numbers;
+      posts = fewer;
+    }
 
 -- Issue.
-
--- what the dispatcher answers to an issue, as the answer to the step
-abbrev pub issue_told : Issued → Answer
-issue_told (issue.Run op) = answer.Run
-issue_told (issue.Ended res) = answer.Ended res no_bytes
-issue_told issue.NotReady = answer.NotReady
-issue_told issue.Running = answer.Running
-issue_told issue.Unknown = answer.Unknown
 
 -- a chain of tests goes through
 told_chain : (a b c d e : Bool) (x y z u v t : Issued)
@@ -187,101 +205,108 @@ told_chain : (a b c d e : Bool) (x y z u v t : Issued)
 told_chain a b c d e x y z u v t =
     told_if issue_told a _ _ ∙ ap (cond a (issue_told x)) (told_if issue_told b _ _ ∙ ap (cond b (issue_told y)) (told_if issue_told c _ _ ∙ ap (cond c (issue_told z)) (told_if issue_told d _ _ ∙ ap (cond d (issue_told u)) (told_if issue_told e _ _))))
 
-issue_same : (w : World) (n : ℕ) → issue_told (issued w.requests n) ≡ issue_answer w n
-issue_same w n = told_chain (not (is_outstanding w.requests n)) (is_running w.requests n) (is_doomed w.requests n) (not (is_ready w.requests n)) (is_cancel (entry_of w.requests n)) issue.Unknown issue.Running (issue.Ended (doomed_result w.requests n)) issue.NotReady (issue.Ended (cancel_result w.requests n)) (issue.Run (operation_of (entry_of w.requests n)))
+issue_same : (g : Setup) (w : World) (n : ℕ)
+    → issue_told (issued g.linux (requests_of w) n) ≡ issue_answer g w n
+issue_same g w n = told_chain (not (is_outstanding w.requests n)) (is_running w.requests n) (ends_doomed g.linux w.requests n) (not (may_start g.linux (requests_of w) n)) (is_cancel (entry_of w.requests n)) issue.Unknown issue.Running (issue.Ended (doomed_result g.linux w.requests n) (posts_of g.linux w.requests n (doomed_result g.linux w.requests n))) issue.NotReady (issue.Ended (cancel_result g.linux w.requests n) (posts_of g.linux w.requests n (cancel_result g.linux w.requests n))) (issue.Run (operation_of (entry_of w.requests n)))
 
-pub run_goes : (p : Core) (d : Dispatch) (n : ℕ) (op : Op)
-    → ((r : Requests) → ShowsRequests p.dispatch r → issue.Run op ≡ issued r n)
-    → ((r : Requests) → ShowsRequests p.dispatch r → ShowsRequests d (with_started r n))
+-- what ends as it is issued posts what its end posts
+posts_chain : (a b c d e : Bool) (x z : ℤ) (posted_with : ℤ → Posts) (op : Op) (res : ℤ) (posted : Posts)
+    → issue.Ended res posted
+    ≡ cond a issue.Unknown (cond b issue.Running (cond c (issue.Ended x (posted_with x)) (cond d issue.NotReady (cond e (issue.Ended z (posted_with z)) (issue.Run op)))))
+    → posted ≡ posted_with res
+posts_chain false false true d e x z posted_with op res posted is =
+    let same : (res ≡ x) × (posted ≡ posted_with x) = (cc, cc) in
+    same.1 ∙ ap posted_with (sym same.0)
+posts_chain false false false false true x z posted_with op res posted is =
+    let same : (res ≡ z) × (posted ≡ posted_with z) = (cc, cc) in
+    same.1 ∙ ap posted_with (sym same.0)
+posts_chain true b c d e x z posted_with op res posted is = absurd cc
+posts_chain false true c d e x z posted_with op res posted is = absurd cc
+posts_chain false false false true e x z posted_with op res posted is = absurd cc
+posts_chain false false false false false x z posted_with op res posted is = absurd cc
+
+issue_posts : (g : Setup) (w : World) (n : ℕ) (res : ℤ) (posted : Posts)
+    → issue.Ended res posted ≡ issued g.linux (requests_of w) n
+    → posted ≡ posts_of g.linux w.requests n res
+issue_posts g w n res posted is = posts_chain (not (is_outstanding w.requests n)) (is_running w.requests n) (ends_doomed g.linux w.requests n) (not (may_start g.linux (requests_of w) n)) (is_cancel (entry_of w.requests n)) (doomed_result g.linux w.requests n) (cancel_result g.linux w.requests n) (posts_of g.linux w.requests n) (operation_of (entry_of w.requests n)) res posted is
+
+pub run_goes : (p : Core) (d : Rules) (n : ℕ) (op : Op)
+    → ((l : LinuxRequests) → ShowsRequests p.dispatch l → issue.Run op ≡ issued p.dispatch.linux l n)
+    → ((l : LinuxRequests) → ShowsRequests p.dispatch l → ShowsRequests d (with_started l n))
     → HasStarted p.dispatch d
     → (h : History) → FitsApart p h
     → FitsApart (record p { dispatch = d }) ((step.Issue n, answer.Run) ∷ h)
 run_goes p d n op answered shows counts h f =
     let w = world p.setup h in
     let s = f.shows in
-    let started = shows w.requests s.requests in
+    let started = shows (requests_of w) s.requests in
     let between = counts.between ∙ s.between in
+    let rules = counts.linux ∙ s.rules in
+    let called = subst (λ linux. issue.Run op ≡ issued linux (requests_of w) n) s.rules (answered (requests_of w) s.requests) in
     record {
-      shows = grind (arith, s, counts, started, between);
-      lawful = (ap issue_told (answered w.requests s.requests) ∙ issue_same w n, f.lawful);
+      shows = grind (arith, s, counts, started, between, rules);
+      lawful = (ap issue_told called ∙ issue_same p.setup w n, f.lawful);
     }
 
-pub issue_ended_goes : (p : Core) (d : Dispatch) (q : Cq) (n : ℕ) (res : ℤ) (entry : Sqe)
-    → ((r : Requests) → ShowsRequests p.dispatch r → issue.Ended res ≡ issued r n)
-    → ((r : Requests) → ShowsRequests p.dispatch r → Some entry ≡ entry_outstanding r n)
-    → ((r : Requests) → ShowsRequests p.dispatch r → ShowsRequests d (with_issued_end r n res))
+pub issue_ended_goes : (p : Core) (d : Rules) (q : Cq) (n : ℕ) (res : ℤ) (posted : Posts)
+    → ((l : LinuxRequests) → ShowsRequests p.dispatch l → issue.Ended res posted ≡ issued p.dispatch.linux l n)
+    → ((l : LinuxRequests) → ShowsRequests p.dispatch l → ShowsRequests d (ended_at_issue p.dispatch.linux l n res))
     → HasEnded p.dispatch d
-    → ((g : Setup) (l : Completions) → ShowsCompletions g p.cq l → ShowsCompletions g q (with_end g.cq l entry res no_bytes))
+    → ((g : Setup) (l : Completions) → ShowsCompletions g p.cq l → ShowsCompletions g q (with_told g.cq l posted res no_bytes))
     → p.cq.room ≤ q.room + 1 → (p.cq.room ≤ p.cq.spare → q.room ≤ q.spare)
     → (h : History) → FitsApart p h
     → FitsApart (record p { dispatch = d; cq = q }) ((step.Issue n, answer.Ended res no_bytes) ∷ h)
-issue_ended_goes p d q n res entry answered there shows counts shown left promised h f =
+issue_ended_goes p d q n res posted answered shows counts shown left promised h f =
     let w = world p.setup h in
     let s = f.shows in
-    let same = entry_there w.requests n entry (there w.requests s.requests) in
+    let called = subst (λ linux. issue.Ended res posted ≡ issued linux (requests_of w) n) s.rules (answered (requests_of w) s.requests) in
+    let ended = subst (λ linux. ShowsRequests d (ended_at_issue linux (requests_of w) n res)) s.rules (shows (requests_of w) s.requests) in
+    let told = subst (λ x. ShowsCompletions p.setup q (with_told p.setup.cq w.completions x res no_bytes)) (issue_posts p.setup w n res posted called) (shown p.setup w.completions s.completions) in
     record {
-      shows = ended_shows p w d q (with_issued_end w.requests n res) (entry_of w.requests n) res no_bytes s (shows w.requests s.requests) counts.accepted counts.outstanding counts.room counts.between
-          (subst (λ e. ShowsCompletions p.setup q (with_end p.setup.cq w.completions e res no_bytes)) same (shown p.setup w.completions s.completions)) left promised;
-      lawful = (ap issue_told (answered w.requests s.requests) ∙ issue_same w n, f.lawful);
+      shows = ended_shows p w d q (ended_at_issue p.setup.linux (requests_of w) n res) n res no_bytes s ended counts.linux counts.accepted counts.outstanding counts.room counts.between
+          (subst (ShowsCompletions p.setup q) (told_end p.setup w n res no_bytes) told) left promised;
+      lawful = (ap issue_told called ∙ issue_same p.setup w n, f.lawful);
     }
 
 -- Finish.
 
--- what ended was running, and posts what its entry and result say
-ended_running : (r : Requests) (n : ℕ) (res : ℤ) (posted : Posts) → Some posted ≡ posted_by r n res
-    → (is_running r n ≡ true) × (posted ≡ posts_of (entry_of r n) res)
-ended_running r n res posted e = let p = cond_some (is_running r n) (posts_of (entry_of r n) res) posted (sym e) in (p.0, sym p.1)
+-- what ended was running, and posts what its end posts
+ended_running : (g : Setup) (w : World) (n : ℕ) (res : ℤ) (posted : Posts)
+    → Some posted ≡ posted_by g.linux (requests_of w) n res
+    → (is_running w.requests n ≡ true) × (posted ≡ posts_of g.linux w.requests n res)
+ended_running g w n res posted e = let p = cond_some (is_running w.requests n) (posts_of g.linux w.requests n res) posted (sym e) in (p.0, sym p.1)
 
-pub finish_goes : (p : Core) (d : Dispatch) (q : Cq) (n : ℕ) (res : ℤ) (bytes : List ℕ) (posted : Posts)
-    → ((r : Requests) → ShowsRequests p.dispatch r → Some posted ≡ posted_by r n res)
-    → ((r : Requests) (bytes : List ℕ) → ShowsRequests p.dispatch r → ShowsRequests d (with_ended r n res bytes))
+pub finish_goes : (p : Core) (d : Rules) (q : Cq) (n : ℕ) (res : ℤ) (bytes : List ℕ) (posted : Posts)
+    → ((l : LinuxRequests) → ShowsRequests p.dispatch l → Some posted ≡ posted_by p.dispatch.linux l n res)
+    → ((l : LinuxRequests) (bytes : List ℕ) → ShowsRequests p.dispatch l → ShowsRequests d (ended_by p.dispatch.linux l n res bytes))
     → HasFinished p.dispatch d
-    → ((g : Setup) (l : Completions) (entry : Sqe) → posted ≡ posts_of entry res → ShowsCompletions g p.cq l → ShowsCompletions g q (with_end g.cq l entry res bytes))
+    → ((g : Setup) (l : Completions) → ShowsCompletions g p.cq l → ShowsCompletions g q (with_told g.cq l posted res bytes))
     → p.cq.room ≤ q.room + 1 → (p.cq.room ≤ p.cq.spare → q.room ≤ q.spare)
     → (h : History) → FitsApart p h
     → FitsApart (record p { dispatch = d; cq = q }) ((step.Finish n, answer.Ended res bytes) ∷ h)
 finish_goes p d q n res bytes posted answered shows counts shown left promised h f =
     let w = world p.setup h in
     let s = f.shows in
-    let ended = ended_running w.requests n res posted (answered w.requests s.requests) in
+    let called = subst (λ linux. Some posted ≡ posted_by linux (requests_of w) n res) s.rules (answered (requests_of w) s.requests) in
+    let ended = ended_running p.setup w n res posted called in
+    let gone = subst (λ linux. ShowsRequests d (ended_by linux (requests_of w) n res bytes)) s.rules (shows (requests_of w) bytes s.requests) in
+    let told = subst (λ x. ShowsCompletions p.setup q (with_told p.setup.cq w.completions x res bytes)) ended.1 (shown p.setup w.completions s.completions) in
     record {
-      shows = ended_shows p w d q (with_ended w.requests n res bytes) (entry_of w.requests n) res bytes s (shows w.requests bytes s.requests) counts.accepted counts.outstanding counts.room counts.between
-          (shown p.setup w.completions (entry_of w.requests n) ended.1 s.completions) left promised;
+      shows = ended_shows p w d q (ended_by p.setup.linux (requests_of w) n res bytes) n res bytes s gone counts.linux counts.accepted counts.outstanding counts.room counts.between
+          (subst (ShowsCompletions p.setup q) (told_end p.setup w n res bytes) told) left promised;
       lawful = (subst (λ b. FinishesApart b (answer.Ended res bytes)) (sym ended.0) tt, f.lawful);
     }
 
--- what was posted is the end
-pub posted_end : (g : Setup) (q : Cq) (l : Completions) (entry : Sqe) (res : ℤ) (bytes : List ℕ) (user_data : ℕ)
-    → posts.Completion user_data ≡ posts_of entry res
-    → ShowsCompletions g q (with_posted g.cq l (record { user_data = user_data; res = res; payload = bytes }))
-    → ShowsCompletions g q (with_end g.cq l entry res bytes)
-posted_end g q l entry res bytes user_data e s = go (posts_completion entry res) e
-  where
-    go : (b : Bool) → posts.Completion user_data ≡ cond b (posts.Completion (user_data_of entry)) posts.Nothing → ShowsCompletions g q (cond b (with_posted g.cq l (record { user_data = user_data_of entry; res = res; payload = bytes })) l)
-    go true x =
-        let same : user_data ≡ user_data_of entry = let f : posts.Completion user_data ≡ posts.Completion (user_data_of entry) = x in cc in
-        subst (λ d. ShowsCompletions g q (with_posted g.cq l (record { user_data = d; res = res; payload = bytes }))) same s
-    go false x = absurd (let f : posts.Completion user_data ≡ posts.Nothing = x in cc)
-
-pub skipped_end : (g : Setup) (q : Cq) (l : Completions) (entry : Sqe) (res : ℤ) (bytes : List ℕ)
-    → posts.Nothing ≡ posts_of entry res → ShowsCompletions g q l
-    → ShowsCompletions g q (with_end g.cq l entry res bytes)
-skipped_end g q l entry res bytes e s = go (posts_completion entry res) e
-  where
-    go : (b : Bool) → posts.Nothing ≡ cond b (posts.Completion (user_data_of entry)) posts.Nothing → ShowsCompletions g q (cond b (with_posted g.cq l (record { user_data = user_data_of entry; res = res; payload = bytes })) l)
-    go true x = absurd (let f : posts.Nothing ≡ posts.Completion (user_data_of entry) = x in cc)
-    go false x = s
-
 -- the entries accepted are those held
-pub accepts_held : (p : Core) (d : Dispatch) (entries : List Sqe) → entries ≡ p.held
-    → ((r : Requests) → ShowsRequests p.dispatch r → ShowsRequests d (with_call r entries))
-    → d.accepted ≡ p.dispatch.accepted + length entries
-    → d.outstanding ≡ p.dispatch.outstanding + length entries → d.is_between_calls ≡ true
+pub accepts_held : (p : Core) (d : Rules) (entries : List Sqe) → entries ≡ p.held
+    → ((l : LinuxRequests) → ShowsRequests p.dispatch l → ShowsRequests d (called_by p.dispatch.linux l entries))
+    → HasCalled (length entries) p.dispatch d → d.is_between_calls ≡ true
     → Accepts p d
-accepts_held p d entries same shows accepted outstanding between = record {
-  shows = λ r s. subst (λ xs. ShowsRequests d (with_call r xs)) same (shows r s);
-  accepted = accepted ∙ ap (λ xs. p.dispatch.accepted + length xs) same;
-  outstanding = outstanding ∙ ap (λ xs. p.dispatch.outstanding + length xs) same;
+accepts_held p d entries same shows counts between = record {
+  rules = counts.linux;
+  shows = λ l s. subst (λ xs. ShowsRequests d (called_by p.dispatch.linux l xs)) same (shows l s);
+  accepted = counts.accepted ∙ ap (λ xs. p.dispatch.accepted + length xs) same;
+  outstanding = counts.outstanding ∙ ap (λ xs. p.dispatch.outstanding + length xs) same;
   between = between;
 }
 
@@ -289,9 +314,10 @@ accepts_held p d entries same shows accepted outstanding between = record {
 
 pub new_fits : (p : Core) → ShowsSubmission p.setup p.sq no_submission
     → ShowsCompletions p.setup p.cq no_completion → p.cq.room ≡ 0
-    → ShowsRequests p.dispatch no_request → p.dispatch.is_between_calls ≡ true
+    → ShowsRequests p.dispatch no_request → p.dispatch.linux ≡ p.setup.linux
+    → p.dispatch.is_between_calls ≡ true
     → p.held ≡ [] → p.is_closed ≡ false → FitsApart p []
-new_fits p submission completions none_promised requests between held open_ring =
+new_fits p submission completions none_promised requests rules between held open_ring =
     let a : p.dispatch.accepted ≡ 0 = requests.accepted in
     let o : p.dispatch.outstanding ≡ 0 = requests.outstanding in
     record {
@@ -300,7 +326,7 @@ new_fits p submission completions none_promised requests between held open_ring 
     }
 
 -- what posts as it ends was running
-pub ended_as_posted : (w : World) (n : ℕ) (outcome : Outcome) (posts : Posts) (a : Answer)
-    → Some posts ≡ posted_by w.requests n outcome.res → a ≡ answer.Ended outcome.res outcome.bytes
-    → IsFinished w n outcome a
-ended_as_posted w n outcome posts a posted is = is ∙ ap (λ b. if b then answer.Ended outcome.res outcome.bytes else answer.NotRunning) (sym (ended_running w.requests n outcome.res posts posted).0)
+pub ended_as_posted : (g : Setup) (w : World) (n : ℕ) (outcome : Outcome) (posted : Posts) (a : Answer)
+    → Some posted ≡ posted_by g.linux (requests_of w) n outcome.res
+    → a ≡ answer.Ended outcome.res outcome.bytes → IsFinished w n outcome a
+ended_as_posted g w n outcome posted a told is = is ∙ ap (λ b. if b then answer.Ended outcome.res outcome.bytes else answer.NotRunning) (sym (ended_running g w n outcome.res posted told).0)

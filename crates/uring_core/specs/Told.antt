@@ -45,8 +45,8 @@ end_told end.NoCall = answer.NoCall
 
 -- an issue's answer
 abbrev pub issue_told : Issued → Answer
-issue_told issue.Run = answer.Run
-issue_told (issue.Ended res posts) = answer.Ended res no_bytes
+issue_told (issue.Run op) = answer.Run
+issue_told (issue.Ended res posted) = answer.Ended res no_bytes
 issue_told issue.NotReady = answer.NotReady
 issue_told issue.Running = answer.Running
 issue_told issue.Unknown = answer.Unknown

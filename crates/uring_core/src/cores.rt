@@ -267,8 +267,8 @@ impl Core {
         ensures memory { HasNoLessMemory self.old self.new }
     {
         match self.dispatch.issue(number) {
-            Issued::Run => Answer::Run,
-            Issued::Ended { res, posts } => {
+            Issued::Run(_) => Answer::Run,
+            Issued::Ended(res, posts) => {
                 let bytes = [0; 64];
                 post_end(&mut self.cq, posts, res, bytes);
                 Answer::ended(res, bytes)

@@ -14,9 +14,8 @@ ghost use Rattle.uring_core.specs.StepAnswers.{begin_answer};
 
 use super::{Core, Counts};
 use crate::answer::Answer;
-use uring_dispatch::Found;
+use uring_dispatch::{Dispatch, Found};
 use uring_entry::{Cqe, Op, Setup, Sqe, Why};
-use uring_rules::Rules;
 
 impl Core {
     /// What a Begin of this many positions, any number, is answered if memory is there: the answer of `Step::Begin`, unless that is `Again`. It is no step, and so not part of a history.
@@ -31,7 +30,7 @@ impl Core {
             return Answer::InCall;
         }
         let length = count.min(self.sq.pending());
-        if u64::from(length) > Rules::MAX_ACCEPTED - self.dispatch.accepted() {
+        if u64::from(length) > Dispatch::MAX_ACCEPTED - self.dispatch.accepted() {
             return Answer::Spent;
         }
         Answer::Call(length)
