@@ -1,18 +1,21 @@
 -- What an event makes of the files of a history: a Finish that ends its request does what its operation does (`files_ended`), and no other step changes a file (`files_kept`).
 -- From `Moves`: doomed requests end with a fault and cancels are on no file, so their ends change none.
 -- Stable: other crates may import `files_ended`, `files_kept` and `files_kept_from`.
-use Rattle.std.proofs.Common.{◌≡◌, ℕ, ℤ, negsuc, ◌==◌, List, [], ◌∷◌, ◌++◌, true, refl, ◌∙◌, ap}
+use Rattle.std.proofs.Common.{◌≡◌, ℕ, ℤ, negsuc, ◌==◌, List, [], ◌∷◌, ◌++◌, Bool, true, false, cond, refl, ◌∙◌, ap}
 use Rattle.std.specs.List.{list_any}
 use Rattle.std.proofs.lemmas.Bool.{or_left, or_right, eq-eqb, cond_both}
 use Rattle.uring_entry.specs.Setup.{Setup}
 use Rattle.uring_entry.specs.Layout.{Sqe}
 use Rattle.uring_entry.specs.Preparation.{is_faulty, is_cancel, operation_of}
-use Rattle.uring_entry.specs.Requests.{Requests, Ending, entry_of, doomed_result, cancel_result, no_bytes, with_call, with_started, with_ended, with_issued_end}
+use Rattle.uring_entry.specs.Requests.{Requests, Ending, entry_of, no_bytes, with_call, with_started, with_ended}
+use Rattle.uring_linux.specs.LinuxRequests.{LinuxRequests, is_refused_drain}
+use Rattle.uring_rules.specs.Rules.{doomed_result, cancel_result, with_issued_end}
 use Rattle.uring_entry.proofs.Preparations.{asks_cancel}
 use Rattle.uring_files.specs.Contents.{FileContents, empty_files}
 use Rattle.uring_files.specs.Operations.{after}
 use Rattle.uring_files.proofs.OperationCases.{failed}
 use Rattle.uring_core.specs.CalledFor.{files_after, files_of}
+use Rattle.uring_core.specs.World.{requests_of}
 use Rattle.uring_core.specs.Core.{IsNoFinish}
 use Rattle.uring_core.specs.Histories.{History, world, IsLawfulApart}
 use Rattle.uring_core.specs.declared.step.Step.{Step}
@@ -41,9 +44,12 @@ files_more r files (first ∷ later) e =
 
 -- Ends that change no file.
 
-doomed_changes_none : (files : List FileContents) (r : Requests) (n : ℕ)
-    → after files (operation_of (entry_of r n)) (doomed_result r n) ≡ files
-doomed_changes_none files r n =
+doomed_changes_none : (linux : Bool) (files : List FileContents) (r : Requests) (n : ℕ)
+    → after files (operation_of (entry_of r n)) (doomed_result linux r n) ≡ files
+doomed_changes_none true files r n =
+    cond_both (is_faulty (entry_of r n)) (negsuc 21) (cond (is_refused_drain r n) (negsuc 94) (negsuc 124)) (λ res. after files (operation_of (entry_of r n)) res ≡ files) (λ _. failed files (operation_of (entry_of r n)) 21)
+    (λ _. cond_both (is_refused_drain r n) (negsuc 94) (negsuc 124) (λ res. after files (operation_of (entry_of r n)) res ≡ files) (λ _. failed files (operation_of (entry_of r n)) 94) (λ _. failed files (operation_of (entry_of r n)) 124))
+doomed_changes_none false files r n =
     cond_both (is_faulty (entry_of r n)) (negsuc 21) (negsuc 124) (λ res. after files (operation_of (entry_of r n)) res ≡ files) (λ _. failed files (operation_of (entry_of r n)) 21) (λ _. failed files (operation_of (entry_of r n)) 124)
 
 cancel_changes_none : (files : List FileContents) (e : Sqe) (res : ℤ) → is_cancel e ≡ true
@@ -58,23 +64,25 @@ files_ended r n res bytes files =
     files_same r (with_ended r n res bytes) files (with_ended r n res bytes).ended (λ m there. refl)
     ∙ files_more r files r.ended (record { number = n; res = res; bytes = bytes })
 
-issued_end : (r : Requests) (n : ℕ) (res : ℤ) (files : List FileContents)
-    → files_after (with_issued_end r n res) files (with_issued_end r n res).ended
+issued_end : (linux : Bool) (r : Requests) (n : ℕ) (res : ℤ) (files : List FileContents)
+    → files_after (with_issued_end linux r n res) files (with_issued_end linux r n res).ended
     ≡ after (files_after r files r.ended) (operation_of (entry_of r n)) res
-issued_end r n res files =
-    files_same r (with_issued_end r n res) files (with_issued_end r n res).ended (λ m there. refl)
+issued_end true r n res files = files_ended r n res no_bytes files
+issued_end false r n res files =
+    files_same r (with_issued_end false r n res) files (with_issued_end false r n res).ended (λ m there. refl)
     ∙ files_more r files r.ended (record { number = n; res = res; bytes = no_bytes })
 
-move_keeps : (r q : Requests) (s : Step) (a : Answer) (files : List FileContents) → Move r s a q
-    → IsNoFinish s → IsSoundRequests r → files_after q files q.ended ≡ files_after r files r.ended
-move_keeps r q s a files (stays _ _ no_start no_end) other i = refl
-move_keeps r q s a files (accepts accepted missed head entries) other i = files_same r (with_call r entries) files r.ended (λ n there. entry_stays r entries n (i.ended_accepted n there))
-move_keeps r q s a files (starts n outstanding idle spared ready no_cancel) other i =
-    files_same r (with_started r n) files r.ended (λ m there. refl)
-move_keeps r q s a files (ends_doomed n outstanding) other i =
-    issued_end r n (doomed_result r n) files ∙ doomed_changes_none (files_after r files r.ended) r n
-move_keeps r q s a files (ends_cancel n outstanding spared ready cancel) other i = issued_end r n (cancel_result r n) files ∙ cancel_changes_none (files_after r files r.ended) (entry_of r n) (cancel_result r n) cancel
-move_keeps r q s a files (ends_run n res bytes running) other i = absurd other
+move_keeps : (linux : Bool) (l : LinuxRequests) (q : Requests) (s : Step) (a : Answer) (files : List FileContents)
+    → Move linux l s a q → IsNoFinish s → IsSoundRequests l.requests
+    → files_after q files q.ended ≡ files_after l.requests files l.requests.ended
+move_keeps linux l q s a files (stays _ _ no_start no_end) other i = refl
+move_keeps linux l q s a files (accepts accepted missed head entries) other i = files_same l.requests (with_call l.requests entries) files l.requests.ended (λ n there. entry_stays l.requests entries n (i.ended_accepted n there))
+move_keeps linux l q s a files (starts n outstanding idle spared ready no_cancel) other i =
+    files_same l.requests (with_started l.requests n) files l.requests.ended (λ m there. refl)
+move_keeps linux l q s a files (ends_doomed n outstanding) other i =
+    issued_end linux l.requests n (doomed_result linux l.requests n) files ∙ doomed_changes_none linux (files_after l.requests files l.requests.ended) l.requests n
+move_keeps linux l q s a files (ends_cancel n outstanding spared ready cancel) other i = issued_end linux l.requests n (cancel_result linux l.requests n) files ∙ cancel_changes_none (files_after l.requests files l.requests.ended) (entry_of l.requests n) (cancel_result linux l.requests n) cancel
+move_keeps linux l q s a files (ends_run n res bytes running) other i = absurd other
 
 -- a step but a finish leaves the files as they are, whatever files there were at first
 pub files_kept_from : (first : List FileContents) (g : Setup) (s : Step) (a : Answer) (before : History)
@@ -82,7 +90,7 @@ pub files_kept_from : (first : List FileContents) (g : Setup) (s : Step) (a : An
     → files_after (world g ((s, a) ∷ before)).requests first (world g ((s, a) ∷ before)).requests.ended
     ≡ files_after (world g before).requests first (world g before).requests.ended
 files_kept_from first g s a before lawful other =
-    move_keeps (world g before).requests _ s a first (move_of g s a before lawful) other
+    move_keeps g.linux (requests_of (world g before)) _ s a first (move_of g s a before lawful) other
     (sound_of g before lawful.1).requests
 
 pub files_kept : (g : Setup) (s : Step) (a : Answer) (before : History)

@@ -11,7 +11,7 @@ use Rattle.uring_entry.specs.Preparation.{is_faulty}
 use Rattle.uring_entry.specs.Requests.{Requests, entry_of, has_failed, is_soft, is_last, is_linked, is_joined, is_in_group, some_member, is_in_faulty_group, is_behind_failure, is_cancelled, is_doomed, with_call}
 use Rattle.uring_entry.proofs.BelowLemmas.{some_below_same, some_below_between}
 use Rattle.uring_entry.proofs.RequestLemmas.{is_joined_no, list_any_push}
-use Rattle.uring_core.proofs.SoundRequests.{IsSoundRequests, IsFree, EndsDoomed}
+use Rattle.uring_core.proofs.SoundRequests.{IsSoundRequests, IsSoundManual, IsFree, EndsDoomed}
 use Rattle.uring_core.proofs.ListCounts.{any_kept}
 
 module _ (r : Requests) (entries : List Sqe) (cut : (length r.accepted ≡ 0) ⊎ (list_any (λ c. c == length r.accepted) r.cuts ≡ true)) where
@@ -96,6 +96,12 @@ module _ (r : Requests) (entries : List Sqe) (cut : (length r.accepted ≡ 0) �
         starts_once = s.starts_once;
         ends_once = s.ends_once;
         cut_at_end = inr (list_any_push (λ c. c == length (with_call r entries).accepted) r.cuts (length (with_call r entries).accepted) ∙ or_right (list_any (λ c. c == length (with_call r entries).accepted) r.cuts) _ (eq-eqb (length (with_call r entries).accepted) _ refl));
-        started_free = λ n e. call_free n (s.started_accepted n e) (s.started_free n e);
-        ended_how = λ n e. elim (s.ended_how n e) [ inl doomed ↦ inl (ends_kept n (s.ended_accepted n e) doomed) | inr free ↦ inr (call_free n (s.ended_accepted n e) free) ];
+        started_right = λ n e. ap is_faulty (entry_kept n (s.started_accepted n e)) ∙ s.started_right n e;
+      }
+
+  pub call_manual : IsSoundRequests r → IsSoundManual r → IsSoundManual (with_call r entries)
+  call_manual s m =
+      record {
+        started_free = λ n e. call_free n (s.started_accepted n e) (m.started_free n e);
+        ended_how = λ n e. elim (m.ended_how n e) [ inl doomed ↦ inl (ends_kept n (s.ended_accepted n e) doomed) | inr free ↦ inr (call_free n (s.ended_accepted n e) free) ];
       }

@@ -11,15 +11,45 @@ use Rattle.uring_entry.specs.Success.{is_success}
 use Rattle.uring_entry.specs.Preparation.{is_faulty, is_cancel, is_cancel_all}
 use Rattle.uring_entry.specs.declared.errno.TheConstants.{EINVAL, EALREADY, ECANCELED}
 use Rattle.uring_entry.specs.Requests.{Requests, entry_of, has_started, has_ended, has_failed, is_running, is_outstanding, is_joined, some_member, is_in_faulty_group, is_cancelled, is_doomed, is_ready, is_candidate, target_of, targets_of, choices_of, count_result, result_for, cancel_result, doomed_result, no_bytes, chosen_by, with_ended, with_issued_end}
+use Rattle.uring_rules.specs.Rules as by_rules
 use Rattle.uring_entry.proofs.RequestLemmas.{is_doomed_faulty, is_doomed_behind, is_doomed_cancelled, one_success, never_success, target_in, list_any_push, all_success}
 use Rattle.uring_core.proofs.ListCounts.{any_looser, any_kept, any_new, count_once_more}
 use Rattle.uring_entry.proofs.EventLemmas.{is_doomed_tells, is_behind_failure_tells, is_behind_failure_from, target_of_tells}
-use Rattle.uring_core.proofs.SoundRequests.{IsFree, is_otherwise, EndsDoomed, IsSoundRequests, outstanding_tells, idle_tells, ready_first}
+use Rattle.uring_core.proofs.SoundRequests.{IsFree, is_otherwise, EndsDoomed, IsSoundRequests, IsSoundManual, outstanding_tells, idle_tells, ready_first}
 use Rattle.uring_core.specs.Events.{Chose}
 
 -- A request ends, and these are the ones that cancels chose so far.
 abbrev pub ended_as : Requests → ℕ → ℤ → List ℕ → List ℕ → Requests
 ended_as r n res bytes cancelled = record r { cancelled = cancelled; ended = r.ended ++ record { number = n; res = res; bytes = bytes } ∷ [] }
+
+pub end_sound : (r : Requests) (n : ℕ) (res : ℤ) (bytes : List ℕ) (cancelled : List ℕ)
+    → is_outstanding r n ≡ true → IsSoundRequests r
+    → IsSoundRequests (ended_as r n res bytes cancelled)
+end_sound r n res bytes cancelled outstanding s =
+    let o = outstanding_tells r n outstanding in
+    record {
+      started_accepted = s.started_accepted;
+      ended_accepted = λ m e. elim (any_new (λ x. x.number == m) r.ended (record { number = n; res = res; bytes = bytes }) e) [ inl old ↦ s.ended_accepted m old | inr new ↦ subst (λ k. k < length r.accepted) (eqb-true _ _ new) o.0 ];
+      starts_once = s.starts_once;
+      ends_once = λ m. count_once_more (λ x. x.number == m) r.ended (record { number = n; res = res; bytes = bytes }) (s.ends_once m) (λ same. subst (λ k. has_ended r k ≡ false) (eqb-true _ _ same) o.1);
+      cut_at_end = s.cut_at_end;
+      started_right = s.started_right;
+    }
+
+-- a request ends as it is issued, by either's rules
+pub issued_end_sound : (linux : Bool) (r : Requests) (n : ℕ) (res : ℤ) → is_outstanding r n ≡ true
+    → IsSoundRequests r → IsSoundRequests (by_rules.with_issued_end linux r n res)
+issued_end_sound true r n res outstanding s =
+    end_sound r n res no_bytes r.cancelled outstanding s
+issued_end_sound false r n res outstanding s =
+    end_sound r n res no_bytes (r.cancelled ++ chosen_by r n res) outstanding s
+
+-- a running request ends
+pub finish_sound : (r : Requests) (n : ℕ) (res : ℤ) (bytes : List ℕ) → is_running r n ≡ true
+    → IsSoundRequests r → IsSoundRequests (with_ended r n res bytes)
+finish_sound r n res bytes running s =
+    let p = and_parts _ _ running in
+    end_sound r n res bytes r.cancelled (and_from _ _ (lt-ltb _ _ (s.started_accepted n p.0)) p.1) s
 
 -- a cancel chose m, which is another request than n, and has neither started nor ended
 pub record IsChosen (r : Requests) (n m : ℕ) : Type 0 where
@@ -122,16 +152,11 @@ module _ (r : Requests) (n : ℕ) (res : ℤ) (bytes : List ℕ) (cancelled : Li
       (and_right (eqb n n) _ (not_from_true _ ((Decides-int_eq res (doomed_result r n)).1 is)))
 
   -- how the end of n came: n was doomed, with that result, or free
-  pub end_sound : is_outstanding r n ≡ true → (res ≡ doomed_result r n) ⊎ IsFree r n
-      → IsSoundRequests r → IsSoundRequests (ended_as r n res bytes cancelled)
-  end_sound outstanding how s =
+  pub end_manual : is_outstanding r n ≡ true → (res ≡ doomed_result r n) ⊎ IsFree r n
+      → IsSoundManual r → IsSoundManual (ended_as r n res bytes cancelled)
+  end_manual outstanding how s =
       let o = outstanding_tells r n outstanding in
       record {
-        started_accepted = s.started_accepted;
-        ended_accepted = λ m e. elim (any_new (λ x. x.number == m) r.ended (record { number = n; res = res; bytes = bytes }) e) [ inl old ↦ s.ended_accepted m old | inr new ↦ subst (λ k. k < length r.accepted) (eqb-true _ _ new) o.0 ];
-        starts_once = s.starts_once;
-        ends_once = λ m. count_once_more (λ x. x.number == m) r.ended (record { number = n; res = res; bytes = bytes }) (s.ends_once m) (λ same. subst (λ k. has_ended r k ≡ false) (eqb-true _ _ same) o.1);
-        cut_at_end = s.cut_at_end;
         started_free = λ m e. free_kept m o.1 (λ chosen. both_ways _ chosen.unstarted e) (s.started_free m e);
         ended_how = λ m e. elim (any_new (λ x. x.number == m) r.ended (record { number = n; res = res; bytes = bytes }) e) [
           | inl old ↦
@@ -152,12 +177,12 @@ module _ (r : Requests) (n : ℕ) (res : ℤ) (bytes : List ℕ) (cancelled : Li
 pub no_choice : (r : Requests) (n : ℕ) → IsChoice r n r.cancelled
 no_choice r n = record { kept = λ m e. e; added = λ m e. inl e }
 
-pub finish_sound : (r : Requests) (n : ℕ) (res : ℤ) (bytes : List ℕ) → is_running r n ≡ true
-    → IsSoundRequests r → IsSoundRequests (with_ended r n res bytes)
-finish_sound r n res bytes running s =
+pub finish_manual : (r : Requests) (n : ℕ) (res : ℤ) (bytes : List ℕ) → is_running r n ≡ true
+    → IsSoundRequests r → IsSoundManual r → IsSoundManual (with_ended r n res bytes)
+finish_manual r n res bytes running s m =
     let p = and_parts _ _ running in
     let within = s.started_accepted n p.0 in
-    end_sound r n res bytes r.cancelled (no_choice r n) (and_from _ _ (lt-ltb _ _ within) p.1) (inr (s.started_free n p.0)) s
+    end_manual r n res bytes r.cancelled (no_choice r n) (and_from _ _ (lt-ltb _ _ within) p.1) (inr (m.started_free n p.0)) m
 
 -- What a cancel chooses.
 
@@ -252,13 +277,13 @@ module _ (r : Requests) (n : ℕ) where
         ];
       }
 
-pub doom_sound : (r : Requests) (n : ℕ) → is_outstanding r n ≡ true → IsSoundRequests r
-    → IsSoundRequests (with_issued_end r n (doomed_result r n))
-doom_sound r n outstanding s =
-    end_sound r n (doomed_result r n) no_bytes (r.cancelled ++ chosen_by r n (doomed_result r n)) (choice_of r n (doomed_result r n) (inl refl)) outstanding (inl refl) s
+pub doom_manual : (r : Requests) (n : ℕ) → is_outstanding r n ≡ true → IsSoundManual r
+    → IsSoundManual (with_issued_end r n (doomed_result r n))
+doom_manual r n outstanding s =
+    end_manual r n (doomed_result r n) no_bytes (r.cancelled ++ chosen_by r n (doomed_result r n)) (choice_of r n (doomed_result r n) (inl refl)) outstanding (inl refl) s
 
-pub cancel_sound : (r : Requests) (n : ℕ) → is_outstanding r n ≡ true → is_doomed r n ≡ false
-    → is_ready r n ≡ true → IsSoundRequests r
-    → IsSoundRequests (with_issued_end r n (cancel_result r n))
-cancel_sound r n outstanding spared ready s =
-    end_sound r n (cancel_result r n) no_bytes (r.cancelled ++ chosen_by r n (cancel_result r n)) (choice_of r n (cancel_result r n) (inr refl)) outstanding (inr (record { spared = spared; first = ready_first r n ready })) s
+pub cancel_manual : (r : Requests) (n : ℕ) → is_outstanding r n ≡ true → is_doomed r n ≡ false
+    → is_ready r n ≡ true → IsSoundManual r
+    → IsSoundManual (with_issued_end r n (cancel_result r n))
+cancel_manual r n outstanding spared ready s =
+    end_manual r n (cancel_result r n) no_bytes (r.cancelled ++ chosen_by r n (cancel_result r n)) (choice_of r n (cancel_result r n) (inr refl)) outstanding (inr (record { spared = spared; first = ready_first r n ready })) s

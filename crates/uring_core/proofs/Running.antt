@@ -1,23 +1,25 @@
 -- What runs in a lawful history can be asked of files: its entry has no fault, since a faulty request is doomed, and it is no cancel, since a cancel ends as it is issued.
--- By `Moves` and induction over the history for the cancels, and by `started_free` for the faults.
+-- By `Moves` and induction over the history for the cancels, and by `started_right` for the faults.
 -- Stable: other crates may import `running_asks`, `runs_with`, `no_cancel` and `entry_stays`.
-use Rattle.std.proofs.Common.{◌≡◌, ℕ, ◌==◌, ◌<◌, List, [], ◌∷◌, length, true, false, Option, Some, None, IfSome, sym, subst, ◌∙◌, ap, inl, inr}
+use Rattle.std.proofs.Common.{◌≡◌, ℕ, ◌==◌, ◌<◌, ℤ, List, [], ◌∷◌, length, Bool, true, false, Option, Some, None, IfSome, sym, subst, ◌∙◌, ap, inl, inr}
 use Rattle.std.proofs.lemmas.Option.{cond_some}
-use Rattle.std.proofs.lemmas.Bool.{and_parts, both_ways, eqb-true, false_from_ne_true}
+use Rattle.std.proofs.lemmas.Bool.{and_parts, eqb-true}
 use Rattle.std.proofs.lemmas.List.{get_or_append_left}
 use Rattle.uring_entry.specs.Setup.{Setup}
 use Rattle.uring_entry.specs.Layout.{Sqe, zero_entry}
-use Rattle.uring_entry.specs.Preparation.{fault_of, is_faulty, is_cancel, operation_of}
+use Rattle.uring_entry.specs.Preparation.{fault_of, is_cancel, operation_of}
 use Rattle.uring_entry.specs.Requests.{Requests, entry_of, has_started, is_running, operation_running, with_call}
 use Rattle.uring_entry.specs.declared.operation.Op.{Op}
-use Rattle.uring_entry.proofs.RequestLemmas.{is_doomed_own_fault}
+use Rattle.uring_linux.specs.LinuxRequests.{LinuxRequests}
 use Rattle.uring_files.specs.Operations.{IsForFiles}
 use Rattle.uring_files.proofs.Prepared.{prepared}
 use Rattle.uring_core.specs.Core.{Core, FitsApart, IsCore}
 use Rattle.uring_core.specs.Histories.{History, world, IsLawfulApart}
 use Rattle.uring_core.specs.declared.step.Step.{Step}
 use Rattle.uring_core.specs.declared.answer.Answer.{Answer}
-use Rattle.uring_core.proofs.Moves.{Move, accepts, starts, move_of}
+use Rattle.uring_rules.specs.Rules.{with_issued_end}
+use Rattle.uring_core.specs.World.{requests_of}
+use Rattle.uring_core.proofs.Moves.{Move, stays, accepts, starts, ends_doomed, ends_cancel, ends_run, move_of}
 use Rattle.uring_core.proofs.Sound.{sound_of}
 use Rattle.uring_core.proofs.ListCounts.{any_new}
 use Rattle.uring_core.proofs.SoundRequests.{IsSoundRequests}
@@ -32,16 +34,26 @@ entry_stays r entries n lt = get_or_append_left r.accepted entries zero_entry n 
 abbrev NoCancel : Requests → Type 0
 NoCancel r = (n : ℕ) → has_started r n ≡ true → is_cancel (entry_of r n) ≡ false
 
-no_cancel_kept : (r q : Requests) (s : Step) (a : Answer) → Move r s a q → IsSoundRequests r
-    → NoCancel r → NoCancel q
-no_cancel_kept r q s a (accepts accepted missed head entries) i none = λ n started. ap is_cancel (entry_stays r entries n (i.started_accepted n started)) ∙ none n started
-no_cancel_kept r q s a (starts m outstanding idle spared ready other) i none = λ n started. elim (any_new (λ k. k == n) r.started m started) [ inl old ↦ none n old | inr new ↦ subst (λ k. is_cancel (entry_of r k) ≡ false) (eqb-true _ _ new) other ]
-no_cancel_kept r q s a _ i none = none
+-- an end starts none
+issued_none : (linux : Bool) (r : Requests) (n : ℕ) (res : ℤ) → NoCancel r
+    → NoCancel (with_issued_end linux r n res)
+issued_none true r n res none = none
+issued_none false r n res none = none
+
+no_cancel_kept : (linux : Bool) (l : LinuxRequests) (q : Requests) (s : Step) (a : Answer)
+    → Move linux l s a q → IsSoundRequests l.requests → NoCancel l.requests → NoCancel q
+no_cancel_kept linux l q s a (accepts accepted missed head entries) i none = λ n started. ap is_cancel (entry_stays l.requests entries n (i.started_accepted n started)) ∙ none n started
+no_cancel_kept linux l q s a (starts m outstanding idle spared ready other) i none = λ n started. elim (any_new (λ k. k == n) l.requests.started m started) [ inl old ↦ none n old | inr new ↦ subst (λ k. is_cancel (entry_of l.requests k) ≡ false) (eqb-true _ _ new) other ]
+no_cancel_kept linux l q s a (stays _ _ no_start no_end) i none = none
+no_cancel_kept linux l q s a (ends_doomed n outstanding) i none = issued_none linux l.requests n _ none
+no_cancel_kept linux l q s a (ends_cancel n outstanding spared ready cancel) i none =
+    issued_none linux l.requests n _ none
+no_cancel_kept linux l q s a (ends_run n res bytes running) i none = none
 
 pub no_cancel : (g : Setup) (h : History) → IsLawfulApart g h → NoCancel (world g h).requests
 no_cancel g [] lawful = λ n started. absurd (let f : false ≡ true = started in cc)
 no_cancel g ((s, a) ∷ before) lawful =
-    no_cancel_kept (world g before).requests _ s a (move_of g s a before lawful)
+    no_cancel_kept g.linux (requests_of (world g before)) _ s a (move_of g s a before lawful)
     (sound_of g before lawful.1).requests (no_cancel g before lawful.1)
 
 -- the operation of a running request can be asked of files
@@ -52,9 +64,7 @@ running_asks g h n lawful running =
     let r : Requests = (world g h).requests in
     let i : IsSoundRequests r = (sound_of g h lawful).requests in
     let started : has_started r n ≡ true = (and_parts _ _ running).0 in
-    let right : is_faulty (entry_of r n) ≡ false =
-    false_from_ne_true _ (λ faulty. both_ways _ (i.started_free n started).spared (is_doomed_own_fault r n (i.started_accepted n started) faulty)) in
-    prepared (entry_of r n) (not_some (fault_of (entry_of r n)) right) (no_cancel g h lawful n started)
+    prepared (entry_of r n) (not_some (fault_of (entry_of r n)) (i.started_right n started)) (no_cancel g h lawful n started)
 
 -- what runs has this operation
 pub runs_with : (r : Requests) (n : ℕ) (op : Op) → Some op ≡ operation_running r n

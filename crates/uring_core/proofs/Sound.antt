@@ -1,18 +1,20 @@
 -- What holds of everything that a lawful history has made.
-use Rattle.std.proofs.Common.{ℕ, ◌+◌, [], ◌∷◌, refl, arith}
+use Rattle.std.proofs.Common.{◌≡◌, ℕ, ◌+◌, Bool, false, [], ◌∷◌, refl, subst, arith}
 use Rattle.uring_entry.specs.Setup.{Setup}
 use Rattle.uring_entry.specs.Submission.{with_taken, stops_at, no_submission}
-use Rattle.uring_core.specs.World.{World, at_first}
+use Rattle.uring_linux.specs.LinuxRequests.{LinuxRequests}
+use Rattle.uring_core.specs.World.{World, requests_of, at_first}
 use Rattle.uring_core.specs.Histories.{History, world, IsLawfulApart}
 use Rattle.uring_core.specs.declared.step.Step.{Step}
 use Rattle.uring_core.specs.declared.answer.Answer.{Answer}
 use Rattle.uring_core.proofs.Moves.{Move, stays, accepts, starts, ends_doomed, ends_cancel, ends_run, move_of}
 use Rattle.uring_core.proofs.SubmissionMoves.{SubmissionMove, stays as stays_off_submission, fills, stages, stores, loads, begins, takes, drops, closes, submission_move}
 use Rattle.uring_core.proofs.CompletionMoves.{CompletionMove, stays as stays_off_completions, ends, flushes, sees_tail, reaps, stores_head, completion_move}
-use Rattle.uring_core.proofs.SoundRings.{IsSoundCompletions, IsSoundSubmission, end_sound, reap_sound, stage_sound, store_sound, take_sound, stop_sound, close_sound}
-use Rattle.uring_core.proofs.SoundRequests.{IsSoundRequests, first_requests, start_sound}
-use Rattle.uring_core.proofs.RequestEnds.{finish_sound, doom_sound, cancel_sound}
-use Rattle.uring_core.proofs.Groups.{call_sound}
+use Rattle.uring_core.proofs.SoundRings.{IsSoundCompletions, IsSoundSubmission, end_of_sound, reap_sound, stage_sound, store_sound, take_sound, stop_sound, close_sound}
+use Rattle.uring_core.proofs.SoundRequests.{IsSoundRequests, IsSoundManual, first_requests, first_manual, start_sound, start_manual, outstanding_tells}
+use Rattle.uring_core.proofs.ByRules.{starts_right}
+use Rattle.uring_core.proofs.RequestEnds.{finish_sound, issued_end_sound, finish_manual, doom_manual, cancel_manual}
+use Rattle.uring_core.proofs.Groups.{call_sound, call_manual}
 use Rattle.uring_entry.specs.Completions.{no_completion}
 use Rattle.uring_entry.specs.Requests.{Requests}
 
@@ -20,6 +22,7 @@ pub record IsSound (g : Setup) (w : World) : Type 0 where
   pub submission : IsSoundSubmission g.sq w.submission
   pub completions : IsSoundCompletions g.cq w.completions
   pub requests : IsSoundRequests w.requests
+  pub manual : g.linux ≡ false → IsSoundManual w.requests
 
 first_submission : (size : ℕ) → IsSoundSubmission size no_submission
 first_submission size = grind arith
@@ -41,6 +44,7 @@ first_sound g = record {
   submission = first_submission g.sq;
   completions = first_completions g.cq;
   requests = first_requests;
+  manual = λ is. first_manual;
 }
 
 -- a change keeps the submission ring sound
@@ -66,7 +70,7 @@ completions_kept : (g : Setup) (w : World) (s : Step) (a : Answer) (v : World)
     → IsSoundCompletions g.cq v.completions
 completions_kept g w s a v (stays_off_completions _ _ l r is_closed off no_end left) i = i
 completions_kept g w s a v (ends _ _ n res bytes r off told same_accepted one_more) i =
-    end_sound g.cq w.completions _ _ i
+    end_of_sound g w n res bytes i
 completions_kept g w s a v (flushes moved) i = grind arith
 completions_kept g w s a v (sees_tail tail) i = grind arith
 completions_kept g w s a v (reaps completion next) i =
@@ -74,24 +78,43 @@ completions_kept g w s a v (reaps completion next) i =
 completions_kept g w s a v (stores_head head) i = grind arith
 
 -- a change keeps the requests sound
-requests_kept : (r : Requests) (s : Step) (a : Answer) (later : Requests) → Move r s a later
-    → IsSoundRequests r → IsSoundRequests later
-requests_kept r s a later (stays _ _ no_start no_end) i = i
-requests_kept r s a later (accepts accepted missed head entries) i =
-    call_sound r entries i.cut_at_end i
-requests_kept r s a later (starts n outstanding idle spared ready no_cancel) i =
-    start_sound r n outstanding idle spared ready i
-requests_kept r s a later (ends_doomed n outstanding) i = doom_sound r n outstanding i
-requests_kept r s a later (ends_cancel n outstanding spared ready cancel) i =
-    cancel_sound r n outstanding spared ready i
-requests_kept r s a later (ends_run n res bytes running) i = finish_sound r n res bytes running i
+requests_kept : (linux : Bool) (l : LinuxRequests) (s : Step) (a : Answer) (later : Requests)
+    → Move linux l s a later → IsSoundRequests l.requests → IsSoundRequests later
+requests_kept linux l s a later (stays _ _ no_start no_end) i = i
+requests_kept linux l s a later (accepts accepted missed head entries) i =
+    call_sound l.requests entries i.cut_at_end i
+requests_kept linux l s a later (starts n outstanding idle spared ready no_cancel) i =
+    start_sound l.requests n outstanding idle (starts_right linux l n (outstanding_tells l.requests n outstanding).0 spared ready) i
+requests_kept linux l s a later (ends_doomed n outstanding) i =
+    issued_end_sound linux l.requests n _ outstanding i
+requests_kept linux l s a later (ends_cancel n outstanding spared ready cancel) i =
+    issued_end_sound linux l.requests n _ outstanding i
+requests_kept linux l s a later (ends_run n res bytes running) i =
+    finish_sound l.requests n res bytes running i
+
+-- by the manual pages' rules
+manual_kept : (l : LinuxRequests) (s : Step) (a : Answer) (later : Requests)
+    → Move false l s a later → IsSoundRequests l.requests → IsSoundManual l.requests
+    → IsSoundManual later
+manual_kept l s a later (stays _ _ no_start no_end) i m = m
+manual_kept l s a later (accepts accepted missed head entries) i m =
+    call_manual l.requests entries i.cut_at_end i m
+manual_kept l s a later (starts n outstanding idle spared ready no_cancel) i m =
+    start_manual l.requests n spared ready m
+manual_kept l s a later (ends_doomed n outstanding) i m = doom_manual l.requests n outstanding m
+manual_kept l s a later (ends_cancel n outstanding spared ready cancel) i m =
+    cancel_manual l.requests n outstanding spared ready m
+manual_kept l s a later (ends_run n res bytes running) i m =
+    finish_manual l.requests n res bytes running i m
 
 pub sound_of : (g : Setup) (h : History) → IsLawfulApart g h → IsSound g (world g h)
 sound_of g [] lawful = first_sound g
 sound_of g ((s, a) ∷ before) lawful =
     let i = sound_of g before lawful.1 in
+    let move = move_of g s a before lawful in
     record {
       submission = submission_kept g (world g before) s a _ (submission_move g s a before lawful) i.submission;
       completions = completions_kept g (world g before) s a _ (completion_move g s a before lawful) i.completions;
-      requests = requests_kept (world g before).requests s a _ (move_of g s a before lawful) i.requests;
+      requests = requests_kept g.linux (requests_of (world g before)) s a _ move i.requests;
+      manual = λ is. manual_kept (requests_of (world g before)) s a _ (subst (λ linux. Move linux (requests_of (world g before)) s a (world g ((s, a) ∷ before)).requests) is move) i.requests (i.manual is);
     }

@@ -3,7 +3,8 @@ use Rattle.std.proofs.Common.{◌≡◌, ℕ, ◌==◌, ◌<◌, ◌≤◌, leng
 use Rattle.std.specs.List.{list_any}
 use Rattle.std.specs.Ordering.{int_eq}
 use Rattle.std.proofs.lemmas.Bool.{and_parts, and_cases, both_ways, eqb-true, ltb-true, not-true, not-false, or_left}
-use Rattle.uring_entry.specs.Requests.{Requests, Ending, no_request, has_started, has_ended, is_running, is_outstanding, is_joined, is_doomed, is_ready, doomed_result, with_started, waits_for}
+use Rattle.uring_entry.specs.Preparation.{is_faulty}
+use Rattle.uring_entry.specs.Requests.{Requests, Ending, no_request, entry_of, has_started, has_ended, is_running, is_outstanding, is_joined, is_doomed, is_ready, doomed_result, with_started, waits_for}
 use Rattle.uring_entry.proofs.EventLemmas.{is_doomed_started, is_joined_started}
 use Rattle.uring_entry.proofs.RequestLemmas.{is_ready_inside}
 use Rattle.uring_core.proofs.ListCounts.{any_new, count_once_more}
@@ -30,6 +31,10 @@ pub record IsSoundRequests (r : Requests) : Type 0 where
   pub ends_once : (n : ℕ) → count_by (λ e. e.number == n) r.ended ≤ 1
   pub cut_at_end : (length r.accepted ≡ 0)
       ⊎ (list_any (λ cut. cut == length r.accepted) r.cuts ≡ true)
+  pub started_right : (n : ℕ) → has_started r n ≡ true → is_faulty (entry_of r n) ≡ false
+
+-- and this, by the manual pages' rules
+pub record IsSoundManual (r : Requests) : Type 0 where
   pub started_free : (n : ℕ) → has_started r n ≡ true → IsFree r n
   pub ended_how : (n : ℕ) → has_ended r n ≡ true → EndsDoomed r n ⊎ IsFree r n
 
@@ -41,9 +46,14 @@ first_requests =
       starts_once = λ n. omega arith;
       ends_once = λ n. omega arith;
       cut_at_end = inl refl;
-      started_free = λ n e. absurd (let f : false ≡ true = e in cc);
-      ended_how = λ n e. absurd (let f : false ≡ true = e in cc);
+      started_right = λ n e. absurd (let f : false ≡ true = e in cc);
     }
+
+pub first_manual : IsSoundManual no_request
+first_manual = record {
+  started_free = λ n e. absurd (let f : false ≡ true = e in cc);
+  ended_how = λ n e. absurd (let f : false ≡ true = e in cc);
+}
 
 -- A request starts.
 
@@ -83,9 +93,8 @@ pub ready_first : (r : Requests) (n : ℕ) → is_ready r n ≡ true → (k : �
 ready_first r n ready k lt joined = waited r n k ready lt (or_left _ _ (or_left _ _ joined))
 
 pub start_sound : (r : Requests) (n : ℕ) → is_outstanding r n ≡ true → is_running r n ≡ false
-    → is_doomed r n ≡ false → is_ready r n ≡ true → IsSoundRequests r
-    → IsSoundRequests (with_started r n)
-start_sound r n outstanding idle spared ready s =
+    → is_faulty (entry_of r n) ≡ false → IsSoundRequests r → IsSoundRequests (with_started r n)
+start_sound r n outstanding idle right s =
     let o = outstanding_tells r n outstanding in
     let fresh = idle_tells r n idle o.1 in
     record {
@@ -94,6 +103,13 @@ start_sound r n outstanding idle spared ready s =
       starts_once = λ m. count_once_more (λ k. k == m) r.started n (s.starts_once m) (λ same. subst (λ k. has_started r k ≡ false) (eqb-true _ _ same) fresh);
       ends_once = s.ends_once;
       cut_at_end = s.cut_at_end;
+      started_right = λ m e. elim (any_new (λ k. k == m) r.started n e) [ inl old ↦ s.started_right m old | inr new ↦ subst (λ k. is_faulty (entry_of r k) ≡ false) (eqb-true _ _ new) right ];
+    }
+
+pub start_manual : (r : Requests) (n : ℕ) → is_doomed r n ≡ false → is_ready r n ≡ true
+    → IsSoundManual r → IsSoundManual (with_started r n)
+start_manual r n spared ready s =
+    record {
       started_free = λ m e. start_free r n m (elim (any_new (λ k. k == m) r.started n e) [ inl old ↦ s.started_free m old | inr new ↦ subst (IsFree r) (eqb-true _ _ new) (record { spared = spared; first = ready_first r n ready }) ]);
       ended_how = λ m e. elim (s.ended_how m e) [ inl doomed ↦ inl doomed | inr free ↦ inr (start_free r n m free) ];
     }
