@@ -1,5 +1,6 @@
 -- In the order in which they are best read.
 -- What an event moves:
+pub mod ByRules
 pub mod Changes
 pub mod Moves
 pub mod SubmissionMoves

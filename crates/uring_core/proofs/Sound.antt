@@ -10,7 +10,7 @@ use Rattle.uring_core.specs.declared.answer.Answer.{Answer}
 use Rattle.uring_core.proofs.Moves.{Move, stays, accepts, starts, ends_doomed, ends_cancel, ends_run, move_of}
 use Rattle.uring_core.proofs.SubmissionMoves.{SubmissionMove, stays as stays_off_submission, fills, stages, stores, loads, begins, takes, drops, closes, submission_move}
 use Rattle.uring_core.proofs.CompletionMoves.{CompletionMove, stays as stays_off_completions, ends, flushes, sees_tail, reaps, stores_head, completion_move}
-use Rattle.uring_core.proofs.SoundRings.{IsSoundCompletions, IsSoundSubmission, end_of_sound, reap_sound, stage_sound, store_sound, take_sound, stop_sound, close_sound}
+use Rattle.uring_core.proofs.SoundRings.{IsSoundCompletions, IsSoundSubmission, end_sound, reap_sound, stage_sound, store_sound, take_sound, stop_sound, close_sound}
 use Rattle.uring_core.proofs.SoundRequests.{IsSoundRequests, IsSoundManual, first_requests, first_manual, start_sound, start_manual, outstanding_tells}
 use Rattle.uring_core.proofs.ByRules.{starts_right}
 use Rattle.uring_core.proofs.RequestEnds.{finish_sound, issued_end_sound, finish_manual, doom_manual, cancel_manual}
@@ -70,7 +70,7 @@ completions_kept : (g : Setup) (w : World) (s : Step) (a : Answer) (v : World)
     → IsSoundCompletions g.cq v.completions
 completions_kept g w s a v (stays_off_completions _ _ l r is_closed off no_end left) i = i
 completions_kept g w s a v (ends _ _ n res bytes r off told same_accepted one_more) i =
-    end_of_sound g w n res bytes i
+    end_sound g.cq w.completions _ _ i
 completions_kept g w s a v (flushes moved) i = grind arith
 completions_kept g w s a v (sees_tail tail) i = grind arith
 completions_kept g w s a v (reaps completion next) i =

@@ -60,8 +60,8 @@ pub invariant_of-self : goal.invariant_of-self
 invariant_of-self c =
     rw (c.clear.ensures.items, c.clear.ensures.capacity) (
       c.self.invariant.0,
-      core_after _ _ _ refl (end_goes _ c.end-answer.new.self c.accept_call.new.dispatch c.in-Taken.field-0 c.in-Taken.ensures.answer c.in-Taken.ensures.shows
-          (accepts_held _ c.accept_call.new.dispatch c.deref.result.now c.deref.ensures.value c.accept_call.ensures.shows c.accept_call.ensures.accepted c.accept_call.ensures.outstanding c.accept_call.ensures.between)) c.self.invariant.1,
+      core_after _ _ _ refl (end_goes _ c.end-answer.new.self c.accept_call.new.self c.in-Taken.field-0 c.in-Taken.ensures.answer c.in-Taken.ensures.shows
+          (accepts_held _ c.accept_call.new.self c.deref.result.now c.deref.ensures.value c.accept_call.ensures.shows c.accept_call.ensures.counts c.accept_call.ensures.between)) c.self.invariant.1,
     )
 
 pub invariant_of-self-in_default : goal.invariant_of-self-in_default
@@ -70,7 +70,7 @@ invariant_of-self-in_default c = (c.self.invariant.0, core_after _ _ _ refl (ref
 pub returns-clause-fits : goal.returns-clause-fits
 returns-clause-fits c =
     elim c.match-answer.branch [
-      | in-Taken w ↦ rw (c.from.ensures, w.self-is, w.in-Taken.is, ← c.self.view_is) (simp w.clear.ensures.items (end_goes _ c.end-answer.new.self w.accept_call.new.dispatch w.in-Taken.field-0 w.in-Taken.ensures.answer w.in-Taken.ensures.shows
-          (accepts_held _ w.accept_call.new.dispatch w.deref.result.now w.deref.ensures.value w.accept_call.ensures.shows w.accept_call.ensures.accepted w.accept_call.ensures.outstanding w.accept_call.ensures.between)))
+      | in-Taken w ↦ rw (c.from.ensures, w.self-is, w.in-Taken.is, ← c.self.view_is) (simp w.clear.ensures.items (end_goes _ c.end-answer.new.self w.accept_call.new.self w.in-Taken.field-0 w.in-Taken.ensures.answer w.in-Taken.ensures.shows
+          (accepts_held _ w.accept_call.new.self w.deref.result.now w.deref.ensures.value w.accept_call.ensures.shows w.accept_call.ensures.counts w.accept_call.ensures.between)))
       | in_default w ↦ rw (c.from.ensures, w.self-is, ← c.self.view_is) (refused_goes _ c.end-answer.new.self c.end-answer.result w.in_default.not-Taken c.end-answer.ensures.answer c.end-answer.ensures.no_call c.end-answer.ensures.not_all)
     ]

@@ -1,4 +1,4 @@
-use Rattle.std.proofs.Common.{refl, sym, ◌∙◌, rules}
+use Rattle.std.proofs.Common.{refl, rules}
 use Rattle.std.specs.Int.{w32}
 use Rattle.std.proofs.lemmas.Int.{to_z-of_z}
 use Rattle.uring_core.proofs.CoreSteps.{core_after}
@@ -11,15 +11,13 @@ invariant_of-self c = (c.self.invariant.0, core_after _ _ _ refl (run_goes _ c.i
 pub invariant_of-self-in-Ended : goal.invariant_of-self-in-Ended
 invariant_of-self-in-Ended c =
     let same = to_z-of_z w32 c.in-Ended.res (search rules) in
-    let success = rw same at c.succeeded.ensures in
-    let ended = issue_ended_goes _ c.issue.new.self c.post_end.new.cq c.args.number c.in-Ended.res c.in-Some.entry c.in-Ended.ensures.answer (λ r s. sym c.in-Some.is ∙ c.entry-entry.ensures r s)
-    c.in-Ended.ensures.shows c.in-Ended.ensures.counts (λ g l. simp same at (c.post_end.ensures.shows g l c.in-Some.entry (rw same (c.of-posts.ensures c.in-Ended.res success)))) c.post_end.ensures.room c.post_end.ensures.promised in
+    let ended = issue_ended_goes _ c.issue.new.self c.post_end.new.cq c.args.number c.in-Ended.res c.in-Ended.posts c.in-Ended.ensures.answer
+    c.in-Ended.ensures.shows c.in-Ended.ensures.counts (λ g l. simp same at (c.post_end.ensures.shows g l)) c.post_end.ensures.room c.post_end.ensures.promised in
     (c.self.invariant.0, core_after _ _ _ refl ended c.self.invariant.1)
 
-pub returns-in-Some-clause-fits : goal.returns-in-Some-clause-fits
-returns-in-Some-clause-fits c =
+pub returns-in-Ended-clause-fits : goal.returns-in-Ended-clause-fits
+returns-in-Ended-clause-fits c =
     let same = to_z-of_z w32 c.in-Ended.res (search rules) in
-    let success = rw same at c.succeeded.ensures in
-    let ended = issue_ended_goes _ c.issue.new.self c.post_end.new.cq c.args.number c.in-Ended.res c.in-Some.entry c.in-Ended.ensures.answer (λ r s. sym c.in-Some.is ∙ c.entry-entry.ensures r s)
-    c.in-Ended.ensures.shows c.in-Ended.ensures.counts (λ g l. simp same at (c.post_end.ensures.shows g l c.in-Some.entry (rw same (c.of-posts.ensures c.in-Ended.res success)))) c.post_end.ensures.room c.post_end.ensures.promised in
+    let ended = issue_ended_goes _ c.issue.new.self c.post_end.new.cq c.args.number c.in-Ended.res c.in-Ended.posts c.in-Ended.ensures.answer
+    c.in-Ended.ensures.shows c.in-Ended.ensures.counts (λ g l. simp same at (c.post_end.ensures.shows g l)) c.post_end.ensures.room c.post_end.ensures.promised in
     rw (simp same at c.ended.ensures, ← c.self.view_is) ended
