@@ -1,7 +1,8 @@
 -- What is so by the manual pages' rules and by Linux's.
 -- Stable: other crates may import all of it.
-use Rattle.std.proofs.Common.{◌≡◌, ℕ, ◌<◌, ℤ, Bool, true, false, not, ◌&&◌, ◌||◌, length, ◌⊎◌, inl, inr, refl, ap, sym, ◌∙◌}
+use Rattle.std.proofs.Common.{◌≡◌, ℕ, ◌<◌, ℤ, Bool, true, false, not, ◌&&◌, ◌||◌, length, refl, ap, sym, subst}
 use Rattle.std.proofs.lemmas.Bool.{and_parts, and_cases, both_ways, false_from_ne_true, not-true}
+use Rattle.uring_entry.specs.Setup.{Setup}
 use Rattle.uring_entry.specs.Preparation.{is_faulty}
 use Rattle.uring_entry.specs.Requests as manual
 use Rattle.uring_entry.specs.Requests.{Requests, entry_of, is_outstanding, is_running}
@@ -9,7 +10,8 @@ use Rattle.uring_entry.proofs.RequestLemmas.{is_doomed_own_fault}
 use Rattle.uring_linux.specs.LinuxRequests as kernel
 use Rattle.uring_linux.specs.LinuxRequests.{LinuxRequests, is_in_turn, is_deferred}
 use Rattle.uring_linux.proofs.Standings.{healthy}
-use Rattle.uring_rules.specs.Rules.{ends_doomed, may_start, is_issuable, with_issued_end}
+use Rattle.uring_rules.specs.Rules.{ends_doomed, may_start, is_issuable}
+use Rattle.uring_core.specs.Histories.{by_manual}
 
 -- what doesn't end as doomed though it is in its turn is spared
 spared_in_turn : (turn doomed deferred : Bool) → (turn && doomed) ≡ false
@@ -52,3 +54,13 @@ issuable_tells false l n issuable =
     let p = and_parts _ _ issuable in
     let q = and_parts _ _ p.0 in
     record { outstanding = q.0; idle = not-true _ q.1; goes = p.1 }
+
+-- A set-up of the manual pages' rules.
+
+pub is_by_manual : (g : Setup) → g.linux ≡ false → g ≡ by_manual g
+is_by_manual g is = ap (λ linux. record g { linux = linux }) is
+
+-- what is so of each set-up once its rules are the manual pages' is so of those of which they are
+pub of_manual : (P : Setup → Type 0) → ((g : Setup) → P (by_manual g)) → (g : Setup)
+    → g.linux ≡ false → P g
+of_manual P holds g is = subst P (sym (is_by_manual g is)) (holds g)

@@ -1,5 +1,5 @@
 -- Histories: the steps made on a new core or machine, each with its answer.
-use Rattle.std.specs.Prelude.{List, [], ◌∷◌, reverse}
+use Rattle.std.specs.Prelude.{List, [], ◌∷◌, false, reverse}
 use Rattle.uring_entry.specs.Setup.{Setup}
 use Rattle.uring_core.specs.World.{World, at_first, happens}
 use Rattle.uring_core.specs.StepAnswers.{CalledForApart}
@@ -28,3 +28,7 @@ IsLawfulApart g ((step, answer) ∷ before) =
 -- the history of events that are written in the order in which they happened
 abbrev pub history_of : List Event → History
 history_of events = reverse events
+
+-- the same set-up, with the manual pages' rules
+abbrev pub by_manual : Setup → Setup
+by_manual g = record g { linux = false }
