@@ -9,3 +9,4 @@ pub mod Standings
 pub mod Deferring
 pub mod Reaching
 pub mod GoingOn
+pub mod Reasons

@@ -1,29 +1,27 @@
 -- How a request stands, from what is kept of it, and what its issue is answered.
-use Rattle.std.proofs.Common.{◌≡◌, ℕ, suc, ◌+◌, ◌<◌, ℤ, pos, length, Bool, true, false, not, ◌&&◌, ◌||◌, ◌==◌, leb, Option, Some, None, is_some, refl, sym, ◌∙◌, ap, subst, arith, inl, inr, List, set, ◌-◌}
+use Rattle.std.proofs.Common.{◌≡◌, ℕ, suc, ◌+◌, ◌<◌, ℤ, pos, length, Bool, true, false, not, ◌&&◌, ◌||◌, leb, Option, Some, None, is_some, refl, sym, ◌∙◌, ap, subst, arith, inl, inr, List, set, ◌-◌}
 use Rattle.std.specs.Prelude.{if◌then◌else◌, neg_ℤ}
-use Rattle.std.proofs.lemmas.Bool.{cases_lt, cases_eq, cases_Bool, and_left, and_right, and_from, and_parts, or_parts, or_left, both_ways, lt-ltb, le-ltb, le-leb, lt-leb, ne_eqb, not-true}
-use Rattle.uring_entry.specs.Layout.{Sqe, addr_of, user_data_of}
+use Rattle.std.proofs.lemmas.Bool.{cases_lt, cases_Bool, and_left, and_right, and_from, and_parts, or_parts, or_left, both_ways, lt-ltb, le-ltb, le-leb, lt-leb, not-true}
 use Rattle.uring_entry.specs.Preparation.{is_faulty, is_cancel, is_cancel_all, operation_of}
 use Rattle.uring_entry.specs.Success as success
-use Rattle.uring_entry.specs.Below.{some_below, least_below, count_below}
+use Rattle.uring_entry.specs.Below.{least_below, count_below}
 use Rattle.uring_entry.specs.Groups.{first_member}
 use Rattle.uring_entry.specs.Requests as manual
 use Rattle.uring_entry.specs.Requests.{Requests, entry_of, has_ended, has_started, is_outstanding, is_running, is_in_group, least_of}
 use Rattle.uring_entry.specs.declared.errno.TheConstants.{ENOENT, EALREADY}
-use Rattle.uring_entry.proofs.BelowLemmas.{some_below_some, some_below_same, is_some_least_below, least_below_same}
+use Rattle.uring_entry.proofs.BelowLemmas.{some_below_some, least_below_same}
 use Rattle.uring_entry.proofs.RequestLemmas.{is_in_own_group}
 use Rattle.uring_dispatch.specs.Window.{one_if}
 use Rattle.uring_dispatch.specs.declared.answers.Posts.{Posts}
 use Rattle.uring_linux.specs.declared.request.Request.{Request}
-use Rattle.uring_linux.specs.declared.request.Test.TheVariants.{Runs}
 use Rattle.uring_linux.specs.declared.answers.Issued.{Issued}
 use Rattle.uring_linux.specs.declared.answers.Issued.TheVariants.{Run, Ended, NotReady, Running, Unknown}
 use Rattle.uring_linux.specs.KeptDrains.{KeptDrains}
 use Rattle.uring_linux.specs.Drains.{Drains}
-use Rattle.uring_linux.specs.LinuxRequests.{LinuxRequests, has_fault, is_in_faulty_group, is_in_turn, is_doomed, is_deferred, is_issuable, is_found, found_by, cancel_result, doomed_result, after_going_on, with_started, with_ended}
+use Rattle.uring_linux.specs.LinuxRequests.{LinuxRequests, has_fault, is_in_faulty_group, is_in_turn, is_doomed, is_deferred, is_issuable, found_by, cancel_result, doomed_result, after_going_on, with_started, with_ended}
 use Rattle.uring_linux.specs.Laws.{is_refusal}
 use Rattle.uring_linux.specs.Issues.{issued, issued_ready, ended_with, after_end}
-use Rattle.uring_linux.specs.Window.{Window, at, end_of, said, Tells, Shows}
+use Rattle.uring_linux.specs.Window.{Window, at, end_of, Tells, Shows}
 use Rattle.uring_linux.specs.LinuxDispatch.{LinuxDispatch, dispatch_of, ShowsRequests}
 use Rattle.uring_linux.proofs.WindowLemmas.{not_none}
 use Rattle.uring_linux.proofs.WindowCounts.{unended_shown, running_shown}
@@ -125,43 +123,6 @@ after_some l n res bytes None e = absurd (both_ways false refl e)
 after_some l n res bytes (Some p) e = refl
 
 -- Cancels.
-
-found_at : (r : Requests) (n m first : ℕ) → is_running r n ≡ false
-    → (m < first → has_ended r m ≡ true)
-    → (leb first m && said (Runs (addr_of (entry_of r n))) r m) ≡ is_found r n m
-found_at r n m first idle gone =
-    elim (cases_lt m first) [
-      | inl low ↦ and_left _ _ (lt-leb first m low) ∙ sym (and_left _ _ (and_right _ _ (ap not (gone low))))
-      | inr high ↦
-          ap (λ b. b && said (Runs (addr_of (entry_of r n))) r m) (le-leb first m high)
-          ∙ elim (cases_eq m n) [
-            | inl same ↦
-                let quiet = ap (is_running r) same ∙ idle in
-                and_left _ _ quiet ∙ sym (and_left _ _ quiet)
-            | inr other ↦ ap (λ b. is_running r m && (not b && (user_data_of (entry_of r m) == addr_of (entry_of r n)))) (sym (ne_eqb m n other))
-          ]
-    ]
-
-pub found_is : (s : Window) (r : Requests) (n : ℕ) → Shows s r → is_running r n ≡ false
-    → is_some (first_member (said (Runs (addr_of (entry_of r n))) r) s.first (end_of s)) ≡ is_some (found_by r n)
-unfolding first_member found_by
-found_is s r n h idle =
-    is_some_least_below (λ m. leb s.first m && said (Runs (addr_of (entry_of r n))) r m) (end_of s)
-    ∙ some_below_same (λ m. leb s.first m && said (Runs (addr_of (entry_of r n))) r m) (is_found r n) (end_of s)
-    (λ m low. found_at r n m s.first idle (h.gone m))
-    ∙ ap (some_below (is_found r n)) h.count
-    ∙ sym (is_some_least_below (is_found r n) (length r.accepted))
-
--- the same, from what a search answered
-pub found_at_last : (s : Window) (r : Requests) (n : ℕ) (e : Sqe) (u first end : ℕ) (o : Option ℕ) → Shows s r
-    → is_running r n ≡ false → e ≡ entry_of r n → u ≡ addr_of e → first ≡ s.first → end ≡ end_of s
-    → o ≡ first_member (said (Runs u) r) first end → is_some (found_by r n) ≡ is_some o
-found_at_last s r n e u first end o h idle ee eu ef en eo =
-    sym
-    (ap is_some eo ∙ ap (λ x. is_some (first_member (said (Runs x) r) first end)) (eu ∙ ap addr_of ee)
-    ∙ ap (λ x. is_some (first_member (said (Runs (addr_of (entry_of r n))) r) x end)) ef
-    ∙ ap (λ x. is_some (first_member (said (Runs (addr_of (entry_of r n))) r) s.first x)) en
-    ∙ found_is s r n h idle)
 
 pub cancelled_one : (r : Requests) (n : ℕ) (b : Bool) → is_cancel_all (entry_of r n) ≡ false
     → is_some (found_by r n) ≡ b

@@ -1,11 +1,10 @@
 -- What follows from the definitions alone.
-use Rattle.std.specs.Prelude.{◌≡◌, ℕ, Bool, true, false, not, ◌&&◌, ◌⊎◌, List, length, Option, Some, is_some}
-use Rattle.uring_entry.specs.Below.{least_below}
-use Rattle.uring_entry.specs.Requests.{is_outstanding, is_running, least_of, running_in}
+use Rattle.std.specs.Prelude.{◌≡◌, ℕ, Bool, true, false, not, ◌⊎◌, List, Some, is_some}
+use Rattle.uring_entry.specs.Requests.{is_running, least_of, running_in}
 use Rattle.uring_linux.specs.declared.answers.Issued.{Issued}
 use Rattle.uring_linux.specs.declared.answers.Issued.TheVariants.{Run, Ended, NotReady, Running, Unknown}
 use Rattle.uring_linux.specs.Happenings.{Happening, made_by, MayHaveHappened}
-use Rattle.uring_linux.specs.LinuxRequests.{LinuxRequests, is_deferred, is_issuable, next_of}
+use Rattle.uring_linux.specs.LinuxRequests.{LinuxRequests, is_issuable, next_of}
 use Rattle.uring_linux.specs.Issues.{issued}
 use Rattle.uring_linux.specs.LinuxWhy.{least_free_of}
 

@@ -1,7 +1,7 @@
 //! What the issue of a request is answered.
 
 ghost use Rattle.std.specs.Prelude.{◌≡◌, ℕ, true, false, Some, None};
-ghost use Rattle.uring_entry.specs.Requests.{Requests, entry_of, is_running};
+ghost use Rattle.uring_entry.specs.Requests.{Requests, entry_of};
 ghost use Rattle.uring_entry.specs.Preparation.{is_faulty};
 ghost use Rattle.uring_dispatch.specs.declared.answers.Posts.{Posts};
 ghost use Rattle.uring_linux.specs.Laws.{is_refusal};
@@ -15,7 +15,7 @@ ghost use Rattle.uring_linux.specs.Window.{Tells, Shows, IsOpen};
 use crate::answers::Issued;
 use crate::dispatch::LinuxDispatch;
 use crate::members::Span;
-use crate::request::{Request, Test};
+use crate::request::Request;
 use crate::window::Window;
 use uring_dispatch::Posts;
 use uring_entry::errno::{EALREADY, ECANCELED, EINVAL, ENOENT, EOPNOTSUPP};
@@ -93,10 +93,10 @@ impl Window {
     fn ready(&self, n: u64, request: &Request, span: Span) -> Issued
         ensures { (r : Requests) → Shows self.now r → Tells request.now r n
             → IsSpan self.now r n span.from span.end → is_faulty (entry_of r n) ≡ false
-            → is_running r n ≡ false → result ≡ issued_ready r n }
+            → result ≡ issued_ready r n }
     {
         if request.entry.opcode() == opcode::ASYNC_CANCEL {
-            let res = self.cancel_result(&request.entry);
+            let res = self.cancel_result(n, &request.entry);
             return self.ended(n, request, span, res);
         }
         match prepare(&request.entry) {
@@ -105,15 +105,15 @@ impl Window {
         }
     }
 
-    /// What a cancel of this entry, which may start, ends with.
-    fn cancel_result(&self, entry: &Sqe) -> i32
-        ensures { (r : Requests) (n : ℕ) → Shows self.now r → entry.now ≡ entry_of r n
-            → is_running r n ≡ false → result ≡ linux.cancel_result r n }
+    /// What the cancel `n` of this entry ends with.
+    fn cancel_result(&self, n: u64, entry: &Sqe) -> i32
+        ensures { (r : Requests) → Shows self.now r → entry.now ≡ entry_of r n
+            → result ≡ linux.cancel_result r n }
     {
         if entry.is_cancel_all() {
             return 0;
         }
-        match self.first_with(Test::Runs(entry.addr()), self.first(), self.end()) {
+        match self.found(n, entry.addr()) {
             Some(_) => -EALREADY,
             None => -ENOENT,
         }

@@ -6,12 +6,14 @@ mod answers;
 mod deferred;
 mod dispatch;
 mod drains;
+mod found;
 mod issuable;
 pub mod laws;
 mod members;
 mod request;
+mod why;
 mod window;
 
 pub use answers::Issued;
 pub use dispatch::LinuxDispatch;
-pub use uring_dispatch::{Posts, ReserveError};
+pub use uring_dispatch::{Found, Posts, ReserveError};

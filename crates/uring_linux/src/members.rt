@@ -1,8 +1,11 @@
 //! Groups among the requests that are kept: which members a group has, whose turn it is, and who is doomed.
 
 ghost use Rattle.std.specs.Prelude.{◌≡◌, ℕ, suc, ◌+◌, ◌<◌, ◌≤◌, ◌^◌, true, false, Some};
+ghost use Rattle.uring_entry.specs.Below.{least_below};
 ghost use Rattle.uring_entry.specs.Requests.{Requests, is_last, is_behind_failure};
+ghost use Rattle.uring_entry.specs.Why.{failed_member_of};
 ghost use Rattle.uring_linux.specs.LinuxRequests as linux;
+ghost use Rattle.uring_linux.specs.LinuxWhy.{faulty_member_of};
 ghost use Rattle.uring_linux.specs.Window.{end_of, Shows, IsWithin};
 ghost use Rattle.uring_linux.specs.Members.{IsStart, IsEnd, IsSpan, if_before};
 
@@ -70,6 +73,22 @@ impl Window {
         }
     }
 
+    /// The first member of the group before `n` that hasn't ended.
+    pub(crate) fn keeper(&self, n: u64, span: Span) -> Option<u64>
+        ensures { (r : Requests) → Shows self.now r → IsSpan self.now r n span.from span.end
+            → result ≡ least_below (linux.keeps_back r n) n }
+    {
+        self.first_with(Test::Unended, span.from, n)
+    }
+
+    /// The first member of the group with a fault.
+    pub(crate) fn faulty(&self, span: Span) -> Option<u64>
+        ensures { (r : Requests) (n : ℕ) → Shows self.now r
+            → IsSpan self.now r n span.from span.end → result ≡ faulty_member_of r n }
+    {
+        self.first_with(Test::Faulty, span.from, span.end)
+    }
+
     /// Whether some member of the group has a fault.
     pub(crate) fn is_faulty(&self, span: Span) -> bool
         ensures { (r : Requests) (n : ℕ) → Shows self.now r
@@ -99,6 +118,15 @@ impl Window {
         faulty || behind
     }
 
+    /// The first member before `n` that has a soft link and failed.
+    pub(crate) fn failed(&self, n: u64, span: Span) -> Option<u64>
+        ensures failed { (r : Requests) → Shows self.now r → IsSpan self.now r n span.from span.end
+            → result ≡ failed_member_of r n }
+        ensures within { (m : ℕ) → result ≡ Some m → (span.from ≤ m) × (m < n) }
+    {
+        if_before(self.first_with(Test::Broken, span.from, span.end), n)
+    }
+
     /// Whose failure ends `n` as cancelled, if another's does.
     pub(crate) fn breaker(&self, n: u64, span: Span) -> Option<u64>
         ensures breaker { (r : Requests) → Shows self.now r → IsSpan self.now r n span.from span.end
@@ -106,15 +134,15 @@ impl Window {
         ensures within { (m : ℕ) → result ≡ Some m → (span.from ≤ m) × (m < n) }
     {
         if self.is_faulty(span) {
-            before(Some(span.from), n)
+            if_before(Some(span.from), n)
         } else {
-            before(self.first_with(Test::Broken, span.from, span.end), n)
+            self.failed(n, span)
         }
     }
 }
 
 /// This number, if it is before `n`.
-fn before(m: Option<u64>, n: u64) -> Option<u64>
+fn if_before(m: Option<u64>, n: u64) -> Option<u64>
     ensures value { result ≡ if_before m n }
     ensures same { (k : ℕ) → result ≡ Some k → m ≡ Some k }
     ensures less { (k : ℕ) → result ≡ Some k → k < n }

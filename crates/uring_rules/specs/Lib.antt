@@ -1,1 +1,4 @@
 pub mod Rules
+pub mod RulesCalls
+pub mod RulesIssues
+pub mod RulesDispatch

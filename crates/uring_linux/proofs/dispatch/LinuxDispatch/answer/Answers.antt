@@ -74,7 +74,7 @@ returns-clause-issued c = λ l g.
     let m = c.span_of-span.ensures l.requests h in
     let idle = sym t.running ∙ c.if-request-2.false in
     let free = sym (c.is_doomed.ensures l.requests h m) ∙ c.if-is_doomed.false in
-    c.ready.ensures l.requests h t m (healthy l.requests c.args.n (omega (arith, m.high, m.last, h.count)) free) idle
+    c.ready.ensures l.requests h t m (healthy l.requests c.args.n (omega (arith, m.high, m.last, h.count)) free)
     ∙ sym
     (asked l c.args.n true false true false false (outstanding_going _ _ l.requests c.args.n h here c.if-request.false) idle
     (sym (c.is_in_turn.ensures l.requests h m) ∙ c.if-not-is_in_turn.false) free

@@ -1,0 +1,114 @@
+//! Why a request stands as it does, by Linux's rules: what dooms it, or the least request that it waits for. The order in which reasons are told is our own rule.
+
+ghost use Rattle.std.specs.Prelude.{◌≡◌, ℕ, not, ◌&&◌, IsTrue, Some, None};
+ghost use Rattle.uring_entry.specs.Below.{least_below};
+ghost use Rattle.uring_entry.specs.Requests.{Requests};
+ghost use Rattle.uring_linux.specs.LinuxDispatch.{ShowsRequests};
+ghost use Rattle.uring_linux.specs.LinuxRequests.{LinuxRequests, keeps_back};
+ghost use Rattle.uring_linux.specs.LinuxWhy.{why_of, kept_back_by, doom_of, least_free_of};
+ghost use Rattle.uring_linux.specs.Members.{IsSpan};
+ghost use Rattle.uring_linux.specs.Window.{at, Tells, Shows};
+
+use crate::dispatch::LinuxDispatch;
+use crate::drains::Drains;
+use crate::members::Span;
+use crate::request::{Request, Test};
+use crate::window::Window;
+use uring_entry::{Doom, Since, Why, prepare};
+
+impl LinuxDispatch {
+    /// Why request `n`, any number, stands as it does: what dooms it in its turn, or the least request that it waits for, with the first reason in the order of `Doom` or `Since`. A member of a group waits for the first before it that hasn't ended, doomed or not; a deferred group waits for the least outstanding request that isn't deferred. Our own rule.
+    pub fn why(&self, n: u64) -> Why
+        requires { IsTrue self.now.is_between_calls }
+        ensures { (l : LinuxRequests) → ShowsRequests self.now l → result ≡ why_of l n }
+    {
+        self.window.why(&self.drains, n)
+    }
+}
+
+impl Window {
+    /// Why request `n`, any number, stands as it does, in a ring whose drains stand so.
+    fn why(&self, drains: &Drains, n: u64) -> Why
+        ensures { (l : LinuxRequests) → Shows self.now l.requests → drains.now.drains ≡ l.drains
+            → result ≡ why_of l n }
+    {
+        let Some(request) = self.copy(n) else {
+            return self.gone(n);
+        };
+        if request.has_ended {
+            return Why::HasEnded;
+        }
+        if request.is_running {
+            return Why::Runs;
+        }
+        self.waiting(drains, n, &request)
+    }
+
+    /// Why request `n` isn't kept any more, or not yet.
+    fn gone(&self, n: u64) -> Why
+        requires { at self.now n ≡ None }
+        ensures { (l : LinuxRequests) → Shows self.now l.requests → result ≡ why_of l n }
+    {
+        if n < self.end() {
+            Why::HasEnded
+        } else {
+            Why::NeverAccepted
+        }
+    }
+
+    /// How request `n` stands, which hasn't ended and doesn't run.
+    fn waiting(&self, drains: &Drains, n: u64, request: &Request) -> Why
+        requires { at self.now n ≡ Some request.now }
+        ensures { (l : LinuxRequests) → Shows self.now l.requests → drains.now.drains ≡ l.drains
+            → result ≡ kept_back_by l n (least_below (keeps_back l.requests n) n) }
+    {
+        let span = self.span_of(n);
+        if let Some(least) = self.keeper(n, span) {
+            return Why::Waits {
+                least,
+                since: Since::SameGroup,
+            };
+        }
+        if self.is_doomed(n, span) {
+            return Why::IsDoomed(self.doom(n, request, span));
+        }
+        if drains.is_deferred(n) {
+            return Why::Waits {
+                least: self.least_free(drains).unwrap_or(n),
+                since: Since::Deferred,
+            };
+        }
+        Why::MayStart
+    }
+
+    /// What dooms the kept request `n`, if it is doomed.
+    fn doom(&self, n: u64, request: &Request, span: Span) -> Doom
+        ensures { (r : Requests) → Shows self.now r → Tells request.now r n
+            → IsSpan self.now r n span.from span.end → result ≡ doom_of r n }
+    {
+        if let Err(fault) = prepare(&request.entry) {
+            return Doom::OwnFault(fault);
+        }
+        let Some(m) = self.faulty(span) else {
+            return Doom::FailureOf(self.failed(n, span).unwrap_or(n));
+        };
+        if request.is_refused {
+            Doom::RefusedDrain
+        } else {
+            Doom::FaultOf(m)
+        }
+    }
+
+    /// The least outstanding request that isn't deferred.
+    fn least_free(&self, drains: &Drains) -> Option<u64>
+        ensures { (l : LinuxRequests) → Shows self.now l.requests → drains.now.drains ≡ l.drains
+            → result ≡ least_free_of l }
+    {
+        for n in self.first()..self.end() {
+            if self.passes(Test::Unended, n) && !drains.is_deferred(n) {
+                return Some(n);
+            }
+        }
+        None
+    }
+}
