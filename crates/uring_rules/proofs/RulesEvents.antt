@@ -1,7 +1,7 @@
 -- What stays and what changes as requests start and end, and how many of them are outstanding and running then. Other crates may import all of it.
-use Rattle.std.proofs.Common.{◌≡◌, ◌≢◌, ℕ, ◌+◌, ◌<◌, ℤ, Bool, true, false, not, ◌&&◌, ◌==◌, ltb, List, [], ◌∷◌, ◌++◌, length, refl, sym, ◌∙◌, ap, arith}
-use Rattle.std.proofs.lemmas.Bool.{and_parts, and_from, and_right, not-true, ltb-true, lt-ltb}
-use Rattle.uring_entry.specs.Requests.{Requests, Ending, has_started, has_ended, is_outstanding, is_running, outstanding_in, running_in, no_bytes, with_started, with_ended}
+use Rattle.std.proofs.Common.{◌≡◌, ℕ, ◌+◌, ◌<◌, ℤ, Bool, true, false, not, ◌&&◌, ltb, List, [], ◌∷◌, ◌++◌, length, refl, ap, arith}
+use Rattle.std.proofs.lemmas.Bool.{and_parts, and_right, not-true, ltb-true}
+use Rattle.uring_entry.specs.Requests.{Requests, has_ended, is_outstanding, is_running, outstanding_in, running_in, no_bytes, with_started, with_ended}
 use Rattle.uring_entry.proofs.RequestLemmas.{has_ended_same, has_ended_other, is_running_ended_same, is_running_ended_other, is_running_started_same, is_running_started_other}
 use Rattle.uring_dispatch.specs.Window.{one_if}
 use Rattle.uring_dispatch.proofs.Counting.{count_below_changed}
