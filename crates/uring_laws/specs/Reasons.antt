@@ -1,22 +1,24 @@
--- What it says of a request why it stands as it does: laws of any requests.
+-- What it says of a request why it stands as it does: laws of any requests, by the manual pages' rules but for the answer to an Issue.
 use Rattle.std.specs.Prelude.{◌≡◌, ◌↔◌, ℕ, ◌<◌, ◌≤◌, ℤ, pos, neg_ℤ, Bool, true, false, if◌then◌else◌, length, Some, ◌⊎◌}
-use Rattle.uring_entry.specs.Requests.{Requests, entry_of, has_ended, is_outstanding, is_running, is_candidate, cancel_result, doomed_result, no_bytes, is_issuable, is_doomed, is_ready, is_in_faulty_group, is_behind_failure, is_cancelled, is_joined, is_draining, holds_back}
+use Rattle.uring_entry.specs.Requests.{Requests, entry_of, has_ended, is_outstanding, is_running, is_candidate, cancel_result, no_bytes, is_issuable, is_doomed, is_ready, is_in_faulty_group, is_behind_failure, is_cancelled, is_joined, is_draining, holds_back}
 use Rattle.uring_entry.specs.Preparation.{fault_of, is_faulty, is_cancel, is_cancel_all}
 use Rattle.uring_entry.specs.declared.errno.TheConstants.{ENOENT, EALREADY}
 use Rattle.uring_entry.specs.Why.{is_faulty_member, is_failure_before, why_of}
 use Rattle.uring_dispatch.specs.Cancels.{found_by}
 use Rattle.uring_dispatch.specs.declared.answers.Found.{Found}
 use Rattle.uring_dispatch.specs.declared.answers.Found.TheVariants as found
-use Rattle.uring_core.specs.World.{World}
+use Rattle.uring_entry.specs.Setup.{Setup}
+use Rattle.uring_rules.specs.Rules as by_rules
+use Rattle.uring_core.specs.World.{World, requests_of}
 use Rattle.uring_core.specs.StepAnswers.{issue_answer}
 use Rattle.uring_core.specs.declared.answer.Answer.{Answer}
 use Rattle.uring_core.specs.declared.answer.Answer.TheVariants as answer
 use Rattle.uring_entry.specs.declared.why.Why.{Why}
 use Rattle.uring_entry.specs.declared.why.Why.TheVariants.{NeverAccepted, HasEnded, Runs, IsDoomed, Waits, MayStart}
 use Rattle.uring_entry.specs.declared.why.Doom.{Doom}
-use Rattle.uring_entry.specs.declared.why.Doom.TheVariants.{OwnFault, FaultOf, FailureOf, Cancel}
+use Rattle.uring_entry.specs.declared.why.Doom.TheVariants.{OwnFault, FaultOf, FailureOf, Cancel, RefusedDrain}
 use Rattle.uring_entry.specs.declared.why.Since.{Since}
-use Rattle.uring_entry.specs.declared.why.Since.TheVariants.{SameGroup, ItDrains, OwnDrains}
+use Rattle.uring_entry.specs.declared.why.Since.TheVariants.{SameGroup, ItDrains, OwnDrains, Deferred}
 
 -- It is told to be never accepted exactly if no request of its number was, to have ended exactly if it was accepted and has ended, and to run exactly if it is outstanding and was started.
 abbrev pub EndIsSaid : Type 0
@@ -49,12 +51,13 @@ pub record CanStart (r : Requests) (n : ℕ) : Type 0 where
 abbrev pub MayStartIsSaid : Type 0
 MayStartIsSaid = (r : Requests) (n : ℕ) → (why_of r n ≡ MayStart) ↔ CanStart r n
 
--- this is the first reason for which n waits for m
+-- this is the first reason for which n waits for m: nothing is deferred by the manual pages' rules
 abbrev pub IsSince : Requests → ℕ → ℕ → Since → Type 0
 IsSince r n m SameGroup = is_joined r m n ≡ true
 IsSince r n m ItDrains = (is_joined r m n ≡ false) × (is_draining r m ≡ true)
 IsSince r n m OwnDrains =
     (is_joined r m n ≡ false) × (is_draining r m ≡ false) × (is_draining r n ≡ true)
+IsSince r n m Deferred = ⊥
 
 -- n waits for m, the least request that keeps it from starting, for this reason.
 pub record IsWaiting (r : Requests) (n m : ℕ) (since : Since) : Type 0 where
@@ -84,6 +87,7 @@ IsDoomOf r n (FailureOf m) =
     (is_in_faulty_group r n ≡ false) × IsLeastOf (is_failure_before r n) n m
 IsDoomOf r n Cancel =
     (is_in_faulty_group r n ≡ false) × (is_behind_failure r n ≡ false) × (is_cancelled r n ≡ true)
+IsDoomOf r n RefusedDrain = ⊥
 
 abbrev pub DoomIsSaid : Type 0
 DoomIsSaid = (r : Requests) (n : ℕ) (doom : Doom) → why_of r n ≡ IsDoomed doom
@@ -98,20 +102,21 @@ abbrev pub TwoSteps : Type 0
 TwoSteps = (r : Requests) (n m : ℕ) (since : Since) → why_of r n ≡ Waits m since
     → GoesOn r m ⊎ ((k : ℕ) × (other : Since) × (why_of r m ≡ Waits k other) × GoesOn r k)
 
--- the answer to an Issue of a request of which this is told
-abbrev pub answer_told : Requests → ℕ → Why → Answer
-answer_told r n NeverAccepted = answer.Unknown
-answer_told r n HasEnded = answer.Unknown
-answer_told r n Runs = answer.Running
-answer_told r n (IsDoomed doom) = answer.Ended (doomed_result r n) no_bytes
-answer_told r n (Waits m since) = answer.NotReady
-answer_told r n MayStart =
-    if is_cancel (entry_of r n) then answer.Ended (cancel_result r n) no_bytes else answer.Run
+-- the answer to an Issue of a request of which this is told, by the rules of the set-up
+abbrev pub answer_told : (is_linux : Bool) → Requests → ℕ → Why → Answer
+answer_told is_linux r n NeverAccepted = answer.Unknown
+answer_told is_linux r n HasEnded = answer.Unknown
+answer_told is_linux r n Runs = answer.Running
+answer_told is_linux r n (IsDoomed doom) =
+    answer.Ended (by_rules.doomed_result is_linux r n) no_bytes
+answer_told is_linux r n (Waits m since) = answer.NotReady
+answer_told is_linux r n MayStart =
+    if is_cancel (entry_of r n) then answer.Ended (by_rules.cancel_result is_linux r n) no_bytes else answer.Run
 
--- The answer called for by an Issue is the one that goes with what is told just before.
+-- By either's rules the answer called for by an Issue is the one that goes with what is told just before.
 abbrev pub AnswerAgrees : Type 0
-AnswerAgrees =
-    (w : World) (n : ℕ) → issue_answer w n ≡ answer_told w.requests n (why_of w.requests n)
+AnswerAgrees = (g : Setup) (w : World) (n : ℕ) → issue_answer g w n
+    ≡ answer_told g.linux w.requests n (by_rules.why_of g.linux (requests_of w) n)
 
 -- What a cancel of one request finds.
 
