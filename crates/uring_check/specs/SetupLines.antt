@@ -8,6 +8,7 @@ use Rattle.uring_text.specs.Tokens.{tokens_of}
 use Rattle.uring_check.specs.declared.setup_line.Said.{Said}
 use Rattle.uring_check.specs.declared.setup_line.Said.TheVariants.{Nothing, Says, Misses}
 use Rattle.uring_check.specs.declared.setup_line.Sizes.{Sizes}
+use Rattle.uring_check.specs.declared.setup_line.Asked.{Asked}
 
 -- the tokens begin as those of a set-up do
 abbrev pub begins_setup : List (List ℕ) → Bool
