@@ -365,7 +365,7 @@ fn is_kept(set_up: &Setup) -> [bool; 4] {
 fn a_set_up_keeps_files_and_start(rt: HostRuntime) {
     let right = match Setup::new(1, None, 64, u32::MAX) {
         Ok(set_up) => is_kept(&set_up),
-        Err(_) => [false; 3],
+        Err(_) => [false; 4],
     };
     check(&rt, first_false(&right));
 }
