@@ -73,8 +73,9 @@ pub record IsSearch (g : Setup) (seen : List Event) (todo : List (List Event)) (
   pub parts : AreParts g seen todo
   pub reach : IsReach g seen events place
 
--- The core shows this part, and this is the completion that is to be posted next.
+-- The core, which goes by the manual pages' rules, shows this part, and this is the completion that is to be posted next.
 pub record StandsAt (core : Core) (seen : List Event) (wanted : Option Cqe) (h : History) : Type 0 where
+  pub manual : core.setup.linux ≡ false
   pub fits : FitsApart core h
   pub part : IsPart core.setup seen h
   pub is_next : wanted ≡ slice_get (completions_in seen) (length (world core.setup h).completions.posted)
