@@ -20,7 +20,7 @@ use Rattle.uring_core.specs.declared.step.Step.TheVariants as step
 use Rattle.uring_core.specs.declared.answer.Answer.TheVariants as answer
 
 abbrev setup : Setup
-setup = record { sq = 2; cq = 2; files = 3; start = 0; stops = false }
+setup = record { sq = 2; cq = 2; files = 3; start = 0; stops = false; linux = false }
 
 -- an fsync of the file of descriptor 2
 abbrev sync : Sqe

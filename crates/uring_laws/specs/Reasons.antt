@@ -14,9 +14,9 @@ use Rattle.uring_core.specs.declared.answer.Answer.TheVariants as answer
 use Rattle.uring_entry.specs.declared.why.Why.{Why}
 use Rattle.uring_entry.specs.declared.why.Why.TheVariants.{NeverAccepted, HasEnded, Runs, IsDoomed, Waits, MayStart}
 use Rattle.uring_entry.specs.declared.why.Doom.{Doom}
-use Rattle.uring_entry.specs.declared.why.Doom.TheVariants.{OwnFault, FaultOf, FailureOf, Cancel}
+use Rattle.uring_entry.specs.declared.why.Doom.TheVariants.{OwnFault, FaultOf, FailureOf, Cancel, RefusedDrain}
 use Rattle.uring_entry.specs.declared.why.Since.{Since}
-use Rattle.uring_entry.specs.declared.why.Since.TheVariants.{SameGroup, ItDrains, OwnDrains}
+use Rattle.uring_entry.specs.declared.why.Since.TheVariants.{SameGroup, ItDrains, OwnDrains, Deferred}
 
 -- It is told to be never accepted exactly if no request of its number was, to have ended exactly if it was accepted and has ended, and to run exactly if it is outstanding and was started.
 abbrev pub EndIsSaid : Type 0
@@ -49,12 +49,13 @@ pub record CanStart (r : Requests) (n : ℕ) : Type 0 where
 abbrev pub MayStartIsSaid : Type 0
 MayStartIsSaid = (r : Requests) (n : ℕ) → (why_of r n ≡ MayStart) ↔ CanStart r n
 
--- this is the first reason for which n waits for m
+-- this is the first reason for which n waits for m; no group is deferred by the manual pages' rules
 abbrev pub IsSince : Requests → ℕ → ℕ → Since → Type 0
 IsSince r n m SameGroup = is_joined r m n ≡ true
 IsSince r n m ItDrains = (is_joined r m n ≡ false) × (is_draining r m ≡ true)
 IsSince r n m OwnDrains =
     (is_joined r m n ≡ false) × (is_draining r m ≡ false) × (is_draining r n ≡ true)
+IsSince r n m Deferred = ⊥
 
 -- n waits for m, the least request that keeps it from starting, for this reason.
 pub record IsWaiting (r : Requests) (n m : ℕ) (since : Since) : Type 0 where
@@ -75,7 +76,7 @@ pub record IsLeastOf (p : ℕ → Bool) (bound m : ℕ) : Type 0 where
   pub holds : p m ≡ true
   pub least : (k : ℕ) → k < m → p k ≡ false
 
--- this dooms n, and nothing that is told before it does
+-- this dooms n, and nothing that is told before it does; no drain is refused by the manual pages' rules
 abbrev pub IsDoomOf : Requests → ℕ → Doom → Type 0
 IsDoomOf r n (OwnFault fault) = fault_of (entry_of r n) ≡ Some fault
 IsDoomOf r n (FaultOf m) =
@@ -84,6 +85,7 @@ IsDoomOf r n (FailureOf m) =
     (is_in_faulty_group r n ≡ false) × IsLeastOf (is_failure_before r n) n m
 IsDoomOf r n Cancel =
     (is_in_faulty_group r n ≡ false) × (is_behind_failure r n ≡ false) × (is_cancelled r n ≡ true)
+IsDoomOf r n RefusedDrain = ⊥
 
 abbrev pub DoomIsSaid : Type 0
 DoomIsSaid = (r : Requests) (n : ℕ) (doom : Doom) → why_of r n ≡ IsDoomed doom

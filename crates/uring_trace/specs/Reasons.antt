@@ -7,9 +7,9 @@ use Rattle.uring_entry.specs.Why.{why_of}
 use Rattle.uring_entry.specs.declared.why.Why.{Why}
 use Rattle.uring_entry.specs.declared.why.Why.TheVariants.{NeverAccepted, HasEnded, Runs, IsDoomed, Waits, MayStart}
 use Rattle.uring_entry.specs.declared.why.Doom.{Doom}
-use Rattle.uring_entry.specs.declared.why.Doom.TheVariants.{OwnFault, FaultOf, FailureOf, Cancel}
+use Rattle.uring_entry.specs.declared.why.Doom.TheVariants.{OwnFault, FaultOf, FailureOf, Cancel, RefusedDrain}
 use Rattle.uring_entry.specs.declared.why.Since.{Since}
-use Rattle.uring_entry.specs.declared.why.Since.TheVariants.{SameGroup, ItDrains, OwnDrains}
+use Rattle.uring_entry.specs.declared.why.Since.TheVariants.{SameGroup, ItDrains, OwnDrains, Deferred}
 use Rattle.uring_dispatch.specs.Cancels.{found_by}
 use Rattle.uring_dispatch.specs.declared.answers.Found.{Found}
 use Rattle.uring_dispatch.specs.declared.answers.Found.TheVariants.{Nobody, Running, Chosen}
@@ -67,11 +67,13 @@ doom_text (OwnFault fault) = fault_text fault
 doom_text (FaultOf m) = numbered m (codes " of its group has a fault")
 doom_text (FailureOf m) = numbered m (codes " failed before it")
 doom_text Cancel = codes "a cancel chose it"
+doom_text RefusedDrain = codes "a drain, which this ring refuses"
 
 abbrev pub since_text : ℕ → Since → List ℕ
 since_text m SameGroup = codes "a member of its group"
 since_text m ItDrains = numbered m (codes "'s group drains")
 since_text m OwnDrains = codes "its own group drains"
+since_text m Deferred = codes "its group is deferred"
 
 abbrev pub why_text : Why → List ℕ
 why_text NeverAccepted = codes "never accepted"

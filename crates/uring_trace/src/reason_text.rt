@@ -186,6 +186,7 @@ fn push_doom<M: TextMemory>(memory: &M, text: &mut String, doom: Doom) -> Result
         Doom::FaultOf(m) => push_numbered(memory, text, m, " of its group has a fault"),
         Doom::FailureOf(m) => push_numbered(memory, text, m, " failed before it"),
         Doom::Cancel => push_text(memory, text, "a cancel chose it"),
+        Doom::RefusedDrain => push_text(memory, text, "a drain, which this ring refuses"),
     }
 }
 
@@ -245,5 +246,6 @@ pub fn push_since_in<M: TextMemory>(
         Since::SameGroup => push_text(memory, text, "a member of its group"),
         Since::ItDrains => push_numbered(memory, text, least, "'s group drains"),
         Since::OwnDrains => push_text(memory, text, "its own group drains"),
+        Since::Deferred => push_text(memory, text, "its group is deferred"),
     }
 }
