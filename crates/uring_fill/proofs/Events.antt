@@ -88,7 +88,7 @@ finish_part core seen wanted h n res bytes at fits lawful =
     let e = entry_of r n in
     record {
       lawful = lawful;
-      results = (fits.may, at.part.results);
+      results = (record { result = fits.may.result; untold = λ quiet. fits.may.untold (sym (by_entry core.setup.linux r n res at.manual) ∙ quiet) }, at.part.results);
       shows = at.part.shows;
       posts = posts_on (posts core.setup.linux r n res) core.setup.cq (world core.setup h).completions (completion_for e res bytes) (completions_in seen) at.part.posts (λ told. sym at.is_next ∙ fits.tells (sym (by_entry core.setup.linux r n res at.manual) ∙ told));
     }
@@ -101,7 +101,7 @@ part_finish core seen wanted h n res bytes at p =
     let r = (world core.setup h).requests in
     let e = entry_of r n in
     record {
-      may = p.results.0;
+      may = record { result = p.results.0.result; untold = λ quiet. p.results.0.untold (by_entry core.setup.linux r n res at.manual ∙ quiet) };
       tells = λ told. at.is_next ∙ posts_next (posts core.setup.linux r n res) core.setup.cq (world core.setup h).completions (completion_for e res bytes) (completions_in seen) p.posts (by_entry core.setup.linux r n res at.manual ∙ told);
     }
 
@@ -347,10 +347,11 @@ hidden_event g h (s, a) lawful hidden = absurd (let f : false ≡ true = hidden 
 
 -- Steps that are seen.
 
-no_end : (s : Step) (r : Requests) (a : Answer) → is_hidden s ≡ false → GivesAllowed r (s, a)
-no_end (step.Issue n) r a e = absurd (let f : true ≡ false = e in cc)
-no_end (step.Finish n) r a e = absurd (let f : true ≡ false = e in cc)
-no_end s r a e = tt
+no_end : (s : Step) (linux : Bool) (r : Requests) (a : Answer) → is_hidden s ≡ false
+    → GivesAllowed linux r (s, a)
+no_end (step.Issue n) linux r a e = absurd (let f : true ≡ false = e in cc)
+no_end (step.Finish n) linux r a e = absurd (let f : true ≡ false = e in cc)
+no_end s linux r a e = tt
 
 ends_hidden : (s : Step) (a : Answer) (n : ℕ) (res : ℤ) (bytes : List ℕ)
     → end_told_by (s, a) ≡ Some (record { number = n; res = res; bytes = bytes })
@@ -374,7 +375,7 @@ seen_part g seen h x p shown next lawful =
     let kept = posted_kept g (world g h) x.0 x.1 (world g (x ∷ h)) (completion_move g x.0 x.1 h lawful) shown in
     record {
       lawful = lawful;
-      results = (no_end x.0 (world g h).requests x.1 shown, p.results);
+      results = (no_end x.0 g.linux (world g h).requests x.1 shown, p.results);
       shows = subst (λ b. Begins (if b then seen_in h else seen_in h ++ x ∷ []) seen) (sym shown) (begins_next (seen_in h) x seen p.shows next);
       posts = subst (λ xs. Begins xs (completions_in seen)) (sym kept) p.posts;
     }

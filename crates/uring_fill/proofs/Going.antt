@@ -87,13 +87,13 @@ pub record StandsFor (g : Setup) (h k : History) : Type 0 where
   pub results : GiveAllowed g k
 
 stands_then : (g : Setup) (e : Event) (h k : History) → StandsFor g h k
-    → CalledForApart g (world g h) e.0 e.1 → GivesAllowed (world g h).requests e
+    → CalledForApart g (world g h) e.0 e.1 → GivesAllowed g.linux (world g h).requests e
     → StandsFor g (e ∷ h) (e ∷ k)
 stands_then g e h k s called gives = record {
   same_world = ap (λ w. happens g w e.0 e.1) s.same_world;
   same_seen = ap (λ xs. if is_hidden e.0 then xs else xs ++ e ∷ []) s.same_seen;
   lawful = (subst (λ w. CalledForApart g w e.0 e.1) (sym s.same_world) called, s.lawful);
-  results = (subst (λ (w : World). GivesAllowed w.requests e) (sym s.same_world) gives, s.results);
+  results = (subst (λ (w : World). GivesAllowed g.linux w.requests e) (sym s.same_world) gives, s.results);
 }
 
 stands_onto : (g : Setup) (later : List Event) (h k : History) → StandsFor g h k

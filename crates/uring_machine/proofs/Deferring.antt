@@ -156,6 +156,7 @@ still_order false low (g ∷ rest) high o = o
 still_order true low (g ∷ rest) high o = go g.drains where
   under : low ≤ g.end
   under = let a : low ≤ g.from = o.0 in let b : g.from < g.end = o.1 in omega arith
+
   go : (d : Bool) → InOrder low (if d then rest else from_drain rest) high
   go true = order_lower low g.end rest high under o.2
   go false = order_lower low g.end (from_drain rest) high under (drain_order g.end rest high o.2)
@@ -171,6 +172,7 @@ still_before true low (g ∷ rest) high n k o here gone stays = go g.drains gone
       let low_k : g.end ≤ k = order_above g.end rest high k o.2 behind in
       let end : n < g.end = (among_tells n g among).1 in
       omega arith
+
   go : (d : Bool) → is_in_some (if d then rest else from_drain rest) n ≡ false → is_in_some (if d then rest else from_drain rest) k ≡ true → n < k
   go true out still = elim (or_cases (is_among n g) (is_in_some rest n) here) [
     | inl among ↦ first still among
@@ -287,19 +289,24 @@ group_ordered : (r : Requests) (d : Drains) → d.from < length r.accepted
 group_ordered r d some open_ order ring passed = go (not d.ring || is_faulty_from r d.from) refl where
   g : Deferred
   g = record { from = d.from; end = length r.accepted; drains = d.group }
+
   all : List Deferred
   all = d.deferred ++ g ∷ []
+
   all_order : InOrder 0 all (length r.accepted)
   all_order = order_push 0 d.deferred d.from g (omega arith) some order
+
   -- members of the new group are in it
   is_new : (n : ℕ) → d.from ≤ n → n < length r.accepted → is_in_some all n ≡ true
   is_new n low lt = push_new d.deferred g n (and_from _ _ (le-leb d.from n low) (lt-ltb n (length r.accepted) lt))
+
   -- and nobody before it
   is_old : (k : ℕ) → k < d.from → is_in_some all k ≡ true → is_in_some d.deferred k ≡ true
   is_old k lt e = elim (push_cases d.deferred g k e) [
     | inl old ↦ old
     | inr new ↦ absurd (let from : d.from ≤ k = (among_tells k g new).0 in omega arith)
   ]
+
   behind : (n k : ℕ) → n < length r.accepted → k < n → (not d.ring || is_faulty_from r d.from) ≡ true → is_in_some d.deferred k ≡ true → is_in_some d.deferred n ≡ false → is_in_faulty_group r n ≡ true
   behind n k lt under e there out = elim (cases_lt n d.from) [
     | inl before ↦ passed n k before under there out
@@ -308,6 +315,7 @@ group_ordered r d some open_ order ring passed = go (not d.ring || is_faulty_fro
       | inr faulty ↦ group_faulty r d.from n open_ past lt faulty
     ]
   ]
+
   gone_on : (alone : Bool) (n k : ℕ) → n < length r.accepted → k < n → is_in_some (still_deferred alone all) k ≡ true → is_in_some (still_deferred alone all) n ≡ false → is_in_faulty_group r n ≡ true
   gone_on alone n k lt under there out = elim (cases_Bool (is_in_some all n)) [
     | inl here ↦ absurd (let before : n < k = still_before alone 0 all (length r.accepted) n k all_order here out there in omega arith)
@@ -316,6 +324,7 @@ group_ordered r d some open_ order ring passed = go (not d.ring || is_faulty_fro
       | inr past ↦ absurd (both_ways (is_in_some all n) never (is_new n past lt))
     ]
   ]
+
   go : (b : Bool) → (not d.ring || is_faulty_from r d.from) ≡ b
       → IsGrouped r d (if b then with_deferred d (length r.accepted) d.deferred else with_ring (with_deferred d (length r.accepted) (after_going_on r (deferred_with d (length r.accepted)))) d.group)
   go true e = record {
@@ -377,14 +386,19 @@ accepted_ordered : (l : LinuxRequests) (e : Sqe) → IsSettled l → IsOrdered l
 accepted_ordered l e s o = go (is_linked e) refl where
   r : Requests
   r = manual.with_accepted l.requests e
+
   d : Drains
   d = with_last_entry r (length l.requests.accepted) l.drains
+
   more : length r.accepted ≡ length l.requests.accepted + 1
   more = length-append l.requests.accepted (e ∷ [])
+
   ring : d.ring ≡ false → d.deferred ≡ []
   ring off = o.ring (or_parts l.drains.ring _ off).0
+
   new_open : is_linked e ≡ true → is_last r (length l.requests.accepted) ≡ false
   new_open linked = or_from _ _ (ap (λ x. not (is_linked x)) (entry_of_accepted_at l.requests e) ∙ ap not linked) (s.later (length l.requests.accepted) (omega arith)).cut
+
   go : (b : Bool) → is_linked e ≡ b → IsOrdered (record { requests = r; drains = if b then d else with_group r d })
   go true linked = record {
     low = let low = o.low in omega (arith, low, more);
@@ -413,8 +427,10 @@ cut_ordered : (l : LinuxRequests) → IsOrdered l → IsOrdered (with_cut l)
 cut_ordered l o = go (nat_lt l.drains.from (length l.requests.accepted)) refl where
   r : Requests
   r = manual.with_cut l.requests
+
   passed : OnlyFaultyPass r l.drains.from l.drains.deferred
   passed n k lt under there out = let low = o.low in faulty_kept l.requests r (cut_keeps l.requests) n (omega arith) (o.passed n k lt under there out)
+
   go : (b : Bool) → nat_lt l.drains.from (length l.requests.accepted) ≡ b → IsOrdered (record { requests = r; drains = if b then with_group r l.drains else l.drains })
   go true e =
       let some : l.drains.from < length r.accepted = ltb-true _ _ e in

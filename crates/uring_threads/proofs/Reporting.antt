@@ -214,8 +214,10 @@ one_end : (g : Setup) (w : World) (n : ℕ) (res : ℤ) (bytes : List ℕ)
 one_end g w n res bytes = by_posts (posts g.linux w.requests n res) where
   l : Completions
   l = w.completions
+
   c : Cqe
   c = completion_for (entry_of w.requests n) res bytes
+
   by_posts : (told : Bool) → length (unreaped (if told then with_posted g.cq l c else l)) ≤ length (unreaped l) + 1
   by_posts true = omega (arith, length-drop (length l.reaped) (l.posted ++ c ∷ []), length-append l.posted (c ∷ []), length-drop (length l.reaped) l.posted)
   by_posts false = omega arith
