@@ -1,10 +1,11 @@
 -- What an event makes of the completion ring, each with what is known of it because its answer was called for.
 -- `stays` is the frame of all that leave the ring as it was: whatever became of the rest, they tell nothing of it.
-use Rattle.std.proofs.Common.{◌≡◌, ℕ, ℤ, Bool, false, List, [], ◌∷◌, ◌++◌, Some, None, refl, sym, subst, append-nil, rules}
+use Rattle.std.proofs.Common.{◌≡◌, ℕ, ℤ, Bool, true, false, List, [], ◌∷◌, ◌++◌, Some, None, refl, sym, subst, append-nil, rules}
 use Rattle.uring_entry.specs.Setup.{Setup}
 use Rattle.uring_entry.specs.Layout.{Sqe, Cqe}
 use Rattle.uring_entry.specs.Submission.{Submission, entries_of, places_from}
-use Rattle.uring_entry.specs.Requests.{Requests}
+use Rattle.uring_entry.specs.Requests.{Requests, no_bytes}
+use Rattle.uring_rules.specs.Rules.{doomed_result, cancel_result, with_issued_end}
 use Rattle.uring_linux.specs.LinuxRequests.{LinuxRequests}
 use Rattle.uring_entry.specs.Completions.{next_to_reap, with_flushed, with_tail_loaded, with_reaped, with_head_stored}
 use Rattle.uring_core.specs.World.{World, requests_of, with_end_of, happens, taking_of, taking_entry_of, ending_of}
@@ -46,28 +47,45 @@ pub data CompletionMove (g : Setup) (w : World) : Step → Answer → World → 
 same_ends : (r : Requests) → LeavesEnds r r
 same_ends r = record { more = []; accepted = sym (append-nil r.accepted); ended = refl }
 
+-- an end as a request is issued, by either's rules
+issued_accepted : (linux : Bool) (r : Requests) (n : ℕ) (res : ℤ)
+    → (with_issued_end linux r n res).accepted ≡ r.accepted
+issued_accepted true r n res = refl
+issued_accepted false r n res = refl
+
+issued_ended : (linux : Bool) (r : Requests) (n : ℕ) (res : ℤ) → (with_issued_end linux r n res).ended
+    ≡ r.ended ++ record { number = n; res = res; bytes = no_bytes } ∷ []
+issued_ended true r n res = refl
+issued_ended false r n res = refl
+
+ends_issued : (g : Setup) (w : World) (n : ℕ) (res : ℤ)
+    → CompletionMove g w (step.Issue n) (answer.Ended res no_bytes) (happens g w (step.Issue n) (answer.Ended res no_bytes))
+ends_issued g w n res =
+    ends _ _ n res no_bytes (requests_of (happens g w (step.Issue n) (answer.Ended res no_bytes))) (search rules) refl
+    (issued_accepted g.linux w.requests n res) (issued_ended g.linux w.requests n res)
+
 completion_by : (g : Setup) (w : World) (s : Step) (a : Answer) → Change g w s a
     → CompletionMove g w s a (happens g w s a)
 completion_by g w s a (event_refuses _ _ same i) =
     subst (CompletionMove g w s a) (sym (same w)) (stays s a w.submission (requests_of w) w.is_closed (assumption i) i.ends (same_ends w.requests))
 completion_by g w s a (event_takes entry call place opened left at valid) =
-    subst (λ o. CompletionMove g w step.Take (answer.Entry entry) (taking_entry_of g w entry o)) (sym opened) (stays _ _ _ _ _ (search rules) refl (same_ends w.requests))
+    subst (λ o. CompletionMove g w step.Take (answer.Entry entry) (taking_entry_of g w entry o)) (sym opened) (stays _ _ _ (requests_of w) _ (search rules) refl (same_ends w.requests))
 completion_by g w s a (event_drops call place opened left at invalid) =
-    subst (λ o. CompletionMove g w step.Take answer.Dropped (taking_of w o)) (sym opened) (stays _ _ _ _ _ (search rules) refl (same_ends w.requests))
+    subst (λ o. CompletionMove g w step.Take answer.Dropped (taking_of w o)) (sym opened) (stays _ _ _ (requests_of w) _ (search rules) refl (same_ends w.requests))
 completion_by g w s a (event_closes accepted missed head call opened all counted) =
-    subst (λ o. CompletionMove g w step.End (answer.Taken accepted missed head) (ending_of g w o)) (sym opened) (stays _ _ _ _ _ (search rules) refl (record { more = entries_of (places_from w.submission call.count); accepted = refl; ended = refl }))
-completion_by g w s a (event_runs n outstanding idle spared ready no_cancel) = stays _ _ _ _ _ (search rules) refl (record { more = []; accepted = sym (append-nil w.requests.accepted); ended = refl })
+    subst (λ o. CompletionMove g w step.End (answer.Taken accepted missed head) (ending_of g w o)) (sym opened) (stays _ _ _ (requests_of (ending_of g w (Some call))) _ (search rules) refl (record { more = entries_of (places_from w.submission call.count); accepted = refl; ended = refl }))
+completion_by g w s a (event_runs n outstanding idle spared ready no_cancel) = stays _ _ _ (requests_of (happens g w (step.Issue n) answer.Run)) _ (search rules) refl (record { more = []; accepted = sym (append-nil w.requests.accepted); ended = refl })
 completion_by g w s a (event_dooms n outstanding idle doomed) =
-    ends _ _ n _ _ _ (search rules) refl refl refl
+    ends_issued g w n (doomed_result g.linux w.requests n)
 completion_by g w s a (event_cancels n outstanding idle spared ready cancel) =
-    ends _ _ n _ _ _ (search rules) refl refl refl
+    ends_issued g w n (cancel_result g.linux w.requests n)
 completion_by g w s a (event_finishes n res bytes running) =
-    ends _ _ n res bytes _ (search rules) refl refl refl
+    ends _ _ n res bytes (requests_of (happens g w (step.Finish n) (answer.Ended res bytes))) (search rules) refl refl refl
 completion_by g w s a (event_flushes moved) = flushes moved
 completion_by g w s a (event_sees_tail tail) = sees_tail tail
 completion_by g w s a (event_reaps completion next) = reaps completion next
 completion_by g w s a (event_stores_head head) = stores_head head
-completion_by g w s a _ = stays _ _ _ _ _ (search rules) refl (same_ends w.requests)
+completion_by g w s a _ = stays _ _ _ (requests_of w) _ (search rules) refl (same_ends w.requests)
 
 pub completion_move : (g : Setup) (s : Step) (a : Answer) (h : History)
     → IsLawfulApart g ((s, a) ∷ h) → CompletionMove g (world g h) s a (world g ((s, a) ∷ h))

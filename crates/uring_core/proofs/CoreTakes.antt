@@ -104,6 +104,7 @@ taken_shows p w q call held stops s is more shown holds =
       submission = shown;
       completions = s.completions;
       requests = s.requests;
+      rules = s.rules;
       held = holds;
       closed = s.closed;
       between = s.between;

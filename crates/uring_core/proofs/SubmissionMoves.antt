@@ -1,10 +1,12 @@
 -- What an event makes of the submission ring, each with what is known of it because its answer was called for.
 -- `stays` is the frame of all that leave the ring as it was: whatever became of the rest, they tell nothing of it.
-use Rattle.std.proofs.Common.{◌≡◌, ℕ, Bool, false, ◌||◌, nat_lt, eqb, ◌+◌, length, Some, None, slice_get, refl, sym, subst, ap, rules, ◌∷◌}
+use Rattle.std.proofs.Common.{◌≡◌, ℕ, ℤ, Bool, true, false, ◌||◌, nat_lt, eqb, ◌+◌, length, Some, None, slice_get, refl, sym, subst, ap, rules, ◌∷◌}
 use Rattle.uring_entry.specs.Setup.{Setup}
 use Rattle.uring_entry.specs.Layout.{Sqe}
 use Rattle.uring_entry.specs.Submission.{Call, Place, taken, is_full, call_length, entries_of, places_from, with_filled, with_staged, with_published, with_head_loaded, with_begun}
+use Rattle.uring_entry.specs.Requests.{Requests, no_bytes}
 use Rattle.uring_linux.specs.LinuxRequests.{LinuxRequests}
+use Rattle.uring_rules.specs.Rules.{doomed_result, cancel_result, with_issued_end}
 use Rattle.uring_entry.specs.Completions.{Completions}
 use Rattle.uring_core.specs.World.{World, requests_of, happens, taking_of, taking_entry_of, ending_of}
 use Rattle.uring_core.specs.Histories.{Event, History, world, IsLawfulApart}
@@ -13,7 +15,7 @@ use Rattle.uring_core.specs.declared.step.Step.{Step}
 use Rattle.uring_core.specs.declared.step.Step.TheVariants as step
 use Rattle.uring_core.specs.declared.answer.Answer.{Answer}
 use Rattle.uring_core.specs.declared.answer.Answer.TheVariants as answer
-use Rattle.uring_core.proofs.Changes.{Change, IsSilent, refuses as event_refuses, fills as event_fills, stages as event_stages, stores as event_stores, loads as event_loads, begins as event_begins, takes as event_takes, drops as event_drops, closes as event_closes, change_of}
+use Rattle.uring_core.proofs.Changes.{Change, IsSilent, refuses as event_refuses, fills as event_fills, stages as event_stages, stores as event_stores, loads as event_loads, begins as event_begins, takes as event_takes, drops as event_drops, closes as event_closes, dooms as event_dooms, cancels as event_cancels, change_of}
 use Rattle.uring_core.specs.StepAnswers.{is_spent}
 
 -- an event that tells nothing of the submission ring
@@ -60,6 +62,20 @@ pub data SubmissionMove (g : Setup) (w : World) : Step → Answer → World → 
 off_silent : {e : Event} → IsSilent e → IsOffSubmission e
 off_silent i = assumption i
 
+-- an end as a request is issued, by either's rules
+leaves_issued : (g : Setup) (w : World) (n : ℕ) (res : ℤ)
+    → SubmissionMove g w (step.Issue n) (answer.Ended res no_bytes) (happens g w (step.Issue n) (answer.Ended res no_bytes))
+leaves_issued g w n res =
+    stays _ _ (requests_of (happens g w (step.Issue n) (answer.Ended res no_bytes))) _ _ (search rules)
+    (record { accepted = same_accepted g.linux w.requests; cuts = same_cuts g.linux w.requests; shut = refl }) where
+      same_accepted : (linux : Bool) (r : Requests) → (with_issued_end linux r n res).accepted ≡ r.accepted
+      same_accepted true r = refl
+      same_accepted false r = refl
+
+      same_cuts : (linux : Bool) (r : Requests) → (with_issued_end linux r n res).cuts ≡ r.cuts
+      same_cuts true r = refl
+      same_cuts false r = refl
+
 submission_by : (g : Setup) (w : World) (s : Step) (a : Answer) → Change g w s a
     → SubmissionMove g w s a (happens g w s a)
 submission_by g w s a (event_refuses _ _ same silent) =
@@ -76,7 +92,11 @@ submission_by g w s a (event_drops call place opened left at invalid) =
     subst (λ o. SubmissionMove g w step.Take answer.Dropped (taking_of w o)) (sym opened) (drops call place opened left at invalid)
 submission_by g w s a (event_closes accepted missed head call opened all counted) =
     subst (λ o. SubmissionMove g w step.End (answer.Taken accepted missed head) (ending_of g w o)) (sym opened) (closes accepted missed head call opened all counted)
-submission_by g w s a _ = stays _ _ _ _ _ (search rules) (search rules)
+submission_by g w s a (event_dooms n outstanding idle doomed) =
+    leaves_issued g w n (doomed_result g.linux w.requests n)
+submission_by g w s a (event_cancels n outstanding idle spared ready cancel) =
+    leaves_issued g w n (cancel_result g.linux w.requests n)
+submission_by g w s a _ = stays _ _ (requests_of (happens g w s a)) _ _ (search rules) (search rules)
 
 pub submission_move : (g : Setup) (s : Step) (a : Answer) (h : History)
     → IsLawfulApart g ((s, a) ∷ h) → SubmissionMove g (world g h) s a (world g ((s, a) ∷ h))

@@ -1,3 +1,5 @@
 pub mod Views
 pub mod Calls
 pub mod IssueLemmas
+pub mod RulesLemmas
+pub mod RulesEvents

@@ -1,5 +1,5 @@
 -- What the dispatcher over one of the two shows, and what that one shows.
-use Rattle.std.proofs.Common.{◌≡◌, Bool, true, false, refl, sym, ◌∙◌, ap, subst}
+use Rattle.std.proofs.Common.{◌≡◌, Bool, true, false, sym, ◌∙◌, ap, subst}
 use Rattle.uring_dispatch.specs.Dispatch as manual
 use Rattle.uring_dispatch.specs.Dispatch.{Dispatch}
 use Rattle.uring_linux.specs.LinuxDispatch as linux

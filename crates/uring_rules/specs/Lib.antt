@@ -2,3 +2,4 @@ pub mod Rules
 pub mod RulesCalls
 pub mod RulesIssues
 pub mod RulesDispatch
+pub mod RulesLaws

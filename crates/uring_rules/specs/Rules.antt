@@ -1,5 +1,5 @@
 -- The requests of a ring by the rules of its set-up: the manual pages', or Linux's where these differ. Each definition here only chooses between the two; uring_entry's Requests has the manual pages', uring_linux's LinuxRequests those of Linux, and what both share.
-use Rattle.std.specs.Prelude.{ℕ, ℤ, Bool, true, false, not, ◌&&◌, ◌||◌, nat_le, List, length, Option, if◌then◌else◌}
+use Rattle.std.specs.Prelude.{ℕ, ℤ, Bool, not, ◌&&◌, nat_le, List, length, Option, if◌then◌else◌}
 use Rattle.uring_entry.specs.Layout.{Sqe}
 use Rattle.uring_entry.specs.Below.{least_below, all_below}
 use Rattle.uring_entry.specs.Requests as manual

@@ -20,7 +20,8 @@ pub(crate) fn issue_manual(dispatch: &mut Dispatch, n: u64) -> Issued
         → result ≡ issued false l n }
     ensures shows { (l : LinuxRequests) → dispatcher.ShowsRequests dispatch.old l.requests
         → dispatcher.ShowsRequests dispatch.new (after_issue false l n result).requests }
-    ensures counts { IssueCounts result (rules_of (kind.Manual dispatch.old)) (rules_of (kind.Manual dispatch.new)) }
+    ensures counts { IssueCounts result (rules_of (kind.Manual dispatch.old))
+        (rules_of (kind.Manual dispatch.new)) }
 {
     let Some(entry) = dispatch.entry(n) else {
         return Issued::Unknown;
@@ -43,7 +44,8 @@ pub(crate) fn issue_linux(dispatch: &mut LinuxDispatch, n: u64) -> Issued
         → result ≡ issued true l n }
     ensures shows { (l : LinuxRequests) → linux.ShowsRequests dispatch.old l
         → linux.ShowsRequests dispatch.new (after_issue true l n result) }
-    ensures counts { IssueCounts result (rules_of (kind.Linux dispatch.old)) (rules_of (kind.Linux dispatch.new)) }
+    ensures counts { IssueCounts result (rules_of (kind.Linux dispatch.old))
+        (rules_of (kind.Linux dispatch.new)) }
 {
     match dispatch.issue(n) {
         LinuxIssued::Run(op) => Issued::Run(op),

@@ -4,6 +4,7 @@
 mod answers;
 mod issues;
 mod kind;
+pub mod laws;
 mod rules;
 
 pub use answers::Issued;

@@ -3,7 +3,7 @@
 ghost use Rattle.std.specs.Prelude.{◌≡◌, ℕ, List, ◌+◌, ◌-◌, ◌^◌, ◌<◌, ◌≤◌, ◌↔◌, IsTrue, true, false, OnOk, OnErr, IsErrOf, length, slice_get, None};
 ghost use Rattle.uring_entry.specs.Requests.{least_of, operation_running, entry_outstanding, outstanding_in, running_in};
 ghost use Rattle.uring_linux.specs.LinuxRequests.{LinuxRequests, no_request};
-ghost use Rattle.uring_rules.specs.Rules.{next_of, issuables_of, issuable_from};
+ghost use Rattle.uring_rules.specs.Rules.{next_of, issuables_of, issuable_from, why_of, found_by};
 ghost use Rattle.uring_rules.specs.RulesCalls.{accepted_by, cut_by, called_by};
 ghost use Rattle.uring_rules.specs.RulesIssues.{issued, after_issue, posted_by, after_end};
 
@@ -12,8 +12,8 @@ use crate::issues::{issue_linux, issue_manual};
 use crate::kind::Kind;
 use std::alloc::Global;
 use std::marker::Model;
-use uring_dispatch::{Dispatch, Posts, ReserveError};
-use uring_entry::{Op, Sqe};
+use uring_dispatch::{Dispatch, Found, Posts, ReserveError};
+use uring_entry::{Op, Sqe, Why};
 use uring_linux::LinuxDispatch;
 use uring_memory::Memory;
 
@@ -263,6 +263,30 @@ impl Rules {
         match &self.kind {
             Kind::Manual(dispatch) => dispatch.nth_issuable(k),
             Kind::Linux(dispatch) => dispatch.nth_issuable(k),
+        }
+    }
+
+    /// Why request `n`, any number, stands as it does: what dooms it, or the least request that it waits for, with the first reason in the order of `Doom` or `Since`. Our own rule.
+    pub fn why(&self, n: u64) -> Why
+        requires { IsTrue self.now.is_between_calls }
+        ensures { (l : LinuxRequests) → ShowsRequests self.now l
+            → result ≡ why_of self.now.linux l n }
+    {
+        match &self.kind {
+            Kind::Manual(dispatch) => dispatch.why(n),
+            Kind::Linux(dispatch) => dispatch.why(n),
+        }
+    }
+
+    /// What request `n`, any number, would find if it were carried out now: `Some` exactly if it is an outstanding cancel of one request, without a fault of its own. Our own rule.
+    pub fn would_find(&self, n: u64) -> Option<Found>
+        requires { IsTrue self.now.is_between_calls }
+        ensures { (l : LinuxRequests) → ShowsRequests self.now l
+            → result ≡ found_by self.now.linux l.requests n }
+    {
+        match &self.kind {
+            Kind::Manual(dispatch) => dispatch.would_find(n),
+            Kind::Linux(dispatch) => dispatch.would_find(n),
         }
     }
 

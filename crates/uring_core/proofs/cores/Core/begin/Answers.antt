@@ -1,5 +1,7 @@
 use Rattle.std.proofs.Common.{◌+◌, refl, sym, ◌∙◌, ap, arith, Err, inl}
 use Rattle.uring_core.specs.declared.answer.Answer.TheVariants as answer
+use Rattle.uring_core.specs.World.{requests_of}
+use Rattle.uring_core.specs.Histories.{world}
 use Rattle.uring_core.proofs.CoreSteps.{core_after}
 use Rattle.uring_core.proofs.CoreCalls.{opens_within, opens_with, again_goes, call_goes, on_success, not_refused}
 use Rattle.uring_core.proofs.cores.Core.begin.Goals as goal
@@ -26,6 +28,14 @@ returns-in-Err-NoMemory-clause-fits g c =
     rw (← c.self.view_is) (again_goes _ c.reserve_in.new.self _ c.args.count c.from-length.result
     (λ h f. sym (told h f) ∙ ap (λ k. answer.Call k) (sym c.from-length.ensures))
     c.reserve_in.ensures.counts c.reserve_in.ensures.between c.reserve_in.ensures.shows refl (inl (c.reserve_in.ensures.no_memory (c.in-Err-NoMemory.is ∙ ap Err c.in-Err-NoMemory.field-0-is))))
+
+pub returns-in-Err-NoMemory-clause-granted : goal.returns-in-Err-NoMemory-clause-granted
+returns-in-Err-NoMemory-clause-granted g c =
+    let told = rw (← c.self.view_is) at c.in-Call.ensures in
+    rw (← c.self.view_is)
+    (λ h n f grants few again.
+    let positions = opens_with _ c.args.count c.from-length.result (λ k fits. sym (told k fits) ∙ ap (λ j. answer.Call j) (sym c.from-length.ensures)) h f in
+    c.reserve_in.ensures.granted (requests_of (world c.self.inside.setup h)) n f.shows.requests grants (omega arith) (c.in-Err-NoMemory.is ∙ ap Err c.in-Err-NoMemory.field-0-is))
 
 pub invariant_of-self-2 : goal.invariant_of-self-2
 invariant_of-self-2 g c =

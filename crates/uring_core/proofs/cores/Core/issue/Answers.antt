@@ -21,3 +21,6 @@ returns-in-Ended-clause-fits c =
     let ended = issue_ended_goes _ c.issue.new.self c.post_end.new.cq c.args.number c.in-Ended.res c.in-Ended.posts c.in-Ended.ensures.answer
     c.in-Ended.ensures.shows c.in-Ended.ensures.counts (λ g l. simp same at (c.post_end.ensures.shows g l)) c.post_end.ensures.room c.post_end.ensures.promised in
     rw (simp same at c.ended.ensures, ← c.self.view_is) ended
+
+pub returns-in-Run-clause-fits : goal.returns-in-Run-clause-fits
+returns-in-Run-clause-fits c = rw (← c.self.view_is) (run_goes _ c.issue.new.self c.args.number c.in-Run.field-0 c.in-Run.ensures.answer c.in-Run.ensures.shows c.in-Run.ensures.counts)

@@ -1,5 +1,4 @@
-use Rattle.std.proofs.Common.{ℕ, ◌+◌, ◌<◌, IsErrOf, ap, subst}
-use Rattle.uring_dispatch.specs.declared.errors.ReserveError.{ReserveError}
+use Rattle.std.proofs.Common.{◌+◌, ◌<◌, IsErrOf, ap, subst}
 use Rattle.uring_dispatch.specs.declared.errors.ReserveError.TheVariants.{NoMemory}
 use Rattle.uring_rules.specs.declared.rules.Rules.TheInside.{Inside}
 use Rattle.uring_rules.proofs.Views.{manual_shown, linux_shown, manual_goes, linux_goes, manual_accepted, linux_accepted}

@@ -1,0 +1,149 @@
+-- What is so by the manual pages' rules and by Linux's. Other crates may import all of it.
+use Rattle.std.proofs.Common.{◌≡◌, ℕ, ◌<◌, ℤ, pos, neg_ℤ, Bool, true, false, not, ◌&&◌, ◌||◌, inl, inr, length, Option, Some, None, refl, ◌∙◌, rules}
+use Rattle.std.specs.Prelude.{if◌then◌else◌, is_some}
+use Rattle.std.proofs.lemmas.Bool.{and_parts, false_from_ne_true, both_ways, ltb-true}
+use Rattle.uring_entry.specs.declared.errno.TheConstants.{ENOENT, EINVAL, EOPNOTSUPP, EALREADY, ECANCELED}
+use Rattle.uring_entry.specs.declared.operation.Op.{Op}
+use Rattle.uring_entry.specs.Preparation.{is_faulty, is_cancel, operation_of}
+use Rattle.uring_entry.specs.Requests.{Requests, entry_of, is_outstanding, is_running, target_of, result_for}
+use Rattle.uring_entry.proofs.RequestLemmas.{is_doomed_own_fault}
+use Rattle.uring_dispatch.specs.declared.answers.Posts.{Posts}
+use Rattle.uring_linux.specs.LinuxRequests as linux
+use Rattle.uring_linux.specs.LinuxRequests.{LinuxRequests, is_in_turn, is_deferred, is_refused_drain, found_by}
+use Rattle.uring_linux.proofs.Standings.{healthy}
+use Rattle.uring_rules.specs.declared.answers.Issued.TheVariants.{Run, Ended, NotReady, Running, Unknown}
+use Rattle.uring_rules.specs.Rules.{ends_doomed, may_start, doomed_result, cancel_result, is_issuable}
+use Rattle.uring_rules.specs.RulesIssues.{issued, posts_of}
+use Rattle.uring_rules.specs.RulesLaws.{is_refusal, IsPlain, IsDoomedResult, IsCancelResult, CancelEnds}
+
+-- What an answer tells.
+
+-- what is so of a request that starts
+pub record Starts (is_linux : Bool) (l : LinuxRequests) (n : ℕ) : Type 0 where
+  pub outstanding : is_outstanding l.requests n ≡ true
+  pub idle : is_running l.requests n ≡ false
+  pub spared : ends_doomed is_linux l.requests n ≡ false
+  pub free : may_start is_linux l n ≡ true
+  pub other : is_cancel (entry_of l.requests n) ≡ false
+
+record Runs (outstanding running doomed free cancel : Bool) : Type 0 where
+  there : outstanding ≡ true
+  idle : running ≡ false
+  spared : doomed ≡ false
+  ready : free ≡ true
+  other : cancel ≡ false
+
+runs_cases : (outstanding running doomed free cancel : Bool) (doom result : ℤ) (first second : Posts) (op mine : Op)
+    → (if not outstanding then Unknown else if running then Running else if doomed then Ended doom first else if not free then NotReady else if cancel then Ended result second else Run mine) ≡ Run op
+    → Runs outstanding running doomed free cancel
+runs_cases false running doomed free cancel doom result first second op mine e = absurd cc
+runs_cases true true doomed free cancel doom result first second op mine e = absurd cc
+runs_cases true false true free cancel doom result first second op mine e = absurd cc
+runs_cases true false false false cancel doom result first second op mine e = absurd cc
+runs_cases true false false true true doom result first second op mine e = absurd cc
+runs_cases true false false true false doom result first second op mine e =
+    record { there = refl; idle = refl; spared = refl; ready = refl; other = refl }
+
+pub run_tells : (is_linux : Bool) (l : LinuxRequests) (n : ℕ) (op : Op) → issued is_linux l n ≡ Run op
+    → Starts is_linux l n
+run_tells is_linux l n op e =
+    let r = l.requests in
+    let s =
+    runs_cases (is_outstanding r n) (is_running r n) (ends_doomed is_linux r n) (may_start is_linux l n) (is_cancel (entry_of r n)) (doomed_result is_linux r n) (cancel_result is_linux r n)
+    (posts_of is_linux r n (doomed_result is_linux r n)) (posts_of is_linux r n (cancel_result is_linux r n)) op (operation_of (entry_of r n)) e in
+    record { outstanding = s.there; idle = s.idle; spared = s.spared; free = s.ready; other = s.other }
+
+-- what isn't to end as doomed in its turn, and is in its turn, isn't doomed
+spared_in_turn : (turn doomed deferred : Bool) → (turn && doomed) ≡ false
+    → (turn && not deferred) ≡ true → doomed ≡ false
+spared_in_turn true doomed deferred spared free = spared
+spared_in_turn false doomed deferred spared free = absurd (let f : false ≡ true = free in cc)
+
+-- what may start and doesn't end as doomed has no fault
+pub start_healthy : (is_linux : Bool) (l : LinuxRequests) (n : ℕ) → n < length l.requests.accepted
+    → ends_doomed is_linux l.requests n ≡ false → may_start is_linux l n ≡ true
+    → is_faulty (entry_of l.requests n) ≡ false
+start_healthy true l n within spared free =
+    healthy l.requests n within (spared_in_turn (is_in_turn l.requests n) (linux.is_doomed l.requests n) (is_deferred l n) spared free)
+start_healthy false l n within spared free =
+    false_from_ne_true _ (λ faulty. both_ways _ spared (is_doomed_own_fault l.requests n within faulty))
+
+pub start_plain : (is_linux : Bool) (l : LinuxRequests) (n : ℕ) → Starts is_linux l n
+    → IsPlain (entry_of l.requests n)
+start_plain is_linux l n s = record {
+  healthy = start_healthy is_linux l n (ltb-true _ _ (and_parts _ _ s.outstanding).0) s.spared s.free;
+  other = s.other;
+}
+
+-- Which can be issued.
+
+refused_cases : (outstanding running doomed free cancel : Bool) (doom result : ℤ) (first second : Posts) (op : Op)
+    → (outstanding && not running && (doomed || free))
+    ≡ not (is_refusal (if not outstanding then Unknown else if running then Running else if doomed then Ended doom first else if not free then NotReady else if cancel then Ended result second else Run op))
+refused_cases false running doomed free cancel doom result first second op = refl
+refused_cases true true doomed free cancel doom result first second op = refl
+refused_cases true false true free cancel doom result first second op = refl
+refused_cases true false false false cancel doom result first second op = refl
+refused_cases true false false true true doom result first second op = refl
+refused_cases true false false true false doom result first second op = refl
+
+turn_cases : (outstanding running turn doomed deferred : Bool)
+    → (outstanding && (not running && (turn && (doomed || not deferred))))
+    ≡ (outstanding && not running && ((turn && doomed) || (turn && not deferred)))
+turn_cases false running turn doomed deferred = refl
+turn_cases true true turn doomed deferred = refl
+turn_cases true false false doomed deferred = refl
+turn_cases true false true doomed deferred = refl
+
+-- what can be issued is outstanding, doesn't run, and is to end as doomed or may start
+pub issuable_is : (is_linux : Bool) (l : LinuxRequests) (n : ℕ)
+    → is_issuable is_linux l n ≡ (is_outstanding l.requests n && not (is_running l.requests n) && (ends_doomed is_linux l.requests n || may_start is_linux l n))
+issuable_is true l n =
+    turn_cases (is_outstanding l.requests n) (is_running l.requests n) (is_in_turn l.requests n) (linux.is_doomed l.requests n) (is_deferred l n)
+issuable_is false l n = refl
+
+pub issuable_goes : (is_linux : Bool) (l : LinuxRequests) (n : ℕ)
+    → is_issuable is_linux l n ≡ not (is_refusal (issued is_linux l n))
+issuable_goes is_linux l n =
+    let r = l.requests in
+    issuable_is is_linux l n
+    ∙ refused_cases (is_outstanding r n) (is_running r n) (ends_doomed is_linux r n) (may_start is_linux l n) (is_cancel (entry_of r n)) (doomed_result is_linux r n) (cancel_result is_linux r n)
+    (posts_of is_linux r n (doomed_result is_linux r n)) (posts_of is_linux r n (cancel_result is_linux r n)) (operation_of (entry_of r n))
+
+-- Results.
+
+linux_doom : (own drain : Bool)
+    → IsDoomedResult (if own then neg_ℤ EINVAL else if drain then neg_ℤ EOPNOTSUPP else neg_ℤ ECANCELED)
+linux_doom true drain = inl refl
+linux_doom false true = inr (inl refl)
+linux_doom false false = inr (inr refl)
+
+manual_doom : (own : Bool) → IsDoomedResult (if own then neg_ℤ EINVAL else neg_ℤ ECANCELED)
+manual_doom true = inl refl
+manual_doom false = inr (inr refl)
+
+pub doomed_fails : (is_linux : Bool) (r : Requests) (n : ℕ) → IsDoomedResult (doomed_result is_linux r n)
+doomed_fails true r n = linux_doom (is_faulty (entry_of r n)) (is_refused_drain r n)
+doomed_fails false r n = manual_doom (is_faulty (entry_of r n))
+
+found_cases : (found : Bool) → IsCancelResult (if found then neg_ℤ EALREADY else neg_ℤ ENOENT)
+found_cases true = inr (inr refl)
+found_cases false = inr (inl refl)
+
+running_cases : (running : Bool) → IsCancelResult (if running then neg_ℤ EALREADY else pos 0)
+running_cases true = inr (inr refl)
+running_cases false = inl refl
+
+target_cases : (r : Requests) (target : Option ℕ) → IsCancelResult (result_for r target)
+target_cases r None = inr (inl refl)
+target_cases r (Some m) = running_cases (is_running r m)
+
+pub cancel_tells : (is_linux : Bool) (r : Requests) (n : ℕ) → CancelEnds is_linux r n
+cancel_tells true r n = record {
+  one = λ e. rw e (found_cases (is_some (found_by r n)));
+  all = λ e. rw e (search rules);
+}
+cancel_tells false r n = record {
+  one = λ e. rw e (target_cases r (target_of r n));
+  all = λ e. rw e (search rules);
+}
