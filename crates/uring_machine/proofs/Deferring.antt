@@ -1,13 +1,11 @@
 -- By Linux's rules whatever was started comes before whatever is deferred: groups are deferred in their order, go on in that order, and no later group starts before them.
 use Rattle.std.proofs.Common.{◌≡◌, ℕ, suc, ◌+◌, ◌<◌, ◌≤◌, ℤ, min, max, length, Bool, true, false, not, ◌&&◌, ◌||◌, ◌==◌, List, [], ◌∷◌, ◌++◌, refl, sym, ◌∙◌, ap, subst, arith, ◌⊎◌, inl, inr, length-append}
 use Rattle.std.specs.Prelude.{if◌then◌else◌, nat_le, nat_lt}
-use Rattle.std.specs.List.{list_any}
-use Rattle.std.proofs.lemmas.Bool.{cases_lt, cases_eq, cases_Bool, both_ways, and_left, and_right, and_from, and_parts, or_left, or_right, or_cases, or_parts, or_from, not-true, not-false, lt-leb, lt-ltb, le-leb, le-ltb, leb-true, ltb-true, ltb-false, ne_eqb}
+use Rattle.std.proofs.lemmas.Bool.{cases_lt, cases_eq, cases_Bool, both_ways, and_left, and_right, and_from, and_parts, or_left, or_right, or_cases, or_parts, or_from, not-true, not-false, lt-leb, lt-ltb, le-leb, leb-true, ltb-true, ltb-false, ne_eqb}
 use Rattle.uring_entry.specs.Layout.{Sqe}
 use Rattle.uring_entry.specs.Requests as manual
 use Rattle.uring_entry.specs.Requests.{Requests, entry_of, is_linked, is_last, is_joined, is_in_group, is_outstanding, has_started}
 use Rattle.uring_entry.specs.Preparation.{is_faulty}
-use Rattle.uring_entry.specs.Below.{some_below}
 use Rattle.uring_entry.proofs.BelowLemmas.{some_below_none, some_below_some, some_below_in, some_below_same}
 use Rattle.uring_entry.proofs.RequestLemmas.{added_other, entry_of_accepted_at}
 use Rattle.uring_entry.proofs.GroupEvents.{entry_same, is_last_cut}
@@ -16,7 +14,7 @@ use Rattle.uring_linux.specs.Drains.{Drains, is_among, is_in_some, is_none, from
 use Rattle.uring_linux.specs.LinuxRequests.{LinuxRequests, has_fault, is_refused_drain, is_in_faulty_group, is_doomed, is_in_turn, is_deferred, is_issuable, is_alone, is_faulty_from, after_going_on, with_group, with_last_entry, with_accepted, with_cut, with_ended}
 use Rattle.uring_linux.specs.Happenings.{Happening, Call, Start, End, with_entries, made_by, MayHaveHappened}
 use Rattle.uring_linux.proofs.WindowEvents.{refused_accepted, last_accepted}
-use Rattle.uring_linux.proofs.Reaching.{IsSettled, accepted_settled, entries_settled, all_between}
+use Rattle.uring_linux.proofs.Reaching.{IsSettled, accepted_settled, all_between}
 
 -- Groups in order.
 

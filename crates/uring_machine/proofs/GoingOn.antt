@@ -1,15 +1,12 @@
 -- Where something is outstanding, the least of it runs, or something can be issued: by either's rules.
-use Rattle.std.proofs.Common.{◌≡◌, ◌≢◌, ℕ, ◌<◌, ◌≤◌, Bool, true, false, not, ◌&&◌, ◌||◌, List, [], ◌∷◌, length, Option, Some, None, is_some, refl, sym, ◌∙◌, ap, subst, arith, ◌⊎◌, inl, inr}
+use Rattle.std.proofs.Common.{◌≡◌, ℕ, ◌<◌, Bool, true, false, not, ◌&&◌, ◌||◌, List, [], ◌∷◌, length, Some, is_some, refl, sym, ◌∙◌, ap, subst, arith, ◌⊎◌, inl, inr}
 use Rattle.std.proofs.lemmas.Bool.{cases_lt, cases_eq, cases_Bool, both_ways, and_from, and_parts, or_left, or_right, or_cases, lt-ltb}
 use Rattle.uring_entry.specs.Setup.{Setup}
-use Rattle.uring_entry.specs.Requests as manual
-use Rattle.uring_entry.specs.Requests.{Requests, is_outstanding, is_running, has_started, has_ended, least_of, no_bytes}
+use Rattle.uring_entry.specs.Requests.{is_outstanding, is_running, has_started, has_ended, least_of, no_bytes}
 use Rattle.uring_entry.specs.Submission.{entries_from}
 use Rattle.uring_entry.proofs.BelowLemmas.{IsLeast, least_below_tells, is_some_least_below, some_below_some}
 use Rattle.uring_entry.proofs.RequestLemmas.{least_of_goes_on}
-use Rattle.uring_linux.specs.LinuxRequests as kernel
 use Rattle.uring_linux.specs.LinuxRequests.{LinuxRequests, is_in_turn, is_deferred, is_doomed}
-use Rattle.uring_linux.specs.LinuxWhy.{least_free_of}
 use Rattle.uring_linux.specs.Happenings.{Happening, Call, Start, End, after, made_by, MayHappen, MayHaveHappened}
 use Rattle.uring_linux.proofs.GoingOn.{goes_on_from}
 use Rattle.uring_rules.specs.Rules.{is_issuable, next_of}
@@ -100,8 +97,8 @@ history_happens g ((s, a) ∷ before) lawful =
 runs_first : (l : LinuxRequests) (n m : ℕ) → IsOrdered l
     → IsLeast (is_outstanding l.requests) (length l.requests.accepted) n
     → m < length l.requests.accepted → is_running l.requests m ≡ true → is_deferred l n ≡ false
-runs_first l n m o least within runs =
-    let parts = and_parts (has_started l.requests m) (not (has_ended l.requests m)) runs in
+runs_first l n m o least within running =
+    let parts = and_parts (has_started l.requests m) (not (has_ended l.requests m)) running in
     elim (cases_Bool (is_deferred l n)) [
       | inl held ↦
           let before : m < n = o.started m n parts.0 held in
@@ -128,10 +125,10 @@ by_linux_goes l n so e = subst (λ k. GoesOn true k n) so.made (go (subst (λ (k
       let least = least_below_tells (is_outstanding k.requests) (length k.requests.accepted) n is in
       elim on.goes [
         | inr can ↦ inr (issuable_next true k m free.below can)
-        | inl runs ↦
-            let out : is_deferred k n ≡ false = runs_first k n m (all_ordered so.happened so.may so.spared) least free.below runs in
+        | inl running ↦
+            let out : is_deferred k n ≡ false = runs_first k n m (all_ordered so.happened so.may so.spared) least free.below running in
             elim (cases_eq m n) [
-              | inl same ↦ inl (subst (λ j. is_running k.requests j ≡ true) same runs)
+              | inl same ↦ inl (subst (λ j. is_running k.requests j ≡ true) same running)
               | inr other ↦ elim (cases_lt m n) [
                 | inl under ↦ absurd (both_ways _ (least.before m under) (and_parts _ _ free.holds).0)
                 | inr past ↦ absurd (both_ways _ (free.before n (omega (arith, past, other))) (and_from _ _ least.holds (ap not out)))
@@ -142,7 +139,7 @@ by_linux_goes l n so e = subst (λ k. GoesOn true k n) so.made (go (subst (λ (k
 by_manual_goes : (l : LinuxRequests) (n : ℕ) → least_of l.requests ≡ Some n → GoesOn false l n
 by_manual_goes l n e =
     elim (or_cases _ _ (least_of_goes_on l.requests n e)) [
-      | inl runs ↦ inl runs
+      | inl going ↦ inl going
       | inr can ↦ inr (issuable_next false l n (least_below_tells (is_outstanding l.requests) (length l.requests.accepted) n e).below can)
     ]
 

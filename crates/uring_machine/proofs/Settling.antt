@@ -1,11 +1,11 @@
 -- What the steps make that settle requests.
-use Rattle.std.proofs.Common.{◌≡◌, ℕ, ◌+◌, ◌-◌, ◌^◌, ◌≤◌, Bool, true, false, List, [], ◌∷◌, ◌++◌, length, Option, Some, None, is_some, refl, sym, subst, ◌∙◌, ap, arith, inl, inr, length-append}
+use Rattle.std.proofs.Common.{◌≡◌, ℕ, ℤ, ◌+◌, ◌-◌, ◌^◌, ◌≤◌, Bool, true, false, List, [], ◌∷◌, ◌++◌, length, Option, Some, None, is_some, refl, sym, subst, ◌∙◌, ap, arith, inl, inr, length-append}
 use Rattle.std.proofs.lemmas.Bool.{and_parts, and_from, both_ways, not-true}
 use Rattle.std.proofs.lemmas.List.Folds.{list_all-append}
 use Rattle.uring_entry.specs.Setup.{Setup}
 use Rattle.uring_entry.specs.Requests.{Requests, has_ended, is_outstanding, is_running, no_bytes, least_of, outstanding_in}
 use Rattle.uring_linux.specs.LinuxRequests.{LinuxRequests}
-use Rattle.uring_rules.specs.Rules.{is_issuable, next_of}
+use Rattle.uring_rules.specs.Rules.{next_of, with_issued_end}
 use Rattle.uring_entry.proofs.BelowLemmas.{least_below_tells, least_below_out}
 use Rattle.uring_entry.proofs.RequestLemmas.{is_running_started_same}
 use Rattle.uring_core.specs.World.{World, requests_of, issuing, finishing}
@@ -27,10 +27,15 @@ use Rattle.uring_core.proofs.Issuable.{issue_goes, issued_ends, issuable_outstan
 
 -- Ends, each of which leaves one outstanding request less.
 
+issued_less : (linux : Bool) (r : Requests) (n : ℕ) (res : ℤ) → is_outstanding r n ≡ true
+    → outstanding_in (with_issued_end linux r n res) + 1 ≡ outstanding_in r
+issued_less true r n res outstanding = ended_less r n res no_bytes outstanding
+issued_less false r n res outstanding = ended_less r n res no_bytes outstanding
+
 issue_less : (g : Setup) (w : World) (n : ℕ) (a : Answer) → is_outstanding w.requests n ≡ true
     → IsEnded a → outstanding_in (issuing g w n a).requests + 1 ≡ outstanding_in w.requests
 issue_less g w n (answer.Ended res bytes) outstanding ended =
-    ended_less w.requests n res no_bytes outstanding
+    issued_less g.linux w.requests n res outstanding
 issue_less g w n _ outstanding ended = absurd ended
 
 finish_less : (g : Setup) (w : World) (n : ℕ) (a : Answer) → is_outstanding w.requests n ≡ true
