@@ -218,14 +218,16 @@ enum wulgach_doom {
     WULGACH_OWN_FAULT = 1,  /* its own entry has a fault: fault is an enum wulgach_fault */
     WULGACH_FAULT_OF = 2,   /* request number, the least member of its group with a fault */
     WULGACH_FAILURE_OF = 3, /* request number, the least earlier member of its group that has a soft link and failed */
-    WULGACH_CANCELLED = 4   /* a cancel chose it */
+    WULGACH_CANCELLED = 4,  /* a cancel chose it */
+    WULGACH_REFUSED_DRAIN = 5 /* it asks to drain in a ring that has used skipped success, which Linux's rules refuse */
 };
 
 /* Why a request waits for an earlier one: the first of these that holds. */
 enum wulgach_since {
     WULGACH_SAME_GROUP = 1, /* both are members of one group */
     WULGACH_IT_DRAINS = 2,  /* the earlier one's group drains */
-    WULGACH_OWN_DRAINS = 3  /* the later one's group drains */
+    WULGACH_OWN_DRAINS = 3, /* the later one's group drains */
+    WULGACH_DEFERRED = 4    /* the later one's group is deferred, by Linux's rules: until nothing else is outstanding */
 };
 
 /* The fault of an entry: the first of these that it has. */

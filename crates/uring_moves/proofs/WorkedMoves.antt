@@ -12,7 +12,7 @@ use Rattle.uring_moves.specs.declared.move_of_calls.Move.{Move}
 use Rattle.uring_moves.specs.declared.move_of_calls.Move.TheVariants.{Accept, Issue, Finish}
 
 abbrev setup : Setup
-setup = record { sq = 4; cq = 4; files = 1; start = 0; stops = false }
+setup = record { sq = 4; cq = 4; files = 1; start = 0; stops = false; linux = false }
 
 -- a no-op with these flags and this user data
 abbrev nop : ℕ → ℕ → Sqe

@@ -199,10 +199,17 @@ abbrev pub IsGiven : List Row → Text → Bool → Type 0
 IsGiven rows id true = one_of id rows ≡ Some (codes "true")
 IsGiven rows id false = (one_of id rows ≡ None) ⊎ (one_of id rows ≡ Some (codes "false"))
 
--- the set-up of these numbers, whose calls stop exactly if `--stop` is given
+-- the same set-up with nothing but its numbers asked for: its calls go on
+abbrev pub plain_of : Setup → Setup
+plain_of s = record s { stops = false }
+
+-- the options without a value ask for a set-up like this: its calls stop exactly if `--stop` is given
+abbrev pub AskForSetup : List Row → Setup → Type 0
+AskForSetup rows s = IsGiven rows (codes "stop") s.stops
+
+-- the set-up of these numbers, with what the options without a value ask for
 abbrev pub IsTracedOver : List Row → Numbers → Setup → Type 0
-IsTracedOver rows n s =
-    IsSetupOver n (record s { stops = false }) × IsGiven rows (codes "stop") s.stops
+IsTracedOver rows n s = IsSetupOver n (plain_of s) × AskForSetup rows s
 
 -- a check tells its verdict: if it is asked for that alone, or neither `--page` nor `--json` is given
 abbrev pub TellsVerdict : List Row → Bool → Type 0
