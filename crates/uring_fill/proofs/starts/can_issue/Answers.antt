@@ -6,8 +6,8 @@ use Rattle.uring_fill.proofs.starts.can_issue.Goals as goal
 
 pub returns-in-Some : goal.returns-in-Some
 returns-in-Some c = λ h fits can.
-    eq-eqb c.in-Some.next c.args.number (same_Some c.in-Some.next c.args.number (c.in-Some.ensures h fits ∙ issuable_first _ c.args.number can))
+    eq-eqb c.in-Some.next c.args.number (same_Some c.in-Some.next c.args.number (c.in-Some.ensures h fits ∙ issuable_first _ _ c.args.number can))
 
 pub returns-in-None : goal.returns-in-None
 returns-in-None c = λ h fits can.
-    absurd (none-some c.args.number (c.in-None.ensures h fits ∙ issuable_first _ c.args.number can))
+    absurd (none-some c.args.number (c.in-None.ensures h fits ∙ issuable_first _ _ c.args.number can))
