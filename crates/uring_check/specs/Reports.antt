@@ -125,7 +125,7 @@ closing v steps = []
 -- what is told of a first line that is to say a set-up and says none
 abbrev pub missed_text : List ℕ
 missed_text =
-    codes "line 1: bad line\nwhy: no set-up, wanted: # setup --sq N --cq N --files N --start N, each within its limits, and --stop or nothing\n"
+    codes "line 1: bad line\nwhy: no set-up, wanted: # setup --sq N --cq N --files N --start N, each within its limits, and --stop, --linux or both, or nothing\n"
 
 -- The report.
 abbrev pub report : Rules → List Found → List ℕ

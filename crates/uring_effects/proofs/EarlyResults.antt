@@ -1,13 +1,12 @@
 -- Results of early effects are allowed: an effect's was when it was taken, and its request's entry stays.
 use Rattle.std.proofs.Common.{◌≡◌, ◌==◌, ◌<◌, ℕ, Bool, true, false, [], ◌∷◌, length, Some, if◌then◌else◌, refl, sym, subst, arith}
-use Rattle.std.proofs.lemmas.Bool.{and_parts, both_ways, eqb-true, false_from_ne_true}
+use Rattle.std.proofs.lemmas.Bool.{and_parts, eqb-true}
 use Rattle.std.proofs.lemmas.Option.{same_Some}
 use Rattle.uring_entry.specs.Layout.{Sqe}
-use Rattle.uring_entry.specs.Preparation.{fault_of, is_faulty}
+use Rattle.uring_entry.specs.Preparation.{fault_of}
 use Rattle.uring_entry.specs.Requests.{Requests, entry_of, has_started}
 use Rattle.uring_entry.specs.Setup.{Setup}
 use Rattle.uring_entry.specs.declared.operation.Outcome.{Outcome}
-use Rattle.uring_entry.proofs.RequestLemmas.{is_doomed_own_fault}
 use Rattle.uring_results.specs.Results.{may_end}
 use Rattle.uring_core.specs.Histories.{Event, History, IsLawfulApart}
 use Rattle.uring_core.specs.declared.step.Step.TheVariants as step
@@ -32,10 +31,9 @@ taken_allowed g before n o lawful takes =
     let r : Requests = requests_in g before in
     let i : IsSoundRequests r = (sound_of g (made_in before) lawful).requests in
     let started : has_started r n ≡ true = (and_parts _ _ takes.runs).0 in
-    let right : is_faulty (entry_of r n) ≡ false = false_from_ne_true _ (λ faulty. both_ways _ (i.started_free n started).spared (is_doomed_own_fault r n (i.started_accepted n started) faulty)) in
     record {
       accepted = i.started_accepted n started;
-      may = outcome_allowed (files_at g before) (entry_of r n) o (not_some (fault_of (entry_of r n)) right) (no_cancel g (made_in before) lawful n started) (running_asks g (made_in before) n lawful takes.runs) takes.gives;
+      may = outcome_allowed (files_at g before) (entry_of r n) o (not_some (fault_of (entry_of r n)) (i.started_right n started)) (no_cancel g (made_in before) lawful n started) (running_asks g (made_in before) n lawful takes.runs) takes.gives;
     }
 
 allows_then : (r later : Requests) (n : ℕ) (o : Outcome) → Grows r later → Allows r n o → Allows later n o

@@ -2,7 +2,8 @@
 use Rattle.std.proofs.Common.{◌≡◌, ◌==◌, ◌++◌, ◌||◌, ◌&&◌, ◌<◌, ℕ, ℤ, Bool, true, false, not, List, [], ◌∷◌, length, Option, Some, if◌then◌else◌, refl, sym, ap, subst, ◌∙◌}
 use Rattle.std.proofs.lemmas.Bool.{and_parts, both_ways, eq-eqb, eqb-true, false_from_ne_true}
 use Rattle.uring_entry.specs.Preparation.{operation_of}
-use Rattle.uring_entry.specs.Requests.{Ending, Requests, entry_of, has_ended, is_running, no_bytes, chosen_by, cancel_result, doomed_result, with_cancelled, with_started, with_ended}
+use Rattle.uring_entry.specs.Requests.{Ending, Requests, entry_of, has_ended, is_running, no_bytes, chosen_by, with_cancelled, with_started, with_ended}
+use Rattle.uring_rules.specs.Rules.{with_issued_end}
 use Rattle.uring_entry.specs.Setup.{Setup}
 use Rattle.uring_entry.specs.declared.operation.Op.{Op}
 use Rattle.uring_entry.specs.declared.operation.Outcome.{Outcome}
@@ -45,6 +46,13 @@ end_runs r m n res bytes other running =
     or_false true = refl
     or_false false = refl
 
+-- another ends as it is issued, by either's rules
+issued_runs : (linux : Bool) (r : Requests) (m n : ℕ) (res : ℤ) → (m == n) ≡ false
+    → is_running r n ≡ true → is_running (with_issued_end linux r m res) n ≡ true
+issued_runs true r m n res other running = end_runs r m n res no_bytes other running
+issued_runs false r m n res other running =
+    end_runs (with_cancelled r (chosen_by r m res)) m n res no_bytes other running
+
 -- told from either side
 other_way : (m n : ℕ) → (m == n) ≡ false → (n == m) ≡ false
 other_way m n other =
@@ -65,13 +73,13 @@ change_runs g w s a n (takes entry call place opened left at valid) other runnin
 change_runs g w s a n (drops call place opened left at invalid) other running =
     subst (λ o. is_running (taking_of w o).requests n ≡ true) (sym opened) running
 change_runs g w s a n (closes accepted missed head call opened all told) other running =
-    subst (λ o. is_running (ending_of w o).requests n ≡ true) (sym opened) running
+    subst (λ o. is_running (ending_of g w o).requests n ≡ true) (sym opened) running
 change_runs g w s a n (runs m outstanding idle spared ready no_cancel) other running =
     start_runs w.requests m n running
 change_runs g w s a n (dooms m outstanding idle doomed) other running =
-    end_runs (with_cancelled w.requests (chosen_by w.requests m (doomed_result w.requests m))) m n (doomed_result w.requests m) no_bytes (idle_other w.requests m n idle running) running
+    issued_runs g.linux w.requests m n _ (idle_other w.requests m n idle running) running
 change_runs g w s a n (cancels m outstanding idle spared ready cancel) other running =
-    end_runs (with_cancelled w.requests (chosen_by w.requests m (cancel_result w.requests m))) m n (cancel_result w.requests m) no_bytes (idle_other w.requests m n idle running) running
+    issued_runs g.linux w.requests m n _ (idle_other w.requests m n idle running) running
 change_runs g w s a n (finishes m res bytes ran) other running =
     end_runs w.requests m n res bytes (other_way n m other) running
 change_runs g w s a n _ other running = running

@@ -1,7 +1,7 @@
--- Worlds that are alike answer alike, and stay alike by each event: `alike_go_on`.
+-- Worlds that are alike answer alike, and stay alike by each event, by the manual pages' rules: `alike_go_on`.
 -- Each definition on requests reads their lists only by what is found in them, so that the order of what started and ended is read by none.
 -- Stable: other crates may import what is pub.
-use Rattle.std.proofs.Common.{◌≡◌, ℕ, zero, suc, ◌==◌, ℤ, pos, neg_ℤ, Bool, not, ◌&&◌, ◌||◌, nat_lt, if◌then◌else◌, List, [], ◌∷◌, ◌++◌, length, Option, Some, None, refl, sym, subst, ap, ap₂, ◌∙◌}
+use Rattle.std.proofs.Common.{◌≡◌, ℕ, zero, suc, ◌==◌, ℤ, pos, neg_ℤ, Bool, true, false, not, ◌&&◌, ◌||◌, nat_lt, if◌then◌else◌, List, [], ◌∷◌, ◌++◌, length, Option, Some, None, refl, sym, subst, ap, ap₂, ◌∙◌}
 use Rattle.std.specs.List.{list_any}
 use Rattle.std.specs.Option.{option_to_list}
 use Rattle.std.proofs.lemmas.List.Folds.{list_any-append}
@@ -14,12 +14,13 @@ use Rattle.uring_entry.specs.Success.{is_success}
 use Rattle.uring_entry.specs.Submission.{Call}
 use Rattle.uring_entry.specs.Requests.{Requests, Ending, entry_of, is_outstanding, is_running, is_doomed, is_behind_failure, is_in_faulty_group, some_member, is_joined, is_ready, is_issuable, is_candidate, is_target, is_soft, holds_back, has_failed, waits_for, target_of, targets_of, result_for, count_result, cancel_result, doomed_result, chosen_by, next_of, no_bytes}
 use Rattle.uring_entry.proofs.BelowLemmas.{some_below_same, least_below_same}
+use Rattle.uring_linux.specs.Drains.{Drains}
 use Rattle.uring_files.specs.Contents.{empty_files}
 use Rattle.uring_files.specs.Operations.{after}
 use Rattle.uring_core.specs.World.{World, happens, taking_of, taking_entry_of, ending_of}
 use Rattle.uring_core.specs.StepAnswers.{issue_answer, next_answer_of}
 use Rattle.uring_core.specs.CalledFor.{CalledFor, IsLawful, EndsOn, files_of}
-use Rattle.uring_core.specs.Histories.{History, world, IsLawfulApart}
+use Rattle.uring_core.specs.Histories.{History, world, IsLawfulApart, by_manual}
 use Rattle.uring_core.specs.declared.step.Step.{Step}
 use Rattle.uring_core.specs.declared.step.Step.TheVariants as step
 use Rattle.uring_core.specs.declared.answer.Answer.{Answer}
@@ -128,48 +129,49 @@ next_same r s c e a = least_below_same (is_issuable (listed r s c e)) (is_issuab
 
 -- Answers.
 
-abbrev with_lists : World → List ℕ → List ℕ → List Ending → World
-with_lists w s c e = record w { requests = listed w.requests s c e }
+abbrev with_lists : World → List ℕ → List ℕ → List Ending → Drains → World
+with_lists w s c e d = record w { requests = listed w.requests s c e; drains = d }
 
-issue_same : (w : World) (s c : List ℕ) (e : List Ending) → AreSame w.requests s c e → (n : ℕ)
-    → issue_answer (with_lists w s c e) n ≡ issue_answer w n
-issue_same w s c e a n =
+issue_same : (g : Setup) (w : World) (s c : List ℕ) (e : List Ending) (d : Drains) → AreSame w.requests s c e → (n : ℕ)
+    → issue_answer (by_manual g) (with_lists w s c e d) n ≡ issue_answer (by_manual g) w n
+issue_same g w s c e d a n =
     let r : Requests = w.requests in
     ap₂ (λ x y. if not x then answer.Unknown else if y then answer.Running else if is_doomed (listed r s c e) n then answer.Ended (doomed_result r n) no_bytes else if not (is_ready (listed r s c e) n) then answer.NotReady else if is_cancel (entry_of r n) then answer.Ended (cancel_result (listed r s c e) n) no_bytes else answer.Run) (outstanding_same r s c e a n) (running_same r s c e a n)
     ∙ ap₂ (λ x y. if not (is_outstanding r n) then answer.Unknown else if is_running r n then answer.Running else if x then answer.Ended (doomed_result r n) no_bytes else if not y then answer.NotReady else if is_cancel (entry_of r n) then answer.Ended (cancel_result (listed r s c e) n) no_bytes else answer.Run) (doomed_same r s c e a n) (ready_same r s c e a n)
     ∙ ap (λ z. if not (is_outstanding r n) then answer.Unknown else if is_running r n then answer.Running else if is_doomed r n then answer.Ended (doomed_result r n) no_bytes else if not (is_ready r n) then answer.NotReady else if is_cancel (entry_of r n) then answer.Ended z no_bytes else answer.Run) (cancel_same r s c e a n)
 
-called_same : (g : Setup) (w : World) (s c : List ℕ) (e : List Ending) → AreSame w.requests s c e
-    → files_of g w ≡ files_of g (with_lists w s c e) → (x : Step) (a : Answer) → CalledFor g w x a
-    → CalledFor g (with_lists w s c e) x a
-called_same g w s c e same files (step.Issue n) a called = called ∙ sym (issue_same w s c e same n)
-called_same g w s c e same files (step.Finish n) a called =
-    subst (λ b. EndsOn (files_of g (with_lists w s c e)) w.requests n b a) (sym (running_same w.requests s c e same n))
+called_same : (g : Setup) (w : World) (s c : List ℕ) (e : List Ending) (d : Drains) → AreSame w.requests s c e
+    → files_of (by_manual g) w ≡ files_of (by_manual g) (with_lists w s c e d) → (x : Step) (a : Answer) → CalledFor (by_manual g) w x a
+    → CalledFor (by_manual g) (with_lists w s c e d) x a
+called_same g w s c e d same files (step.Issue n) a called = called ∙ sym (issue_same g w s c e d same n)
+called_same g w s c e d same files (step.Finish n) a called =
+    subst (λ b. EndsOn (files_of (by_manual g) (with_lists w s c e d)) w.requests n b a) (sym (running_same w.requests s c e same n))
     (subst (λ fs. EndsOn fs w.requests n (is_running w.requests n) a) files called)
-called_same g w s c e same files step.Next a called =
+called_same g w s c e d same files step.Next a called =
     called ∙ ap next_answer_of (sym (next_same w.requests s c e same))
-called_same g w s c e same files _ a called = called
+called_same g w s c e d same files _ a called = called
 
 -- a world that is alike is the same but for the lists of requests
-same_but : (g : Setup) (v w : World) → AreAlike g v w
-    → with_lists v w.requests.started w.requests.cancelled w.requests.ended ≡ w
+same_but : (g : Setup) (v w : World) → AreAlike (by_manual g) v w
+    → with_lists v w.requests.started w.requests.cancelled w.requests.ended w.drains ≡ w
 same_but g v w al = λ i. record {
   submission = al.submission i;
   requests = record { accepted = al.requests.accepted i; cuts = al.requests.cuts i; started = w.requests.started; cancelled = w.requests.cancelled; ended = w.requests.ended };
+  drains = w.drains;
   completions = al.completions i;
   is_closed = al.is_closed i;
 }
 
-lists_of : (g : Setup) (v w : World) → AreAlike g v w
+lists_of : (g : Setup) (v w : World) → AreAlike (by_manual g) v w
     → AreSame v.requests w.requests.started w.requests.cancelled w.requests.ended
 lists_of g v w al =
     record { started = al.requests.started; cancelled = al.requests.cancelled; ended = al.requests.ended }
 
-pub alike_answer : (g : Setup) → AlikeAnswerAlike g
+pub alike_answer : (g : Setup) → AlikeAnswerAlike (by_manual g)
 alike_answer g v w s a al called =
-    let same = same_but g v w al in
-    subst (λ u. CalledFor g u s a) same
-    (called_same g v w.requests.started w.requests.cancelled w.requests.ended (lists_of g v w al) (al.files ∙ ap (files_of g) (sym same)) s a called)
+    let same = same_but (by_manual g) v w al in
+    subst (λ u. CalledFor (by_manual g) u s a) same
+    (called_same (by_manual g) v w.requests.started w.requests.cancelled w.requests.ended w.drains (lists_of (by_manual g) v w al) (al.files ∙ ap (files_of (by_manual g)) (sym same)) s a called)
 
 -- What each event makes of worlds that are alike.
 
@@ -190,42 +192,42 @@ stands : (r : Requests) (s c : List ℕ) (e : List Ending) → AreSame r s c e
 stands r s c e a =
     record { accepted = refl; cuts = refl; started = a.started; cancelled = a.cancelled; ended = a.ended }
 
-by_rings : (v : World) (s c : List ℕ) (e : List Ending) → AreSame v.requests s c e
-    → HaveSameRings v (with_lists v s c e)
-by_rings v s c e a = record {
+by_rings : (v : World) (s c : List ℕ) (e : List Ending) (d : Drains) → AreSame v.requests s c e
+    → HaveSameRings v (with_lists v s c e d)
+by_rings v s c e d a = record {
   submission = refl;
   requests = stands v.requests s c e a;
   completions = refl;
   is_closed = refl;
 }
 
-taken_rings : (g : Setup) (v : World) (entry : Sqe) (o : Option Call) (s c : List ℕ) (e : List Ending)
+taken_rings : (g : Setup) (v : World) (entry : Sqe) (o : Option Call) (s c : List ℕ) (e : List Ending) (d : Drains)
     → AreSame v.requests s c e
-    → HaveSameRings (taking_entry_of g v entry o) (taking_entry_of g (with_lists v s c e) entry o)
-taken_rings g v entry None s c e a = by_rings v s c e a
-taken_rings g v entry (Some call) s c e a = by_rings (taking_entry_of g v entry (Some call)) s c e a
+    → HaveSameRings (taking_entry_of (by_manual g) v entry o) (taking_entry_of (by_manual g) (with_lists v s c e d) entry o)
+taken_rings g v entry None s c e d a = by_rings v s c e d a
+taken_rings g v entry (Some call) s c e d a = by_rings (taking_entry_of (by_manual g) v entry (Some call)) s c e d a
 
-dropped_rings : (v : World) (o : Option Call) (s c : List ℕ) (e : List Ending)
+dropped_rings : (v : World) (o : Option Call) (s c : List ℕ) (e : List Ending) (d : Drains)
     → AreSame v.requests s c e
-    → HaveSameRings (taking_of v o) (taking_of (with_lists v s c e) o)
-dropped_rings v None s c e a = by_rings v s c e a
-dropped_rings v (Some call) s c e a = by_rings (taking_of v (Some call)) s c e a
+    → HaveSameRings (taking_of v o) (taking_of (with_lists v s c e d) o)
+dropped_rings v None s c e d a = by_rings v s c e d a
+dropped_rings v (Some call) s c e d a = by_rings (taking_of v (Some call)) s c e d a
 
-closed_rings : (v : World) (o : Option Call) (s c : List ℕ) (e : List Ending)
+closed_rings : (g : Setup) (v : World) (o : Option Call) (s c : List ℕ) (e : List Ending) (d : Drains)
     → AreSame v.requests s c e
-    → HaveSameRings (ending_of v o) (ending_of (with_lists v s c e) o)
-closed_rings v None s c e a = by_rings v s c e a
-closed_rings v (Some call) s c e a = record {
+    → HaveSameRings (ending_of (by_manual g) v o) (ending_of (by_manual g) (with_lists v s c e d) o)
+closed_rings g v None s c e d a = by_rings v s c e d a
+closed_rings g v (Some call) s c e d a = record {
   submission = refl;
   requests = record { accepted = refl; cuts = refl; started = a.started; cancelled = a.cancelled; ended = a.ended };
   completions = refl;
   is_closed = refl;
 }
 
-issued_rings : (g : Setup) (v : World) (n : ℕ) (res : ℤ) (bytes : List ℕ) (s c : List ℕ) (e : List Ending)
+issued_rings : (g : Setup) (v : World) (n : ℕ) (res : ℤ) (bytes : List ℕ) (s c : List ℕ) (e : List Ending) (d : Drains)
     → AreSame v.requests s c e
-    → HaveSameRings (happens g v (step.Issue n) (answer.Ended res bytes)) (happens g (with_lists v s c e) (step.Issue n) (answer.Ended res bytes))
-issued_rings g v n res bytes s c e a = record {
+    → HaveSameRings (happens (by_manual g) v (step.Issue n) (answer.Ended res bytes)) (happens (by_manual g) (with_lists v s c e d) (step.Issue n) (answer.Ended res bytes))
+issued_rings g v n res bytes s c e d a = record {
   submission = refl;
   requests = record {
     accepted = refl;
@@ -238,77 +240,78 @@ issued_rings g v n res bytes s c e a = record {
   is_closed = refl;
 }
 
-rings_then : (g : Setup) (v : World) (x : Step) (b : Answer) → Change g v x b
-    → (s c : List ℕ) (e : List Ending) → AreSame v.requests s c e
-    → HaveSameRings (happens g v x b) (happens g (with_lists v s c e) x b)
-rings_then g v x b (refuses _ _ same silent) s c e a =
-    subst (λ u. HaveSameRings u (happens g (with_lists v s c e) x b)) (sym (same v))
-    (subst (HaveSameRings v) (sym (same (with_lists v s c e))) (by_rings v s c e a))
-rings_then g v x b (takes entry call place opened left at valid) s c e a =
-    taken_rings g v entry v.submission.call s c e a
-rings_then g v x b (drops call place opened left at invalid) s c e a =
-    dropped_rings v v.submission.call s c e a
-rings_then g v x b (closes accepted missed head call opened all told) s c e a =
-    closed_rings v v.submission.call s c e a
-rings_then g v x b (runs n outstanding idle spared ready no_cancel) s c e a = record {
+rings_then : (g : Setup) (v : World) (x : Step) (b : Answer) → Change (by_manual g) v x b
+    → (s c : List ℕ) (e : List Ending) (d : Drains) → AreSame v.requests s c e
+    → HaveSameRings (happens (by_manual g) v x b) (happens (by_manual g) (with_lists v s c e d) x b)
+rings_then g v x b (refuses _ _ same silent) s c e d a =
+    subst (λ u. HaveSameRings u (happens (by_manual g) (with_lists v s c e d) x b)) (sym (same v))
+    (subst (HaveSameRings v) (sym (same (with_lists v s c e d))) (by_rings v s c e d a))
+rings_then g v x b (takes entry call place opened left at valid) s c e d a =
+    taken_rings (by_manual g) v entry v.submission.call s c e d a
+rings_then g v x b (drops call place opened left at invalid) s c e d a =
+    dropped_rings v v.submission.call s c e d a
+rings_then g v x b (closes accepted missed head call opened all told) s c e d a =
+    closed_rings (by_manual g) v v.submission.call s c e d a
+rings_then g v x b (runs n outstanding idle spared ready no_cancel) s c e d a = record {
   submission = refl;
   requests = record { accepted = refl; cuts = refl; started = λ p. pushed p v.requests.started s (n ∷ []) (a.started p); cancelled = a.cancelled; ended = a.ended };
   completions = refl;
   is_closed = refl;
 }
-rings_then g v x b (dooms n outstanding idle doomed) s c e a =
-    issued_rings g v n (doomed_result v.requests n) no_bytes s c e a
-rings_then g v x b (cancels n outstanding idle spared ready cancel) s c e a =
-    issued_rings g v n (cancel_result v.requests n) no_bytes s c e a
-rings_then g v x b (finishes n res bytes running) s c e a = record {
+rings_then g v x b (dooms n outstanding idle doomed) s c e d a =
+    issued_rings (by_manual g) v n (doomed_result v.requests n) no_bytes s c e d a
+rings_then g v x b (cancels n outstanding idle spared ready cancel) s c e d a =
+    issued_rings (by_manual g) v n (cancel_result v.requests n) no_bytes s c e d a
+rings_then g v x b (finishes n res bytes running) s c e d a = record {
   submission = refl;
   requests = record { accepted = refl; cuts = refl; started = a.started; cancelled = a.cancelled; ended = λ p. pushed p v.requests.ended e (record { number = n; res = res; bytes = bytes } ∷ []) (a.ended p) };
   completions = refl;
   is_closed = refl;
 }
-rings_then g v x b _ s c e a = by_rings (happens g v x b) s c e a
+rings_then g v x b _ s c e d a = by_rings (happens (by_manual g) v x b) s c e d a
 
-finished_files : (g : Setup) (v w : World) (n : ℕ) (a : Answer) → AreAlike g v w
-    → files_of g (happens g v (step.Finish n) a) ≡ files_of g (happens g w (step.Finish n) a)
+finished_files : (g : Setup) (v w : World) (n : ℕ) (a : Answer) → AreAlike (by_manual g) v w
+    → files_of (by_manual g) (happens (by_manual g) v (step.Finish n) a) ≡ files_of (by_manual g) (happens (by_manual g) w (step.Finish n) a)
 finished_files g v w n (answer.Ended res bytes) al =
     files_ended v.requests n res bytes (empty_files g.files)
     ∙ ap₂ (λ fs xs. after fs (operation_of (entry_of (record v.requests { accepted = xs }) n)) res) al.files al.requests.accepted
     ∙ sym (files_ended w.requests n res bytes (empty_files g.files))
 finished_files g v w n _ al = al.files
 
-files_then : (g : Setup) (h k : History) (s : Step) (a : Answer) → IsLawfulApart g ((s, a) ∷ h)
-    → IsLawfulApart g ((s, a) ∷ k) → AreAlike g (world g h) (world g k)
-    → files_of g (world g ((s, a) ∷ h)) ≡ files_of g (world g ((s, a) ∷ k))
-files_then g h k (step.Finish n) a lawful other al = finished_files g (world g h) (world g k) n a al
+files_then : (g : Setup) (h k : History) (s : Step) (a : Answer) → IsLawfulApart (by_manual g) ((s, a) ∷ h)
+    → IsLawfulApart (by_manual g) ((s, a) ∷ k) → AreAlike (by_manual g) (world (by_manual g) h) (world (by_manual g) k)
+    → files_of (by_manual g) (world (by_manual g) ((s, a) ∷ h)) ≡ files_of (by_manual g) (world (by_manual g) ((s, a) ∷ k))
+files_then g h k (step.Finish n) a lawful other al = finished_files (by_manual g) (world (by_manual g) h) (world (by_manual g) k) n a al
 files_then g h k s a lawful other al =
-    files_kept g s a h lawful tt ∙ al.files ∙ sym (files_kept g s a k other tt)
+    files_kept (by_manual g) s a h lawful tt ∙ al.files ∙ sym (files_kept (by_manual g) s a k other tt)
 
-pub alike_then : (g : Setup) (h k : History) (s : Step) (a : Answer) → IsLawful g ((s, a) ∷ h)
-    → IsLawful g ((s, a) ∷ k) → AreAlike g (world g h) (world g k)
-    → AreAlike g (world g ((s, a) ∷ h)) (world g ((s, a) ∷ k))
+pub alike_then : (g : Setup) (h k : History) (s : Step) (a : Answer) → IsLawful (by_manual g) ((s, a) ∷ h)
+    → IsLawful (by_manual g) ((s, a) ∷ k) → AreAlike (by_manual g) (world (by_manual g) h) (world (by_manual g) k)
+    → AreAlike (by_manual g) (world (by_manual g) ((s, a) ∷ h)) (world (by_manual g) ((s, a) ∷ k))
 alike_then g h k s a lawful other al =
-    let v : World = world g h in
-    let w : World = world g k in
-    let apart : IsLawfulApart g ((s, a) ∷ h) = lawful_apart g ((s, a) ∷ h) lawful in
-    let rings : HaveSameRings (happens g v s a) (happens g w s a) = subst (λ u. HaveSameRings (happens g v s a) (happens g u s a)) (same_but g v w al) (rings_then g v s a (change_of g v s a apart.0) w.requests.started w.requests.cancelled w.requests.ended (lists_of g v w al)) in
+    let v : World = world (by_manual g) h in
+    let w : World = world (by_manual g) k in
+    let apart : IsLawfulApart (by_manual g) ((s, a) ∷ h) = lawful_apart (by_manual g) ((s, a) ∷ h) lawful in
+    let rings : HaveSameRings (happens (by_manual g) v s a) (happens (by_manual g) w s a) = subst (λ u. HaveSameRings (happens (by_manual g) v s a) (happens (by_manual g) u s a)) (same_but (by_manual g) v w al) (rings_then (by_manual g) v s a (change_of (by_manual g) v s a apart.0) w.requests.started w.requests.cancelled w.requests.ended w.drains (lists_of (by_manual g) v w al)) in
     record {
       submission = rings.submission;
       requests = rings.requests;
       completions = rings.completions;
       is_closed = rings.is_closed;
-      files = files_then g h k s a apart (lawful_apart g ((s, a) ∷ k) other) al;
+      drains = λ is. absurd (let f : false ≡ true = is in cc);
+      files = files_then (by_manual g) h k s a apart (lawful_apart (by_manual g) ((s, a) ∷ k) other) al;
     }
 
-pub alike_go_on : (g : Setup) → AlikeGoOnAlike g
+pub alike_go_on : (g : Setup) → AlikeGoOnAlike (by_manual g)
 alike_go_on g [] h k lawful al behind = record { lawful = lawful; alike = al }
 alike_go_on g ((s, a) ∷ rest) h k lawful al behind =
-    let before = alike_go_on g rest h k lawful al behind.1 in
-    let called = alike_answer g (world g (rest ++ h)) (world g (rest ++ k)) s a before.alike behind.0 in
+    let before = alike_go_on (by_manual g) rest h k lawful al behind.1 in
+    let called = alike_answer (by_manual g) (world (by_manual g) (rest ++ h)) (world (by_manual g) (rest ++ k)) s a before.alike behind.0 in
     record {
       lawful = (called, before.lawful);
-      alike = alike_then g (rest ++ h) (rest ++ k) s a behind (called, before.lawful) before.alike;
+      alike = alike_then (by_manual g) (rest ++ h) (rest ++ k) s a behind (called, before.lawful) before.alike;
     }
 
-pub change_anywhere : (g : Setup) → ChangeAnywhere g
+pub change_anywhere : (g : Setup) → ChangeAnywhere (by_manual g)
 change_anywhere g rest h x y c lawful =
-    alike_go_on g rest (y ∷ x ∷ h) (x ∷ y ∷ h) c.lawful c.alike lawful
+    alike_go_on (by_manual g) rest (y ∷ x ∷ h) (x ∷ y ∷ h) c.lawful c.alike lawful

@@ -1,4 +1,4 @@
--- Whom cancels chose, read off a history.
+-- Whom cancels chose, read off a history, by the manual pages' rules.
 use Rattle.std.proofs.Common.{◌≡◌, ℕ, ◌==◌, ℤ, pos, true, false, ◌&&◌, List, [], ◌∷◌, ◌++◌, cond, refl, sym, subst, ap, ◌∙◌, ◌⊎◌, inl, inr, arith}
 use Rattle.std.specs.List.{list_any}
 use Rattle.std.specs.Option.{option_to_list}
@@ -12,8 +12,8 @@ use Rattle.uring_entry.specs.Success.{is_success}
 use Rattle.uring_entry.specs.Requests.{Requests, entry_of, is_cancelled, target_of, targets_of, choices_of, chosen_by, doomed_result, cancel_result, no_bytes, with_issued_end}
 use Rattle.uring_laws.specs.HistoryLists.{IsChosenIn}
 use Rattle.uring_core.specs.Events.{Chose}
-use Rattle.uring_core.specs.World.{World}
-use Rattle.uring_core.specs.Histories.{Event, History, world, IsLawfulApart}
+use Rattle.uring_core.specs.World.{World, requests_of}
+use Rattle.uring_core.specs.Histories.{Event, History, world, IsLawfulApart, by_manual}
 use Rattle.uring_core.specs.declared.step.Step.{Step}
 use Rattle.uring_core.specs.declared.step.Step.TheVariants as step
 use Rattle.uring_core.specs.declared.answer.Answer.{Answer}
@@ -32,7 +32,7 @@ record IsChoosing (w : World) (s : Step) (a : Answer) (m : ℕ) : Type 0 where
   step_is : s ≡ step.Issue number
   answer_is : a ≡ answer.Ended res no_bytes
 
-new_cancel : (w : World) (s : Step) (a : Answer) (later : Requests) → Move w.requests s a later
+new_cancel : (w : World) (s : Step) (a : Answer) (later : Requests) → Move false (requests_of w) s a later
     → (m : ℕ) → is_cancelled later m ≡ true
     → (is_cancelled w.requests m ≡ true) ⊎ IsChoosing w s a m
 new_cancel w s a later (ends_doomed n outstanding) m gone =
@@ -47,8 +47,8 @@ new_cancel w s a later (ends_cancel n outstanding spared ready cancel) m gone =
     ]
 new_cancel w s a later _ m gone = inl gone
 
-one_later : (g : Setup) (e : Event) (h : History) (m : ℕ) → IsChosenIn g h m
-    → IsChosenIn g (e ∷ h) m
+one_later : (g : Setup) (e : Event) (h : History) (m : ℕ) → IsChosenIn (by_manual g) h m
+    → IsChosenIn (by_manual g) (e ∷ h) m
 one_later g e h m c = record {
   after = e ∷ c.after;
   before = c.before;
@@ -59,12 +59,12 @@ one_later g e h m c = record {
   chose = c.chose;
 }
 
-pub chosen_in : (g : Setup) (h : History) → IsLawfulApart g h → (m : ℕ)
-    → is_cancelled (world g h).requests m ≡ true → IsChosenIn g h m
+pub chosen_in : (g : Setup) (h : History) → IsLawfulApart (by_manual g) h → (m : ℕ)
+    → is_cancelled (world (by_manual g) h).requests m ≡ true → IsChosenIn (by_manual g) h m
 chosen_in g [] lawful m gone = absurd (let f : false ≡ true = gone in cc)
 chosen_in g ((s, a) ∷ before) lawful m gone =
-    elim (new_cancel (world g before) s a _ (move_of g s a before lawful) m gone) [
-      | inl old ↦ one_later g (s, a) before m (chosen_in g before lawful.1 m old)
+    elim (new_cancel (world (by_manual g) before) s a _ (move_of (by_manual g) s a before lawful) m gone) [
+      | inl old ↦ one_later (by_manual g) (s, a) before m (chosen_in (by_manual g) before lawful.1 m old)
       | inr new ↦
           record {
             after = [];
@@ -102,17 +102,17 @@ dooms_now r n res m (inr c) =
     (ap (λ b. list_any (λ k. k == m) (cond b (targets_of r n) (option_to_list (target_of r n)))) c.all ∙ target_there r n m within c.target)
 
 stays_chosen : (g : Setup) (after before : History) (n : ℕ) (res : ℤ) (m : ℕ) (bytes : List ℕ)
-    → IsLawfulApart g (after ++ (step.Issue n, answer.Ended res bytes) ∷ before)
-    → Chose (world g before).requests n res m
-    → is_cancelled (world g (after ++ (step.Issue n, answer.Ended res bytes) ∷ before)).requests m
+    → IsLawfulApart (by_manual g) (after ++ (step.Issue n, answer.Ended res bytes) ∷ before)
+    → Chose (world (by_manual g) before).requests n res m
+    → is_cancelled (world (by_manual g) (after ++ (step.Issue n, answer.Ended res bytes) ∷ before)).requests m
     ≡ true
 stays_chosen g [] before n res m bytes lawful chose =
-    dooms_now (world g before).requests n res m chose
+    dooms_now (world (by_manual g) before).requests n res m chose
 stays_chosen g ((s, a) ∷ after) before n res m bytes lawful chose =
-    (event_grows g s a (after ++ (step.Issue n, answer.Ended res bytes) ∷ before) lawful).stays_cancelled m (stays_chosen g after before n res m bytes lawful.1 chose)
+    (event_grows (by_manual g) s a (after ++ (step.Issue n, answer.Ended res bytes) ∷ before) lawful).stays_cancelled m (stays_chosen (by_manual g) after before n res m bytes lawful.1 chose)
 
-pub chosen_stays : (g : Setup) (h : History) → IsLawfulApart g h → (m : ℕ) → IsChosenIn g h m
-    → is_cancelled (world g h).requests m ≡ true
+pub chosen_stays : (g : Setup) (h : History) → IsLawfulApart (by_manual g) h → (m : ℕ) → IsChosenIn (by_manual g) h m
+    → is_cancelled (world (by_manual g) h).requests m ≡ true
 chosen_stays g h lawful m c =
-    subst (λ x. is_cancelled (world g x).requests m ≡ true) (sym c.split)
-    (stays_chosen g c.after c.before c.number c.res m c.bytes (subst (IsLawfulApart g) c.split lawful) c.chose)
+    subst (λ x. is_cancelled (world (by_manual g) x).requests m ≡ true) (sym c.split)
+    (stays_chosen (by_manual g) c.after c.before c.number c.res m c.bytes (subst (IsLawfulApart (by_manual g)) c.split lawful) c.chose)

@@ -2,7 +2,7 @@
 use Rattle.std.proofs.Common.{◌≡◌, ℕ, Bool, true, false, [], ◌∷◌, ◌++◌, length, cond, refl, sym, ap, ◌∙◌}
 use Rattle.uring_entry.specs.Setup.{Setup}
 use Rattle.uring_entry.specs.Layout.{Cqe}
-use Rattle.uring_entry.specs.Success.{posts_completion}
+use Rattle.uring_rules.specs.Rules.{posts}
 use Rattle.uring_entry.specs.Completions.{Completions, with_posted, completion_for}
 use Rattle.uring_entry.specs.Requests.{entry_of}
 use Rattle.uring_core.specs.Events.{reaped_by, is_flush, is_load_cq_tail, is_store_cq_head}
@@ -43,7 +43,7 @@ completions_direct g h w s a v (stays _ _ l r is_closed off no_end left) is i =
       seen = i.seen ∙ ap (λ b. (world g b).completions.put) (sym (before_same is_load_cq_tail (s, a) h off.loads_cq_tail));
     }
 completions_direct g h w s a v (ends _ _ n res bytes r off told same_accepted one_more) is i =
-    let f = end_frame g.cq w.completions (posts_completion (entry_of w.requests n) res) (completion_for (entry_of w.requests n) res bytes) in
+    let f = end_frame g.cq w.completions (posts g.linux w.requests n res) (completion_for (entry_of w.requests n) res bytes) in
     record {
       reaped = f.reaped ∙ i.reaped ∙ sym (told_same reaped_by (s, a) h off.reaps);
       stored = f.head ∙ i.stored ∙ ap (λ b. length (reaps_in b)) (sym (before_same is_store_cq_head (s, a) h off.stores_cq_head));

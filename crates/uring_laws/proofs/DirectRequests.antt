@@ -14,7 +14,7 @@ use Rattle.uring_entry.specs.Requests.{Ending}
 use Rattle.uring_core.specs.Events.{accepted_by, closes_ring}
 use Rattle.uring_laws.specs.Direct.{told, sums_from, cut_counts, completion_of}
 use Rattle.uring_core.specs.World.{World}
-use Rattle.uring_core.specs.Histories.{History, world, IsLawfulApart}
+use Rattle.uring_core.specs.Histories.{History, world, IsLawfulApart, by_manual}
 use Rattle.uring_core.specs.declared.step.Step.{Step}
 use Rattle.uring_core.specs.declared.answer.Answer.{Answer}
 use Rattle.uring_core.proofs.SubmissionMoves.{SubmissionMove, stays, stores, closes, submission_move}
@@ -73,8 +73,10 @@ end_posted size l accepted es e posted =
     ∙ ap (λ xs. xs ++ cons_option (completion_of accepted e) []) posted
     ∙ sym (filter_map-append (completion_of accepted) es (e ∷ []))
 
+-- By the manual pages' rules the entries alone tell what was posted.
+
 posted_direct : (g : Setup) (w : World) (s : Step) (a : Answer) (v : World)
-    → CompletionMove g w s a v → IsSound g w
+    → CompletionMove (by_manual g) w s a v → IsSound (by_manual g) w
     → w.completions.posted ≡ filter_map (completion_of w.requests.accepted) w.requests.ended
     → v.completions.posted ≡ filter_map (completion_of v.requests.accepted) v.requests.ended
 posted_direct g w s a v (stays_off _ _ l r is_closed off no_end left) sound i =
@@ -85,11 +87,11 @@ posted_direct g w s a v (ends _ _ n res bytes r off told same_accepted one_more)
     ∙ ap₂ (λ accepted ended. filter_map (completion_of accepted) ended) (sym same_accepted) (sym one_more)
 posted_direct g w s a v _ sound i = i
 
-pub direct_posted : (g : Setup) (h : History) → IsLawfulApart g h
-    → (world g h).completions.posted
-    ≡ filter_map (completion_of (world g h).requests.accepted) (world g h).requests.ended
+pub direct_posted : (g : Setup) (h : History) → IsLawfulApart (by_manual g) h
+    → (world (by_manual g) h).completions.posted
+    ≡ filter_map (completion_of (world (by_manual g) h).requests.accepted) (world (by_manual g) h).requests.ended
 direct_posted g [] lawful = refl
-direct_posted g ((s, a) ∷ before) lawful = posted_direct g (world g before) s a _ (completion_move g s a before lawful) (sound_of g before lawful.1) (direct_posted g before lawful.1)
+direct_posted g ((s, a) ∷ before) lawful = posted_direct g (world (by_manual g) before) s a _ (completion_move (by_manual g) s a before lawful) (sound_of (by_manual g) before lawful.1) (direct_posted g before lawful.1)
 
 -- What of the requests the submission ring tells.
 

@@ -1,11 +1,11 @@
 -- What a cancel of one request finds, from what is told of it.
-use Rattle.std.proofs.Common.{◌≡◌, ℕ, ◌<◌, length, eqb, Bool, true, false, not, ◌&&◌, Option, Some, None, refl, sym, ◌∙◌, ap, subst}
+use Rattle.std.proofs.Common.{◌≡◌, ℕ, ◌<◌, length, Bool, true, false, not, ◌&&◌, Option, Some, None, refl, sym, ◌∙◌, ap, subst}
 use Rattle.std.specs.Prelude.{if◌then◌else◌, pos, neg_ℤ}
 use Rattle.uring_entry.specs.declared.errno.TheConstants.{EALREADY}
 use Rattle.uring_entry.specs.declared.operation.Op.{Op}
 use Rattle.uring_entry.specs.declared.operation.Op.TheVariants.{Cancel}
 use Rattle.uring_entry.specs.Layout.{addr_of}
-use Rattle.uring_entry.specs.Preparation.{is_faulty, is_cancel, is_cancel_all, operation_of}
+use Rattle.uring_entry.specs.Preparation.{is_faulty, is_cancel_all, operation_of}
 use Rattle.uring_entry.specs.Requests.{Requests, entry_of, is_outstanding, is_running, is_candidate, target_of, targets_of, cancel_result, count_result, result_for}
 use Rattle.uring_entry.proofs.Preparations.{asks_cancel, cancel_asked}
 use Rattle.uring_entry.proofs.BelowLemmas.{least_below_none, least_below_some, least_below_out, least_below_tells}

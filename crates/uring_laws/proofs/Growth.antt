@@ -1,10 +1,13 @@
--- What stays of the requests as a history goes on: those accepted by then keep their entries and groups, and the doomed stay doomed.
+-- What stays of the requests as a history goes on, by either's rules: those accepted by then keep their entries and groups, and those that are doomed by the manual pages' rules stay so.
 -- By `Move`, event by event (`event_grows`), and over a history by induction (`grows`).
 -- Stable: other crates may import `Grows` with its fields, as `same_entry`, and `event_grows`, `grows`, `lawful_before`.
-use Rattle.std.proofs.Common.{◌≡◌, ℕ, ◌<◌, ◌≤◌, ℤ, true, List, [], ◌∷◌, ◌++◌, length, refl, ◌∙◌, ◌⊎◌, inl, inr, arith}
+use Rattle.std.proofs.Common.{◌≡◌, ℕ, ◌<◌, ◌≤◌, ℤ, Bool, true, false, List, [], ◌∷◌, ◌++◌, length, refl, ◌∙◌, ◌⊎◌, inl, inr, arith}
 use Rattle.uring_entry.specs.Setup.{Setup}
 use Rattle.uring_entry.specs.Layout.{Sqe}
-use Rattle.uring_entry.specs.Requests.{Requests, entry_of, is_joined, is_draining, is_drain, some_member, is_doomed, is_cancelled, doomed_result, cancel_result, with_call, with_started}
+use Rattle.uring_entry.specs.Requests.{Requests, entry_of, is_joined, is_draining, is_drain, some_member, is_doomed, is_cancelled, with_call, with_started}
+use Rattle.uring_linux.specs.LinuxRequests.{LinuxRequests}
+use Rattle.uring_rules.specs.Rules.{doomed_result, cancel_result, with_issued_end}
+use Rattle.uring_core.specs.World.{requests_of}
 use Rattle.uring_core.specs.Histories.{History, world, IsLawfulApart}
 use Rattle.uring_core.specs.declared.step.Step.{Step}
 use Rattle.uring_core.specs.declared.answer.Answer.{Answer}
@@ -16,7 +19,7 @@ use Rattle.uring_core.proofs.Sound.{sound_of}
 use Rattle.std.specs.List.{list_any}
 use Rattle.std.proofs.Common.{◌==◌}
 
--- of the requests accepted by then, the entries and the groups stay, and the doomed stay doomed
+-- of the requests accepted by then, the entries and the groups stay, and the doomed stay doomed by the manual pages' rules
 pub record Grows (r later : Requests) : Type 0 where
   pub longer_then : length r.accepted ≤ length later.accepted
   pub same_entry : (n : ℕ) → n < length r.accepted → entry_of later n ≡ entry_of r n
@@ -88,23 +91,35 @@ call_grows r entries cut =
       stays_doomed = λ n lt e. doom_kept r entries cut n lt ∙ e;
     }
 
-move_grows : (r : Requests) (s : Step) (a : Answer) (later : Requests) → Move r s a later
-    → (length r.accepted ≡ 0) ⊎ (list_any (λ c. c == length r.accepted) r.cuts ≡ true)
-    → Grows r later
-move_grows r s a later (stays _ _ no_start no_end) cut = same_grows r
-move_grows r s a later (accepts accepted missed head entries) cut = call_grows r entries cut
-move_grows r s a later (starts n outstanding idle spared ready no_cancel) cut = start_grows r n
-move_grows r s a later (ends_doomed n outstanding) cut =
-    end_grows r n _ _ _ (choice_of r n (doomed_result r n) (inl refl))
-move_grows r s a later (ends_cancel n outstanding spared ready cancel) cut =
-    end_grows r n _ _ _ (choice_of r n (cancel_result r n) (inr refl))
-move_grows r s a later (ends_run n res bytes running) cut =
-    end_grows r n res bytes r.cancelled (no_choice r n)
+doomed_grows : (linux : Bool) (r : Requests) (n : ℕ)
+    → Grows r (with_issued_end linux r n (doomed_result linux r n))
+doomed_grows true r n = end_grows r n _ _ r.cancelled (no_choice r n)
+doomed_grows false r n = end_grows r n _ _ _ (choice_of r n (doomed_result false r n) (inl refl))
+
+cancel_grows : (linux : Bool) (r : Requests) (n : ℕ)
+    → Grows r (with_issued_end linux r n (cancel_result linux r n))
+cancel_grows true r n = end_grows r n _ _ r.cancelled (no_choice r n)
+cancel_grows false r n = end_grows r n _ _ _ (choice_of r n (cancel_result false r n) (inr refl))
+
+move_grows : (linux : Bool) (l : LinuxRequests) (s : Step) (a : Answer) (later : Requests)
+    → Move linux l s a later
+    → (length l.requests.accepted ≡ 0) ⊎ (list_any (λ c. c == length l.requests.accepted) l.requests.cuts ≡ true)
+    → Grows l.requests later
+move_grows linux l s a later (stays _ _ no_start no_end) cut = same_grows l.requests
+move_grows linux l s a later (accepts accepted missed head entries) cut =
+    call_grows l.requests entries cut
+move_grows linux l s a later (starts n outstanding idle spared ready no_cancel) cut =
+    start_grows l.requests n
+move_grows linux l s a later (ends_doomed n outstanding) cut = doomed_grows linux l.requests n
+move_grows linux l s a later (ends_cancel n outstanding spared ready cancel) cut =
+    cancel_grows linux l.requests n
+move_grows linux l s a later (ends_run n res bytes running) cut =
+    end_grows l.requests n res bytes l.requests.cancelled (no_choice l.requests n)
 
 pub event_grows : (g : Setup) (s : Step) (a : Answer) (before : History)
     → IsLawfulApart g ((s, a) ∷ before)
     → Grows (world g before).requests (world g ((s, a) ∷ before)).requests
-event_grows g s a before lawful = move_grows (world g before).requests s a _ (move_of g s a before lawful) (sound_of g before lawful.1).requests.cut_at_end
+event_grows g s a before lawful = move_grows g.linux (requests_of (world g before)) s a _ (move_of g s a before lawful) (sound_of g before lawful.1).requests.cut_at_end
 
 pub grows : (g : Setup) (after before : History) → IsLawfulApart g (after ++ before)
     → Grows (world g before).requests (world g (after ++ before)).requests

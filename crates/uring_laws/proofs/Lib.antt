@@ -35,5 +35,8 @@ pub mod Unseen
 pub mod DoomedEnds
 pub mod Sides
 pub mod Reordered
+-- By Linux's rules:
+pub mod LinuxSound
+pub mod LinuxLaws
 -- The definitions, computed on one history:
 mod WorkedHistory

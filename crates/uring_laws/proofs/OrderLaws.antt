@@ -1,4 +1,4 @@
--- The laws of doomed requests, links and drains.
+-- The laws of doomed requests, links and drains, by the manual pages' rules.
 use Rattle.std.proofs.Common.{◌≡◌, ℕ, ◌<◌, ◌==◌, pos, neg_ℤ, true, false, not, ◌||◌, List, ◌∷◌, ◌++◌, Option, Some, None, length, slice_get, count_by, refl, sym, subst, ap, ◌∙◌, inl, inr, arith}
 use Rattle.std.specs.Ordering.{int_eq}
 use Rattle.std.proofs.lemmas.Bool.{and_from, both_ways, eq-eqb, true_from_ne_false, false_from_ne_true, cond_both}
@@ -11,26 +11,26 @@ use Rattle.uring_entry.specs.Requests.{Requests, Ending, has_started, has_ended,
 use Rattle.uring_entry.specs.Preparation.{is_cancel_all}
 use Rattle.uring_core.specs.World.{World}
 use Rattle.uring_core.specs.StepAnswers.{IsEnded}
-use Rattle.uring_core.specs.Histories.{History, world, IsLawfulApart}
+use Rattle.uring_core.specs.Histories.{History, world, IsLawfulApart, by_manual}
 use Rattle.uring_core.specs.Events.{started_by}
 use Rattle.uring_laws.specs.Laws.{DoomedNeverRun, IsStart, times_ended}
 use Rattle.uring_core.specs.declared.step.Step.TheVariants as step
 use Rattle.uring_core.specs.declared.answer.Answer.{Answer}
 use Rattle.uring_core.specs.declared.answer.Answer.TheVariants as answer
 use Rattle.uring_core.proofs.Changes.{Change, change_of, IsSilent, refuses, runs, dooms, cancels}
-use Rattle.uring_core.proofs.SoundRequests.{IsSoundRequests, EndsDoomed, is_otherwise, outstanding_tells, waited}
+use Rattle.uring_core.proofs.SoundRequests.{IsSoundManual, EndsDoomed, is_otherwise, outstanding_tells, waited}
 use Rattle.uring_core.proofs.ListCounts.{count_none, count_some}
 use Rattle.uring_core.proofs.Sound.{sound_of}
 use Rattle.uring_laws.proofs.ToldRequests.{tells_requests}
 use Rattle.uring_laws.proofs.Growth.{Grows, grows, event_grows, then_grows, lawful_before}
 
-unstarted : (r : Requests) (n : ℕ) → IsSoundRequests r → is_doomed r n ≡ true
+unstarted : (r : Requests) (n : ℕ) → IsSoundManual r → is_doomed r n ≡ true
     → has_started r n ≡ false
 unstarted r n s doomed =
     false_from_ne_true _ (λ started. both_ways _ (s.started_free n started).spared doomed)
 
 -- an end among these that has another result is among those that do
-ends_doomed : (r : Requests) (k : ℕ) (e : Ending) → IsSoundRequests r → slice_get r.ended k ≡ Some e
+ends_doomed : (r : Requests) (k : ℕ) (e : Ending) → IsSoundManual r → slice_get r.ended k ≡ Some e
     → is_doomed r e.number ≡ true → e.res ≡ doomed_result r e.number
 ends_doomed r k e s at doomed =
     let within = slice_get_within r.ended k e at in
@@ -43,13 +43,13 @@ ends_doomed r k e s at doomed =
       | inr free ↦ absurd (both_ways _ free.spared doomed)
     ]
 
-pub never_run : (g : Setup) (h : History) → IsLawfulApart g h → DoomedNeverRun g h
+pub never_run : (g : Setup) (h : History) → IsLawfulApart (by_manual g) h → DoomedNeverRun (by_manual g) h
 never_run g h lawful =
-    let s = (sound_of g h lawful).requests in
-    let t = tells_requests g h lawful in
+    let s = (sound_of (by_manual g) h lawful).manual refl in
+    let t = tells_requests (by_manual g) h lawful in
     record {
-      never_run = λ n doomed. subst (λ xs. count_by (λ m. m == n) xs ≡ 0) (sym t.started) (count_none (λ m. m == n) (world g h).requests.started (unstarted (world g h).requests n s doomed));
-      ends_so = λ k e at doomed. ends_doomed (world g h).requests k e s (subst (λ xs. slice_get xs k ≡ Some e) t.ended at) doomed;
+      never_run = λ n doomed. subst (λ xs. count_by (λ m. m == n) xs ≡ 0) (sym t.started) (count_none (λ m. m == n) (world (by_manual g) h).requests.started (unstarted (world (by_manual g) h).requests n s doomed));
+      ends_so = λ k e at doomed. ends_doomed (world (by_manual g) h).requests k e s (subst (λ xs. slice_get xs k ≡ Some e) t.ended at) doomed;
     }
 
 -- ECANCELED is no result of a cancel
@@ -62,16 +62,16 @@ cancel_unlike : (r : Requests) (n : ℕ) → int_eq (cancel_result r n) (neg_ℤ
 cancel_unlike r n = cond_both (is_cancel_all (entry_of r n)) (count_result (length (targets_of r n))) (result_for r (target_of r n)) (λ res. int_eq res (neg_ℤ ECANCELED) ≡ false) (λ _. refl) (λ _. one_unlike r (target_of r n))
 
 -- an Issue that is refused neither starts nor ends its request
-refused_no_end : (n : ℕ) (a : Answer) → IsSilent (step.Issue n, a) → IsEnded a → ⊥
+pub refused_no_end : (n : ℕ) (a : Answer) → IsSilent (step.Issue n, a) → IsEnded a → ⊥
 refused_no_end n (answer.Ended res bytes) silent ended = let e = silent.ends in absurd cc
 refused_no_end n _ silent ended = ended
 
-refused_no_run : (n : ℕ) (a : Answer) → IsSilent (step.Issue n, a) → a ≡ answer.Run → ⊥
+pub refused_no_run : (n : ℕ) (a : Answer) → IsSilent (step.Issue n, a) → a ≡ answer.Run → ⊥
 refused_no_run n a silent run = let e : started_by (step.Issue n, answer.Run)
     ≡ None = subst (λ b. started_by (step.Issue n, b) ≡ None) run silent.starts in absurd cc
 
 doomed_just_before : (g : Setup) (w : World) (n : ℕ) (a : Answer) (bytes : List ℕ)
-    → Change g w (step.Issue n) a → a ≡ answer.Ended (neg_ℤ ECANCELED) bytes
+    → Change (by_manual g) w (step.Issue n) a → a ≡ answer.Ended (neg_ℤ ECANCELED) bytes
     → is_doomed w.requests n ≡ true
 doomed_just_before g w n a bytes (refuses _ _ same silent) is =
     absurd (refused_no_end n a silent (subst IsEnded (sym is) tt))
@@ -82,17 +82,17 @@ doomed_just_before g w n a bytes (cancels _ outstanding idle spared ready cancel
     absurd (both_ways _ (cancel_unlike w.requests n) ((Decides-int_eq (cancel_result w.requests n) (neg_ℤ ECANCELED)).1 e))
 
 pub were_doomed : (g : Setup) (after before : History) (n : ℕ) (bytes : List ℕ)
-    → IsLawfulApart g (after ++ (step.Issue n, answer.Ended (neg_ℤ ECANCELED) bytes) ∷ before)
-    → is_doomed (world g before).requests n ≡ true
+    → IsLawfulApart (by_manual g) (after ++ (step.Issue n, answer.Ended (neg_ℤ ECANCELED) bytes) ∷ before)
+    → is_doomed (world (by_manual g) before).requests n ≡ true
 were_doomed g after before n bytes lawful =
-    let l = lawful_before g after ((step.Issue n, answer.Ended (neg_ℤ ECANCELED) bytes) ∷ before) lawful in
-    doomed_just_before g (world g before) n _ bytes (change_of g (world g before) (step.Issue n) _ l.0) refl
+    let l = lawful_before (by_manual g) after ((step.Issue n, answer.Ended (neg_ℤ ECANCELED) bytes) ∷ before) lawful in
+    doomed_just_before (by_manual g) (world (by_manual g) before) n _ bytes (change_of (by_manual g) (world (by_manual g) before) (step.Issue n) _ l.0) refl
 
-pub stay_doomed : (g : Setup) (after before : History) (n : ℕ) → IsLawfulApart g (after ++ before)
-    → n < length (world g before).requests.accepted → is_doomed (world g before).requests n ≡ true
-    → is_doomed (world g (after ++ before)).requests n ≡ true
+pub stay_doomed : (g : Setup) (after before : History) (n : ℕ) → IsLawfulApart (by_manual g) (after ++ before)
+    → n < length (world (by_manual g) before).requests.accepted → is_doomed (world (by_manual g) before).requests n ≡ true
+    → is_doomed (world (by_manual g) (after ++ before)).requests n ≡ true
 stay_doomed g after before n lawful within doomed =
-    (grows g after before lawful).stays_doomed n within doomed
+    (grows (by_manual g) after before lawful).stays_doomed n within doomed
 
 -- Links and drains.
 
@@ -101,7 +101,7 @@ record Started (w : World) (n : ℕ) : Type 0 where
   accepted : n < length w.requests.accepted
   ready : is_ready w.requests n ≡ true
 
-started_ready : (g : Setup) (w : World) (n : ℕ) (a : Answer) → Change g w (step.Issue n) a
+started_ready : (g : Setup) (w : World) (n : ℕ) (a : Answer) → Change (by_manual g) w (step.Issue n) a
     → IsStart w.requests n a → Started w n
 started_ready g w n a (refuses _ _ same silent) (inl run) = absurd (refused_no_run n a silent run)
 started_ready g w n a (refuses _ _ same silent) (inr ended) =
@@ -126,17 +126,17 @@ same_wait r later n m g lt within =
     ∙ ap (λ b. is_joined r m n || is_draining r m || b) (g.same_drain n within)
 
 pub waits : (g : Setup) (after before : History) (m n : ℕ) (a : Answer)
-    → IsLawfulApart g (after ++ (step.Issue n, a) ∷ before) → IsStart (world g before).requests n a
+    → IsLawfulApart (by_manual g) (after ++ (step.Issue n, a) ∷ before) → IsStart (world (by_manual g) before).requests n a
     → m < n
-    → waits_for (world g (after ++ (step.Issue n, a) ∷ before)).requests n m ≡ true
+    → waits_for (world (by_manual g) (after ++ (step.Issue n, a) ∷ before)).requests n m ≡ true
     → times_ended before m ≡ 1
 waits g after before m n a lawful start lt waiting =
-    let l = lawful_before g after ((step.Issue n, a) ∷ before) lawful in
-    let c = change_of g (world g before) (step.Issue n) a l.0 in
-    let at = started_ready g (world g before) n a c start in
-    let more = then_grows _ _ _ (event_grows g (step.Issue n) a before l) (grows g after ((step.Issue n, a) ∷ before) lawful) in
-    let ended = waited (world g before).requests n m at.ready lt (sym (same_wait _ _ n m more lt at.accepted) ∙ waiting) in
-    let s = (sound_of g before l.1).requests in
-    let t = tells_requests g before l.1 in
-    let once : count_by (λ e. e.number == m) (world g before).requests.ended ≡ 1 = omega (arith, s.ends_once m, count_some (λ e. e.number == m) (world g before).requests.ended ended) in
+    let l = lawful_before (by_manual g) after ((step.Issue n, a) ∷ before) lawful in
+    let c = change_of (by_manual g) (world (by_manual g) before) (step.Issue n) a l.0 in
+    let at = started_ready (by_manual g) (world (by_manual g) before) n a c start in
+    let more = then_grows _ _ _ (event_grows (by_manual g) (step.Issue n) a before l) (grows (by_manual g) after ((step.Issue n, a) ∷ before) lawful) in
+    let ended = waited (world (by_manual g) before).requests n m at.ready lt (sym (same_wait _ _ n m more lt at.accepted) ∙ waiting) in
+    let s = (sound_of (by_manual g) before l.1).requests in
+    let t = tells_requests (by_manual g) before l.1 in
+    let once : count_by (λ e. e.number == m) (world (by_manual g) before).requests.ended ≡ 1 = omega (arith, s.ends_once m, count_some (λ e. e.number == m) (world (by_manual g) before).requests.ended ended) in
     subst (λ xs. count_by (λ e. e.number == m) xs ≡ 1) (sym t.ended) once

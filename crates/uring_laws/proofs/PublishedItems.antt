@@ -118,7 +118,7 @@ Drops h w = positions_dropped h ≡ dropped_in (take (taken w.submission) w.subm
 closed_drops : (g : Setup) (h : History) → IsLawfulApart g h
     → (accepted missed head : ℕ) (call : Call) → (world g h).submission.call ≡ Some call
     → nat_lt call.taken call.count ≡ false
-    → Drops ((step.End, answer.Taken accepted missed head) ∷ h) (ending_of (world g h) (Some call))
+    → Drops ((step.End, answer.Taken accepted missed head) ∷ h) (ending_of g (world g h) (Some call))
 closed_drops g h lawful accepted missed head call opened all =
     let l : Submission = (world g h).submission in
     let s = (sound_of g h lawful).submission in
@@ -126,7 +126,7 @@ closed_drops g h lawful accepted missed head call opened all =
     let c : open_count l.call ≡ call.count = ap open_count opened in
     let n = sum_by_push (λ x. x) l.calls call.count in
     let f = ltb-false _ _ all in
-    let same : reached l ≡ taken (ending_of (world g h) (Some call)).submission = omega (arith, s.within_call) in
+    let same : reached l ≡ taken (ending_of g (world g h) (Some call)).submission = omega (arith, s.within_call) in
     dropped_by_all g h lawful ∙ ap (λ k. dropped_in (take k l.published)) same
 
 drops_kept : (g : Setup) (h : History) (s : Step) (a : Answer) (v : World) → IsLawfulApart g h

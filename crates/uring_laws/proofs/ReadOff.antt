@@ -1,14 +1,14 @@
 -- The lists of a world are its history's own.
 use Rattle.std.proofs.Common.{sym, ap, ◌∙◌}
 use Rattle.uring_entry.specs.Setup.{Setup}
-use Rattle.uring_core.specs.Histories.{History, world, IsLawfulApart}
-use Rattle.uring_laws.specs.HistoryLists.{OwnSubmission, OwnRequests, OwnCompletions}
+use Rattle.uring_core.specs.Histories.{History, world, IsLawfulApart, by_manual}
+use Rattle.uring_laws.specs.HistoryLists.{OwnSubmission, OwnRequests, OwnCompletions, OwnPosted}
 use Rattle.uring_laws.proofs.DirectSubmission.{direct_submission, call_direct}
 use Rattle.uring_laws.proofs.DirectCompletions.{direct_completions}
 use Rattle.std.specs.List.{filter_map}
 use Rattle.uring_core.specs.Events.{is_load_cq_tail}
 use Rattle.uring_laws.specs.Direct.{completion_of, before_last}
-use Rattle.uring_laws.proofs.DirectPut.{direct_put, lawful_last}
+use Rattle.uring_laws.proofs.DirectPut.{direct_put, posted_told, lawful_last}
 use Rattle.uring_laws.proofs.DirectRequests.{direct_requests, direct_posted}
 use Rattle.uring_laws.proofs.DirectPlaces.{direct_places}
 use Rattle.uring_laws.proofs.ToldRequests.{tells_requests}
@@ -36,12 +36,16 @@ own_requests g h lawful =
 pub own_completions : (g : Setup) (h : History) → IsLawfulApart g h → OwnCompletions g h
 own_completions g h lawful =
     let d = direct_completions g h lawful in
-    let t = tells_requests g h lawful in
     record {
-      posted = direct_posted g h lawful ∙ ap (filter_map (completion_of (world g h).requests.accepted)) (sym t.ended);
+      posted = posted_told g h lawful;
       put = direct_put g h lawful;
       reaped = d.reaped;
       head = d.stored;
       seen_head = d.flushed;
       seen_tail = d.seen ∙ direct_put g (before_last is_load_cq_tail h) (lawful_last g is_load_cq_tail h lawful);
     }
+
+-- by the manual pages' rules
+pub own_posted : (g : Setup) (h : History) → IsLawfulApart (by_manual g) h
+    → OwnPosted (by_manual g) h
+own_posted g h lawful = direct_posted g h lawful ∙ ap (filter_map (completion_of (world (by_manual g) h).requests.accepted)) (sym (tells_requests (by_manual g) h lawful).ended)

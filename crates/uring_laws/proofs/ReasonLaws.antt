@@ -1,5 +1,5 @@
 -- What why says, from what each case of it says: proofs of the laws on reasons.
-use Rattle.std.proofs.Common.{◌≡◌, ℕ, ◌<◌, ◌≤◌, length, Bool, true, false, not, ◌&&◌, ◌||◌, Option, Some, None, is_some, refl, sym, ◌∙◌, ap, subst, arith, inl, inr}
+use Rattle.std.proofs.Common.{◌≡◌, ℕ, ◌<◌, ◌≤◌, length, Bool, true, false, not, ◌&&◌, ◌||◌, nat_lt, Option, Some, None, is_some, unwrap_or, refl, sym, ◌∙◌, ap, subst, arith, inl, inr}
 use Rattle.std.specs.Prelude.{if◌then◌else◌, ◌⊎◌, ◌↔◌}
 use Rattle.std.proofs.lemmas.Bool.{cases_lt, cases_Bool, and_from, and_left, and_right, and_parts, or_left, or_right, or_parts, or_from, both_ways, lt-ltb, le-ltb, not-true, ltb-true, false_from_ne_true}
 use Rattle.uring_entry.specs.Below.{least_below}
@@ -11,16 +11,22 @@ use Rattle.uring_entry.specs.declared.why.Why.{Why}
 use Rattle.uring_entry.specs.declared.why.Why.TheVariants.{NeverAccepted, HasEnded, Runs, IsDoomed, Waits, MayStart}
 use Rattle.uring_entry.specs.declared.why.Doom.{Doom}
 use Rattle.uring_entry.specs.declared.why.Since.{Since}
-use Rattle.uring_entry.specs.declared.why.Since.TheVariants.{SameGroup, ItDrains, OwnDrains}
+use Rattle.uring_entry.specs.declared.why.Since.TheVariants.{SameGroup, ItDrains, OwnDrains, Deferred}
 use Rattle.uring_entry.proofs.BelowLemmas.{IsLeast, least_below_out, least_below_tells, is_some_least_below, least_below_none}
 use Rattle.uring_entry.proofs.RequestLemmas.{is_joined_yes, is_joined_inside, is_ready_yes, is_ready_inside}
 use Rattle.uring_entry.proofs.WhyLemmas.{StillWaits, IsTold, told, told_as, why_waiting}
 use Rattle.uring_entry.specs.Preparation.{is_cancel}
-use Rattle.uring_core.specs.World.{World}
+use Rattle.uring_entry.specs.Setup.{Setup}
+use Rattle.uring_linux.specs.LinuxRequests as kernel
+use Rattle.uring_linux.specs.LinuxRequests.{LinuxRequests, is_in_turn, keeps_back, is_deferred}
+use Rattle.uring_linux.specs.LinuxWhy as kernel_why
+use Rattle.uring_linux.specs.LinuxWhy.{kept_back_by, least_free_of}
+use Rattle.uring_rules.specs.Rules as by_rules
+use Rattle.uring_core.specs.World.{World, requests_of}
 use Rattle.uring_core.specs.StepAnswers.{issue_answer}
 use Rattle.uring_core.specs.declared.answer.Answer.{Answer}
 use Rattle.uring_core.specs.declared.answer.Answer.TheVariants as answer
-use Rattle.uring_laws.specs.Reasons.{answer_told, can_be_issued, IsUnstarted, CanStart, IsSince, IsWaiting, IsLeastOf, IsDoomOf, GoesOn}
+use Rattle.uring_laws.specs.Reasons.{answer_told, AnswerAgrees, can_be_issued, IsUnstarted, CanStart, IsSince, IsWaiting, IsLeastOf, IsDoomOf, GoesOn}
 
 -- Standing.
 
@@ -275,7 +281,7 @@ two_steps r n m since e =
           ]
     ]
 
--- The answer to an Issue.
+-- The answer to an Issue, by the manual pages' rules.
 
 -- the tests that are left, with what the next one gives
 abbrev by_ready : World → ℕ → Bool → Answer
@@ -295,22 +301,25 @@ abbrev by_outstanding : World → ℕ → Bool → Answer
 by_outstanding w n outstanding =
     if not outstanding then answer.Unknown else by_running w n (is_running w.requests n)
 
+abbrev asked : World → ℕ → Answer
+asked w n = by_outstanding w n (is_outstanding w.requests n)
+
 unknown_answer : (w : World) (n : ℕ) → is_outstanding w.requests n ≡ false
-    → issue_answer w n ≡ answer.Unknown
+    → asked w n ≡ answer.Unknown
 unknown_answer w n e = ap (by_outstanding w n) e
 
 unstarted_answer : (w : World) (n : ℕ) → StillWaits w.requests n
-    → issue_answer w n ≡ by_doomed w n (is_doomed w.requests n)
+    → asked w n ≡ by_doomed w n (is_doomed w.requests n)
 unstarted_answer w n s = let u = unstarted_told w.requests n s in ap (by_outstanding w n) u.outstanding ∙ ap (by_running w n) u.still
 
 ready_answer : (w : World) (n : ℕ) (ready : Bool) → StillWaits w.requests n
     → is_doomed w.requests n ≡ false → is_ready w.requests n ≡ ready
-    → issue_answer w n ≡ by_ready w n ready
+    → asked w n ≡ by_ready w n ready
 ready_answer w n ready s free e =
     unstarted_answer w n s ∙ ap (by_doomed w n) free ∙ ap (by_ready w n) e
 
 agrees_told : (w : World) (n : ℕ) (why : Why) → IsTold w.requests n why
-    → issue_answer w n ≡ answer_told w.requests n why
+    → asked w n ≡ answer_told false w.requests n why
 agrees_told w n NeverAccepted le =
     unknown_answer w n (and_left _ _ (le-ltb n (length w.requests.accepted) le))
 agrees_told w n HasEnded t = unknown_answer w n (and_right _ _ (ap not t.1))
@@ -320,6 +329,71 @@ agrees_told w n (IsDoomed doom) t = unstarted_answer w n t.0 ∙ ap (by_doomed w
 agrees_told w n (Waits m since) t = ready_answer w n false t.0 t.1 (ready_some w.requests n m t.2)
 agrees_told w n MayStart t = ready_answer w n true t.0 t.1 (ready_none w.requests n t.2)
 
-pub answer_agrees : (w : World) (n : ℕ)
-    → issue_answer w n ≡ answer_told w.requests n (why_of w.requests n)
-answer_agrees w n = agrees_told w n (why_of w.requests n) (told w.requests n)
+manual_agrees : (w : World) (n : ℕ)
+    → asked w n ≡ answer_told false w.requests n (why_of w.requests n)
+manual_agrees w n = agrees_told w n (why_of w.requests n) (told w.requests n)
+
+-- By Linux's rules.
+
+-- the tests that are left in its turn, with what the next two give
+abbrev in_turn : Requests → ℕ → (doomed free : Bool) → Answer
+in_turn r n doomed free =
+    if doomed then answer.Ended (kernel.doomed_result r n) no_bytes else
+    if not free then answer.NotReady else
+    if is_cancel (entry_of r n) then answer.Ended (kernel.cancel_result r n) no_bytes else
+    answer.Run
+
+abbrev kernel_asked : LinuxRequests → ℕ → (outstanding running turn : Bool) → Answer
+kernel_asked l n outstanding running turn =
+    if not outstanding then answer.Unknown else
+    if running then answer.Running else
+    in_turn l.requests n (turn && kernel.is_doomed l.requests n) (turn && not (is_deferred l n))
+
+abbrev kernel_told : LinuxRequests → ℕ → (given ended running : Bool) → Option ℕ → Why
+kernel_told l n given ended running holder =
+    if not given then NeverAccepted else
+    if ended then HasEnded else
+    if running then Runs else
+    kept_back_by l n holder
+
+turn_agrees : (l : LinuxRequests) (n : ℕ) (doomed deferred : Bool)
+    → in_turn l.requests n doomed (not deferred)
+    ≡ answer_told true l.requests n (if doomed then IsDoomed (kernel_why.doom_of l.requests n) else if deferred then Waits (unwrap_or (least_free_of l) n) Deferred else MayStart)
+turn_agrees l n true deferred = refl
+turn_agrees l n false true = refl
+turn_agrees l n false false = refl
+
+kernel_agrees : (l : LinuxRequests) (n : ℕ) (given ended running : Bool) (holder : Option ℕ)
+    → kernel_asked l n (given && not ended) running (not (is_some holder))
+    ≡ answer_told true l.requests n (kernel_told l n given ended running holder)
+kernel_agrees l n false ended running holder = refl
+kernel_agrees l n true true running holder = refl
+kernel_agrees l n true false true holder = refl
+kernel_agrees l n true false false (Some m) = refl
+kernel_agrees l n true false false None =
+    turn_agrees l n (kernel.is_doomed l.requests n) (is_deferred l n)
+
+-- whom no earlier member of its group keeps back is in its turn
+turn_is : (r : Requests) (n : ℕ)
+    → is_in_turn r n ≡ not (is_some (least_below (keeps_back r n) n))
+unfolding is_in_turn
+turn_is r n = ap not (sym (is_some_least_below (keeps_back r n) n))
+
+linux_agrees : (l : LinuxRequests) (n : ℕ)
+    → kernel_asked l n (is_outstanding l.requests n) (is_running l.requests n) (is_in_turn l.requests n)
+    ≡ answer_told true l.requests n (kernel_why.why_of l n)
+linux_agrees l n =
+    let r : Requests = l.requests in
+    ap (kernel_asked l n (is_outstanding r n) (is_running r n)) (turn_is r n)
+    ∙ kernel_agrees l n (nat_lt n (length r.accepted)) (has_ended r n) (is_running r n) (least_below (keeps_back r n) n)
+
+-- By either's.
+
+agrees_by : (linux : Bool) (g : Setup) (w : World) (n : ℕ)
+    → issue_answer (record g { linux = linux }) w n
+    ≡ answer_told linux w.requests n (by_rules.why_of linux (requests_of w) n)
+agrees_by true g w n = linux_agrees (requests_of w) n
+agrees_by false g w n = manual_agrees w n
+
+pub answer_agrees : AnswerAgrees
+answer_agrees g w n = agrees_by g.linux g w n

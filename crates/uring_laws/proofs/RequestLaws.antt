@@ -4,29 +4,33 @@ use Rattle.std.proofs.Common.{◌≡◌, ℕ, ◌<◌, ◌≤◌, ◌==◌, Bool
 use Rattle.std.specs.List.{list_any}
 use Rattle.std.proofs.lemmas.Bool.{and_parts, and_cases, ltb-true, lt-ltb, both_ways, or_cases, not-false, false_from_ne_true, true_from_ne_false}
 use Rattle.uring_entry.specs.Setup.{Setup}
-use Rattle.uring_entry.specs.Requests.{Requests, has_ended, is_outstanding, least_of, next_of, is_issuable}
+use Rattle.uring_entry.specs.Requests.{Requests, has_ended, is_outstanding, least_of}
+use Rattle.uring_linux.specs.LinuxRequests.{LinuxRequests}
+use Rattle.uring_rules.specs.Rules.{is_issuable, next_of}
 use Rattle.uring_entry.proofs.BelowLemmas.{least_below_out, least_below_some, least_below_tells}
 use Rattle.uring_entry.proofs.RequestLemmas.{least_of_goes_on}
 use Rattle.uring_laws.specs.Laws.{LeastCanGoOn, EachEndsOnce}
 use Rattle.uring_core.proofs.Issuable.{issue_goes, issuable_outstanding}
-use Rattle.uring_core.specs.World.{World}
-use Rattle.uring_core.specs.Histories.{History, world, IsLawfulApart}
+use Rattle.uring_core.specs.World.{World, requests_of}
+use Rattle.uring_core.specs.Histories.{History, world, IsLawfulApart, by_manual}
 use Rattle.uring_core.proofs.SoundRequests.{IsSoundRequests}
 use Rattle.uring_core.proofs.ListCounts.{count_none, count_some}
 use Rattle.uring_core.proofs.Sound.{sound_of}
 use Rattle.uring_laws.proofs.ToldRequests.{tells_requests}
 
--- the least outstanding request is the next, where it isn't running
-least_is_next : (r : Requests) (m : ℕ) → least_of r ≡ Some m → is_issuable r m ≡ true
-    → next_of r ≡ Some m
-least_is_next r m least issuable =
-    let l = least_below_tells (is_outstanding r) (length r.accepted) m least in
-    least_below_some (is_issuable r) (length r.accepted) m l.below issuable
-    (λ k lt. false_from_ne_true _ (λ holds. both_ways _ (l.before k lt) (issuable_outstanding r k holds)))
+-- the least outstanding request is the next, where it can be issued
+least_is_next : (linux : Bool) (l : LinuxRequests) (m : ℕ) → least_of l.requests ≡ Some m
+    → is_issuable linux l m ≡ true → next_of linux l ≡ Some m
+least_is_next linux l m least issuable =
+    let r : Requests = l.requests in
+    let low = least_below_tells (is_outstanding r) (length r.accepted) m least in
+    least_below_some (is_issuable linux l) (length r.accepted) m low.below issuable
+    (λ k lt. false_from_ne_true _ (λ holds. both_ways _ (low.before k lt) (issuable_outstanding linux l k holds)))
 
-pub least_goes_on : (w : World) (n : ℕ) → is_outstanding w.requests n ≡ true → LeastCanGoOn w
-least_goes_on w n outstanding = by_least (least_of w.requests) refl where
-  by_least : (least : Option ℕ) → least_of w.requests ≡ least → LeastCanGoOn w
+pub least_goes_on : (g : Setup) (w : World) (n : ℕ) → is_outstanding w.requests n ≡ true
+    → LeastCanGoOn (by_manual g) w
+least_goes_on g w n outstanding = by_least (least_of w.requests) refl where
+  by_least : (least : Option ℕ) → least_of w.requests ≡ least → LeastCanGoOn (by_manual g) w
   by_least None e = absurd (both_ways _ (least_below_out (is_outstanding w.requests) (length w.requests.accepted) e n (ltb-true _ _ (and_parts _ _ outstanding).0)) outstanding)
   by_least (Some m) e =
       record {
@@ -35,7 +39,7 @@ least_goes_on w n outstanding = by_least (least_of w.requests) refl where
         goes_on =
             elim (or_cases _ _ (least_of_goes_on w.requests m e)) [
               | inl running ↦ inl running
-              | inr issuable ↦ inr (least_is_next w.requests m e issuable, issue_goes w m issuable)
+              | inr issuable ↦ inr (least_is_next false (requests_of w) m e issuable, issue_goes (by_manual g) w m issuable)
             ];
       }
 

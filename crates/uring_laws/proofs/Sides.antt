@@ -1,16 +1,19 @@
--- The steps on the submission ring change places with those on requests and completions: `submission_then_rest` and `rest_then_submission`. Neither side reads what the other writes.
-use Rattle.std.proofs.Common.{◌≡◌, ℕ, List, ◌∷◌, Option, Some, None, refl, sym, subst, ap, ◌∙◌}
+-- The steps on the submission ring change places with those on requests and completions: `submission_then_rest` and `rest_then_submission`. Neither side reads what the other writes, by either's rules.
+use Rattle.std.proofs.Common.{◌≡◌, ℕ, ℤ, Bool, true, false, List, ◌∷◌, Option, Some, None, refl, sym, subst, ap, ◌∙◌}
 use Rattle.uring_entry.specs.Setup.{Setup}
 use Rattle.uring_entry.specs.Layout.{Sqe}
 use Rattle.uring_entry.specs.Submission.{Submission, Call}
-use Rattle.uring_entry.specs.Requests.{Ending}
+use Rattle.uring_entry.specs.Requests.{Requests, Ending, no_bytes}
+use Rattle.uring_rules.specs.Rules.{with_issued_end, drains_ended}
 use Rattle.uring_entry.specs.Completions.{Completions}
-use Rattle.uring_core.specs.World.{World, happens, taking_of, taking_entry_of}
+use Rattle.uring_linux.specs.Drains.{Drains}
+use Rattle.uring_core.specs.World.{World, requests_of, with_end_of, happens, taking_of, taking_entry_of}
 use Rattle.uring_core.specs.CalledFor.{CalledFor, IsLawful}
 use Rattle.uring_core.specs.Histories.{History, world}
 use Rattle.uring_core.specs.declared.step.Step.{Step}
 use Rattle.uring_core.specs.declared.step.Step.TheVariants as step
 use Rattle.uring_core.specs.declared.answer.Answer.{Answer}
+use Rattle.uring_core.specs.declared.answer.Answer.TheVariants as answer
 use Rattle.uring_core.proofs.Changes.{Change, refuses, fills, stages, stores, loads, begins, takes, drops, closes, runs, dooms, cancels, finishes, flushes, sees_tail, reaps, stores_head, shuts, change_of}
 use Rattle.uring_laws.specs.Swaps.{ChangePlaces, IsOnSubmission, IsOnRest, SubmissionThenRest, RestThenSubmission}
 use Rattle.uring_laws.proofs.Swapping.{alike_same}
@@ -25,13 +28,14 @@ record Rest : Type 0 where
   started : List ℕ
   cancelled : List ℕ
   ended : List Ending
+  drains : Drains
   completions : Completions
 
 abbrev with_rest : World → Rest → World
-with_rest w x = record w { requests = record w.requests { started = x.started; cancelled = x.cancelled; ended = x.ended }; completions = x.completions }
+with_rest w x = record w { requests = record w.requests { started = x.started; cancelled = x.cancelled; ended = x.ended }; drains = x.drains; completions = x.completions }
 
 abbrev rest_of : World → Rest
-rest_of w = record { started = w.requests.started; cancelled = w.requests.cancelled; ended = w.requests.ended; completions = w.completions }
+rest_of w = record { started = w.requests.started; cancelled = w.requests.cancelled; ended = w.requests.ended; drains = w.drains; completions = w.completions }
 
 -- Each side changes its own alone.
 
@@ -94,6 +98,19 @@ sub_with g w x s a (stores_head head) on = absurd on
 sub_with g w x s a (shuts none) on = absurd on
 sub_with g w x s a _ on = refl
 
+-- an end as a request is issued changes neither entries nor cuts, by either's rules
+issued_alone : (linux : Bool) (r : Requests) (n : ℕ) (res : ℤ)
+    → with_issued_end linux r n res
+    ≡ record r { started = (with_issued_end linux r n res).started; cancelled = (with_issued_end linux r n res).cancelled; ended = (with_issued_end linux r n res).ended }
+issued_alone true r n res = refl
+issued_alone false r n res = refl
+
+ends_alone : (g : Setup) (w : World) (n : ℕ) (res : ℤ) (bytes : List ℕ)
+    → happens g w (step.Issue n) (answer.Ended res bytes)
+    ≡ with_rest w (rest_of (happens g w (step.Issue n) (answer.Ended res bytes)))
+ends_alone g w n res bytes =
+    ap (λ (q : Requests). record w { requests = q; drains = drains_ended g.linux (requests_of w) n res; completions = with_end_of g w n res no_bytes }) (issued_alone g.linux w.requests n res)
+
 rest_alone : (g : Setup) (w : World) (t : Step) (b : Answer) → Change g w t b → IsOnRest t
     → happens g w t b ≡ with_rest w (rest_of (happens g w t b))
 rest_alone g w t b (refuses _ _ same silent) on =
@@ -107,6 +124,8 @@ rest_alone g w t b (takes entry call place opened left at valid) on = absurd on
 rest_alone g w t b (drops call place opened left at invalid) on = absurd on
 rest_alone g w t b (closes accepted missed head call opened all told) on = absurd on
 rest_alone g w t b (shuts none) on = absurd on
+rest_alone g w t b (dooms n outstanding idle doomed) on = ends_alone g w n _ no_bytes
+rest_alone g w t b (cancels n outstanding idle spared ready cancel) on = ends_alone g w n _ no_bytes
 rest_alone g w t b _ on = refl
 
 -- whatever the submission ring is

@@ -158,14 +158,15 @@ position_taken g goes w count asked done a s few low called =
     let told : a ≡ place_answer (slice_get l.published at) = called ∙ ap (λ b. if b then answer.NoMore else place_answer (slice_get l.published at)) (ne_eqb done asked (λ same. omega arith)) in
     (told, took_place g w asked done place.entry a goes (told ∙ ap place_answer (slice_get-get_or l.published at _ within)))
 
-closes : (w : World) (count : ℕ) (few : Bool) (accepted missed head : ℕ) (a : Answer) → few ≡ false
+closes : (g : Setup) (w : World) (count : ℕ) (few : Bool) (accepted missed head : ℕ) (a : Answer)
+    → few ≡ false
     → a ≡ (if few then answer.NotAll else answer.Taken accepted missed head)
-    → ending (in_call w count count) a
-    ≡ ending_of (in_call w count count) (Some (record { count = count; taken = count }))
-closes w count few accepted missed head a all called = ap (ending (in_call w count count)) (called ∙ ap (λ b. if b then answer.NotAll else answer.Taken accepted missed head) all)
+    → ending g (in_call w count count) a
+    ≡ ending_of g (in_call w count count) (Some (record { count = count; taken = count }))
+closes g w count few accepted missed head a all called = ap (ending g (in_call w count count)) (called ∙ ap (λ b. if b then answer.NotAll else answer.Taken accepted missed head) all)
 
 pub call_closes : (g : Setup) → CallCloses g
 call_closes g w count asked left ended loads s all called =
     let l : Submission = w.submission in
-    let done : ending (in_call w asked asked) ended ≡ ending_of (in_call w asked asked) (Some (record { count = asked; taken = asked })) = closes w asked _ _ _ _ ended (le-ltb asked asked (omega arith)) called in
+    let done : ending g (in_call w asked asked) ended ≡ ending_of g (in_call w asked asked) (Some (record { count = asked; taken = asked })) = closes g w asked _ _ _ _ ended (le-ltb asked asked (omega arith)) called in
     (ap (λ v. happens g v step.LoadHead loads) done, record { fresh = s.fresh; call = refl; head = refl; waiting = omega (arith, s.waiting, all, sum_by_push (λ x. x) l.calls asked) })

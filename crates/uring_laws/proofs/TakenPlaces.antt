@@ -73,13 +73,13 @@ closed_places : (g : Setup) (h : History) (w : World) (accepted missed head : �
     → w.submission.call ≡ Some call → nat_lt call.taken call.count ≡ false
     → IsSoundSubmission g.sq w.submission
     → TakesPlaces h w
-    → TakesPlaces ((step.End, answer.Taken accepted missed head) ∷ h) (ending_of w (Some call))
+    → TakesPlaces ((step.End, answer.Taken accepted missed head) ∷ h) (ending_of g w (Some call))
 closed_places g h w accepted missed head call opened all sound i =
     let t : open_taken w.submission.call ≡ call.taken = ap open_taken opened in
     let c : open_count w.submission.call ≡ call.count = ap open_count opened in
     let n = sum_by_push (λ x. x) w.submission.calls call.count in
     let f = ltb-false _ _ all in
-    let same : reached w.submission ≡ reached (ending_of w (Some call)).submission = omega arith in
+    let same : reached w.submission ≡ reached (ending_of g w (Some call)).submission = omega arith in
     record {
       count = count_same takes_position (step.End, answer.Taken accepted missed head) h refl ∙ i.count ∙ same;
       entries = i.entries ∙ ap (λ k. entries_of (take k w.submission.published)) same;

@@ -53,13 +53,13 @@ ends h = told end_told_by h
 abbrev pub reaps : History → List Cqe
 reaps h = told reaped_by h
 
--- the completion of an end, if these entries were accepted: none, for a success that its entry asks to skip
+-- the completion of an end, if these entries were accepted, by the manual pages' rules: none, for a success that its entry asks to skip
 abbrev pub completion_of : List Sqe → Ending → Option Cqe
 completion_of accepted e =
     let entry = slice_index_or accepted e.number zero_entry in
     if posts_completion entry e.res then Some (completion_for entry e.res e.bytes) else None
 
--- the completions posted, in order, if these entries were accepted
+-- the completions posted, in order, if these entries were accepted, by the manual pages' rules
 abbrev pub posts : List Sqe → History → List Cqe
 posts accepted h = filter_map (completion_of accepted) (ends h)
 

@@ -5,11 +5,12 @@ use Rattle.uring_entry.specs.Setup.{Setup}
 use Rattle.uring_entry.specs.Layout.{Cqe}
 use Rattle.uring_entry.specs.Preparation.{is_cancel, operation_of}
 use Rattle.uring_entry.specs.Submission.{entries_of}
-use Rattle.uring_entry.specs.Requests.{Requests, entry_of, least_of, next_of, is_running, is_outstanding, is_doomed, doomed_result, waits_for, outstanding_in, Ending}
+use Rattle.uring_entry.specs.Requests.{Requests, entry_of, least_of, is_running, is_outstanding, is_doomed, doomed_result, waits_for, outstanding_in, Ending}
 use Rattle.uring_entry.specs.Completions.{Completions, with_flushed}
 use Rattle.uring_entry.specs.declared.errno.TheConstants.{ECANCELED}
 use Rattle.uring_files.specs.Operations.{IsForFiles}
-use Rattle.uring_core.specs.World.{World}
+use Rattle.uring_rules.specs.Rules.{next_of}
+use Rattle.uring_core.specs.World.{World, requests_of}
 use Rattle.uring_core.specs.StepAnswers.{IsEnded, IsIssued, issue_answer}
 use Rattle.uring_core.specs.CalledFor.{IsLawful}
 use Rattle.uring_core.specs.Histories.{History, world, IsLawfulApart}
@@ -41,20 +42,20 @@ pub record EachEndsOnce (g : Setup) (h : History) : Type 0 where
   pub all_end : ((n : ℕ) → is_outstanding (world g h).requests n ≡ false) → (n : ℕ)
       → n < length (world g h).requests.accepted → times_ended h n ≡ 1
 
--- A doomed request was never started, and each end of it has the result of the doomed: EINVAL if it has a fault itself, else ECANCELED.
+-- By the manual pages' rules: a doomed request was never started, and each end of it has the result of the doomed: EINVAL if it has a fault itself, else ECANCELED.
 pub record DoomedNeverRun (g : Setup) (h : History) : Type 0 where
   pub never_run : (n : ℕ) → is_doomed (world g h).requests n ≡ true → times_started h n ≡ 0
   pub ends_so : (k : ℕ) (e : Ending) → slice_get (ends h) k ≡ Some e
       → is_doomed (world g h).requests e.number ≡ true
       → e.res ≡ doomed_result (world g h).requests e.number
 
--- A doomed request stays doomed.
+-- By the manual pages' rules a doomed request stays doomed.
 abbrev pub DoomedStayDoomed : Setup → Type 0
 DoomedStayDoomed g = (after before : History) (n : ℕ) → IsLawfulApart g (after ++ before)
     → n < length (world g before).requests.accepted → is_doomed (world g before).requests n ≡ true
     → is_doomed (world g (after ++ before)).requests n ≡ true
 
--- An Issue that ends with ECANCELED is that of a request that was doomed just before.
+-- By the manual pages' rules an Issue that ends with ECANCELED is that of a request that was doomed just before.
 abbrev pub CancelledWereDoomed : Setup → Type 0
 CancelledWereDoomed g = (after before : History) (n : ℕ) (bytes : List ℕ)
     → IsLawfulApart g (after ++ (step.Issue n, answer.Ended (neg_ℤ ECANCELED) bytes) ∷ before)
@@ -64,7 +65,7 @@ CancelledWereDoomed g = (after before : History) (n : ℕ) (bytes : List ℕ)
 abbrev pub IsStart : Requests → ℕ → Answer → Type 0
 IsStart r n a = (a ≡ answer.Run) ⊎ (IsEnded a × (is_doomed r n ≡ false))
 
--- Links and drains: when a request starts, each earlier one that it waits for has ended, once.
+-- Links and drains, by the manual pages' rules: when a request starts, each earlier one that it waits for has ended, once.
 abbrev pub LinksAndDrainsHold : Setup → Type 0
 LinksAndDrainsHold g = (after before : History) (m n : ℕ) (a : Answer)
     → IsLawfulApart g (after ++ (step.Issue n, a) ∷ before) → IsStart (world g before).requests n a
@@ -105,11 +106,11 @@ abbrev pub NoneIsOutstanding : Type 0
 NoneIsOutstanding = (r : Requests) → (outstanding_in r ≡ 0) ↔ ((n : ℕ) → is_outstanding r n ≡ false)
 
 -- With something outstanding there is a least outstanding request, and it is running, or else it is the next to be issued, and Issue doesn't refuse it.
-pub record LeastCanGoOn (w : World) : Type 0 where
+pub record LeastCanGoOn (g : Setup) (w : World) : Type 0 where
   pub least : ℕ
   pub is_least : least_of w.requests ≡ Some least
   pub goes_on : (is_running w.requests least ≡ true)
-      ⊎ ((next_of w.requests ≡ Some least) × IsIssued (issue_answer w least))
+      ⊎ ((next_of g.linux (requests_of w) ≡ Some least) × IsIssued (issue_answer g w least))
 
 -- What is lawful is lawful apart from what operations gave, so that every law holds of it.
 abbrev pub LawfulStandsApart : Setup → Type 0

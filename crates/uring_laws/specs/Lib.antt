@@ -1,6 +1,7 @@
 pub mod Direct
 pub mod Stopping
 pub mod Laws
+pub mod LinuxLaws
 pub mod HistoryLists
 pub mod Finishes
 pub mod Published

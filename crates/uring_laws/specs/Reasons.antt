@@ -1,13 +1,15 @@
--- What it says of a request why it stands as it does: laws of any requests.
+-- What it says of a request why it stands as it does: laws of any requests, by the manual pages' rules but for the answer to an Issue.
 use Rattle.std.specs.Prelude.{◌≡◌, ◌↔◌, ℕ, ◌<◌, ◌≤◌, ℤ, pos, neg_ℤ, Bool, true, false, if◌then◌else◌, length, Some, ◌⊎◌}
-use Rattle.uring_entry.specs.Requests.{Requests, entry_of, has_ended, is_outstanding, is_running, is_candidate, cancel_result, doomed_result, no_bytes, is_issuable, is_doomed, is_ready, is_in_faulty_group, is_behind_failure, is_cancelled, is_joined, is_draining, holds_back}
+use Rattle.uring_entry.specs.Requests.{Requests, entry_of, has_ended, is_outstanding, is_running, is_candidate, cancel_result, no_bytes, is_issuable, is_doomed, is_ready, is_in_faulty_group, is_behind_failure, is_cancelled, is_joined, is_draining, holds_back}
 use Rattle.uring_entry.specs.Preparation.{fault_of, is_faulty, is_cancel, is_cancel_all}
 use Rattle.uring_entry.specs.declared.errno.TheConstants.{ENOENT, EALREADY}
 use Rattle.uring_entry.specs.Why.{is_faulty_member, is_failure_before, why_of}
 use Rattle.uring_dispatch.specs.Cancels.{found_by}
 use Rattle.uring_dispatch.specs.declared.answers.Found.{Found}
 use Rattle.uring_dispatch.specs.declared.answers.Found.TheVariants as found
-use Rattle.uring_core.specs.World.{World}
+use Rattle.uring_entry.specs.Setup.{Setup}
+use Rattle.uring_rules.specs.Rules as by_rules
+use Rattle.uring_core.specs.World.{World, requests_of}
 use Rattle.uring_core.specs.StepAnswers.{issue_answer}
 use Rattle.uring_core.specs.declared.answer.Answer.{Answer}
 use Rattle.uring_core.specs.declared.answer.Answer.TheVariants as answer
@@ -100,20 +102,21 @@ abbrev pub TwoSteps : Type 0
 TwoSteps = (r : Requests) (n m : ℕ) (since : Since) → why_of r n ≡ Waits m since
     → GoesOn r m ⊎ ((k : ℕ) × (other : Since) × (why_of r m ≡ Waits k other) × GoesOn r k)
 
--- the answer to an Issue of a request of which this is told
-abbrev pub answer_told : Requests → ℕ → Why → Answer
-answer_told r n NeverAccepted = answer.Unknown
-answer_told r n HasEnded = answer.Unknown
-answer_told r n Runs = answer.Running
-answer_told r n (IsDoomed doom) = answer.Ended (doomed_result r n) no_bytes
-answer_told r n (Waits m since) = answer.NotReady
-answer_told r n MayStart =
-    if is_cancel (entry_of r n) then answer.Ended (cancel_result r n) no_bytes else answer.Run
+-- the answer to an Issue of a request of which this is told, by the rules of the set-up
+abbrev pub answer_told : (is_linux : Bool) → Requests → ℕ → Why → Answer
+answer_told is_linux r n NeverAccepted = answer.Unknown
+answer_told is_linux r n HasEnded = answer.Unknown
+answer_told is_linux r n Runs = answer.Running
+answer_told is_linux r n (IsDoomed doom) =
+    answer.Ended (by_rules.doomed_result is_linux r n) no_bytes
+answer_told is_linux r n (Waits m since) = answer.NotReady
+answer_told is_linux r n MayStart =
+    if is_cancel (entry_of r n) then answer.Ended (by_rules.cancel_result is_linux r n) no_bytes else answer.Run
 
--- The answer called for by an Issue is the one that goes with what is told just before.
+-- By either's rules the answer called for by an Issue is the one that goes with what is told just before.
 abbrev pub AnswerAgrees : Type 0
-AnswerAgrees =
-    (w : World) (n : ℕ) → issue_answer w n ≡ answer_told w.requests n (why_of w.requests n)
+AnswerAgrees = (g : Setup) (w : World) (n : ℕ) → issue_answer g w n
+    ≡ answer_told g.linux w.requests n (by_rules.why_of g.linux (requests_of w) n)
 
 -- What a cancel of one request finds.
 

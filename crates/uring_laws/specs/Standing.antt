@@ -6,7 +6,8 @@ use Rattle.uring_entry.specs.IndexWords.{word_of}
 use Rattle.uring_entry.specs.Layout.{Sqe}
 use Rattle.uring_entry.specs.Submission.{Submission, taken, with_filled, with_staged, with_published, with_head_loaded, with_closed, entries_from, Published, with_entry, bad_word, published_items, IsItem}
 use Rattle.uring_entry.specs.Requests.{with_call}
-use Rattle.uring_core.specs.World.{World, happens}
+use Rattle.uring_rules.specs.Rules.{drains_called}
+use Rattle.uring_core.specs.World.{World, requests_of, happens}
 use Rattle.uring_core.specs.StepAnswers.{CalledForApart, OrAgain, is_spent, place_answer}
 use Rattle.uring_core.specs.Histories.{History, world, history_of, IsLawfulApart}
 use Rattle.uring_core.specs.declared.step.Step.{Step}
@@ -79,11 +80,12 @@ PositionIsTaken g = g.stops ≡ false → (w : World) (count asked done : ℕ) (
     × (happens g (in_call w asked done) step.Take a ≡ in_call w asked (done + 1))
 
 -- the world after such a call, once the application has loaded the head
-abbrev pub after_call : World → ℕ → World
-after_call w count = record w {
+abbrev pub after_call : Setup → World → ℕ → World
+after_call g w count = record w {
   submission =
       with_head_loaded (with_closed w.submission (record { count = count; taken = count }));
   requests = with_call w.requests (entries_from w.submission count);
+  drains = drains_called g.linux (requests_of w) (entries_from w.submission count);
 }
 
 -- it closes with all of them taken, and what is left waits for the next
@@ -91,8 +93,8 @@ abbrev pub CallCloses : Setup → Type 0
 CallCloses g = (w : World) (count asked left : ℕ) (ended loads : Answer)
     → Stands w.submission [] count → asked + left ≡ count
     → CalledForApart g (in_call w asked asked) step.End ended
-    → (happens g (happens g (in_call w asked asked) step.End ended) step.LoadHead loads ≡ after_call w asked)
-    × Stands (after_call w asked).submission [] left
+    → (happens g (happens g (in_call w asked asked) step.End ended) step.LoadHead loads ≡ after_call g w asked)
+    × Stands (after_call g w asked).submission [] left
 
 -- A whole call at once.
 

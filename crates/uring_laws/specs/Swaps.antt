@@ -1,4 +1,4 @@
--- Which two events that come one behind the other may change places, and what they leave then: worlds that are alike, which no later answer tells apart. Exploring of one order of each class rests on it.
+-- Which two events that come one behind the other may change places, by the manual pages' rules, and what they leave then: worlds that are alike, which no later answer tells apart. Exploring of one order of each class rests on it.
 use Rattle.std.specs.Prelude.{◌≡◌, ◌≢◌, ◌⊎◌, ◌<◌, ℕ, ◌+◌, Bool, true, false, not, ◌||◌, nat_le, List, ◌∷◌, ◌++◌, length}
 use Rattle.std.specs.List.{list_any}
 use Rattle.std.specs.Ordering.{int_eq}
@@ -33,12 +33,13 @@ pub record StandAlike (r q : Requests) : Type 0 where
   pub cancelled : HaveSame ℕ r.cancelled q.cancelled
   pub ended : HaveSame Ending r.ended q.ended
 
--- Worlds that differ in nothing but the order in which requests started, were doomed by cancels and ended: the rings with all completions are the same, and so are the files.
+-- Worlds that differ in nothing but the order in which requests started, were doomed by cancels and ended: the rings with all completions are the same, and so are the files; and by Linux's rules how the drains stand.
 pub record AreAlike (g : Setup) (v w : World) : Type 0 where
   pub submission : v.submission ≡ w.submission
   pub requests : StandAlike v.requests w.requests
   pub completions : v.completions ≡ w.completions
   pub is_closed : v.is_closed ≡ w.is_closed
+  pub drains : g.linux ≡ true → v.drains ≡ w.drains
   pub files : files_of g v ≡ files_of g w
 
 -- In worlds that are alike the same answers are called for.

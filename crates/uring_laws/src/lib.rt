@@ -1,21 +1,22 @@
 //! What holds of every lawful history: laws of the definitions alone, each a function with no code, whose clauses say the law.
 #![tactic(auto)]
 
-ghost use Rattle.std.specs.Prelude.{◌≡◌, ℕ, true};
+ghost use Rattle.std.specs.Prelude.{◌≡◌, ℕ, true, false};
 ghost use Rattle.uring_entry.specs.Requests.{is_outstanding};
 ghost use Rattle.uring_entry.specs.Setup.{Setup, IsWithinLimits};
-ghost use Rattle.uring_laws.specs.HistoryLists.{OwnSubmission, OwnRequests, OwnCompletions, OwnCancelled};
+ghost use Rattle.uring_laws.specs.HistoryLists.{OwnSubmission, OwnRequests, OwnCompletions, OwnPosted, OwnCancelled};
 ghost use Rattle.uring_core.specs.Histories.{History, world, IsLawfulApart};
 ghost use Rattle.uring_laws.specs.Laws.{TakenOnceInOrder, EachEndsOnce, DoomedNeverRun, DoomedStayDoomed, CancelledWereDoomed, LinksAndDrainsHold, ReapedBeginPosted, FlushPutsAll, NothingAfterClose, NoneIsOutstanding, LeastCanGoOn, LawfulStandsApart, NoFinishCancels, WhatRunsIsForFiles};
 ghost use Rattle.uring_laws.specs.Published.{OwnPublished};
 
 pub mod calls;
 pub mod files;
+pub mod linux;
 pub mod reasons;
 pub mod recorded;
 pub mod swaps;
 
-/// Each list and count that a history has made is the one that is read straight off its events; of the cancelled, who is among them, by what stood before each cancel.
+/// Each list and count that a history has made is the one that is read straight off its events: what was posted, by the requests that stood before each end. By the manual pages' rules it is read off the ends and their entries alone, and of the cancelled, who is among them, by what stood before each cancel.
 pub fn lists_are_the_historys_own()
     ensures submission { (g : Setup) (h : History) → IsWithinLimits g → IsLawfulApart g h
         → OwnSubmission g h }
@@ -23,8 +24,10 @@ pub fn lists_are_the_historys_own()
         → OwnRequests g h }
     ensures completions { (g : Setup) (h : History) → IsWithinLimits g → IsLawfulApart g h
         → OwnCompletions g h }
-    ensures cancelled { (g : Setup) (h : History) → IsWithinLimits g → IsLawfulApart g h
-        → OwnCancelled g h }
+    ensures posted { (g : Setup) → g.linux ≡ false → (h : History) → IsWithinLimits g
+        → IsLawfulApart g h → OwnPosted g h }
+    ensures cancelled { (g : Setup) → g.linux ≡ false → (h : History) → IsWithinLimits g
+        → IsLawfulApart g h → OwnCancelled g h }
 {}
 
 /// What the application published is told by the events: its items, the lengths of the calls that closed, and how many positions these dropped, modulo 2^32.
@@ -43,17 +46,18 @@ pub fn each_ends_once()
     ensures { (g : Setup) (h : History) → IsWithinLimits g → IsLawfulApart g h → EachEndsOnce g h }
 {}
 
-/// A doomed request is never started, and its end has the result of the doomed; it stays doomed. An `Issue` that ends with -125 (`ECANCELED`) is that of a request that was doomed just before.
+/// By the manual pages' rules a doomed request is never started, and its end has the result of the doomed; it stays doomed. An `Issue` that ends with -125 (`ECANCELED`) is that of a request that was doomed just before.
 pub fn doomed_never_run()
-    ensures never_run { (g : Setup) (h : History) → IsWithinLimits g → IsLawfulApart g h
-        → DoomedNeverRun g h }
-    ensures stay_doomed { (g : Setup) → IsWithinLimits g → DoomedStayDoomed g }
-    ensures were_doomed { (g : Setup) → IsWithinLimits g → CancelledWereDoomed g }
+    ensures never_run { (g : Setup) → g.linux ≡ false → (h : History) → IsWithinLimits g
+        → IsLawfulApart g h → DoomedNeverRun g h }
+    ensures stay_doomed { (g : Setup) → g.linux ≡ false → IsWithinLimits g → DoomedStayDoomed g }
+    ensures were_doomed { (g : Setup) → g.linux ≡ false → IsWithinLimits g
+        → CancelledWereDoomed g }
 {}
 
-/// Members of a group, and groups of which one drains, start in order: a request runs, or is carried out as a cancel, only after the end of each earlier one that it waits for.
+/// By the manual pages' rules members of a group, and groups of which one drains, start in order: a request runs, or is carried out as a cancel, only after the end of each earlier one that it waits for.
 pub fn links_and_drains_hold()
-    ensures { (g : Setup) → IsWithinLimits g → LinksAndDrainsHold g }
+    ensures { (g : Setup) → g.linux ≡ false → IsWithinLimits g → LinksAndDrainsHold g }
 {}
 
 /// What was reaped begins what was posted; of the rest the older part stands in the completion ring, the newer in the overflow list, and waits there only while the ring is full above the head that the dispatcher last loaded.
@@ -77,13 +81,14 @@ pub fn none_is_outstanding()
     ensures { NoneIsOutstanding }
 {}
 
-/// With something outstanding, the least outstanding request is running, or else it is the next to be issued and `Issue` doesn't refuse it.
+/// By the manual pages' rules, with something outstanding, the least outstanding request is running, or else it is the next to be issued and `Issue` doesn't refuse it.
 pub fn least_can_go_on()
-    ensures { (g : Setup) (h : History) (n : ℕ) → is_outstanding (world g h).requests n ≡ true
-        → LeastCanGoOn (world g h) }
+    ensures { (g : Setup) → g.linux ≡ false → (h : History) (n : ℕ)
+        → is_outstanding (world g h).requests n ≡ true
+        → LeastCanGoOn g (world g h) }
 {}
 
-/// What is lawful is lawful apart from what operations gave, so that every law holds of it. In a lawful history no finish ends with -125 (`ECANCELED`), so that each such end is that of a request that was doomed just before.
+/// What is lawful is lawful apart from what operations gave, so that every law holds of it. In a lawful history no finish ends with -125 (`ECANCELED`), so that by the manual pages' rules each such end is that of a request that was doomed just before.
 pub fn operations_never_cancel()
     ensures apart { (g : Setup) → LawfulStandsApart g }
     ensures never { (g : Setup) → NoFinishCancels g }

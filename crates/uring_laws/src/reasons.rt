@@ -1,4 +1,4 @@
-//! Why a request stands as it does, and what it says: laws of any requests.
+//! Why a request stands as it does, and what it says: laws of any requests, by the manual pages' rules but for the answer to an `Issue`.
 ghost use Rattle.uring_laws.specs.Reasons.{EndIsSaid, IssuableIsSaid, MayStartIsSaid, WaitsIsSaid, DoomIsSaid, TwoSteps, AnswerAgrees, FoundIsSaid};
 
 /// A request is told never to have been accepted exactly if none of its number was, to have ended exactly if it was accepted and has ended, and to run exactly if it is outstanding and was started.
@@ -31,7 +31,7 @@ pub fn two_steps_lead_on()
     ensures { TwoSteps }
 {}
 
-/// The answer called for by an `Issue` is exactly the one that goes with what is told of its request just before: `Unknown` of one that was never accepted or has ended, `Running` of one that runs, the doomed end of a doomed one, `NotReady` of one that waits, and of one that may start the cancel's end if it is a cancel, else a start.
+/// By either's rules the answer called for by an `Issue` is exactly the one that goes with what is told of its request just before: `Unknown` of one that was never accepted or has ended, `Running` of one that runs, the doomed end of a doomed one, `NotReady` of one that waits, and of one that may start the cancel's end if it is a cancel, else a start.
 pub fn answer_agrees()
     ensures { AnswerAgrees }
 {}

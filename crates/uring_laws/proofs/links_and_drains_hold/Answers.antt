@@ -1,5 +1,7 @@
+use Rattle.uring_core.proofs.ByRules.{of_manual}
+use Rattle.uring_laws.specs.Laws.{LinksAndDrainsHold}
 use Rattle.uring_laws.proofs.OrderLaws.{waits}
 use Rattle.uring_laws.proofs.links_and_drains_hold.Goals as goal
 
 pub returns : goal.returns
-returns c = λ g setup. waits g
+returns c = λ g manual setup. of_manual LinksAndDrainsHold waits g manual

@@ -1,0 +1,268 @@
+-- What holds of the requests of every lawful history by Linux's rules: whoever started or ended did so in its turn, so that it stays as doomed or spared as it was then.
+-- By `Change`, event by event, and over a history by induction (`linux_sound`).
+use Rattle.std.proofs.Common.{◌≡◌, ℕ, ◌+◌, ◌-◌, ◌==◌, ◌<◌, ◌≤◌, ℤ, min, max, List, [], ◌∷◌, length, Bool, true, false, not, ◌&&◌, ◌||◌, if◌then◌else◌, neg_ℤ, refl, sym, subst, ◌∙◌, ap, ap₂, arith, ◌⊎◌, inl, inr}
+use Rattle.std.specs.List.{list_any}
+use Rattle.std.specs.Ordering.{int_eq}
+use Rattle.std.proofs.lemmas.Bool.{and_parts, and_left, and_right, or_from, or_left, or_right, or_cases, both_ways, eqb-true, not-true, not-false, not_from_true, false_from_ne_true}
+use Rattle.std.proofs.lemmas.Bool.Decides.{Decides-int_eq}
+use Rattle.uring_entry.specs.Setup.{Setup}
+use Rattle.uring_entry.specs.Layout.{Sqe}
+use Rattle.uring_entry.specs.Success.{is_success}
+use Rattle.uring_entry.specs.Preparation.{is_faulty}
+use Rattle.uring_entry.specs.Submission.{entries_of, places_from}
+use Rattle.uring_entry.specs.declared.errno.TheConstants.{EINVAL, EOPNOTSUPP, ECANCELED}
+use Rattle.uring_entry.specs.Requests.{Requests, Ending, no_request, entry_of, has_started, has_ended, has_failed, is_last, is_soft, is_drain, is_joined, is_in_group, is_behind_failure, with_call, with_started, with_ended}
+use Rattle.uring_entry.proofs.BelowLemmas.{some_below_same, some_below_between, some_below_out}
+use Rattle.uring_entry.proofs.RequestLemmas.{is_joined_no, list_any_push}
+use Rattle.uring_entry.proofs.EventLemmas.{is_joined_started, is_joined_ended, is_behind_failure_tells, is_behind_failure_from}
+use Rattle.uring_linux.specs.LinuxRequests.{LinuxRequests, is_skipping, has_skipped, is_refused_drain, has_fault, is_in_faulty_group, is_doomed, doomed_result, is_in_turn, keeps_back, is_deferred}
+use Rattle.uring_core.specs.World.{World, requests_of, happens, taking_of, taking_entry_of, ending_of}
+use Rattle.uring_core.specs.Histories.{History, world, IsLawfulApart}
+use Rattle.uring_core.specs.declared.step.Step.{Step}
+use Rattle.uring_core.specs.declared.answer.Answer.{Answer}
+use Rattle.uring_core.proofs.Changes.{Change, refuses, takes, drops, closes, runs, dooms, cancels, finishes, change_of}
+use Rattle.uring_core.proofs.Groups.{longer, entry_kept, join_kept}
+use Rattle.uring_core.proofs.ListCounts.{any_kept, any_new, any_looser}
+use Rattle.uring_core.proofs.SoundRequests.{IsSoundRequests, outstanding_tells}
+use Rattle.uring_core.proofs.Sound.{sound_of}
+use Rattle.uring_laws.proofs.Swapping.{behind_end}
+
+-- the same set-up, with Linux's rules
+abbrev pub by_linux : Setup → Setup
+by_linux g = record g { linux = true }
+
+-- what is so of each set-up once its rules are Linux's is so of those of which they are
+pub of_linux : (P : Setup → Type 0) → ((g : Setup) → P (by_linux g)) → (g : Setup)
+    → g.linux ≡ true → P g
+of_linux P holds g is = subst P (sym (ap (λ linux. record g { linux = linux }) is)) (holds g)
+
+-- The invariant.
+
+-- all the earlier members of n's group have ended
+abbrev pub IsFirst : Requests → ℕ → Type 0
+IsFirst r n = (k : ℕ) → k < n → is_joined r k n ≡ true → has_ended r k ≡ true
+
+-- whether an end is one of n with another result than a doomed request has
+abbrev pub is_otherwise : Requests → ℕ → Ending → Bool
+is_otherwise r n e = (e.number == n) && not (int_eq e.res (doomed_result r n))
+
+pub record IsSoundLinux (r : Requests) : Type 0 where
+  pub started_spared : (n : ℕ) → has_started r n ≡ true → is_doomed r n ≡ false
+  pub started_first : (n : ℕ) → has_started r n ≡ true → IsFirst r n
+  pub ended_first : (n : ℕ) → has_ended r n ≡ true → IsFirst r n
+  pub ended_how : (n : ℕ) → has_ended r n ≡ true → is_doomed r n ≡ true
+      → list_any (is_otherwise r n) r.ended ≡ false
+
+-- whoever is in its turn is behind no member of its group that hasn't ended
+pub turn_first : (r : Requests) (n : ℕ) → is_in_turn r n ≡ true → IsFirst r n
+unfolding is_in_turn
+turn_first r n turn k lt joined =
+    let free : (is_joined r k n && not (has_ended r k)) ≡ false = some_below_out (keeps_back r n) n (not-true _ turn) k lt in
+    not-false _ (sym (ap (λ b. b && not (has_ended r k)) joined) ∙ free)
+
+-- A request starts: neither groups nor who is doomed change.
+
+pub doom_started : (r : Requests) (n m : ℕ) → is_doomed (with_started r n) m ≡ is_doomed r m
+unfolding is_in_faulty_group is_behind_failure is_joined
+doom_started r n m = refl
+
+pub start_linux : (r : Requests) (n : ℕ) → is_doomed r n ≡ false → IsFirst r n → IsSoundLinux r
+    → IsSoundLinux (with_started r n)
+start_linux r n spared first s =
+    record {
+      started_spared = λ m e. doom_started r n m ∙ elim (any_new (λ k. k == m) r.started n e) [ inl old ↦ s.started_spared m old | inr new ↦ subst (λ k. is_doomed r k ≡ false) (eqb-true _ _ new) spared ];
+      started_first = λ m e k lt joined. elim (any_new (λ j. j == m) r.started n e) [ inl old ↦ s.started_first m old k lt (sym (is_joined_started r n k m) ∙ joined) | inr new ↦ subst (IsFirst r) (eqb-true _ _ new) first k lt (sym (is_joined_started r n k m) ∙ joined) ];
+      ended_first = λ m e k lt joined. s.ended_first m e k lt (sym (is_joined_started r n k m) ∙ joined);
+      ended_how = λ m e doomed. s.ended_how m e (sym (doom_started r n m) ∙ doomed);
+    }
+
+-- A request ends.
+
+module _ (r : Requests) (n : ℕ) (res : ℤ) (bytes : List ℕ) where
+  fault_ended : (m : ℕ) → is_in_faulty_group (with_ended r n res bytes) m ≡ is_in_faulty_group r m
+  unfolding is_in_faulty_group is_joined
+  fault_ended m = refl
+
+  first_ended : (m : ℕ) → IsFirst r m → IsFirst (with_ended r n res bytes) m
+  first_ended m first k lt joined = any_kept (λ x. x.number == k) r.ended _ (first k lt (sym (is_joined_ended r n res bytes k m) ∙ joined))
+
+  -- who was in its turn while n hadn't ended stays as doomed as it was
+  doom_ended : (m : ℕ) → has_ended r n ≡ false → IsFirst r m
+      → is_doomed (with_ended r n res bytes) m ≡ is_doomed r m
+  doom_ended m still first =
+      ap₂ (λ x y. x || y) (fault_ended m) (behind_end r n res bytes m (λ lt. false_from_ne_true _ (λ joined. both_ways _ still (first n lt joined))))
+
+  -- the ends of another stay its ends
+  ends_kept : (m : ℕ) → (n == m) ≡ false → list_any (is_otherwise r m) r.ended ≡ false
+      → list_any (is_otherwise (with_ended r n res bytes) m) (with_ended r n res bytes).ended ≡ false
+  ends_kept m differ d =
+      list_any_push (is_otherwise r m) r.ended (record { number = n; res = res; bytes = bytes })
+      ∙ or_from _ _ d (and_left (n == m) _ differ)
+
+  -- the first end of a doomed request
+  ends_first : has_ended r n ≡ false → res ≡ doomed_result r n
+      → list_any (is_otherwise (with_ended r n res bytes) n) (with_ended r n res bytes).ended ≡ false
+  ends_first still is =
+      list_any_push (is_otherwise r n) r.ended (record { number = n; res = res; bytes = bytes })
+      ∙ or_from _ _ (false_from_ne_true _ (λ some. both_ways _ still (any_looser (λ e. e.number == n) (λ e. not (int_eq e.res (doomed_result r n))) r.ended some)))
+      (and_right (n == n) _ (not_from_true _ ((Decides-int_eq res (doomed_result r n)).1 is)))
+
+  pub end_linux : has_ended r n ≡ false → IsFirst r n
+      → (is_doomed r n ≡ true → res ≡ doomed_result r n) → IsSoundLinux r
+      → IsSoundLinux (with_ended r n res bytes)
+  end_linux still first how s =
+      record {
+        started_spared = λ m e. doom_ended m still (s.started_first m e) ∙ s.started_spared m e;
+        started_first = λ m e. first_ended m (s.started_first m e);
+        ended_first = λ m e. elim (any_new (λ x. x.number == m) r.ended (record { number = n; res = res; bytes = bytes }) e) [
+          | inl old ↦ first_ended m (s.ended_first m old)
+          | inr new ↦ first_ended m (subst (IsFirst r) (eqb-true n m new) first)
+        ];
+        ended_how = λ m e doomed. elim (any_new (λ x. x.number == m) r.ended (record { number = n; res = res; bytes = bytes }) e) [
+          | inl old ↦
+              ends_kept m (false_from_ne_true _ (λ same. both_ways _ still (subst (λ k. has_ended r k ≡ true) (sym (eqb-true n m same)) old)))
+              (s.ended_how m old (sym (doom_ended m still (s.ended_first m old)) ∙ doomed))
+          | inr new ↦
+              let same : n ≡ m = eqb-true n m new in
+              subst (λ k. list_any (is_otherwise (with_ended r n res bytes) k) (with_ended r n res bytes).ended ≡ false) same
+              (ends_first still (how (sym (doom_ended n still first) ∙ subst (λ k. is_doomed (with_ended r n res bytes) k ≡ true) (sym same) doomed)))
+        ];
+      }
+
+  -- who is doomed stays so, whoever ends
+  pub doom_stays : (m : ℕ) → is_doomed r m ≡ true → is_doomed (with_ended r n res bytes) m ≡ true
+  doom_stays m doomed =
+      elim (or_cases (is_in_faulty_group r m) (is_behind_failure r m) doomed) [
+        | inl faulty ↦ or_left _ _ (fault_ended m ∙ faulty)
+        | inr behind ↦
+            let t = is_behind_failure_tells r m behind in
+            let f = t.1 in
+            or_right _ _ (is_behind_failure_from (with_ended r n res bytes) m t.0 (record { before = f.before; joined = is_joined_ended r n res bytes t.0 m ∙ f.joined; soft = f.soft; failed = any_kept (λ e. (e.number == t.0) && not (is_success (entry_of r t.0) e.res)) r.ended _ f.failed }))
+      ]
+
+-- A call accepts entries, and closes: what stands before it stays.
+
+module _ (r : Requests) (entries : List Sqe) (cut : (length r.accepted ≡ 0) ⊎ (list_any (λ c. c == length r.accepted) r.cuts ≡ true)) where
+  last_before : (k : ℕ) → k + 1 ≡ length r.accepted → is_last (with_call r entries) k ≡ true
+  last_before k end =
+      elim cut [
+        | inl none ↦ absurd (omega (arith, none, end))
+        | inr there ↦ or_right _ _ (any_kept (λ c. c == k + 1) r.cuts (length (with_call r entries).accepted ∷ []) (subst (λ n. list_any (λ c. c == n) r.cuts ≡ true) (sym end) there))
+      ]
+
+  -- what is accepted now is of no group before
+  group_apart : (m n : ℕ) → length r.accepted ≤ m → n < length r.accepted → is_in_group (with_call r entries) m n ≡ false
+  group_apart m n le below =
+      is_joined_no (with_call r entries) (min m n) (max m n) (length r.accepted - 1) (omega (arith, le, below)) (omega (arith, le, below)) (last_before (length r.accepted - 1) (omega (arith, below)))
+
+  skipped_kept : (n : ℕ) → n < length r.accepted → has_skipped (with_call r entries) n ≡ has_skipped r n
+  skipped_kept n below =
+      some_below_same (λ m. is_skipping (entry_of (with_call r entries) m)) (λ m. is_skipping (entry_of r m)) (n + 1)
+      (λ k lt. ap is_skipping (entry_kept r entries cut k (omega (arith, lt, below))))
+
+  refused_kept : (n : ℕ) → n < length r.accepted → is_refused_drain (with_call r entries) n ≡ is_refused_drain r n
+  refused_kept n below = ap₂ (λ e b. is_drain e && b) (entry_kept r entries cut n below) (skipped_kept n below)
+
+  fault_kept : (n : ℕ) → n < length r.accepted → has_fault (with_call r entries) n ≡ has_fault r n
+  fault_kept n below = ap₂ (λ e b. is_faulty e || b) (entry_kept r entries cut n below) (refused_kept n below)
+
+  faulty_kept : (n : ℕ) → n < length r.accepted → is_in_faulty_group (with_call r entries) n ≡ is_in_faulty_group r n
+  unfolding is_in_faulty_group
+  faulty_kept n below =
+      some_below_between (λ m. is_in_group (with_call r entries) m n && has_fault (with_call r entries) m) (length r.accepted) (length (with_call r entries).accepted) (longer r entries cut)
+      (λ k le lt. and_left _ _ (group_apart k n le below))
+      ∙ some_below_same (λ m. is_in_group (with_call r entries) m n && has_fault (with_call r entries) m) (λ m. is_in_group r m n && has_fault r m) (length r.accepted)
+      (λ k lt. ap₂ (λ x y. x && y) (join_kept r entries cut (min k n) (max k n) (omega (arith, lt, below))) (fault_kept k lt))
+
+  behind_kept : (n : ℕ) → n < length r.accepted → is_behind_failure (with_call r entries) n ≡ is_behind_failure r n
+  unfolding is_behind_failure
+  behind_kept n below =
+      some_below_same (λ m. is_joined (with_call r entries) m n && is_soft (entry_of (with_call r entries) m) && has_failed (with_call r entries) m) (λ m. is_joined r m n && is_soft (entry_of r m) && has_failed r m) n
+      (λ k lt.
+      ap (λ b. b && is_soft (entry_of (with_call r entries) k) && has_failed (with_call r entries) k) (join_kept r entries cut k n below)
+      ∙ ap (λ e. is_joined r k n && is_soft e && list_any (λ x. (x.number == k) && not (is_success e x.res)) r.ended) (entry_kept r entries cut k (omega (arith, lt, below))))
+
+  pub doom_called : (n : ℕ) → n < length r.accepted
+      → is_doomed (with_call r entries) n ≡ is_doomed r n
+  doom_called n below = ap₂ (λ x y. x || y) (faulty_kept n below) (behind_kept n below)
+
+  result_kept : (n : ℕ) → n < length r.accepted → doomed_result (with_call r entries) n ≡ doomed_result r n
+  result_kept n below =
+      ap₂ (λ e refused. if is_faulty e then neg_ℤ EINVAL else if refused then neg_ℤ EOPNOTSUPP else neg_ℤ ECANCELED) (entry_kept r entries cut n below) (refused_kept n below)
+
+  first_called : (n : ℕ) → n < length r.accepted → IsFirst r n → IsFirst (with_call r entries) n
+  first_called n below first k lt joined = first k lt (sym (join_kept r entries cut k n below) ∙ joined)
+
+  pub call_linux : IsSoundRequests r → IsSoundLinux r → IsSoundLinux (with_call r entries)
+  call_linux i s =
+      record {
+        started_spared = λ n e. doom_called n (i.started_accepted n e) ∙ s.started_spared n e;
+        started_first = λ n e. first_called n (i.started_accepted n e) (s.started_first n e);
+        ended_first = λ n e. first_called n (i.ended_accepted n e) (s.ended_first n e);
+        ended_how = λ n e doomed.
+            let below = i.ended_accepted n e in
+            ap (λ res. list_any (λ x. (x.number == n) && not (int_eq x.res res)) r.ended) (result_kept n below)
+            ∙ s.ended_how n e (sym (doom_called n below) ∙ doomed);
+      }
+
+-- What an answer tells.
+
+turn_parts : (turn doomed deferred : Bool) → (turn && doomed) ≡ false → (turn && not deferred) ≡ true
+    → (turn ≡ true) × ((doomed ≡ false) × (deferred ≡ false))
+turn_parts true doomed deferred spared free = (refl, (spared, not-true _ free))
+turn_parts false doomed deferred spared free = absurd (let f : false ≡ true = free in cc)
+
+-- of a request that starts: it is in its turn, spared, and not deferred
+pub record Starts (l : LinuxRequests) (n : ℕ) : Type 0 where
+  pub turn : is_in_turn l.requests n ≡ true
+  pub spared : is_doomed l.requests n ≡ false
+  pub free : is_deferred l n ≡ false
+
+pub starts_so : (l : LinuxRequests) (n : ℕ)
+    → (is_in_turn l.requests n && is_doomed l.requests n) ≡ false
+    → (is_in_turn l.requests n && not (is_deferred l n)) ≡ true → Starts l n
+starts_so l n spared free =
+    let p = turn_parts (is_in_turn l.requests n) (is_doomed l.requests n) (is_deferred l n) spared free in
+    record { turn = p.0; spared = p.1.0; free = p.1.1 }
+
+-- Histories.
+
+linux_kept : (g : Setup) (w : World) (s : Step) (a : Answer) → Change (by_linux g) w s a
+    → IsSoundRequests w.requests → IsSoundLinux w.requests
+    → IsSoundLinux (happens (by_linux g) w s a).requests
+linux_kept g w s a (refuses _ _ same silent) i sound =
+    subst (λ (v : World). IsSoundLinux v.requests) (sym (same w)) sound
+linux_kept g w s a (takes entry call place opened left at valid) i sound =
+    subst (λ o. IsSoundLinux (taking_entry_of (by_linux g) w entry o).requests) (sym opened) sound
+linux_kept g w s a (drops call place opened left at invalid) i sound =
+    subst (λ o. IsSoundLinux (taking_of w o).requests) (sym opened) sound
+linux_kept g w s a (closes accepted missed head call opened all told) i sound =
+    subst (λ o. IsSoundLinux (ending_of (by_linux g) w o).requests) (sym opened) (call_linux w.requests (entries_of (places_from w.submission call.count)) i.cut_at_end i sound)
+linux_kept g w s a (runs n outstanding idle spared ready no_cancel) i sound =
+    let k = starts_so (requests_of w) n spared ready in
+    start_linux w.requests n k.spared (turn_first w.requests n k.turn) sound
+linux_kept g w s a (dooms n outstanding idle doomed) i sound =
+    let p = and_parts _ _ doomed in
+    end_linux w.requests n _ _ (outstanding_tells w.requests n outstanding).1 (turn_first w.requests n p.0) (λ is. refl) sound
+linux_kept g w s a (cancels n outstanding idle spared ready cancel) i sound =
+    let k = starts_so (requests_of w) n spared ready in
+    end_linux w.requests n _ _ (outstanding_tells w.requests n outstanding).1 (turn_first w.requests n k.turn) (λ is. absurd (both_ways _ k.spared is)) sound
+linux_kept g w s a (finishes n res bytes running) i sound =
+    let p = and_parts _ _ running in
+    end_linux w.requests n res bytes (not-true _ p.1) (sound.started_first n p.0) (λ is. absurd (both_ways _ (sound.started_spared n p.0) is)) sound
+linux_kept g w s a _ i sound = sound
+
+no_sound : IsSoundLinux no_request
+no_sound = record {
+  started_spared = λ n e. absurd (let f : false ≡ true = e in cc);
+  started_first = λ n e. absurd (let f : false ≡ true = e in cc);
+  ended_first = λ n e. absurd (let f : false ≡ true = e in cc);
+  ended_how = λ n e doomed. absurd (let f : false ≡ true = e in cc);
+}
+
+pub linux_sound : (g : Setup) (h : History) → IsLawfulApart (by_linux g) h
+    → IsSoundLinux (world (by_linux g) h).requests
+linux_sound g [] lawful = no_sound
+linux_sound g ((s, a) ∷ before) lawful =
+    linux_kept g (world (by_linux g) before) s a (change_of (by_linux g) (world (by_linux g) before) s a lawful.0)
+    (sound_of (by_linux g) before lawful.1).requests (linux_sound g before lawful.1)

@@ -1,0 +1,55 @@
+-- What holds of every lawful history of a ring that keeps requests by Linux's rules. What these are is told in docs/PROTOCOL.md, under the words "Linux 6.18".
+use Rattle.std.specs.Prelude.{◌≡◌, ℕ, ◌<◌, neg_ℤ, true, false, List, [], ◌∷◌, ◌++◌, length, Some, slice_get, ◌⊎◌}
+use Rattle.uring_entry.specs.Setup.{Setup}
+use Rattle.uring_entry.specs.Requests.{Requests, Ending, is_joined}
+use Rattle.uring_entry.specs.declared.errno.TheConstants.{ECANCELED}
+use Rattle.uring_linux.specs.LinuxRequests.{is_doomed, doomed_result, is_deferred}
+use Rattle.uring_core.specs.World.{requests_of}
+use Rattle.uring_core.specs.StepAnswers.{IsEnded, IsIssued}
+use Rattle.uring_core.specs.Histories.{History, world, IsLawfulApart}
+use Rattle.uring_core.specs.declared.step.Step.TheVariants as step
+use Rattle.uring_core.specs.declared.answer.Answer.{Answer}
+use Rattle.uring_core.specs.declared.answer.Answer.TheVariants as answer
+use Rattle.uring_laws.specs.Direct.{ends}
+use Rattle.uring_laws.specs.Laws.{times_started, times_ended}
+
+-- A doomed request was never started, and each end of it has the result of the doomed: EINVAL if its entry has a fault, EOPNOTSUPP if it is a drain that the ring refuses, else ECANCELED.
+pub record DoomedNeverRun (g : Setup) (h : History) : Type 0 where
+  pub never_run : (n : ℕ) → is_doomed (world g h).requests n ≡ true → times_started h n ≡ 0
+  pub ends_so : (k : ℕ) (e : Ending) → slice_get (ends h) k ≡ Some e
+      → is_doomed (world g h).requests e.number ≡ true
+      → e.res ≡ doomed_result (world g h).requests e.number
+
+-- A doomed request stays doomed.
+abbrev pub DoomedStayDoomed : Setup → Type 0
+DoomedStayDoomed g = (after before : History) (n : ℕ) → IsLawfulApart g (after ++ before)
+    → n < length (world g before).requests.accepted → is_doomed (world g before).requests n ≡ true
+    → is_doomed (world g (after ++ before)).requests n ≡ true
+
+-- An Issue that ends with ECANCELED is that of a request that was doomed just before.
+abbrev pub CancelledWereDoomed : Setup → Type 0
+CancelledWereDoomed g = (after before : History) (n : ℕ) (bytes : List ℕ)
+    → IsLawfulApart g (after ++ (step.Issue n, answer.Ended (neg_ℤ ECANCELED) bytes) ∷ before)
+    → is_doomed (world g before).requests n ≡ true
+
+-- Links: when a request starts, or ends as it is issued, each earlier member of its group has ended, once. The doomed wait for their turn too.
+abbrev pub MembersGoInOrder : Setup → Type 0
+MembersGoInOrder g = (after before : History) (m n : ℕ) (a : Answer)
+    → IsLawfulApart g (after ++ (step.Issue n, a) ∷ before) → IsIssued a → m < n
+    → is_joined (world g (after ++ (step.Issue n, a) ∷ before)).requests m n ≡ true
+    → times_ended before m ≡ 1
+
+-- an Issue of n so answered starts it: it runs, or it ends at once and isn't doomed, as a cancel does
+abbrev pub IsStart : Requests → ℕ → Answer → Type 0
+IsStart r n a = (a ≡ answer.Run) ⊎ (IsEnded a × (is_doomed r n ≡ false))
+
+-- Drains: what starts is of no group that is deferred.
+abbrev pub DeferredDontStart : Setup → Type 0
+DeferredDontStart g = (after before : History) (n : ℕ) (a : Answer)
+    → IsLawfulApart g (after ++ (step.Issue n, a) ∷ before) → IsStart (world g before).requests n a
+    → is_deferred (requests_of (world g before)) n ≡ false
+
+-- No cancel dooms anybody.
+abbrev pub CancelsDoomNobody : Setup → Type 0
+CancelsDoomNobody g =
+    (h : History) → IsLawfulApart g h → (world g h).requests.cancelled ≡ []
