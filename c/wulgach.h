@@ -82,6 +82,7 @@ struct wulgach_setup {
     uint32_t start; /* the index word at which both rings begin: any 32 bits */
     bool has_cq;    /* whether cq is asked for; else the completion ring is twice the submission ring */
     bool stops;     /* whether a submission call ends behind an entry with a fault, also one with a link flag, and leaves the rest to later calls; else it goes on */
+    bool linux_rules; /* whether requests are kept by Linux's rules, as 6.18 was seen to, where they differ from the manual pages'; else by the manual pages' */
 };
 
 /* The fields of a set-up that can be out of their ranges. */
@@ -215,17 +216,19 @@ enum wulgach_why_kind {
 
 /* What dooms a request: the first of these that does. */
 enum wulgach_doom {
-    WULGACH_OWN_FAULT = 1,  /* its own entry has a fault: fault is an enum wulgach_fault */
-    WULGACH_FAULT_OF = 2,   /* request number, the least member of its group with a fault */
-    WULGACH_FAILURE_OF = 3, /* request number, the least earlier member of its group that has a soft link and failed */
-    WULGACH_CANCELLED = 4   /* a cancel chose it */
+    WULGACH_OWN_FAULT = 1,    /* its own entry has a fault: fault is an enum wulgach_fault */
+    WULGACH_FAULT_OF = 2,     /* request number, the least member of its group with a fault */
+    WULGACH_FAILURE_OF = 3,   /* request number, the least earlier member of its group that has a soft link and failed */
+    WULGACH_CANCELLED = 4,    /* a cancel chose it */
+    WULGACH_REFUSED_DRAIN = 5 /* it asks to drain in a ring that has used skipped success, which Linux's rules refuse */
 };
 
 /* Why a request waits for an earlier one: the first of these that holds. */
 enum wulgach_since {
     WULGACH_SAME_GROUP = 1, /* both are members of one group */
     WULGACH_IT_DRAINS = 2,  /* the earlier one's group drains */
-    WULGACH_OWN_DRAINS = 3  /* the later one's group drains */
+    WULGACH_OWN_DRAINS = 3, /* the later one's group drains */
+    WULGACH_DEFERRED = 4    /* the later one's group is deferred, by Linux's rules: until nothing else is outstanding */
 };
 
 /* The fault of an entry: the first of these that it has. */
@@ -507,7 +510,7 @@ int32_t wulgach_crash_machine_free(struct wulgach_crash_machine *machine);
  * They are found by a walk over the orders of the requests, which ends after `most` paths. *is_all says whether it had ended before: if not,
  * there may be more, and their number is a lower bound. UINT64_MAX walks to the end; eight loose no-ops have 40,320 outcomes.
  *
- * -22 exactly if wulgach_setup_fault isn't 0, the set-up asks for a ring that stops, or a call has more entries than the submission ring;
+ * -22 exactly if wulgach_setup_fault isn't 0, the set-up asks for a ring that stops or for Linux's rules, or a call has more entries than the submission ring;
  * -12 if memory was refused. The place then keeps what it had. */
 int32_t wulgach_outcomes_new(struct wulgach_outcomes *outcomes, const struct wulgach_setup *setup, const struct wulgach_entry *entries, size_t total, const uint64_t *lens, size_t calls, uint64_t most, bool *is_all);
 

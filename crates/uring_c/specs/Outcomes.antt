@@ -9,9 +9,9 @@ use Rattle.uring_c.specs.declared.set_up_words.SetupWords.{SetupWords}
 use Rattle.uring_c.specs.declared.completion_words.CompletionWords.{CompletionWords}
 use Rattle.uring_c.specs.declared.outcome_list.OutcomeList.{OutcomeList}
 
--- a ring of this set-up takes calls of these lengths in whole: it goes on behind an entry with a fault, and has a slot for each entry of a call
+-- a ring of this set-up takes calls of these lengths in whole, and keeps the manual pages' rules: it goes on behind an entry with a fault, and has a slot for each entry of a call
 abbrev pub TakesWhole : Setup → List ℕ → Type 0
-TakesWhole s lens = (s.stops ≡ false) × All (λ len. len ≤ s.sq) lens
+TakesWhole s lens = (s.stops ≡ false) × (s.linux ≡ false) × All (λ len. len ≤ s.sq) lens
 
 -- the words ask for no ring that takes calls of these lengths in whole
 abbrev pub IsNoWalk : SetupWords → List ℕ → Type 0

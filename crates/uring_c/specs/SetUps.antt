@@ -8,10 +8,10 @@ use Rattle.uring_c.specs.declared.set_up_words.SetupWords.{SetupWords}
 abbrev pub asked_cq : SetupWords → Option ℕ
 asked_cq w = if w.has_cq then Some w.cq else None
 
--- this is the set-up that the words ask for: that of its numbers, whose calls stop if that is asked for
+-- this is the set-up that the words ask for: that of its numbers, whose calls stop and whose rules are Linux's if that is asked for
 abbrev pub IsAskedFor : SetupWords → Setup → Type 0
 IsAskedFor w s =
-    IsSetupFor w.sq (asked_cq w) w.files w.start (record s { stops = false }) × (s.stops ≡ w.stops)
+    IsSetupFor w.sq (asked_cq w) w.files w.start (record s { stops = false; linux = false }) × (s.stops ≡ w.stops) × (s.linux ≡ w.linux)
 
 -- the words ask for no set-up: a number is out of its range
 abbrev pub IsRefused : SetupWords → Type 0
@@ -21,9 +21,17 @@ IsRefused w = (s : Setup) → IsAskedFor w s → ⊥
 abbrev pub without_files : SetupWords → SetupWords
 without_files w = record w { files = 1 }
 
--- the words of a core with these sizes, both asked for, whose calls go on. Our own rule
+-- the words of a core with these sizes, both asked for, whose calls go on, by the manual pages' rules. Our own rule
 abbrev pub words_of_setup : Setup → SetupWords
-words_of_setup s = record { sq = s.sq; cq = s.cq; files = 1; start = 0; has_cq = true; stops = false }
+words_of_setup s = record {
+  sq = s.sq;
+  cq = s.cq;
+  files = 1;
+  start = 0;
+  has_cq = true;
+  stops = false;
+  linux = false;
+}
 
 -- this is as many elements as either ring has entries, and as there are files, if the words ask for a set-up. Our own rule
 abbrev pub SufficesFor : SetupWords → ℕ → Type 0

@@ -5,9 +5,9 @@ use Rattle.uring_entry.specs.declared.fault.Fault.TheVariants.{Flags, Opcode, Io
 use Rattle.uring_entry.specs.declared.why.Why.{Why}
 use Rattle.uring_entry.specs.declared.why.Why.TheVariants.{NeverAccepted, HasEnded, Runs, IsDoomed, Waits, MayStart}
 use Rattle.uring_entry.specs.declared.why.Doom.{Doom}
-use Rattle.uring_entry.specs.declared.why.Doom.TheVariants.{OwnFault, FaultOf, FailureOf, Cancel}
+use Rattle.uring_entry.specs.declared.why.Doom.TheVariants.{OwnFault, FaultOf, FailureOf, Cancel, RefusedDrain}
 use Rattle.uring_entry.specs.declared.why.Since.{Since}
-use Rattle.uring_entry.specs.declared.why.Since.TheVariants.{SameGroup, ItDrains, OwnDrains}
+use Rattle.uring_entry.specs.declared.why.Since.TheVariants.{SameGroup, ItDrains, OwnDrains, Deferred}
 use Rattle.uring_c.specs.declared.why_words.WhyWords.{WhyWords}
 
 abbrev pub told : (kind reason fault number : ℕ) → WhyWords
@@ -31,12 +31,14 @@ abbrev pub word_of_since : Since → ℕ
 word_of_since SameGroup = 1
 word_of_since ItDrains = 2
 word_of_since OwnDrains = 3
+word_of_since Deferred = 4
 
 abbrev pub words_of_doom : Doom → WhyWords
 words_of_doom (OwnFault fault) = told 4 1 (word_of_fault fault) 0
 words_of_doom (FaultOf m) = told 4 2 0 m
 words_of_doom (FailureOf m) = told 4 3 0 m
 words_of_doom Cancel = told 4 4 0 0
+words_of_doom RefusedDrain = told 4 5 0 0
 
 -- the words that tell why a request stands as it does
 abbrev pub words_of_why : Why → WhyWords

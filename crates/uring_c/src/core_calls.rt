@@ -2,8 +2,8 @@
 ghost use Rattle.std.specs.Prelude.{◌≡◌, ℕ, ◌≤◌, [], IsSome, IfOk, IsOk, IsSomeAnd, slice_get, length};
 ghost use Rattle.uring_entry.specs.Completions.{unreaped};
 ghost use Rattle.uring_entry.specs.Requests.{least_of, operation_running};
-ghost use Rattle.uring_entry.specs.Why.{why_of};
-ghost use Rattle.uring_dispatch.specs.Issuable.{issuables_of, issuable_from};
+ghost use Rattle.uring_rules.specs.Rules.{issuables_of, issuable_from, why_of};
+ghost use Rattle.uring_core.specs.World.{requests_of};
 ghost use Rattle.uring_core.specs.Core.{FitsApart, IsCounts, IsNoFinish, elements_for};
 ghost use Rattle.uring_core.specs.Histories.{History, world};
 ghost use Rattle.uring_core.specs.declared.answer.Answer.TheVariants as answer;
@@ -132,7 +132,7 @@ impl CorePlace {
         ensures kept { core_in self.new ≡ core_in self.old }
         ensures next { IsSomeAnd (core_in self.old)
             (λ core. (h : History) → FitsApart core h
-            → result ≡ issuable_from (world core.setup h).requests number) }
+            → result ≡ issuable_from core.setup.linux (requests_of (world core.setup h)) number) }
     {
         let Some(core) = self.take(alloc) else {
             unreachable!()
@@ -148,7 +148,7 @@ impl CorePlace {
         ensures kept { core_in self.new ≡ core_in self.old }
         ensures count { IsSomeAnd (core_in self.old)
             (λ core. (h : History) → FitsApart core h
-            → result ≡ length (issuables_of (world core.setup h).requests)) }
+            → result ≡ length (issuables_of core.setup.linux (requests_of (world core.setup h)))) }
     {
         let Some(core) = self.take(alloc) else {
             unreachable!()
@@ -164,7 +164,7 @@ impl CorePlace {
         ensures kept { core_in self.new ≡ core_in self.old }
         ensures nth { IsSomeAnd (core_in self.old)
             (λ core. (h : History) → FitsApart core h
-            → result ≡ slice_get (issuables_of (world core.setup h).requests) place) }
+            → result ≡ slice_get (issuables_of core.setup.linux (requests_of (world core.setup h))) place) }
     {
         let Some(core) = self.take(alloc) else {
             unreachable!()
@@ -180,7 +180,7 @@ impl CorePlace {
         ensures kept { core_in self.new ≡ core_in self.old }
         ensures why { IsSomeAnd (core_in self.old)
             (λ core. (h : History) → FitsApart core h
-            → result ≡ why_of (world core.setup h).requests number) }
+            → result ≡ why_of core.setup.linux (requests_of (world core.setup h)) number) }
     {
         let Some(core) = self.take(alloc) else {
             unreachable!()

@@ -4,9 +4,9 @@
 ghost use Rattle.std.specs.Prelude.{◌≡◌, ◌↔◌, [], pos, neg_ℤ, None, IsSome, IfSome, IsSomeAnd, MatchOption, slice_get, length};
 ghost use Rattle.uring_entry.specs.Completions.{unreaped};
 ghost use Rattle.uring_entry.specs.Requests.{least_of, operation_running};
-ghost use Rattle.uring_entry.specs.Why.{why_of};
 ghost use Rattle.uring_entry.specs.declared.errno.TheConstants.{EBADF, EINVAL, ENOENT, ENOMEM};
-ghost use Rattle.uring_dispatch.specs.Issuable.{issuables_of, issuable_from};
+ghost use Rattle.uring_rules.specs.Rules.{issuables_of, issuable_from, why_of};
+ghost use Rattle.uring_core.specs.World.{requests_of};
 ghost use Rattle.uring_core.specs.Core.{FitsApart, IsCounts};
 ghost use Rattle.uring_core.specs.Histories.{History, world};
 ghost use Rattle.uring_c.specs.OperationForm.{words_of_operation};
@@ -197,7 +197,7 @@ pub extern "C" fn wulgach_core_next_issuable(
     ensures refused { core_in place.old ≡ None → number.new ≡ number.old }
     ensures next { IfSome (core_in place.old)
         (λ core. (h : History) → FitsApart core h
-        → MatchOption (issuable_from (world core.setup h).requests from) ((result ≡ neg_ℤ ENOENT) × (number.new ≡ number.old)) (λ next. (result ≡ pos 0) × (number.new ≡ next))) }
+        → MatchOption (issuable_from core.setup.linux (requests_of (world core.setup h)) from) ((result ≡ neg_ℤ ENOENT) × (number.new ≡ number.old)) (λ next. (result ≡ pos 0) × (number.new ≡ next))) }
 {
     if !place.is_full {
         return -errno::EBADF;
@@ -221,7 +221,7 @@ pub extern "C" fn wulgach_core_issuable(
     ensures refused { core_in place.old ≡ None → count.new ≡ count.old }
     ensures count { IfSome (core_in place.old)
         (λ core. (result ≡ pos 0)
-        × ((h : History) → FitsApart core h → count.new ≡ length (issuables_of (world core.setup h).requests))) }
+        × ((h : History) → FitsApart core h → count.new ≡ length (issuables_of core.setup.linux (requests_of (world core.setup h))))) }
 {
     if !place.is_full {
         return -errno::EBADF;
@@ -243,7 +243,7 @@ pub extern "C" fn wulgach_core_nth_issuable(
     ensures refused { core_in place.old ≡ None → number.new ≡ number.old }
     ensures nth { IfSome (core_in place.old)
         (λ core. (h : History) → FitsApart core h
-        → MatchOption (slice_get (issuables_of (world core.setup h).requests) index) ((result ≡ neg_ℤ ENOENT) × (number.new ≡ number.old)) (λ found. (result ≡ pos 0) × (number.new ≡ found))) }
+        → MatchOption (slice_get (issuables_of core.setup.linux (requests_of (world core.setup h))) index) ((result ≡ neg_ℤ ENOENT) × (number.new ≡ number.old)) (λ found. (result ≡ pos 0) × (number.new ≡ found))) }
 {
     if !place.is_full {
         return -errno::EBADF;
@@ -268,7 +268,7 @@ pub extern "C" fn wulgach_core_why(
     ensures refused { core_in place.old ≡ None → why.new ≡ why.old }
     ensures why { IfSome (core_in place.old)
         (λ core. (result ≡ pos 0)
-        × ((h : History) → FitsApart core h → why.new ≡ words_of_why (why_of (world core.setup h).requests number))) }
+        × ((h : History) → FitsApart core h → why.new ≡ words_of_why (why_of core.setup.linux (requests_of (world core.setup h)) number))) }
 {
     if !place.is_full {
         return -errno::EBADF;

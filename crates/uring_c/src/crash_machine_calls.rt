@@ -5,7 +5,8 @@ ghost use Rattle.uring_entry.specs.Completions.{unreaped};
 ghost use Rattle.uring_entry.specs.Requests.{operation_running};
 ghost use Rattle.uring_files.specs.Contents.{max_len};
 ghost use Rattle.uring_files.specs.Operations.{state_of, byte_of};
-ghost use Rattle.uring_dispatch.specs.Issuable.{issuables_of};
+ghost use Rattle.uring_rules.specs.Rules.{issuables_of};
+ghost use Rattle.uring_core.specs.World.{requests_of};
 ghost use Rattle.uring_core.specs.Core.{FitsApart, IsCounts};
 ghost use Rattle.uring_core.specs.Histories.{History, world};
 ghost use Rattle.uring_volume.specs.Choices.{IsLeftBy};
@@ -168,7 +169,7 @@ impl CrashMachinePlace {
         ensures kept { crash_machine_in self.new ≡ crash_machine_in self.old }
         ensures count { IsSomeAnd (crash_machine_in self.old)
             (λ machine. (h : History) → FitsApart machine.core h
-            → result ≡ length (issuables_of (world machine.core.setup h).requests)) }
+            → result ≡ length (issuables_of machine.core.setup.linux (requests_of (world machine.core.setup h)))) }
     {
         let Some(machine) = self.take(alloc) else {
             unreachable!()
@@ -184,7 +185,7 @@ impl CrashMachinePlace {
         ensures kept { crash_machine_in self.new ≡ crash_machine_in self.old }
         ensures nth { IsSomeAnd (crash_machine_in self.old)
             (λ machine. (h : History) → FitsApart machine.core h
-            → result ≡ slice_get (issuables_of (world machine.core.setup h).requests) place) }
+            → result ≡ slice_get (issuables_of machine.core.setup.linux (requests_of (world machine.core.setup h))) place) }
     {
         let Some(machine) = self.take(alloc) else {
             unreachable!()

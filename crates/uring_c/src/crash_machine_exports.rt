@@ -5,8 +5,9 @@ ghost use Rattle.std.specs.Prelude.{◌≡◌, ◌↔◌, ◌-◌, ◌^◌, min,
 ghost use Rattle.uring_entry.specs.Completions.{unreaped};
 ghost use Rattle.uring_entry.specs.Requests.{operation_running};
 ghost use Rattle.uring_entry.specs.declared.errno.TheConstants.{EBADF, EFBIG, EINVAL, ENOENT, ENOMEM};
-ghost use Rattle.uring_dispatch.specs.Issuable.{issuables_of};
 ghost use Rattle.uring_files.specs.Operations.{state_of, byte_of};
+ghost use Rattle.uring_rules.specs.Rules.{issuables_of};
+ghost use Rattle.uring_core.specs.World.{requests_of};
 ghost use Rattle.uring_core.specs.Core.{FitsApart, IsCounts};
 ghost use Rattle.uring_core.specs.Histories.{History, world};
 ghost use Rattle.uring_epochs.specs.Asked.{log_at, is_safe_of};
@@ -258,7 +259,7 @@ pub extern "C" fn wulgach_crash_machine_issuable(
     ensures refused { crash_machine_in place.old ≡ None → count.new ≡ count.old }
     ensures count { IfSome (crash_machine_in place.old)
         (λ machine. (result ≡ pos 0)
-        × ((h : History) → FitsApart machine.core h → count.new ≡ length (issuables_of (world machine.core.setup h).requests))) }
+        × ((h : History) → FitsApart machine.core h → count.new ≡ length (issuables_of machine.core.setup.linux (requests_of (world machine.core.setup h))))) }
 {
     if !place.is_full {
         return -errno::EBADF;
@@ -280,7 +281,7 @@ pub extern "C" fn wulgach_crash_machine_nth_issuable(
     ensures refused { crash_machine_in place.old ≡ None → number.new ≡ number.old }
     ensures nth { IfSome (crash_machine_in place.old)
         (λ machine. (h : History) → FitsApart machine.core h
-        → MatchOption (slice_get (issuables_of (world machine.core.setup h).requests) index) ((result ≡ neg_ℤ ENOENT) × (number.new ≡ number.old)) (λ found. (result ≡ pos 0) × (number.new ≡ found))) }
+        → MatchOption (slice_get (issuables_of machine.core.setup.linux (requests_of (world machine.core.setup h))) index) ((result ≡ neg_ℤ ENOENT) × (number.new ≡ number.old)) (λ found. (result ≡ pos 0) × (number.new ≡ found))) }
 {
     if !place.is_full {
         return -errno::EBADF;

@@ -2,8 +2,8 @@
 ghost use Rattle.std.specs.Prelude.{◌≡◌, ℕ, ◌≤◌, [], IsSome, IfOk, IsOk, IsSomeAnd, slice_get, length};
 ghost use Rattle.uring_entry.specs.Completions.{unreaped};
 ghost use Rattle.uring_entry.specs.Requests.{least_of, operation_running};
-ghost use Rattle.uring_entry.specs.Why.{why_of};
-ghost use Rattle.uring_dispatch.specs.Issuable.{issuables_of, issuable_from};
+ghost use Rattle.uring_rules.specs.Rules.{issuables_of, issuable_from, why_of};
+ghost use Rattle.uring_core.specs.World.{requests_of};
 ghost use Rattle.uring_core.specs.Core.{IsCounts};
 ghost use Rattle.uring_core.specs.CalledFor.{files_of};
 ghost use Rattle.uring_core.specs.Histories.{History, world};
@@ -122,7 +122,7 @@ impl MachinePlace {
         ensures kept { machine_in self.new ≡ machine_in self.old }
         ensures next { IsSomeAnd (machine_in self.old)
             (λ machine. (h : History) → Fits machine h
-            → result ≡ issuable_from (world machine.core.setup h).requests number) }
+            → result ≡ issuable_from machine.core.setup.linux (requests_of (world machine.core.setup h)) number) }
     {
         let Some(machine) = self.take(alloc) else {
             unreachable!()
@@ -138,7 +138,7 @@ impl MachinePlace {
         ensures kept { machine_in self.new ≡ machine_in self.old }
         ensures count { IsSomeAnd (machine_in self.old)
             (λ machine. (h : History) → Fits machine h
-            → result ≡ length (issuables_of (world machine.core.setup h).requests)) }
+            → result ≡ length (issuables_of machine.core.setup.linux (requests_of (world machine.core.setup h)))) }
     {
         let Some(machine) = self.take(alloc) else {
             unreachable!()
@@ -154,7 +154,7 @@ impl MachinePlace {
         ensures kept { machine_in self.new ≡ machine_in self.old }
         ensures nth { IsSomeAnd (machine_in self.old)
             (λ machine. (h : History) → Fits machine h
-            → result ≡ slice_get (issuables_of (world machine.core.setup h).requests) place) }
+            → result ≡ slice_get (issuables_of machine.core.setup.linux (requests_of (world machine.core.setup h))) place) }
     {
         let Some(machine) = self.take(alloc) else {
             unreachable!()
@@ -170,7 +170,7 @@ impl MachinePlace {
         ensures kept { machine_in self.new ≡ machine_in self.old }
         ensures why { IsSomeAnd (machine_in self.old)
             (λ machine. (h : History) → Fits machine h
-            → result ≡ why_of (world machine.core.setup h).requests number) }
+            → result ≡ why_of machine.core.setup.linux (requests_of (world machine.core.setup h)) number) }
     {
         let Some(machine) = self.take(alloc) else {
             unreachable!()

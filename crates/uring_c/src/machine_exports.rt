@@ -4,9 +4,9 @@
 ghost use Rattle.std.specs.Prelude.{◌≡◌, ◌↔◌, [], pos, neg_ℤ, None, IsSome, IfSome, IsSomeAnd, MatchOption, slice_get, length};
 ghost use Rattle.uring_entry.specs.Completions.{unreaped};
 ghost use Rattle.uring_entry.specs.Requests.{least_of, operation_running};
-ghost use Rattle.uring_entry.specs.Why.{why_of};
 ghost use Rattle.uring_entry.specs.declared.errno.TheConstants.{EBADF, EINVAL, ENOENT, ENOMEM};
-ghost use Rattle.uring_dispatch.specs.Issuable.{issuables_of, issuable_from};
+ghost use Rattle.uring_rules.specs.Rules.{issuables_of, issuable_from, why_of};
+ghost use Rattle.uring_core.specs.World.{requests_of};
 ghost use Rattle.uring_core.specs.Core.{IsCounts};
 ghost use Rattle.uring_core.specs.CalledFor.{files_of};
 ghost use Rattle.uring_core.specs.Histories.{History, world};
@@ -230,7 +230,7 @@ pub extern "C" fn wulgach_machine_next_issuable(
     ensures refused { machine_in place.old ≡ None → number.new ≡ number.old }
     ensures next { IfSome (machine_in place.old)
         (λ machine. (h : History) → Fits machine h
-        → MatchOption (issuable_from (world machine.core.setup h).requests from) ((result ≡ neg_ℤ ENOENT) × (number.new ≡ number.old)) (λ next. (result ≡ pos 0) × (number.new ≡ next))) }
+        → MatchOption (issuable_from machine.core.setup.linux (requests_of (world machine.core.setup h)) from) ((result ≡ neg_ℤ ENOENT) × (number.new ≡ number.old)) (λ next. (result ≡ pos 0) × (number.new ≡ next))) }
 {
     if !place.is_full {
         return -errno::EBADF;
@@ -254,7 +254,7 @@ pub extern "C" fn wulgach_machine_issuable(
     ensures refused { machine_in place.old ≡ None → count.new ≡ count.old }
     ensures count { IfSome (machine_in place.old)
         (λ machine. (result ≡ pos 0)
-        × ((h : History) → Fits machine h → count.new ≡ length (issuables_of (world machine.core.setup h).requests))) }
+        × ((h : History) → Fits machine h → count.new ≡ length (issuables_of machine.core.setup.linux (requests_of (world machine.core.setup h))))) }
 {
     if !place.is_full {
         return -errno::EBADF;
@@ -276,7 +276,7 @@ pub extern "C" fn wulgach_machine_nth_issuable(
     ensures refused { machine_in place.old ≡ None → number.new ≡ number.old }
     ensures nth { IfSome (machine_in place.old)
         (λ machine. (h : History) → Fits machine h
-        → MatchOption (slice_get (issuables_of (world machine.core.setup h).requests) index) ((result ≡ neg_ℤ ENOENT) × (number.new ≡ number.old)) (λ found. (result ≡ pos 0) × (number.new ≡ found))) }
+        → MatchOption (slice_get (issuables_of machine.core.setup.linux (requests_of (world machine.core.setup h))) index) ((result ≡ neg_ℤ ENOENT) × (number.new ≡ number.old)) (λ found. (result ≡ pos 0) × (number.new ≡ found))) }
 {
     if !place.is_full {
         return -errno::EBADF;
@@ -301,7 +301,7 @@ pub extern "C" fn wulgach_machine_why(
     ensures refused { machine_in place.old ≡ None → why.new ≡ why.old }
     ensures why { IfSome (machine_in place.old)
         (λ machine. (result ≡ pos 0)
-        × ((h : History) → Fits machine h → why.new ≡ words_of_why (why_of (world machine.core.setup h).requests number))) }
+        × ((h : History) → Fits machine h → why.new ≡ words_of_why (why_of machine.core.setup.linux (requests_of (world machine.core.setup h)) number))) }
 {
     if !place.is_full {
         return -errno::EBADF;

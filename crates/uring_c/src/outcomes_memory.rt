@@ -56,14 +56,17 @@ pub fn outcomes_new_in<M: BoxMemory>(
     0
 }
 
-/// The set-up of a ring that takes calls of these lengths in whole, if it is asked for.
-#[tactic(auto, using(crate::proofs::Starts::no_walk_refused, crate::proofs::Starts::no_walk_stops))]
+/// The set-up of a ring that takes calls of these lengths in whole and keeps the manual pages' rules, if it is asked for.
+#[tactic(auto, using(crate::proofs::Starts::no_walk_refused, crate::proofs::Starts::no_walk_stops, crate::proofs::Starts::no_walk_linux))]
 fn ring_of(setup: &SetupWords, lens: &[u64]) -> Option<Setup>
     ensures { MatchOption result (IsNoWalk setup.now lens.now)
         (λ s. IsAskedFor setup.now s × TakesWhole s lens.now) }
 {
     let ring = setup.set_up()?;
     if setup.stops {
+        return None;
+    }
+    if setup.linux {
         return None;
     }
     if !fit(lens, ring.sq()) {

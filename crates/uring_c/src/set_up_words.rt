@@ -1,5 +1,5 @@
 //! A set-up as words that C can write.
-ghost use Rattle.std.specs.Prelude.{◌≡◌, ◌↔◌, Some, MatchOption};
+ghost use Rattle.std.specs.Prelude.{◌≡◌, ◌↔◌, false, Some, MatchOption};
 ghost use Rattle.uring_entry.specs.declared.bad_setup.BadSetup.{BadSetup};
 
 use uring_entry::BadSetup;
@@ -26,6 +26,9 @@ pub struct SetupWords {
 
     /// Whether a submission call stops behind an entry with a fault.
     pub stops: bool,
+
+    /// Whether requests are kept by Linux's rules. Else they are by the manual pages'.
+    pub linux: bool,
 }
 
 impl SetupWords {
@@ -36,11 +39,19 @@ impl SetupWords {
         ensures { MatchOption result (IsRefused self.now) (IsAskedFor self.now) }
     {
         let set_up = Setup::new(self.sq, self.asked_cq(), self.files, self.start).ok()?;
-        Some(if self.stops {
+        Some(self.with_rules(if self.stops {
             set_up.stopping()
         } else {
             set_up
-        })
+        }))
+    }
+
+    /// The same set-up, by Linux's rules if they are asked for.
+    fn with_rules(&self, set_up: Setup) -> Setup
+        requires { set_up.linux ≡ false }
+        ensures { result ≡ record set_up { linux = self.now.linux } }
+    {
+        if self.linux { set_up.linux() } else { set_up }
     }
 
     /// What is wrong with it, if it is refused.
@@ -67,6 +78,7 @@ impl SetupWords {
             start: 0,
             has_cq: true,
             stops: false,
+            linux: false,
         }
     }
 

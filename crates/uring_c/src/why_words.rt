@@ -14,7 +14,7 @@ pub struct WhyWords {
     /// Which case: 1 to 6, in the order of `Why`.
     pub kind: u32,
 
-    /// Of a doomed request what dooms it, 1 to 4 in the order of `Doom`; of one that waits why, 1 to 3 in the order of `Since`.
+    /// Of a doomed request what dooms it, 1 to 5 in the order of `Doom`; of one that waits why, 1 to 4 in the order of `Since`.
     pub reason: u32,
 
     /// Of a request with a fault of its own, which one: 1 to 7, in the order of `Fault`.
@@ -44,6 +44,7 @@ fn doom_words(doom: Doom) -> WhyWords
         Doom::FaultOf(number) => words(4, 2, 0, number),
         Doom::FailureOf(number) => words(4, 3, 0, number),
         Doom::Cancel => words(4, 4, 0, 0),
+        Doom::RefusedDrain => words(4, 5, 0, 0),
     }
 }
 
@@ -55,6 +56,7 @@ fn since_word(since: Since) -> u32
         Since::SameGroup => 1,
         Since::ItDrains => 2,
         Since::OwnDrains => 3,
+        Since::Deferred => 4,
     }
 }
 

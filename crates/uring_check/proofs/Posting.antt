@@ -7,7 +7,7 @@ use Rattle.uring_entry.specs.Completions.{Completions, completion_for, with_post
 use Rattle.uring_entry.specs.Layout.{Cqe}
 use Rattle.uring_entry.specs.Requests.{Ending, entry_of}
 use Rattle.uring_entry.specs.Setup.{Setup}
-use Rattle.uring_entry.specs.Success.{posts_completion}
+use Rattle.uring_rules.specs.Rules.{posts}
 use Rattle.uring_core.specs.Events.{end_told_by}
 use Rattle.uring_core.specs.Histories.{History, world, IsLawfulApart}
 use Rattle.uring_core.specs.Recorded.{resumed}
@@ -68,12 +68,12 @@ end_noted s size n l c false is = none_noted s (length l.posted)
 
 noted_by : (g : Setup) (w : World) (s : Step) (a : Answer) (v : World) → CompletionMove g w s a v
     → noted_poster s (length w.completions.posted) (length v.completions.posted)
-    ≡ poster_of w.requests (end_told_by (s, a))
+    ≡ poster_of g.linux w.requests (end_told_by (s, a))
 noted_by g w s a v (stays _ _ l r is_closed off none left) =
-    none_noted s (length w.completions.posted) ∙ sym (ap (poster_of w.requests) none)
+    none_noted s (length w.completions.posted) ∙ sym (ap (poster_of g.linux w.requests) none)
 noted_by g w s a v (ends _ _ n res bytes r off is same one) =
-    end_noted s g.cq n w.completions (completion_for (entry_of w.requests n) res bytes) (posts_completion (entry_of w.requests n) res) (number_told s a (record { number = n; res = res; bytes = bytes }) is)
-    ∙ sym (ap (poster_of w.requests) is)
+    end_noted s g.cq n w.completions (completion_for (entry_of w.requests n) res bytes) (posts g.linux w.requests n res) (number_told s a (record { number = n; res = res; bytes = bytes }) is)
+    ∙ sym (ap (poster_of g.linux w.requests) is)
 noted_by g w s a v (flushes moved) = none_noted step.Flush (length w.completions.posted)
 noted_by g w s a v (sees_tail tail) = none_noted step.LoadCqTail (length w.completions.posted)
 noted_by g w s a v (reaps completion next) = none_noted step.Reap (length w.completions.posted)

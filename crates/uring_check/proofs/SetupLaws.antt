@@ -1,5 +1,5 @@
 -- What a first line says of a set-up, and what follows of the lines that are taken in.
-use Rattle.std.proofs.Common.{◌≡◌, ℕ, ◌≤◌, ◌<◌, inl, inr, Bool, true, false, List, [], ◌∷◌, Option, Some, None, Result, Err, refl, sym, ap, subst, ◌∙◌, length, map, Bor, arith}
+use Rattle.std.proofs.Common.{◌≡◌, ℕ, ◌≤◌, ◌<◌, inl, inr, Bool, true, false, List, [], ◌∷◌, Option, Some, None, Result, Err, refl, sym, ap, subst, ◌∙◌, length, map, drop, Bor, arith}
 use Rattle.std.specs.Prelude.{◌↔◌, codes, IsErrOf, if◌then◌else◌}
 use Rattle.std.specs.Str.{bytes_eq}
 use Rattle.std.proofs.Math.ListN.{get_or}
@@ -7,10 +7,11 @@ use Rattle.std.specs.Int.{IsNextPowerOfTwo}
 use Rattle.uring_entry.specs.Setup.{Setup, IsSetupFor, IsBadSq, IsBadCq, IsBadFiles, IsOutside}
 use Rattle.uring_entry.specs.declared.bad_setup.BadSetup.{BadSetup}
 use Rattle.uring_entry.specs.declared.bad_setup.BadSetup.TheVariants.{BadSq, BadCq, BadFiles}
-use Rattle.uring_check.specs.SetupLines.{IsSaidBy, IsSaidOf, MissesSetup, begins_setup, named_number, plain_said, sizes_in, sizes_of, sizes_said, stopping_said}
+use Rattle.uring_check.specs.SetupLines.{IsSaidBy, IsSaidOf, MissesSetup, begins_setup, named_number, sizes_in, sizes_of, sizes_said, words_said}
 use Rattle.uring_check.specs.declared.setup_line.Said.{Said}
 use Rattle.uring_check.specs.declared.setup_line.Said.TheVariants.{Nothing, Says, Misses}
 use Rattle.uring_check.specs.declared.setup_line.Sizes.{Sizes}
+use Rattle.uring_check.specs.declared.setup_line.Asked.{Asked}
 
 -- a number within limits isn't out of them
 within_limits : (low high n : ℕ) → low ≤ n → n ≤ high → IsOutside low high n → ⊥
@@ -76,47 +77,20 @@ set_up tokens sign name rest said are one two of =
 abbrev pub Tokens : Type 0
 Tokens = List (Bor (List ℕ))
 
--- what eight tokens from here on say
-abbrev pub sizes_at : Bool → Bor (List ℕ) → Tokens → Option Sizes
-sizes_at stops d xs =
-    sizes_of stops (named_number (codes "--sq") (get_or xs 0 d).now (get_or xs 1 d).now) (named_number (codes "--cq") (get_or xs 2 d).now (get_or xs 3 d).now) (named_number (codes "--files") (get_or xs 4 d).now (get_or xs 5 d).now) (named_number (codes "--start") (get_or xs 6 d).now (get_or xs 7 d).now)
+-- what eight tokens say, with what the words behind them do
+abbrev pub sizes_at : Option Asked → Bor (List ℕ) → Tokens → Option Sizes
+sizes_at asked d xs =
+    sizes_of asked (named_number (codes "--sq") (get_or xs 0 d).now (get_or xs 1 d).now) (named_number (codes "--cq") (get_or xs 2 d).now (get_or xs 3 d).now) (named_number (codes "--files") (get_or xs 4 d).now (get_or xs 5 d).now) (named_number (codes "--start") (get_or xs 6 d).now (get_or xs 7 d).now)
 
-pub plain_at : (d : Bor (List ℕ)) (xs : Tokens) → 8 ≤ length xs → length xs < 9
-    → plain_said (map (λ (t : Bor (List ℕ)). t.now) xs) ≡ sizes_at false d xs
-plain_at d [] le lt = absurd (omega (arith, le))
-plain_at d (a ∷ []) le lt = absurd (omega (arith, le))
-plain_at d (a ∷ b ∷ []) le lt = absurd (omega (arith, le))
-plain_at d (a ∷ b ∷ c ∷ []) le lt = absurd (omega (arith, le))
-plain_at d (a ∷ b ∷ c ∷ e ∷ []) le lt = absurd (omega (arith, le))
-plain_at d (a ∷ b ∷ c ∷ e ∷ f ∷ []) le lt = absurd (omega (arith, le))
-plain_at d (a ∷ b ∷ c ∷ e ∷ f ∷ g ∷ []) le lt = absurd (omega (arith, le))
-plain_at d (a ∷ b ∷ c ∷ e ∷ f ∷ g ∷ h ∷ []) le lt = absurd (omega (arith, le))
-plain_at d (a ∷ b ∷ c ∷ e ∷ f ∷ g ∷ h ∷ i ∷ []) le lt = refl
-plain_at d (a ∷ b ∷ c ∷ e ∷ f ∷ g ∷ h ∷ i ∷ j ∷ more) le lt = absurd (omega (arith, lt))
-
-stopping_at : (d : Bor (List ℕ)) (xs : Tokens) → 9 ≤ length xs → length xs < 10
-    → stopping_said (map (λ (t : Bor (List ℕ)). t.now) xs)
-    ≡ (if bytes_eq (get_or xs 8 d).now (codes "--stop") then sizes_at true d xs else None)
-stopping_at d [] le lt = absurd (omega (arith, le))
-stopping_at d (a ∷ []) le lt = absurd (omega (arith, le))
-stopping_at d (a ∷ b ∷ []) le lt = absurd (omega (arith, le))
-stopping_at d (a ∷ b ∷ c ∷ []) le lt = absurd (omega (arith, le))
-stopping_at d (a ∷ b ∷ c ∷ e ∷ []) le lt = absurd (omega (arith, le))
-stopping_at d (a ∷ b ∷ c ∷ e ∷ f ∷ []) le lt = absurd (omega (arith, le))
-stopping_at d (a ∷ b ∷ c ∷ e ∷ f ∷ g ∷ []) le lt = absurd (omega (arith, le))
-stopping_at d (a ∷ b ∷ c ∷ e ∷ f ∷ g ∷ h ∷ []) le lt = absurd (omega (arith, le))
-stopping_at d (a ∷ b ∷ c ∷ e ∷ f ∷ g ∷ h ∷ i ∷ []) le lt = absurd (omega (arith, le))
-stopping_at d (a ∷ b ∷ c ∷ e ∷ f ∷ g ∷ h ∷ i ∷ j ∷ []) le lt = refl
-stopping_at d (a ∷ b ∷ c ∷ e ∷ f ∷ g ∷ h ∷ i ∷ j ∷ k ∷ more) le lt = absurd (omega (arith, lt))
-
-pub stops_at : (d : Bor (List ℕ)) (xs : Tokens) → 9 ≤ length xs → length xs < 10
-    → bytes_eq (get_or xs 8 d).now (codes "--stop") ≡ true
-    → stopping_said (map (λ (t : Bor (List ℕ)). t.now) xs) ≡ sizes_at true d xs
-stops_at d xs le lt is =
-    stopping_at d xs le lt ∙ ap (λ (b : Bool). if b then sizes_at true d xs else None) is
-
-pub goes_at : (d : Bor (List ℕ)) (xs : Tokens) → 9 ≤ length xs → length xs < 10
-    → bytes_eq (get_or xs 8 d).now (codes "--stop") ≡ false
-    → stopping_said (map (λ (t : Bor (List ℕ)). t.now) xs) ≡ None
-goes_at d xs le lt is =
-    stopping_at d xs le lt ∙ ap (λ (b : Bool). if b then sizes_at true d xs else None) is
+pub said_at : (d : Bor (List ℕ)) (xs : Tokens) → 8 ≤ length xs
+    → sizes_said (map (λ (t : Bor (List ℕ)). t.now) xs)
+    ≡ sizes_at (words_said (map (λ (t : Bor (List ℕ)). t.now) (drop 8 xs))) d xs
+said_at d [] le = absurd (omega (arith, le))
+said_at d (a ∷ []) le = absurd (omega (arith, le))
+said_at d (a ∷ b ∷ []) le = absurd (omega (arith, le))
+said_at d (a ∷ b ∷ c ∷ []) le = absurd (omega (arith, le))
+said_at d (a ∷ b ∷ c ∷ e ∷ []) le = absurd (omega (arith, le))
+said_at d (a ∷ b ∷ c ∷ e ∷ f ∷ []) le = absurd (omega (arith, le))
+said_at d (a ∷ b ∷ c ∷ e ∷ f ∷ g ∷ []) le = absurd (omega (arith, le))
+said_at d (a ∷ b ∷ c ∷ e ∷ f ∷ g ∷ h ∷ []) le = absurd (omega (arith, le))
+said_at d (a ∷ b ∷ c ∷ e ∷ f ∷ g ∷ h ∷ i ∷ more) le = refl

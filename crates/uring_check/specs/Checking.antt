@@ -4,6 +4,7 @@ use Rattle.std.specs.Io.KnownBytes.{Consumes, IsAtEnd}
 use Rattle.std.specs.List.{AllByRecursion}
 use Rattle.uring_core.specs.Core.{FitsApart}
 use Rattle.uring_entry.specs.Setup.{Setup}
+use Rattle.uring_core.specs.World.{requests_of}
 use Rattle.uring_core.specs.Histories.{History, world}
 use Rattle.uring_machine.specs.Machine.{Fits}
 use Rattle.uring_core.specs.Recorded.{IsWrong, Meets, resumed}
@@ -107,9 +108,9 @@ pub record IsEither (wanted : Wanted) (one other : Answer) : Type 0 where
 
 -- What is asked before a step: how its request stands, whom a cancel chooses, whose completion is reaped next, and how much is posted.
 pub record IsStanding (g : Setup) (h : History) (s : Step) (x : Standing) : Type 0 where
-  pub why : x.why ≡ why_asked (world g h).requests s
-  pub chosen : option_map (λ text. string_bytes text) x.chosen ≡ chosen_told (world g h).requests s
-  pub found : x.found ≡ found_asked (world g h).requests s
+  pub why : x.why ≡ why_asked g.linux (requests_of (world g h)) s
+  pub chosen : option_map (λ text. string_bytes text) x.chosen ≡ chosen_told g.linux (requests_of (world g h)) s
+  pub found : x.found ≡ found_asked g.linux (requests_of (world g h)) s
   pub poster : x.poster ≡ next_poster g h
   pub posted : x.posted ≡ length (world g h).completions.posted
 

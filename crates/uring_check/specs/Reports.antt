@@ -1,13 +1,14 @@
 -- The text of a check's report. Its words are our own rule.
-use Rattle.std.specs.Prelude.{ℕ, ◌==◌, if◌then◌else◌, ◌+◌, ◌-◌, ◌^◌, min, List, [], ◌∷◌, ◌++◌, length, codes, option_map, Option, Some, None}
+use Rattle.std.specs.Prelude.{ℕ, Bool, ◌==◌, if◌then◌else◌, ◌+◌, ◌-◌, ◌^◌, min, List, [], ◌∷◌, ◌++◌, length, codes, option_map, Option, Some, None}
 use Rattle.std.specs.Fmt.{decimal, signed_decimal}
 use Rattle.uring_entry.specs.Layout.{Sqe, len_of, opcode_of}
 use Rattle.uring_entry.specs.Preparation.{is_read, is_write}
-use Rattle.uring_entry.specs.Requests.{Requests}
 use Rattle.uring_entry.specs.Setup.{Setup}
-use Rattle.uring_entry.specs.Why.{why_of}
+use Rattle.uring_linux.specs.LinuxRequests.{LinuxRequests}
+use Rattle.uring_rules.specs.Rules as by_rules
 use Rattle.uring_entry.specs.declared.opcode.TheConstants.{FSYNC}
 use Rattle.uring_entry.specs.declared.why.Why.{Why}
+use Rattle.uring_core.specs.World.{requests_of}
 use Rattle.uring_core.specs.Histories.{History, world}
 use Rattle.uring_core.specs.declared.answer.Answer.TheVariants as answer
 use Rattle.uring_core.specs.declared.step.Step.{Step}
@@ -53,10 +54,10 @@ wanted_text asked (EndOrNoMemory res) =
     codes "ended " ++ signed_decimal res ++ codes " or ended -12"
 
 -- of an issue and of a finish, the number of its request and why that stands as it does
-abbrev pub why_asked : Requests → Step → Option (ℕ × Why)
-why_asked r (step.Issue n) = Some (n, why_of r n)
-why_asked r (step.Finish n) = Some (n, why_of r n)
-why_asked r _ = None
+abbrev pub why_asked : (is_linux : Bool) → LinuxRequests → Step → Option (ℕ × Why)
+why_asked is_linux l (step.Issue n) = Some (n, by_rules.why_of is_linux l n)
+why_asked is_linux l (step.Finish n) = Some (n, by_rules.why_of is_linux l n)
+why_asked is_linux l _ = None
 
 -- what is told of it
 abbrev pub why_told : Option (ℕ × Why) → List ℕ
@@ -82,7 +83,7 @@ whose_told _ _ = []
 -- all that is told of why these answers are wanted: how the request stands, whom a cancel chooses, and whose a completion is
 abbrev pub reasons_told : Setup → History → Step → Wanted → List ℕ
 reasons_told g h s wanted =
-    why_told (why_asked (world g h).requests s) ++ whom_told (chosen_told (world g h).requests s) ++ whom_told (option_map found_text (found_asked (world g h).requests s))
+    why_told (why_asked g.linux (requests_of (world g h)) s) ++ whom_told (chosen_told g.linux (requests_of (world g h)) s) ++ whom_told (option_map found_text (found_asked g.linux (requests_of (world g h)) s))
     ++ whose_told (completion_wanted wanted) (next_poster g h)
 
 -- the number of a line
@@ -124,7 +125,7 @@ closing v steps = []
 -- what is told of a first line that is to say a set-up and says none
 abbrev pub missed_text : List ℕ
 missed_text =
-    codes "line 1: bad line\nwhy: no set-up, wanted: # setup --sq N --cq N --files N --start N, each within its limits, and --stop or nothing\n"
+    codes "line 1: bad line\nwhy: no set-up, wanted: # setup --sq N --cq N --files N --start N, each within its limits, and --stop, --linux or both, or nothing\n"
 
 -- The report.
 abbrev pub report : Rules → List Found → List ℕ

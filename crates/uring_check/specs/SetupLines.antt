@@ -8,6 +8,7 @@ use Rattle.uring_text.specs.Tokens.{tokens_of}
 use Rattle.uring_check.specs.declared.setup_line.Said.{Said}
 use Rattle.uring_check.specs.declared.setup_line.Said.TheVariants.{Nothing, Says, Misses}
 use Rattle.uring_check.specs.declared.setup_line.Sizes.{Sizes}
+use Rattle.uring_check.specs.declared.setup_line.Asked.{Asked}
 
 -- the tokens begin as those of a set-up do
 abbrev pub begins_setup : List (List ℕ) → Bool
@@ -19,31 +20,42 @@ begins_setup (sign ∷ name ∷ tokens) = bytes_eq sign (codes "#") && bytes_eq 
 abbrev pub named_number : List ℕ → List ℕ → List ℕ → Option ℕ
 named_number wanted name token = if bytes_eq name wanted then number_of (2 ^ 32) token else None
 
--- the sizes of these numbers, if each is one
-abbrev pub sizes_of : Bool → Option ℕ → Option ℕ → Option ℕ → Option ℕ → Option Sizes
-sizes_of stops (Some sq) (Some cq) (Some files) (Some start) =
-    Some (record { sq = sq; cq = cq; files = files; start = start; stops = stops })
-sizes_of stops sq cq files start = None
+-- whether calls stop, and whether the rules are Linux's
+abbrev pub asked_as : (stops linux : Bool) → Asked
+asked_as stops linux = record { stops = stops; linux = linux }
 
--- `--sq N --cq N --files N --start N`
-abbrev pub plain_said : List (List ℕ) → Option Sizes
-plain_said (a ∷ sq ∷ b ∷ cq ∷ c ∷ files ∷ d ∷ start ∷ []) =
-    sizes_of false (named_number (codes "--sq") a sq) (named_number (codes "--cq") b cq) (named_number (codes "--files") c files) (named_number (codes "--start") d start)
-plain_said tokens = None
+-- what one word behind the numbers asks for
+abbrev pub one_asked : List ℕ → Option Asked
+one_asked word =
+    if bytes_eq word (codes "--stop") then Some (asked_as true false) else
+    if bytes_eq word (codes "--linux") then Some (asked_as false true) else
+    None
 
--- the same with `--stop` behind it
-abbrev pub stopping_said : List (List ℕ) → Option Sizes
-stopping_said (a ∷ sq ∷ b ∷ cq ∷ c ∷ files ∷ d ∷ start ∷ stop ∷ []) =
-    if bytes_eq stop (codes "--stop") then sizes_of true (named_number (codes "--sq") a sq) (named_number (codes "--cq") b cq) (named_number (codes "--files") c files) (named_number (codes "--start") d start) else None
-stopping_said tokens = None
+-- what two words ask for
+abbrev pub both_asked : List ℕ → List ℕ → Option Asked
+both_asked first second =
+    if bytes_eq first (codes "--stop") && bytes_eq second (codes "--linux")
+    then Some (asked_as true true) else
+    None
 
-abbrev pub either_said : Option Sizes → Option Sizes → Option Sizes
-either_said (Some n) other = Some n
-either_said None other = other
+-- what the words behind the numbers ask for: `--stop`, `--linux`, both in this order, or none
+abbrev pub words_said : List (List ℕ) → Option Asked
+words_said [] = Some (asked_as false false)
+words_said (word ∷ []) = one_asked word
+words_said (first ∷ second ∷ []) = both_asked first second
+words_said (first ∷ second ∷ third ∷ words) = None
 
--- the sizes that the tokens behind `# setup` say
+-- the sizes of these numbers and words, if each is one
+abbrev pub sizes_of : Option Asked → Option ℕ → Option ℕ → Option ℕ → Option ℕ → Option Sizes
+sizes_of (Some asked) (Some sq) (Some cq) (Some files) (Some start) =
+    Some (record { sq = sq; cq = cq; files = files; start = start; asked = asked })
+sizes_of asked sq cq files start = None
+
+-- the sizes that the tokens behind `# setup` say: `--sq N --cq N --files N --start N`, with words behind it
 abbrev pub sizes_said : List (List ℕ) → Option Sizes
-sizes_said tokens = either_said (plain_said tokens) (stopping_said tokens)
+sizes_said (a ∷ sq ∷ b ∷ cq ∷ c ∷ files ∷ d ∷ start ∷ words) =
+    sizes_of (words_said words) (named_number (codes "--sq") a sq) (named_number (codes "--cq") b cq) (named_number (codes "--files") c files) (named_number (codes "--start") d start)
+sizes_said tokens = None
 
 -- the sizes that the tokens of a line say
 abbrev pub sizes_in : List (List ℕ) → Option Sizes
@@ -51,10 +63,10 @@ sizes_in [] = None
 sizes_in (sign ∷ []) = None
 sizes_in (sign ∷ name ∷ tokens) = sizes_said tokens
 
--- The set-up has these sizes, rounded up.
+-- The set-up has these sizes, rounded up, and is as is asked for.
 abbrev pub IsSetupOf : Sizes → Setup → Type 0
 IsSetupOf n s = (plain : Setup) × IsSetupFor n.sq (Some n.cq) n.files n.start plain
-    × (s ≡ record plain { stops = n.stops })
+    × (s ≡ record plain { stops = n.asked.stops; linux = n.asked.linux })
 
 -- no set-up has the sizes
 abbrev pub MissesSetup : Option Sizes → Type 0
@@ -79,8 +91,15 @@ IsSaidIf false line said = said ≡ Nothing
 abbrev pub IsSaid : List ℕ → Said → Type 0
 IsSaid line said = IsSaidIf (nat_le (length line) 300) line said
 
+-- what stands at the end of the line of a set-up
+abbrev pub end_text : (stops linux : Bool) → List ℕ
+end_text true true = codes " --stop --linux\n"
+end_text true false = codes " --stop\n"
+end_text false true = codes " --linux\n"
+end_text false false = codes "\n"
+
 -- the line of a set-up, as it is written
 abbrev pub setup_text : Setup → List ℕ
 setup_text g =
     codes "# setup --sq " ++ decimal g.sq ++ codes " --cq " ++ decimal g.cq ++ codes " --files " ++ decimal g.files ++ codes " --start " ++ decimal g.start
-    ++ (if g.stops then codes " --stop\n" else codes "\n")
+    ++ end_text g.stops g.linux

@@ -29,7 +29,7 @@ use uring_trace::read_step_in;
 
 /// What is told of a first line that is to say a set-up and says none.
 const MISSED: &str =
-    "line 1: bad line\nwhy: no set-up, wanted: # setup --sq N --cq N --files N --start N, each within its limits, and --stop or nothing\n";
+    "line 1: bad line\nwhy: no set-up, wanted: # setup --sq N --cq N --files N --start N, each within its limits, and --stop, --linux or both, or nothing\n";
 
 /// A follower that goes along with the lines, and what they came to so far.
 #[derive(Drop)]

@@ -2,7 +2,7 @@
 
 ghost use Rattle.std.specs.Prelude.{◌≡◌, ◌≤◌, ℕ, List, IfOk, IsOk, false, length, map};
 ghost use Rattle.uring_text.specs.KeptLine.{kept_of};
-ghost use Rattle.uring_check.specs.SetupLines.{IsSaid, IsSaidBy, IsSaidOf, named_number, plain_said, sizes_of, sizes_said, stopping_said};
+ghost use Rattle.uring_check.specs.SetupLines.{IsSaid, IsSaidBy, IsSaidOf, named_number, sizes_of, sizes_said, stops_said};
 
 use std::alloc::{AllocError, Global};
 use uring_machine::Setup;
@@ -22,17 +22,24 @@ pub enum Said {
     Misses,
 }
 
-/// The numbers of a set-up, and whether its calls stop.
+/// What the words behind the numbers of a set-up ask for: whether its calls stop, and whether its rules are Linux's.
+#[derive(Clone, Copy, Debug, PartialEq, Eq)]
+pub(crate) struct Asked {
+    stops: bool,
+    linux: bool,
+}
+
+/// The numbers of a set-up, and what is asked for beside them.
 #[derive(Clone, Copy, Debug, PartialEq, Eq)]
 pub(crate) struct Sizes {
     sq: u32,
     cq: u32,
     files: u32,
     start: u32,
-    stops: bool,
+    asked: Asked,
 }
 
-/// What the first line of a recorded trace says of the set-up by which the trace is judged: the form is `# setup --sq N --cq N --files N --start N`, with ` --stop` behind it or not.
+/// What the first line of a recorded trace says of the set-up by which the trace is judged: the form is `# setup --sq N --cq N --files N --start N`, with ` --stop`, ` --linux`, or both in this order behind it, or neither.
 pub fn said_by(alloc: Global, line: &KeptLine) -> Result<Said, AllocError>
     ensures { IfOk result (λ said. (bytes : List ℕ) → line.now ≡ kept_of bytes → IsSaid bytes said) }
 {
@@ -86,7 +93,10 @@ fn setup_of(sizes: Option<Sizes>) -> Said
         return Said::Misses;
     };
     match Setup::new(sizes.sq, Some(sizes.cq), sizes.files, sizes.start) {
-        Ok(setup) => Said::Says(stopping_if(setup, sizes.stops)),
+        Ok(setup) => Said::Says(linux_if(
+            stopping_if(setup, sizes.asked.stops),
+            sizes.asked.linux,
+        )),
         Err(_) => Said::Misses,
     }
 }
@@ -99,19 +109,17 @@ fn stopping_if(setup: Setup, stops: bool) -> Setup
     if stops { setup.stopping() } else { setup }
 }
 
+/// The set-up, whose rules are Linux's if that is asked for.
+fn linux_if(setup: Setup, linux: bool) -> Setup
+    requires { setup.linux ≡ false }
+    ensures { result ≡ record setup { linux = linux } }
+{
+    if linux { setup.linux() } else { setup }
+}
+
 /// The sizes that the tokens behind `# setup` say.
 fn sizes_said(tokens: &[&[u8]]) -> Option<Sizes>
     ensures { result ≡ sizes_said (map (λ token. token.now) tokens.now) }
-{
-    match plain_said(tokens) {
-        Some(sizes) => Some(sizes),
-        None => stopping_said(tokens),
-    }
-}
-
-/// The sizes of a ring that goes on.
-fn plain_said(tokens: &[&[u8]]) -> Option<Sizes>
-    ensures { result ≡ plain_said (map (λ token. token.now) tokens.now) }
 {
     let [
         sq_name,
@@ -122,12 +130,13 @@ fn plain_said(tokens: &[&[u8]]) -> Option<Sizes>
         files,
         start_name,
         start,
+        words @ ..,
     ] = tokens
     else {
         return None;
     };
     sizes_of(
-        false,
+        words_said(words),
         named_number("--sq", sq_name, sq),
         named_number("--cq", cq_name, cq),
         named_number("--files", files_name, files),
@@ -135,53 +144,70 @@ fn plain_said(tokens: &[&[u8]]) -> Option<Sizes>
     )
 }
 
-/// The sizes of a ring that stops.
-fn stopping_said(tokens: &[&[u8]]) -> Option<Sizes>
-    ensures { result ≡ stopping_said (map (λ token. token.now) tokens.now) }
+/// What the words behind the numbers ask for.
+fn words_said(words: &[&[u8]]) -> Option<Asked>
+    ensures { result ≡ words_said (map (λ token. token.now) words.now) }
 {
-    let [
-        sq_name,
-        sq,
-        cq_name,
-        cq,
-        files_name,
-        files,
-        start_name,
-        start,
-        stop,
-    ] = tokens
-    else {
-        return None;
-    };
-    if is_name(stop, "--stop") {
-        sizes_of(
-            true,
-            named_number("--sq", sq_name, sq),
-            named_number("--cq", cq_name, cq),
-            named_number("--files", files_name, files),
-            named_number("--start", start_name, start),
-        )
+    match words {
+        [] => Some(Asked {
+            stops: false,
+            linux: false,
+        }),
+        [word] => one_asked(word),
+        [first, second] => both_asked(first, second),
+        _ => None,
+    }
+}
+
+/// What one word behind the numbers asks for.
+fn one_asked(word: &[u8]) -> Option<Asked>
+    ensures { result ≡ one_asked word.now }
+{
+    if is_name(word, "--stop") {
+        return Some(Asked {
+            stops: true,
+            linux: false,
+        });
+    }
+    if is_name(word, "--linux") {
+        return Some(Asked {
+            stops: false,
+            linux: true,
+        });
+    }
+    None
+}
+
+/// What two words behind the numbers ask for.
+fn both_asked(first: &[u8], second: &[u8]) -> Option<Asked>
+    ensures { result ≡ both_asked first.now second.now }
+{
+    if is_name(first, "--stop") && is_name(second, "--linux") {
+        Some(Asked {
+            stops: true,
+            linux: true,
+        })
     } else {
         None
     }
 }
 
-/// The sizes of these numbers, if each is one.
+/// The sizes of these numbers and words, if each is one.
 fn sizes_of(
-    stops: bool,
+    asked: Option<Asked>,
     sq: Option<u32>,
     cq: Option<u32>,
     files: Option<u32>,
     start: Option<u32>,
 ) -> Option<Sizes>
-    ensures { result ≡ sizes_of stops sq cq files start }
+    ensures { result ≡ sizes_of asked sq cq files start }
 {
     Some(Sizes {
         sq: sq?,
         cq: cq?,
         files: files?,
         start: start?,
-        stops,
+        asked: asked?,
     })
 }
 

@@ -1,7 +1,7 @@
 //! The line of a set-up, as it is written.
 
-ghost use Rattle.std.specs.Prelude.{◌≡◌, ◌++◌, OnOk, codes, decimal, string_bytes, if◌then◌else◌};
-ghost use Rattle.uring_check.specs.SetupLines.{setup_text};
+ghost use Rattle.std.specs.Prelude.{◌≡◌, ◌++◌, OnOk, codes, decimal, string_bytes};
+ghost use Rattle.uring_check.specs.SetupLines.{setup_text, end_text};
 
 use std::alloc::{AllocError, Global};
 use uring_machine::Setup;
@@ -15,14 +15,19 @@ pub fn push_setup(alloc: Global, text: &mut String, setup: &Setup) -> Result<(),
     push_named(alloc, text, " --cq ", setup.cq())?;
     push_named(alloc, text, " --files ", setup.files())?;
     push_named(alloc, text, " --start ", setup.start())?;
-    push_text(&alloc, text, stop_of(setup.stops()))
+    push_text(&alloc, text, end_of(setup.stops(), setup.is_linux()))
 }
 
 /// What stands at the end of that line.
-fn stop_of(stops: bool) -> &'static str
-    ensures { result.now ≡ (if stops then codes " --stop\n" else codes "\n") }
+fn end_of(stops: bool, linux: bool) -> &'static str
+    ensures { result.now ≡ end_text stops linux }
 {
-    if stops { " --stop\n" } else { "\n" }
+    match (stops, linux) {
+        (true, true) => " --stop --linux\n",
+        (true, false) => " --stop\n",
+        (false, true) => " --linux\n",
+        (false, false) => "\n",
+    }
 }
 
 /// Appends a number behind its name.

@@ -4,8 +4,8 @@ ghost use Rattle.std.specs.Prelude.{◌≡◌, ◌++◌, ◌∷◌, [], ℕ, IfO
 ghost use Rattle.uring_core.specs.Core.{FitsApart};
 ghost use Rattle.uring_core.specs.Histories.{History, world};
 ghost use Rattle.uring_trace.specs.Reasons.{found_text};
-ghost use Rattle.uring_entry.specs.Why.{why_of};
-ghost use Rattle.uring_dispatch.specs.Cancels.{found_by};
+ghost use Rattle.uring_core.specs.World.{requests_of};
+ghost use Rattle.uring_rules.specs.Rules as rules;
 ghost use Rattle.uring_check.specs.Checking.{IsStanding, noted_poster, reasons_by};
 ghost use Rattle.uring_check.specs.Cancels.{found_asked, found_for};
 ghost use Rattle.uring_check.specs.Posters.{posters};
@@ -85,7 +85,7 @@ impl Standing {
 /// Why the request that a step issues or finishes stands as it does, with its number.
 fn why(core: &Core, step: &Step) -> Option<(u64, Why)>
     ensures { (h : History) → FitsApart core.now h
-        → result ≡ why_asked (world core.now.setup h).requests step.now }
+        → result ≡ why_asked core.now.setup.linux (requests_of (world core.now.setup h)) step.now }
 {
     match step {
         Step::Issue { number } => Some((*number, core.why(*number))),
@@ -97,7 +97,7 @@ fn why(core: &Core, step: &Step) -> Option<(u64, Why)>
 /// What the cancel of one request finds that a step issues, if it may start.
 fn found(core: &Core, step: &Step) -> Option<Found>
     ensures { (h : History) → FitsApart core.now h
-        → result ≡ found_asked (world core.now.setup h).requests step.now }
+        → result ≡ found_asked core.now.setup.linux (requests_of (world core.now.setup h)) step.now }
 {
     match step {
         Step::Issue { number } => found_by(core, *number),
@@ -108,7 +108,7 @@ fn found(core: &Core, step: &Step) -> Option<Found>
 /// What the cancel of one request with this number finds, if it may start.
 fn found_by(core: &Core, number: u64) -> Option<Found>
     ensures { (h : History) → FitsApart core.now h
-        → result ≡ found_for (why_of (world core.now.setup h).requests number) (found_by (world core.now.setup h).requests number) }
+        → result ≡ found_for (rules.why_of core.now.setup.linux (requests_of (world core.now.setup h)) number) (rules.found_by core.now.setup.linux (world core.now.setup h).requests number) }
 {
     match core.why(number) {
         Why::MayStart => core.would_find(number),

@@ -1,11 +1,10 @@
 -- What is so by the manual pages' rules and by Linux's.
 -- Stable: other crates may import all of it.
-use Rattle.std.proofs.Common.{◌≡◌, ℕ, ◌<◌, ℤ, Bool, true, false, not, ◌&&◌, ◌||◌, length, refl, ap, sym, subst}
-use Rattle.std.proofs.lemmas.Bool.{and_parts, and_cases, both_ways, false_from_ne_true, not-true}
+use Rattle.std.proofs.Common.{◌≡◌, ℕ, ◌<◌, Bool, true, false, not, ◌&&◌, ◌||◌, length, ap, sym, subst}
+use Rattle.std.proofs.lemmas.Bool.{and_parts, both_ways, false_from_ne_true, not-true}
 use Rattle.uring_entry.specs.Setup.{Setup}
 use Rattle.uring_entry.specs.Preparation.{is_faulty}
-use Rattle.uring_entry.specs.Requests as manual
-use Rattle.uring_entry.specs.Requests.{Requests, entry_of, is_outstanding, is_running}
+use Rattle.uring_entry.specs.Requests.{entry_of, is_outstanding, is_running}
 use Rattle.uring_entry.proofs.RequestLemmas.{is_doomed_own_fault}
 use Rattle.uring_linux.specs.LinuxRequests as kernel
 use Rattle.uring_linux.specs.LinuxRequests.{LinuxRequests, is_in_turn, is_deferred}

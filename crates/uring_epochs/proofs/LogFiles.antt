@@ -20,6 +20,8 @@ use Rattle.uring_files.proofs.StandAlone.{others_stay}
 use Rattle.uring_volume.specs.Volume.{Volume, ended, IsShown, is_one_of, running_writes, running_syncs, with_event, with_write, with_sync}
 use Rattle.uring_volume.specs.declared.event.SyncRange.TheVariants.{Whole}
 use Rattle.uring_volume.specs.declared.event.Event.TheVariants.{WriteEnded, SyncEnded, SyncFailed}
+use Rattle.uring_linux.specs.LinuxRequests.{LinuxRequests}
+use Rattle.uring_core.specs.World.{requests_of}
 use Rattle.uring_core.specs.Histories as core
 use Rattle.uring_core.specs.Histories.{world, IsLawfulApart}
 use Rattle.uring_core.specs.CalledFor.{IsLawful, files_of, files_after, EndsOn}
@@ -258,26 +260,28 @@ ends_called files r n false res bytes is called = absurd (both_ways false refl i
 abbrev files_by : List FileContents → Requests → List FileContents
 files_by firsts r = files_after r firsts r.ended
 
-shows_move : WritesOver → (firsts : List FileContents) (first : List ℕ) (fd : ℤ) (r q : Requests) (s : Step) (a : Answer) (log : Log) → Move r s a q
-    → ((n : ℕ) → s ≡ step.Finish n → EndsOn (files_by firsts r) r n (is_running r n) a)
-    → (IsNoFinish s → files_by firsts q ≡ files_by firsts r)
-    → Stands fd r log → Shows first fd (files_by firsts r) log → Shows first fd (files_by firsts q) (logged r q s a log)
-shows_move over firsts first fd r q s a log (stays _ _ no_start no_end) called kept st shows =
-    subst (Shows first fd (files_by firsts r)) (sym (quiet r r s a log no_start no_end)) shows
-shows_move over firsts first fd r q s a log (accepts accepted missed head entries) called kept st shows =
+shows_move : WritesOver → (firsts : List FileContents) (first : List ℕ) (fd : ℤ) (linux : Bool) (l : LinuxRequests) (q : Requests) (s : Step) (a : Answer) (log : Log)
+    → Move linux l s a q
+    → ((n : ℕ) → s ≡ step.Finish n → EndsOn (files_by firsts l.requests) l.requests n (is_running l.requests n) a)
+    → (IsNoFinish s → files_by firsts q ≡ files_by firsts l.requests) → Stands fd l.requests log
+    → Shows first fd (files_by firsts l.requests) log
+    → Shows first fd (files_by firsts q) (logged l.requests q s a log)
+shows_move over firsts first fd linux l q s a log (stays _ _ no_start no_end) called kept st shows =
+    subst (Shows first fd (files_by firsts l.requests)) (sym (quiet l.requests l.requests s a log no_start no_end)) shows
+shows_move over firsts first fd linux l q s a log (accepts accepted missed head entries) called kept st shows =
     subst (λ fs. Shows first fd fs log) (sym (kept tt)) shows
-shows_move over firsts first fd r q s a log (starts n outstanding idle spared ready no_cancel) called kept st shows =
+shows_move over firsts first fd linux l q s a log (starts n outstanding idle spared ready no_cancel) called kept st shows =
     subst (λ fs. Shows first fd fs (begun_of n (operation_running q n) log)) (sym (kept tt))
-    (shows_same first fd (files_by firsts r) log (begun_of n (operation_running q n) log) (begun_of_same n (operation_running q n) log) shows)
-shows_move over firsts first fd r q s a log (ends_doomed n outstanding) called kept st shows =
+    (shows_same first fd (files_by firsts l.requests) log (begun_of n (operation_running q n) log) (begun_of_same n (operation_running q n) log) shows)
+shows_move over firsts first fd linux l q s a log (ends_doomed n outstanding) called kept st shows =
     subst (λ fs. Shows first fd fs log) (sym (kept tt)) shows
-shows_move over firsts first fd r q s a log (ends_cancel n outstanding spared ready cancel) called kept st shows =
+shows_move over firsts first fd linux l q s a log (ends_cancel n outstanding spared ready cancel) called kept st shows =
     subst (λ fs. Shows first fd fs log) (sym (kept tt)) shows
-shows_move over firsts first fd r q s a log (ends_run n res bytes running) called kept st shows =
-    let op : Op = operation_of (entry_of r n) in
-    subst (λ fs. Shows first fd fs (finished_of n (operation_running r n) res log)) (sym (files_ended r n res bytes firsts))
-    (subst (λ (o : Option Op). Shows first fd (after (files_by firsts r) op res) (finished_of n o res log)) (sym (cond-true (is_running r n) (Some op) None running))
-    (shows_finished over first fd r n (files_by firsts r) log op res bytes st running refl (ends_called (files_by firsts r) r n (is_running r n) res bytes running (called n refl)) shows))
+shows_move over firsts first fd linux l q s a log (ends_run n res bytes running) called kept st shows =
+    let op : Op = operation_of (entry_of l.requests n) in
+    subst (λ fs. Shows first fd fs (finished_of n (operation_running l.requests n) res log)) (sym (files_ended l.requests n res bytes firsts))
+    (subst (λ (o : Option Op). Shows first fd (after (files_by firsts l.requests) op res) (finished_of n o res log)) (sym (cond-true (is_running l.requests n) (Some op) None running))
+    (shows_finished over first fd l.requests n (files_by firsts l.requests) log op res bytes st running refl (ends_called (files_by firsts l.requests) l.requests n (is_running l.requests n) res bytes running (called n refl)) shows))
 
 -- a Finish is called for
 finish_called : (firsts : List FileContents) (g : Setup) (s : Step) (a : Answer) (before : core.History) → IsLawfulFrom firsts g ((s, a) ∷ before)
@@ -294,7 +298,7 @@ pub shows_from : WritesOver → (unit : ℕ) (firsts : List FileContents) (first
 shows_from over unit firsts first g fd [] start lawful = λ file is. shows_first first file.bytes (start file is)
 shows_from over unit firsts first g fd ((s, a) ∷ before) start lawful =
     let apart = apart_from firsts g ((s, a) ∷ before) lawful in
-    shows_move over firsts first fd (world g before).requests (world g ((s, a) ∷ before)).requests s a (log_from (log_on unit first fd) g before)
+    shows_move over firsts first fd g.linux (requests_of (world g before)) (world g ((s, a) ∷ before)).requests s a (log_from (log_on unit first fd) g before)
     (move_of g s a before apart) (finish_called firsts g s a before lawful) (files_kept_from firsts g s a before apart)
     (stands_from unit first g fd before apart.1) (shows_from over unit firsts first g fd before start lawful.1)
 

@@ -8,7 +8,10 @@ use Rattle.std.proofs.lemmas.List.Elements.{filter-append}
 use Rattle.std.proofs.lemmas.List.Folds.{list_any-append}
 use Rattle.uring_entry.specs.Setup.{Setup}
 use Rattle.uring_entry.specs.Preparation.{operation_of}
-use Rattle.uring_entry.specs.Requests.{Requests, no_request, entry_of, has_started, has_ended, is_running, operation_running, with_call, with_started, with_ended}
+use Rattle.uring_entry.specs.Requests.{Requests, no_request, entry_of, has_started, has_ended, is_running, operation_running, no_bytes, with_call, with_started, with_ended}
+use Rattle.uring_linux.specs.LinuxRequests.{LinuxRequests}
+use Rattle.uring_rules.specs.Rules.{with_issued_end}
+use Rattle.uring_core.specs.World.{requests_of}
 use Rattle.uring_entry.specs.declared.operation.Op.{Op}
 use Rattle.uring_entry.specs.declared.operation.Op.TheVariants.{Nop, Read, Write, Fsync, Cancel}
 use Rattle.uring_volume.specs.Writes as piece
@@ -380,22 +383,33 @@ runs_now r n going =
     cond-true (is_running (with_started r n) n) (Some (operation_of (entry_of r n))) None
     (and_from (has_started (with_started r n) n) (not (has_ended r n)) started (ap not going))
 
-stands_move : (fd : ℤ) (r q : Requests) (s : Step) (a : Answer) (log : Log) → Move r s a q
-    → IsSoundRequests r → Stands fd r log → Stands fd q (logged r q s a log)
-stands_move fd r q s a log (stays _ _ no_start no_end) i st =
-    subst (Stands fd r) (sym (quiet r r s a log no_start no_end)) st
-stands_move fd r q s a log (accepts accepted missed head entries) i st =
+-- fewer run as one ends as it is issued
+issued_less : (linux : Bool) (r : Requests) (n : ℕ) (res : ℤ) (m : ℕ)
+    → is_running (with_issued_end linux r n res) m ≡ true
+    → (is_running r m ≡ true) × (operation_of (entry_of (with_issued_end linux r n res) m) ≡ operation_of (entry_of r m))
+issued_less true r n res m runs = ((run_less r n res no_bytes m runs).0, refl)
+issued_less false r n res m runs = ((run_less r n res no_bytes m runs).0, refl)
+
+stands_move : (fd : ℤ) (linux : Bool) (l : LinuxRequests) (q : Requests) (s : Step) (a : Answer) (log : Log)
+    → Move linux l s a q → IsSoundRequests l.requests → Stands fd l.requests log
+    → Stands fd q (logged l.requests q s a log)
+stands_move fd linux l q s a log (stays _ _ no_start no_end) i st =
+    subst (Stands fd l.requests) (sym (quiet l.requests l.requests s a log no_start no_end)) st
+stands_move fd linux l q s a log (accepts accepted missed head entries) i st =
+    let r = l.requests in
     stands_less fd r (with_call r entries) log
     (λ m runs. (runs, ap operation_of (entry_stays r entries m (i.started_accepted m (and_parts (has_started r m) (not (has_ended r m)) runs).0)))) st
-stands_move fd r q s a log (starts n outstanding idle spared ready no_cancel) i st =
+stands_move fd linux l q s a log (starts n outstanding idle spared ready no_cancel) i st =
+    let r = l.requests in
     let going : has_ended r n ≡ false = not_ended (has_ended r n) (and_parts _ (not (has_ended r n)) outstanding).1 in
     subst (λ (o : Option Op). Stands fd (with_started r n) (begun_of n o log)) (sym (runs_now r n going))
     (stands_begun fd r n log (operation_of (entry_of r n)) refl st)
-stands_move fd r q s a log (ends_doomed n outstanding) i st =
-    stands_less fd r q log (λ m runs. ((run_less r n _ _ m runs).0, refl)) st
-stands_move fd r q s a log (ends_cancel n outstanding spared ready cancel) i st =
-    stands_less fd r q log (λ m runs. ((run_less r n _ _ m runs).0, refl)) st
-stands_move fd r q s a log (ends_run n res bytes running) i st =
+stands_move fd linux l q s a log (ends_doomed n outstanding) i st =
+    stands_less fd l.requests q log (issued_less linux l.requests n _) st
+stands_move fd linux l q s a log (ends_cancel n outstanding spared ready cancel) i st =
+    stands_less fd l.requests q log (issued_less linux l.requests n _) st
+stands_move fd linux l q s a log (ends_run n res bytes running) i st =
+    let r = l.requests in
     subst (λ (o : Option Op). Stands fd (with_ended r n res bytes) (finished_of n o res log)) (sym (cond-true (is_running r n) (Some (operation_of (entry_of r n))) None running))
     (stands_finished fd r n res bytes log (operation_of (entry_of r n)) st)
 
@@ -403,7 +417,7 @@ pub stands_from : (unit : ℕ) (first : List ℕ) (g : Setup) (fd : ℤ) (h : co
     → Stands fd (world g h).requests (log_from (log_on unit first fd) g h)
 stands_from unit first g fd [] lawful = stands_first unit first fd
 stands_from unit first g fd ((s, a) ∷ before) lawful =
-    stands_move fd (world g before).requests (world g ((s, a) ∷ before)).requests s a (log_from (log_on unit first fd) g before)
+    stands_move fd g.linux (requests_of (world g before)) (world g ((s, a) ∷ before)).requests s a (log_from (log_on unit first fd) g before)
     (move_of g s a before lawful) (sound_of g before lawful.1).requests (stands_from unit first g fd before lawful.1)
 
 pub stands_of : (unit : ℕ) (g : Setup) (fd : ℤ) (h : core.History) → IsLawfulApart g h

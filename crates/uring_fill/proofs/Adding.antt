@@ -8,7 +8,9 @@ use Rattle.uring_entry.specs.Setup.{Setup}
 use Rattle.uring_entry.specs.Layout.{Cqe, Sqe}
 use Rattle.uring_entry.specs.Success.{posts_completion}
 use Rattle.uring_entry.specs.Completions.{put_by_flush, completion_for}
-use Rattle.uring_entry.specs.Requests.{Requests, is_issuable, is_outstanding, is_running, has_started, has_ended, entry_of, entry_outstanding, no_bytes, count_result}
+use Rattle.uring_rules.specs.Rules.{is_issuable}
+use Rattle.uring_core.specs.World.{requests_of}
+use Rattle.uring_entry.specs.Requests.{Requests, is_outstanding, is_running, has_started, has_ended, entry_of, entry_outstanding, no_bytes, count_result}
 use Rattle.uring_entry.specs.Preparation.{is_cancel_all}
 use Rattle.uring_core.specs.Core.{Core}
 use Rattle.uring_core.specs.StepAnswers.{CalledForApart, FinishesApart}
@@ -19,7 +21,7 @@ use Rattle.uring_core.specs.declared.answer.Answer.TheVariants as answer
 use Rattle.uring_fill.specs.Filling.{is_hidden, seen_in, IsPart}
 use Rattle.uring_fill.specs.Parts.{is_asked, is_stale, StandsAt, Adds, HasEndsOf, IsIdle, AreNext, AreAllNext, FinishFits, TellsNext}
 use Rattle.uring_results.specs.Results.{may_end}
-use Rattle.uring_fill.proofs.Events.{HiddenEvent, idle_one, start, issue_end, finish_end, flush, hidden_event, flush_idle, few_moved, issued_end, part_issue, part_finish, QuietEnd, with_none, with_count, quiet_end, seen_part, part_seen}
+use Rattle.uring_fill.proofs.Events.{HiddenEvent, idle_one, start, issue_end, finish_end, flush, hidden_event, flush_idle, few_moved, issued_end, part_issue, part_finish, EndsIssued, QuietEnd, with_none, with_count, quiet_end, seen_part, part_seen}
 use Rattle.uring_fill.proofs.Issuing.{both_so, outstanding_accepted}
 use Rattle.uring_core.proofs.Sound.{sound_of}
 
@@ -52,7 +54,7 @@ last_there old new x is = subst (λ xs. Contains xs x) (sym is) (Contains-push o
 
 of_hidden : (core : Core) (seen : List Event) (h : History) (next : List Event) (x : Event)
     → IsLawfulApart core.setup h
-    → ((n : ℕ) → is_issuable (world core.setup h).requests n ≡ true → Contains next (step.Issue n, answer.Run))
+    → ((n : ℕ) → is_issuable core.setup.linux (requests_of (world core.setup h)) n ≡ true → Contains next (step.Issue n, answer.Run))
     → ((n : ℕ) → HasEndsOf core.setup seen h n next)
     → ((a : Answer) → is_stale h ≡ true → CalledForApart core.setup (world core.setup h) step.Flush a → Contains next (step.Flush, a))
     → IsPart core.setup seen (x ∷ h) → HiddenEvent core.setup h x
@@ -68,7 +70,7 @@ of_hidden core seen h next x lawful starts ends flushes p (flush a) = by_stale (
 
 pub all_next : (core : Core) (seen : List Event) (wanted : Option Cqe) (h : History) (next : List Event)
     → IsLawfulApart core.setup h
-    → ((n : ℕ) (asked : Bool) → is_issuable (world core.setup h).requests n ≡ true → is_asked (entry_outstanding (world core.setup h).requests n) wanted ≡ asked → Contains next (step.Issue n, answer.Run))
+    → ((n : ℕ) (asked : Bool) → is_issuable core.setup.linux (requests_of (world core.setup h)) n ≡ true → is_asked (entry_outstanding (world core.setup h).requests n) wanted ≡ asked → Contains next (step.Issue n, answer.Run))
     → ((n : ℕ) → HasEndsOf core.setup seen h n next)
     → ((a : Answer) → is_stale h ≡ true → CalledForApart core.setup (world core.setup h) step.Flush a → Contains next (step.Flush, a))
     → ((x : Event) → is_hidden x.0 ≡ false → IsPart core.setup seen (x ∷ h) → Contains next x)
@@ -184,7 +186,7 @@ issued_here core seen wanted h n res bytes quiet new at kept none some told p tr
 issued_here core seen wanted h n res bytes quiet new at kept none some told p false posts =
     kept (step.Issue n, answer.Ended res no_bytes)
     (quiet_there n (entry_of (world core.setup h).requests n) (length (world core.setup h).requests.accepted) res quiet none some posts
-    (quiet_end (world core.setup h).requests n res bytes (issued_end core.setup (world core.setup h) n res bytes p.lawful.0) posts))
+    (quiet_end (world core.setup h).requests n res bytes (subst (λ linux. EndsIssued linux (world core.setup h).requests n res bytes) at.manual (issued_end core.setup (world core.setup h) n res bytes p.lawful.0)) posts))
 
 pub issued_there : (core : Core) (seen : List Event) (wanted : Option Cqe) (h : History) (n : ℕ) (res : ℤ) (bytes : List ℕ) (e : Sqe) (accepted : ℕ) (quiet new : List Event)
     → StandsAt core seen wanted h → e ≡ entry_of (world core.setup h).requests n

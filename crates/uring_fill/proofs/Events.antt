@@ -9,13 +9,17 @@ use Rattle.uring_entry.specs.Layout.{Sqe, Cqe, has}
 use Rattle.uring_entry.specs.Flags.{skip_success}
 use Rattle.uring_entry.specs.Preparation.{is_cancel, is_cancel_all}
 use Rattle.uring_entry.specs.Success.{is_success, posts_completion}
-use Rattle.uring_entry.specs.Requests.{Requests, Ending, entry_of, is_outstanding, is_running, is_issuable, is_doomed, is_ready, doomed_result, cancel_result, count_result, result_for, target_of, targets_of, is_target, no_bytes}
+use Rattle.uring_linux.specs.LinuxRequests.{LinuxRequests, is_in_turn, is_deferred}
+use Rattle.uring_linux.specs.LinuxRequests as kernel
+use Rattle.uring_rules.specs.Rules.{posts, may_start, is_issuable, doomed_result, cancel_result}
+use Rattle.uring_entry.specs.Requests as manual
+use Rattle.uring_entry.specs.Requests.{Requests, Ending, entry_of, is_outstanding, is_running, count_result, result_for, target_of, targets_of, is_target, no_bytes}
 use Rattle.uring_entry.specs.Completions.{Completions, with_posted, with_flushed, put_by_flush, completion_for}
 use Rattle.uring_entry.proofs.RequestLemmas.{one_success}
 use Rattle.uring_entry.specs.Below.{count_below}
 use Rattle.uring_dispatch.proofs.Counting.{length_all_below, count_below_within}
 use Rattle.uring_core.specs.Core.{Core}
-use Rattle.uring_core.specs.World.{World}
+use Rattle.uring_core.specs.World.{World, requests_of}
 use Rattle.uring_core.specs.StepAnswers.{CalledForApart}
 use Rattle.uring_core.specs.Events.{started_by, end_told_by, is_flush, is_store_cq_head}
 use Rattle.uring_core.specs.Histories.{Event, History, world, IsLawfulApart}
@@ -46,6 +50,11 @@ posts_next : (told : Bool) (size : ℕ) (l : Completions) (c : Cqe) (all : List 
 posts_next true size l c all b e = behind_begun l.posted c all b
 posts_next false size l c all b e = absurd cc
 
+-- by the manual pages' rules an end posts as its own entry says
+by_entry : (linux : Bool) (r : Requests) (n : ℕ) (res : ℤ) → linux ≡ false
+    → posts linux r n res ≡ posts_completion (entry_of r n) res
+by_entry linux r n res is = ap (λ b. posts b r n res) is
+
 -- Starts and flushes.
 
 pub start_part : (g : Setup) (seen : List Event) (h : History) (n : ℕ) → IsPart g seen h
@@ -75,12 +84,13 @@ pub finish_part : (core : Core) (seen : List Event) (wanted : Option Cqe) (h : H
     → IsLawfulApart core.setup ((step.Finish n, answer.Ended res bytes) ∷ h)
     → IsPart core.setup seen ((step.Finish n, answer.Ended res bytes) ∷ h)
 finish_part core seen wanted h n res bytes at fits lawful =
-    let e = entry_of (world core.setup h).requests n in
+    let r = (world core.setup h).requests in
+    let e = entry_of r n in
     record {
       lawful = lawful;
-      results = (fits.may, at.part.results);
+      results = (record { result = fits.may.result; untold = λ quiet. fits.may.untold (sym (by_entry core.setup.linux r n res at.manual) ∙ quiet) }, at.part.results);
       shows = at.part.shows;
-      posts = posts_on (posts_completion e res) core.setup.cq (world core.setup h).completions (completion_for e res bytes) (completions_in seen) at.part.posts (λ told. sym at.is_next ∙ fits.tells told);
+      posts = posts_on (posts core.setup.linux r n res) core.setup.cq (world core.setup h).completions (completion_for e res bytes) (completions_in seen) at.part.posts (λ told. sym at.is_next ∙ fits.tells (sym (by_entry core.setup.linux r n res at.manual) ∙ told));
     }
 
 pub part_finish : (core : Core) (seen : List Event) (wanted : Option Cqe) (h : History) (n : ℕ) (res : ℤ) (bytes : List ℕ)
@@ -88,10 +98,11 @@ pub part_finish : (core : Core) (seen : List Event) (wanted : Option Cqe) (h : H
     → IsPart core.setup seen ((step.Finish n, answer.Ended res bytes) ∷ h)
     → FinishFits (entry_of (world core.setup h).requests n) wanted res bytes
 part_finish core seen wanted h n res bytes at p =
-    let e = entry_of (world core.setup h).requests n in
+    let r = (world core.setup h).requests in
+    let e = entry_of r n in
     record {
-      may = p.results.0;
-      tells = λ told. at.is_next ∙ posts_next (posts_completion e res) core.setup.cq (world core.setup h).completions (completion_for e res bytes) (completions_in seen) p.posts told;
+      may = record { result = p.results.0.result; untold = λ quiet. p.results.0.untold (by_entry core.setup.linux r n res at.manual ∙ quiet) };
+      tells = λ told. at.is_next ∙ posts_next (posts core.setup.linux r n res) core.setup.cq (world core.setup h).completions (completion_for e res bytes) (completions_in seen) p.posts (by_entry core.setup.linux r n res at.manual ∙ told);
     }
 
 -- Ends of requests as they are issued.
@@ -102,12 +113,13 @@ pub issue_part : (core : Core) (seen : List Event) (wanted : Option Cqe) (h : Hi
     → IsLawfulApart core.setup ((step.Issue n, answer.Ended res no_bytes) ∷ h)
     → IsPart core.setup seen ((step.Issue n, answer.Ended res no_bytes) ∷ h)
 issue_part core seen wanted h n res at tells lawful =
-    let e = entry_of (world core.setup h).requests n in
+    let r = (world core.setup h).requests in
+    let e = entry_of r n in
     record {
       lawful = lawful;
       results = (tt, at.part.results);
       shows = at.part.shows;
-      posts = posts_on (posts_completion e res) core.setup.cq (world core.setup h).completions (completion_for e res no_bytes) (completions_in seen) at.part.posts (λ told. sym at.is_next ∙ tells told);
+      posts = posts_on (posts core.setup.linux r n res) core.setup.cq (world core.setup h).completions (completion_for e res no_bytes) (completions_in seen) at.part.posts (λ told. sym at.is_next ∙ tells (sym (by_entry core.setup.linux r n res at.manual) ∙ told));
     }
 
 pub part_issue : (core : Core) (seen : List Event) (wanted : Option Cqe) (h : History) (n : ℕ) (res : ℤ) (bytes : List ℕ)
@@ -115,19 +127,20 @@ pub part_issue : (core : Core) (seen : List Event) (wanted : Option Cqe) (h : Hi
     → IsPart core.setup seen ((step.Issue n, answer.Ended res bytes) ∷ h)
     → TellsNext (entry_of (world core.setup h).requests n) wanted res no_bytes
 part_issue core seen wanted h n res bytes at p =
-    let e = entry_of (world core.setup h).requests n in
-    λ told. at.is_next ∙ posts_next (posts_completion e res) core.setup.cq (world core.setup h).completions (completion_for e res no_bytes) (completions_in seen) p.posts told
+    let r = (world core.setup h).requests in
+    let e = entry_of r n in
+    λ told. at.is_next ∙ posts_next (posts core.setup.linux r n res) core.setup.cq (world core.setup h).completions (completion_for e res no_bytes) (completions_in seen) p.posts (by_entry core.setup.linux r n res at.manual ∙ told)
 
--- how a request ends as it is issued: as a doomed one, or as a cancel that is carried out, and with no bytes
-pub data IssueEnd (r : Requests) (n : ℕ) (res : ℤ) : Type 0 where
-  doomed_end : res ≡ doomed_result r n → IssueEnd r n res
-  cancel_end : res ≡ cancel_result r n → is_cancel (entry_of r n) ≡ true → IssueEnd r n res
+-- how a request ends as it is issued, by these rules: as a doomed one, or as a cancel that is carried out, and with no bytes
+pub data IssueEnd (linux : Bool) (r : Requests) (n : ℕ) (res : ℤ) : Type 0 where
+  doomed_end : res ≡ doomed_result linux r n → IssueEnd linux r n res
+  cancel_end : res ≡ cancel_result linux r n → is_cancel (entry_of r n) ≡ true → IssueEnd linux r n res
 
-pub record EndsIssued (r : Requests) (n : ℕ) (res : ℤ) (bytes : List ℕ) : Type 0 where
+pub record EndsIssued (linux : Bool) (r : Requests) (n : ℕ) (res : ℤ) (bytes : List ℕ) : Type 0 where
   pub outstanding : is_outstanding r n ≡ true
   pub idle : is_running r n ≡ false
   pub none : bytes ≡ no_bytes
-  pub by : IssueEnd r n res
+  pub by : IssueEnd linux r n res
 
 both : (s : Step) (a : Answer) (n : ℕ) (res : ℤ) (bytes : List ℕ) → s ≡ step.Issue n
     → a ≡ answer.Ended res bytes
@@ -135,26 +148,26 @@ both : (s : Step) (a : Answer) (n : ℕ) (res : ℤ) (bytes : List ℕ) → s �
 both s a n res bytes is told = ap₂ (λ (x : Step) (y : Answer). (x, y)) is told
 
 ends_by : (g : Setup) (w : World) (n : ℕ) (res : ℤ) (bytes : List ℕ) (s : Step) (a : Answer) → Change g w s a
-    → s ≡ step.Issue n → a ≡ answer.Ended res bytes → EndsIssued w.requests n res bytes
+    → s ≡ step.Issue n → a ≡ answer.Ended res bytes → EndsIssued g.linux w.requests n res bytes
 ends_by g w n res bytes s a (dooms m outstanding idle doomed) is told =
     let same : m ≡ n = cc in
-    let result : doomed_result w.requests m ≡ res = cc in
+    let result : doomed_result g.linux w.requests m ≡ res = cc in
     let none : no_bytes ≡ bytes = cc in
     record {
       outstanding = subst (λ k. is_outstanding w.requests k ≡ true) same outstanding;
       idle = subst (λ k. is_running w.requests k ≡ false) same idle;
       none = sym none;
-      by = doomed_end (sym result ∙ ap (doomed_result w.requests) same);
+      by = doomed_end (sym result ∙ ap (doomed_result g.linux w.requests) same);
     }
 ends_by g w n res bytes s a (cancels m outstanding idle spared ready cancel) is told =
     let same : m ≡ n = cc in
-    let result : cancel_result w.requests m ≡ res = cc in
+    let result : cancel_result g.linux w.requests m ≡ res = cc in
     let none : no_bytes ≡ bytes = cc in
     record {
       outstanding = subst (λ k. is_outstanding w.requests k ≡ true) same outstanding;
       idle = subst (λ k. is_running w.requests k ≡ false) same idle;
       none = sym none;
-      by = cancel_end (sym result ∙ ap (cancel_result w.requests) same) (subst (λ k. is_cancel (entry_of w.requests k) ≡ true) same cancel);
+      by = cancel_end (sym result ∙ ap (cancel_result g.linux w.requests) same) (subst (λ k. is_cancel (entry_of w.requests k) ≡ true) same cancel);
     }
 ends_by g w n res bytes s a (runs m outstanding idle spared ready cancel) is told = absurd cc
 ends_by g w n res bytes s a (finishes m got given running) is told = absurd cc
@@ -164,7 +177,7 @@ ends_by g w n res bytes s a (refuses _ _ same silent) is told =
 ends_by g w n res bytes s a _ is told = absurd cc
 
 pub issued_end : (g : Setup) (w : World) (n : ℕ) (res : ℤ) (bytes : List ℕ)
-    → CalledForApart g w (step.Issue n) (answer.Ended res bytes) → EndsIssued w.requests n res bytes
+    → CalledForApart g w (step.Issue n) (answer.Ended res bytes) → EndsIssued g.linux w.requests n res bytes
 issued_end g w n res bytes called =
     ends_by g w n res bytes (step.Issue n) (answer.Ended res bytes) (change_of g w (step.Issue n) (answer.Ended res bytes) called) refl refl
 
@@ -188,21 +201,21 @@ few_targets r n =
 
 quiet_cancel : (r : Requests) (n : ℕ) (res : ℤ) (all : Bool) → is_cancel (entry_of r n) ≡ true
     → is_cancel_all (entry_of r n) ≡ all → is_success (entry_of r n) res ≡ true
-    → res ≡ cancel_result r n → QuietEnd (entry_of r n) (length r.accepted) res
+    → res ≡ manual.cancel_result r n → QuietEnd (entry_of r n) (length r.accepted) res
 quiet_cancel r n res true cancel is success same =
     with_count (length (targets_of r n)) is (few_targets r n)
     (same ∙ ap (λ b. if b then count_result (length (targets_of r n)) else result_for r (target_of r n)) is)
 quiet_cancel r n res false cancel is success same =
     with_none ((Decides-int_eq res (pos 0)).0 (sym (one_success (entry_of r n) res cancel is) ∙ success))
 
-quiet_by : (r : Requests) (n : ℕ) (res : ℤ) → is_success (entry_of r n) res ≡ true → IssueEnd r n res
+quiet_by : (r : Requests) (n : ℕ) (res : ℤ) → is_success (entry_of r n) res ≡ true → IssueEnd false r n res
     → QuietEnd (entry_of r n) (length r.accepted) res
 quiet_by r n res success (doomed_end same) =
     absurd (let f : true ≡ false = sym success ∙ (ap (is_success (entry_of r n)) same ∙ doomed_fails r n) in cc)
 quiet_by r n res success (cancel_end same cancel) =
     quiet_cancel r n res (is_cancel_all (entry_of r n)) cancel refl success same
 
-pub quiet_end : (r : Requests) (n : ℕ) (res : ℤ) (bytes : List ℕ) → EndsIssued r n res bytes
+pub quiet_end : (r : Requests) (n : ℕ) (res : ℤ) (bytes : List ℕ) → EndsIssued false r n res bytes
     → posts_completion (entry_of r n) res ≡ false
     → QuietEnd (entry_of r n) (length r.accepted) res
 quiet_end r n res bytes ended quiet =
@@ -223,7 +236,7 @@ heads_by : (g : Setup) (w : World) (s : Step) (a : Answer) (v : World) → Compl
     → is_flush (s, a) ≡ false → is_store_cq_head (s, a) ≡ false → HeadsKept w v
 heads_by g w s a v (stays _ _ l r is_closed off none leaves) f k = record { head = refl; seen_head = refl }
 heads_by g w s a v (ends _ _ n res bytes r off tells accepted ended) f k =
-    let e = end_heads (posts_completion (entry_of w.requests n) res) g.cq w.completions (completion_for (entry_of w.requests n) res bytes) in
+    let e = end_heads (posts g.linux w.requests n res) g.cq w.completions (completion_for (entry_of w.requests n) res bytes) in
     record { head = e.0; seen_head = e.1 }
 heads_by g w s a v (flushes moved) f k = absurd cc
 heads_by g w s a v (sees_tail tail) f k = record { head = refl; seen_head = refl }
@@ -278,28 +291,44 @@ few_moved size l = simp length-drop (omega arith)
 -- a hidden event that is lawful
 pub data HiddenEvent (g : Setup) (h : History) : Event → Type 0 where
   idle_one : (x : Event) → IsIdle g h x → HiddenEvent g h x
-  start : (n : ℕ) → is_issuable (world g h).requests n ≡ true → HiddenEvent g h (step.Issue n, answer.Run)
+  start : (n : ℕ) → is_issuable g.linux (requests_of (world g h)) n ≡ true → HiddenEvent g h (step.Issue n, answer.Run)
   issue_end : (n : ℕ) (res : ℤ) (bytes : List ℕ) → HiddenEvent g h (step.Issue n, answer.Ended res bytes)
   finish_end : (n : ℕ) (res : ℤ) (bytes : List ℕ) → HiddenEvent g h (step.Finish n, answer.Ended res bytes)
   flush : (a : Answer) → HiddenEvent g h (step.Flush, a)
 
-issuable_by : (outstanding running doomed ready : Bool) → outstanding ≡ true → running ≡ false → ready ≡ true
+ready_goes : (outstanding running doomed ready : Bool) → outstanding ≡ true → running ≡ false → ready ≡ true
     → (outstanding && not running && (doomed || ready)) ≡ true
-issuable_by true false true true o r y = refl
-issuable_by true false false true o r y = refl
-issuable_by outstanding running doomed false o r y = absurd cc
-issuable_by false running doomed ready o r y = absurd cc
-issuable_by true true doomed ready o r y = absurd cc
+ready_goes true false true true o r y = refl
+ready_goes true false false true o r y = refl
+ready_goes outstanding running doomed false o r y = absurd cc
+ready_goes false running doomed ready o r y = absurd cc
+ready_goes true true doomed ready o r y = absurd cc
+
+free_goes : (outstanding running turn doomed deferred : Bool) → outstanding ≡ true → running ≡ false
+    → (turn && not deferred) ≡ true
+    → (outstanding && (not running && (turn && (doomed || not deferred)))) ≡ true
+free_goes true false true true deferred o r y = refl
+free_goes true false true false deferred o r y = y
+free_goes true false false doomed deferred o r y = y
+free_goes true true turn doomed deferred o r y = absurd cc
+free_goes false running turn doomed deferred o r y = absurd cc
+
+issuable_by : (linux : Bool) (l : LinuxRequests) (n : ℕ) → is_outstanding l.requests n ≡ true
+    → is_running l.requests n ≡ false → may_start linux l n ≡ true → is_issuable linux l n ≡ true
+issuable_by true l n outstanding idle free =
+    free_goes (is_outstanding l.requests n) (is_running l.requests n) (is_in_turn l.requests n) (kernel.is_doomed l.requests n) (is_deferred l n) outstanding idle free
+issuable_by false l n outstanding idle ready =
+    ready_goes (is_outstanding l.requests n) (is_running l.requests n) (manual.is_doomed l.requests n) (manual.is_ready l.requests n) outstanding idle ready
 
 both_run : (s : Step) (a : Answer) (n : ℕ) → s ≡ step.Issue n → a ≡ answer.Run
     → ◌≡◌ {A = Event} (s, a) (step.Issue n, answer.Run)
 both_run s a n is told = ap₂ (λ (x : Step) (y : Answer). (x, y)) is told
 
 starts_by : (g : Setup) (w : World) (n : ℕ) (s : Step) (a : Answer) → Change g w s a → s ≡ step.Issue n
-    → a ≡ answer.Run → is_issuable w.requests n ≡ true
+    → a ≡ answer.Run → is_issuable g.linux (requests_of w) n ≡ true
 starts_by g w n s a (runs m outstanding idle spared ready cancel) is told =
     let same : m ≡ n = cc in
-    subst (λ k. is_issuable w.requests k ≡ true) same (issuable_by (is_outstanding w.requests m) (is_running w.requests m) (is_doomed w.requests m) (is_ready w.requests m) outstanding idle ready)
+    subst (λ k. is_issuable g.linux (requests_of w) k ≡ true) same (issuable_by g.linux (requests_of w) m outstanding idle ready)
 starts_by g w n s a (refuses _ _ same silent) is told =
     let e : Some n ≡ None = sym (ap (λ (x : Event). started_by x) (both_run s a n is told)) ∙ silent.starts in
     absurd cc
@@ -318,10 +347,11 @@ hidden_event g h (s, a) lawful hidden = absurd (let f : false ≡ true = hidden 
 
 -- Steps that are seen.
 
-no_end : (s : Step) (r : Requests) (a : Answer) → is_hidden s ≡ false → GivesAllowed r (s, a)
-no_end (step.Issue n) r a e = absurd (let f : true ≡ false = e in cc)
-no_end (step.Finish n) r a e = absurd (let f : true ≡ false = e in cc)
-no_end s r a e = tt
+no_end : (s : Step) (linux : Bool) (r : Requests) (a : Answer) → is_hidden s ≡ false
+    → GivesAllowed linux r (s, a)
+no_end (step.Issue n) linux r a e = absurd (let f : true ≡ false = e in cc)
+no_end (step.Finish n) linux r a e = absurd (let f : true ≡ false = e in cc)
+no_end s linux r a e = tt
 
 ends_hidden : (s : Step) (a : Answer) (n : ℕ) (res : ℤ) (bytes : List ℕ)
     → end_told_by (s, a) ≡ Some (record { number = n; res = res; bytes = bytes })
@@ -345,7 +375,7 @@ seen_part g seen h x p shown next lawful =
     let kept = posted_kept g (world g h) x.0 x.1 (world g (x ∷ h)) (completion_move g x.0 x.1 h lawful) shown in
     record {
       lawful = lawful;
-      results = (no_end x.0 (world g h).requests x.1 shown, p.results);
+      results = (no_end x.0 g.linux (world g h).requests x.1 shown, p.results);
       shows = subst (λ b. Begins (if b then seen_in h else seen_in h ++ x ∷ []) seen) (sym shown) (begins_next (seen_in h) x seen p.shows next);
       posts = subst (λ xs. Begins xs (completions_in seen)) (sym kept) p.posts;
     }

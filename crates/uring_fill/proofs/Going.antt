@@ -4,7 +4,7 @@ use Rattle.std.proofs.Common.{◌≡◌, ℕ, Bool, true, false, cond, List, [],
 use Rattle.std.specs.Prelude.{Contains}
 use Rattle.uring_entry.specs.Setup.{Setup}
 use Rattle.uring_entry.specs.Layout.{Cqe}
-use Rattle.uring_entry.specs.Success.{posts_completion}
+use Rattle.uring_rules.specs.Rules.{posts}
 use Rattle.uring_entry.specs.Requests.{entry_of, outstanding_in}
 use Rattle.uring_entry.specs.Completions.{Completions, with_posted, completion_for}
 use Rattle.uring_core.specs.World.{World, happens}
@@ -29,7 +29,7 @@ posted_by : (g : Setup) (w : World) (s : Step) (a : Answer) (v : World) → Comp
     → Begins w.completions.posted v.completions.posted
 posted_by g w s a v (stays _ _ l r is_closed off none leaves) = begins_itself w.completions.posted
 posted_by g w s a v (ends _ _ n res bytes r off tells accepted ended) =
-    end_posts (posts_completion (entry_of w.requests n) res) g.cq w.completions (completion_for (entry_of w.requests n) res bytes)
+    end_posts (posts g.linux w.requests n res) g.cq w.completions (completion_for (entry_of w.requests n) res bytes)
 posted_by g w s a v _ = begins_itself w.completions.posted
 
 posted_then : (g : Setup) (e : Event) (h : History) → IsLawfulApart g (e ∷ h)
@@ -87,13 +87,13 @@ pub record StandsFor (g : Setup) (h k : History) : Type 0 where
   pub results : GiveAllowed g k
 
 stands_then : (g : Setup) (e : Event) (h k : History) → StandsFor g h k
-    → CalledForApart g (world g h) e.0 e.1 → GivesAllowed (world g h).requests e
+    → CalledForApart g (world g h) e.0 e.1 → GivesAllowed g.linux (world g h).requests e
     → StandsFor g (e ∷ h) (e ∷ k)
 stands_then g e h k s called gives = record {
   same_world = ap (λ w. happens g w e.0 e.1) s.same_world;
   same_seen = ap (λ xs. if is_hidden e.0 then xs else xs ++ e ∷ []) s.same_seen;
   lawful = (subst (λ w. CalledForApart g w e.0 e.1) (sym s.same_world) called, s.lawful);
-  results = (subst (λ (w : World). GivesAllowed w.requests e) (sym s.same_world) gives, s.results);
+  results = (subst (λ (w : World). GivesAllowed g.linux w.requests e) (sym s.same_world) gives, s.results);
 }
 
 stands_onto : (g : Setup) (later : List Event) (h k : History) → StandsFor g h k

@@ -2,8 +2,8 @@
 use Rattle.std.specs.Prelude.{◌≡◌, ℕ, ℤ, Bool, true, false, List, [], ◌∷◌, ◌++◌, if◌then◌else◌}
 use Rattle.std.specs.List.{filter_map}
 use Rattle.uring_entry.specs.Setup.{Setup}
-use Rattle.uring_entry.specs.Layout.{Cqe, Sqe}
-use Rattle.uring_entry.specs.Success.{posts_completion}
+use Rattle.uring_entry.specs.Layout.{Cqe}
+use Rattle.uring_rules.specs.Rules.{posts}
 use Rattle.uring_entry.specs.Requests.{Requests, entry_of, no_bytes, outstanding_in}
 use Rattle.uring_results.specs.Results.{may_end}
 use Rattle.uring_core.specs.Histories.{Event, History, world, IsLawfulApart}
@@ -28,20 +28,20 @@ seen_in (e ∷ before) = if is_hidden e.0 then seen_in before else seen_in befor
 abbrev pub completions_in : List Event → List Cqe
 completions_in seen = filter_map reaped_by seen
 
--- A running request of this entry may end so. What no completion tells has no bytes, which is our own rule: nobody could have seen them.
-pub record MayEndWith (e : Sqe) (res : ℤ) (bytes : List ℕ) : Type 0 where
-  pub result : may_end e res ≡ true
-  pub untold : posts_completion e res ≡ false → bytes ≡ no_bytes
+-- A running request may end so, by these rules. What no completion tells has no bytes, which is our own rule: nobody could have seen them.
+pub record MayEndWith (is_linux : Bool) (r : Requests) (n : ℕ) (res : ℤ) (bytes : List ℕ) : Type 0 where
+  pub result : may_end (entry_of r n) res ≡ true
+  pub untold : posts is_linux r n res ≡ false → bytes ≡ no_bytes
 
 -- if the event ends a running request, it may end so
-abbrev pub GivesAllowed : Requests → Event → Type 0
-GivesAllowed r (step.Finish n, answer.Ended res bytes) = MayEndWith (entry_of r n) res bytes
-GivesAllowed r _ = Unit {0}
+abbrev pub GivesAllowed : (is_linux : Bool) → Requests → Event → Type 0
+GivesAllowed is_linux r (step.Finish n, answer.Ended res bytes) = MayEndWith is_linux r n res bytes
+GivesAllowed is_linux r _ = Unit {0}
 
 -- each operation gave what it may give
 abbrev pub GiveAllowed : Setup → History → Type 0
 GiveAllowed g [] = Unit {0}
-GiveAllowed g (e ∷ before) = GivesAllowed (world g before).requests e × GiveAllowed g before
+GiveAllowed g (e ∷ before) = GivesAllowed g.linux (world g before).requests e × GiveAllowed g before
 
 -- A history that shows exactly what was seen: it is lawful apart from what operations give, each gave what it may give, each request has ended, and each completion that was posted has been seen.
 pub record IsFilling (g : Setup) (seen : List Event) (h : History) : Type 0 where

@@ -5,14 +5,15 @@ use Rattle.std.specs.declared.alloc.Global.{Global}
 use Rattle.uring_entry.specs.Setup.{Setup}
 use Rattle.uring_entry.specs.Layout.{Cqe, Sqe, user_data_of}
 use Rattle.uring_entry.specs.Success.{posts_completion}
-use Rattle.uring_entry.specs.Requests.{outstanding_in}
+use Rattle.uring_entry.specs.Requests.{outstanding_in, no_bytes}
+use Rattle.uring_results.specs.Results.{may_end}
 use Rattle.uring_entry.specs.Completions.{completion_for}
 use Rattle.uring_core.specs.Core.{Core, FitsApart}
 use Rattle.uring_core.specs.Histories.{Event, History, world, history_of, IsLawfulApart}
 use Rattle.uring_core.specs.declared.step.Step.{Step}
 use Rattle.uring_core.specs.declared.step.Step.TheVariants as step
 use Rattle.uring_core.specs.declared.answer.Answer.TheVariants as answer
-use Rattle.uring_fill.specs.Filling.{is_hidden, seen_in, completions_in, IsPart, MayEndWith}
+use Rattle.uring_fill.specs.Filling.{is_hidden, seen_in, completions_in, IsPart}
 
 -- the lists of events that vectors hold
 abbrev pub paths_of : List (Vec Event Global) → List (List Event)
@@ -73,8 +74,9 @@ pub record IsSearch (g : Setup) (seen : List Event) (todo : List (List Event)) (
   pub parts : AreParts g seen todo
   pub reach : IsReach g seen events place
 
--- The core shows this part, and this is the completion that is to be posted next.
+-- The core, which goes by the manual pages' rules, shows this part, and this is the completion that is to be posted next.
 pub record StandsAt (core : Core) (seen : List Event) (wanted : Option Cqe) (h : History) : Type 0 where
+  pub manual : core.setup.linux ≡ false
   pub fits : FitsApart core h
   pub part : IsPart core.setup seen h
   pub is_next : wanted ≡ slice_get (completions_in seen) (length (world core.setup h).completions.posted)
@@ -89,9 +91,14 @@ abbrev pub TellsNext : Sqe → Option Cqe → ℤ → List ℕ → Type 0
 TellsNext e wanted res bytes =
     posts_completion e res ≡ true → wanted ≡ Some (completion_for e res bytes)
 
+-- a running request of this entry may end so, by the manual pages' rules
+pub record MayEndBy (e : Sqe) (res : ℤ) (bytes : List ℕ) : Type 0 where
+  pub result : may_end e res ≡ true
+  pub untold : posts_completion e res ≡ false → bytes ≡ no_bytes
+
 -- so may a running request of this entry end here
 pub record FinishFits (e : Sqe) (wanted : Option Cqe) (res : ℤ) (bytes : List ℕ) : Type 0 where
-  pub may : MayEndWith e res bytes
+  pub may : MayEndBy e res bytes
   pub tells : TellsNext e wanted res bytes
 
 -- whether a request that isn't there, or of this entry, has the user data of the completion that is to be posted next

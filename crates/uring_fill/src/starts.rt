@@ -1,7 +1,9 @@
 //! The starts that may come next.
 
 ghost use Rattle.std.specs.Prelude.{◌≡◌, ◌<◌, ℕ, List, true, OnOk, Contains, length};
-ghost use Rattle.uring_entry.specs.Requests.{is_issuable, entry_outstanding};
+ghost use Rattle.uring_entry.specs.Requests.{entry_outstanding};
+ghost use Rattle.uring_rules.specs.Rules.{is_issuable};
+ghost use Rattle.uring_core.specs.World.{requests_of};
 ghost use Rattle.uring_core.specs.Core.{FitsApart};
 ghost use Rattle.uring_core.specs.Histories.{Event, History, world};
 ghost use Rattle.uring_core.specs.declared.step.Step.TheVariants as step;
@@ -23,7 +25,7 @@ pub(crate) fn add_starts(
     ensures adds { OnOk result (Adds core.now wanted.now next.old.items next.new.items) }
     ensures added { OnOk result
         ((seen : List Event) (h : History) (n : ℕ) → StandsAt core.now seen wanted.now h
-        → is_issuable (world core.now.setup h).requests n ≡ true
+        → is_issuable core.now.setup.linux (requests_of (world core.now.setup h)) n ≡ true
         → parts.is_asked (entry_outstanding (world core.now.setup h).requests n) wanted.now ≡ asked
         → Contains next.new.items (step.Issue n, answer.Run)) }
 {
@@ -45,7 +47,7 @@ fn add_start(
     ensures adds { OnOk result (Adds core.now wanted.now next.old.items next.new.items) }
     ensures added { OnOk result
         ((seen : List Event) (h : History) → StandsAt core.now seen wanted.now h
-        → is_issuable (world core.now.setup h).requests number ≡ true
+        → is_issuable core.now.setup.linux (requests_of (world core.now.setup h)) number ≡ true
         → parts.is_asked (entry_outstanding (world core.now.setup h).requests number) wanted.now ≡ asked
         → Contains next.new.items (step.Issue number, answer.Run)) }
 {
@@ -73,7 +75,7 @@ fn is_asked(entry: &Option<Sqe>, wanted: &Option<Cqe>) -> bool
 /// Whether a request can be issued.
 fn can_issue(core: &Core, number: u64) -> bool
     ensures { (h : History) → FitsApart core.now h
-        → is_issuable (world core.now.setup h).requests number ≡ true → result ≡ true }
+        → is_issuable core.now.setup.linux (requests_of (world core.now.setup h)) number ≡ true → result ≡ true }
 {
     match core.next_issuable(number) {
         Some(next) => next == number,

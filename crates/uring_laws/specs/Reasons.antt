@@ -51,7 +51,7 @@ pub record CanStart (r : Requests) (n : ℕ) : Type 0 where
 abbrev pub MayStartIsSaid : Type 0
 MayStartIsSaid = (r : Requests) (n : ℕ) → (why_of r n ≡ MayStart) ↔ CanStart r n
 
--- this is the first reason for which n waits for m: nothing is deferred by the manual pages' rules
+-- this is the first reason for which n waits for m; no group is deferred by the manual pages' rules
 abbrev pub IsSince : Requests → ℕ → ℕ → Since → Type 0
 IsSince r n m SameGroup = is_joined r m n ≡ true
 IsSince r n m ItDrains = (is_joined r m n ≡ false) × (is_draining r m ≡ true)
@@ -78,7 +78,7 @@ pub record IsLeastOf (p : ℕ → Bool) (bound m : ℕ) : Type 0 where
   pub holds : p m ≡ true
   pub least : (k : ℕ) → k < m → p k ≡ false
 
--- this dooms n, and nothing that is told before it does
+-- this dooms n, and nothing that is told before it does; no drain is refused by the manual pages' rules
 abbrev pub IsDoomOf : Requests → ℕ → Doom → Type 0
 IsDoomOf r n (OwnFault fault) = fault_of (entry_of r n) ≡ Some fault
 IsDoomOf r n (FaultOf m) =

@@ -1,4 +1,6 @@
 pub mod Fitting
+pub mod Deferring
+pub mod GoingOn
 pub mod Settling
 pub mod RecordedEnds
 pub mod FirstWrong

@@ -1,14 +1,16 @@
 -- What the steps make that settle requests.
-use Rattle.std.proofs.Common.{◌≡◌, ℕ, ◌+◌, ◌-◌, ◌^◌, ◌≤◌, true, false, List, [], ◌∷◌, ◌++◌, length, Option, Some, None, refl, sym, subst, ◌∙◌, ap, arith, inl, inr, length-append}
-use Rattle.std.proofs.lemmas.Bool.{and_parts, and_from, or_cases, both_ways, not-true}
+use Rattle.std.proofs.Common.{◌≡◌, ℕ, ℤ, ◌+◌, ◌-◌, ◌^◌, ◌≤◌, Bool, true, false, List, [], ◌∷◌, ◌++◌, length, Option, Some, None, is_some, refl, sym, subst, ◌∙◌, ap, arith, inl, inr, length-append}
+use Rattle.std.proofs.lemmas.Bool.{and_parts, and_from, both_ways, not-true}
 use Rattle.std.proofs.lemmas.List.Folds.{list_all-append}
 use Rattle.uring_entry.specs.Setup.{Setup}
-use Rattle.uring_entry.specs.Requests.{Requests, has_ended, is_outstanding, is_running, is_issuable, no_bytes, next_of, least_of, outstanding_in}
+use Rattle.uring_entry.specs.Requests.{Requests, has_ended, is_outstanding, is_running, no_bytes, least_of, outstanding_in}
+use Rattle.uring_linux.specs.LinuxRequests.{LinuxRequests}
+use Rattle.uring_rules.specs.Rules.{next_of, with_issued_end}
 use Rattle.uring_entry.proofs.BelowLemmas.{least_below_tells, least_below_out}
-use Rattle.uring_entry.proofs.RequestLemmas.{least_of_goes_on, is_running_started_same}
-use Rattle.uring_core.specs.World.{World, issuing, finishing}
+use Rattle.uring_entry.proofs.RequestLemmas.{is_running_started_same}
+use Rattle.uring_core.specs.World.{World, requests_of, issuing, finishing}
 use Rattle.uring_core.specs.StepAnswers.{IsEnded, FinishesApart, next_answer_of, IsIssued}
-use Rattle.uring_core.specs.Histories.{Event, History, world, history_of}
+use Rattle.uring_core.specs.Histories.{Event, History, world, history_of, IsLawfulApart}
 use Rattle.uring_files.specs.Contents.{FileContents}
 use Rattle.uring_core.specs.Core.{Core, FitsApart}
 use Rattle.uring_machine.specs.Machine.{Machine, Fits, IsUnrefused}
@@ -20,14 +22,20 @@ use Rattle.uring_core.specs.declared.answer.Answer.TheVariants as answer
 use Rattle.uring_core.proofs.Following.{history_of_cons, history_of_append}
 use Rattle.uring_core.proofs.Numbers.{few_outstanding}
 use Rattle.uring_core.proofs.Outstanding.{ended_less, none_outstanding, count_below_zero}
+use Rattle.uring_machine.proofs.GoingOn.{least_goes_on}
 use Rattle.uring_core.proofs.Issuable.{issue_goes, issued_ends, issuable_outstanding, next_is, next_tells}
 
 -- Ends, each of which leaves one outstanding request less.
 
+issued_less : (linux : Bool) (r : Requests) (n : ℕ) (res : ℤ) → is_outstanding r n ≡ true
+    → outstanding_in (with_issued_end linux r n res) + 1 ≡ outstanding_in r
+issued_less true r n res outstanding = ended_less r n res no_bytes outstanding
+issued_less false r n res outstanding = ended_less r n res no_bytes outstanding
+
 issue_less : (g : Setup) (w : World) (n : ℕ) (a : Answer) → is_outstanding w.requests n ≡ true
     → IsEnded a → outstanding_in (issuing g w n a).requests + 1 ≡ outstanding_in w.requests
 issue_less g w n (answer.Ended res bytes) outstanding ended =
-    ended_less w.requests n res no_bytes outstanding
+    issued_less g.linux w.requests n res outstanding
 issue_less g w n _ outstanding ended = absurd ended
 
 finish_less : (g : Setup) (w : World) (n : ℕ) (a : Answer) → is_outstanding w.requests n ≡ true
@@ -48,16 +56,15 @@ not_started n answer.Run other = absurd (other refl)
 not_started n _ other = refl
 
 -- where there is no next, the least outstanding request runs
-least_runs : (r : Requests) (n : ℕ) (a : Answer) → a ≡ next_answer_of (next_of r)
-    → ((k : ℕ) → a ≡ answer.Next k → ⊥) → least_of r ≡ Some n → is_running r n ≡ true
-least_runs r n a is other least = by_next (next_of r) refl is where
-  by_next : (next : Option ℕ) → next_of r ≡ next → a ≡ next_answer_of next → is_running r n ≡ true
-  by_next (Some m) next f = absurd (other m f)
-  by_next None next f =
-      elim (or_cases _ _ (least_of_goes_on r n least)) [
-        | inl running ↦ running
-        | inr issuable ↦ absurd (both_ways _ (least_below_out (is_issuable r) (length r.accepted) next n (least_below_tells (is_outstanding r) (length r.accepted) n least).below) issuable)
-      ]
+least_runs : (g : Setup) (h : History) (n : ℕ) (a : Answer) → IsLawfulApart g h
+    → a ≡ next_answer_of (next_of g.linux (requests_of (world g h)))
+    → ((k : ℕ) → a ≡ answer.Next k → ⊥) → least_of (world g h).requests ≡ Some n
+    → is_running (world g h).requests n ≡ true
+least_runs g h n a lawful is other least =
+    elim (least_goes_on g h n lawful least) [
+      | inl running ↦ running
+      | inr some ↦ absurd (let none : is_some (next_of g.linux (requests_of (world g h))) ≡ false = ap is_some (next_none (next_of g.linux (requests_of (world g h))) a is other) in both_ways _ none some)
+    ]
 
 -- a machine that answered Next fits what it fitted
 pub next_fits : (m : Machine) (a : Answer) (h : History) → Fits m ((step.Next, a) ∷ h) → Fits m h
@@ -65,15 +72,17 @@ next_fits m a h fits = record { core = record { shows = fits.core.shows; lawful 
 
 -- Steps that settle further.
 
-issued_next : (r : Requests) (n : ℕ) → answer.Next n ≡ next_answer_of (next_of r)
-    → settling_step None (next_of r) (least_of r) ≡ Some (step.Issue n)
-issued_next r n named = subst (λ k. settling_step None k (least_of r) ≡ Some (step.Issue n)) (sym (next_is (next_of r) n named)) refl
+issued_next : (linux : Bool) (l : LinuxRequests) (n : ℕ)
+    → answer.Next n ≡ next_answer_of (next_of linux l)
+    → settling_step None (next_of linux l) (least_of l.requests) ≡ Some (step.Issue n)
+issued_next linux l n named = subst (λ k. settling_step None k (least_of l.requests) ≡ Some (step.Issue n)) (sym (next_is (next_of linux l) n named)) refl
 
-finished_least : (r : Requests) (n : ℕ) (a : Answer) → a ≡ next_answer_of (next_of r)
-    → ((k : ℕ) → a ≡ answer.Next k → ⊥) → least_of r ≡ Some n
-    → settling_step None (next_of r) (least_of r) ≡ Some (step.Finish n)
-finished_least r n a told other is =
-    subst (λ k. settling_step None k (least_of r) ≡ Some (step.Finish n)) (sym (next_none (next_of r) a told other))
+finished_least : (linux : Bool) (l : LinuxRequests) (n : ℕ) (a : Answer)
+    → a ≡ next_answer_of (next_of linux l) → ((k : ℕ) → a ≡ answer.Next k → ⊥)
+    → least_of l.requests ≡ Some n
+    → settling_step None (next_of linux l) (least_of l.requests) ≡ Some (step.Finish n)
+finished_least linux l n a told other is =
+    subst (λ k. settling_step None k (least_of l.requests) ≡ Some (step.Finish n)) (sym (next_none (next_of linux l) a told other))
     (subst (λ k. settling_step None None k ≡ Some (step.Finish n)) (sym is) refl)
 
 -- events that settle further, behind others that did
@@ -133,15 +142,16 @@ settled_run granted old asked new n a b c h same kept next ran fits asked_fits n
     let g : Setup = new.core.setup in
     let r : Requests = (world g h).requests in
     let now : Fits new ((step.Finish n, c) ∷ (step.Issue n, answer.Run) ∷ h) = subst (λ d. Fits new ((step.Finish n, c) ∷ (step.Issue n, d) ∷ h)) ran new_fits in
-    let named : answer.Next n ≡ next_answer_of (next_of r) = subst (λ k. answer.Next n ≡ next_answer_of (next_of (world k h).requests)) (sym kept) (sym next ∙ asked_fits.core.lawful.0) in
-    let issuable = next_tells r n named in
-    let outstanding = issuable_outstanding r n issuable in
+    let l : LinuxRequests = requests_of (world g h) in
+    let named : answer.Next n ≡ next_answer_of (next_of g.linux l) = subst (λ (k : Setup). answer.Next n ≡ next_answer_of (next_of k.linux (requests_of (world k h)))) (sym kept) (sym next ∙ asked_fits.core.lawful.0) in
+    let issuable = next_tells g.linux l n named in
+    let outstanding = issuable_outstanding g.linux l n issuable in
     let unended : has_ended r n ≡ false = not-true _ (and_parts _ _ outstanding).1 in
     record {
       settles = record {
         events = (step.Issue n, b) ∷ (step.Finish n, c) ∷ [];
         issues_and_finishes = refl;
-        settling = (issued_next r n named, (rw ran refl, tt));
+        settling = (issued_next g.linux l n named, (rw ran refl, tt));
         fits = new_fits;
         many = refl;
         unrefused = λ sure. (run_not_again b ran, (unrefused sure, tt));
@@ -161,15 +171,15 @@ pub settled_end : (granted : Type 0) (old asked new : Machine) (n : ℕ) (a b : 
     → HasSettled granted old new h 1 1
 settled_end granted old asked new n a b h same kept next other fits asked_fits new_fits =
     let g : Setup = new.core.setup in
-    let r : Requests = (world g h).requests in
-    let named : answer.Next n ≡ next_answer_of (next_of r) = subst (λ k. answer.Next n ≡ next_answer_of (next_of (world k h).requests)) (sym kept) (sym next ∙ asked_fits.core.lawful.0) in
-    let issuable = next_tells r n named in
-    let ended : IsEnded b = issued_ends b (subst IsIssued (sym new_fits.core.lawful.0) (issue_goes (world g h) n issuable)) other in
+    let l : LinuxRequests = requests_of (world g h) in
+    let named : answer.Next n ≡ next_answer_of (next_of g.linux l) = subst (λ (k : Setup). answer.Next n ≡ next_answer_of (next_of k.linux (requests_of (world k h)))) (sym kept) (sym next ∙ asked_fits.core.lawful.0) in
+    let issuable = next_tells g.linux l n named in
+    let ended : IsEnded b = issued_ends b (subst IsIssued (sym new_fits.core.lawful.0) (issue_goes g (world g h) n issuable)) other in
     record {
       settles = record {
         events = (step.Issue n, b) ∷ [];
         issues_and_finishes = refl;
-        settling = (issued_next r n named, tt);
+        settling = (issued_next g.linux l n named, tt);
         fits = new_fits;
         many = refl;
         unrefused = λ sure. (not_again b ended, tt);
@@ -178,7 +188,7 @@ settled_end granted old asked new n a b h same kept next other fits asked_fits n
       few = omega arith;
       fewer =
           one_fewer old new h ((step.Issue n, b) ∷ h) (kept ∙ same) fits new_fits
-          (issue_less g (world g h) n b (issuable_outstanding r n issuable) ended);
+          (issue_less g (world g h) n b (issuable_outstanding g.linux l n issuable) ended);
     }
 
 -- the least outstanding request ran, and was finished
@@ -193,13 +203,13 @@ settled_finish granted old asked new n a b h same kept other fits least asked_fi
     let g : Setup = new.core.setup in
     let r : Requests = (world g h).requests in
     let is : least_of r ≡ Some n = subst (λ k. least_of (world k h).requests ≡ Some n) (sym (kept ∙ same)) (sym least) in
-    let told : a ≡ next_answer_of (next_of r) = subst (λ k. a ≡ next_answer_of (next_of (world k h).requests)) (sym kept) asked_fits.core.lawful.0 in
-    let running : is_running r n ≡ true = least_runs r n a told other is in
+    let told : a ≡ next_answer_of (next_of g.linux (requests_of (world g h))) = subst (λ (k : Setup). a ≡ next_answer_of (next_of k.linux (requests_of (world k h)))) (sym kept) asked_fits.core.lawful.0 in
+    let running : is_running r n ≡ true = least_runs g h n a new_fits.core.lawful.1 told other is in
     record {
       settles = record {
         events = (step.Finish n, b) ∷ [];
         issues_and_finishes = refl;
-        settling = (finished_least r n a told other is, tt);
+        settling = (finished_least g.linux (requests_of (world g h)) n a told other is, tt);
         fits = new_fits;
         many = refl;
         unrefused = λ sure. (unrefused sure, tt);

@@ -2,7 +2,9 @@
 use Rattle.std.specs.Prelude.{◌≡◌, ℕ, ◌+◌, ◌*◌, ◌≤◌, Bool, true, false, List, [], ◌∷◌, ◌++◌, length, Option, Some, None}
 use Rattle.std.specs.List.{list_all}
 use Rattle.uring_entry.specs.Setup.{Setup}
-use Rattle.uring_entry.specs.Requests.{is_outstanding, next_of, least_of, outstanding_in}
+use Rattle.uring_entry.specs.Requests.{is_outstanding, least_of, outstanding_in}
+use Rattle.uring_rules.specs.Rules.{next_of}
+use Rattle.uring_core.specs.World.{requests_of}
 use Rattle.uring_core.specs.Histories.{Event, History, world, history_of}
 use Rattle.uring_core.specs.Events.{started_by}
 use Rattle.uring_machine.specs.Machine.{Machine, Fits, IsUnrefused}
@@ -31,8 +33,8 @@ settling_step None None None = None
 abbrev pub AreSettling : Setup → History → Option ℕ → List Event → Type 0
 AreSettling g before started [] = Unit {0}
 AreSettling g before started ((s, a) ∷ later) =
-    let r = (world g before).requests in
-    (settling_step started (next_of r) (least_of r) ≡ Some s)
+    let l = requests_of (world g before) in
+    (settling_step started (next_of g.linux l) (least_of l.requests) ≡ Some s)
     × AreSettling g ((s, a) ∷ before) (started_by (s, a)) later
 
 -- no answer of these events, the oldest first, says that memory was refused: the first of them after this history

@@ -3,16 +3,15 @@
 ghost use Rattle.std.specs.Prelude.{◌≡◌, ℕ, ◌≤◌, ◌∷◌, [], true, drop, length, List, Some, IsOk, IfOk, IfErr, IfSome, IsErrOf, OnOk, slice_get};
 ghost use Rattle.uring_entry.specs.Setup.{IsWithinLimits};
 ghost use Rattle.uring_entry.specs.Completions.{unreaped};
-ghost use Rattle.uring_entry.specs.Requests.{operation_running, next_of, least_of};
-ghost use Rattle.uring_entry.specs.Why.{why_of};
-ghost use Rattle.uring_dispatch.specs.Cancels.{found_by};
-ghost use Rattle.uring_dispatch.specs.Issuable.{issuables_of, issuable_from};
+ghost use Rattle.uring_entry.specs.Requests.{operation_running, least_of};
+ghost use Rattle.uring_rules.specs.Rules.{next_of, issuables_of, issuable_from, why_of, found_by};
 ghost use Rattle.uring_files.specs.Contents.{FileContents, max_len};
 ghost use Rattle.uring_files.specs.Operations.{IsForFiles, ended_with, is_lengthening, result_of, state_of, byte_of};
 ghost use Rattle.uring_core.specs.CalledFor.{CalledFor, files_of};
 ghost use Rattle.uring_core.specs.Core.{IsCounts, IsShortOfMemory, HasNoLessMemory};
 ghost use Rattle.uring_core.specs.Histories.{History, world};
 ghost use Rattle.uring_core.specs.Recorded.{IsRefused, resumed};
+ghost use Rattle.uring_core.specs.World.{requests_of};
 ghost use Rattle.uring_machine.specs.Machine.{MayLackMemory, IsUnrefused, elements_for_step, finish_answer};
 ghost use Rattle.uring_core.specs.StepAnswers.{begin_answer};
 ghost use Rattle.uring_machine.specs.Settling.{HasSettled, IsSettled, IsSettledIf};
@@ -227,7 +226,7 @@ impl Machine {
     /// The least request that can be issued: what `Step::Next` is answered. It is no step, and so not part of a history.
     pub fn next(&self) -> Option<u64>
         ensures { (h : History) → Fits self.now h
-            → result ≡ next_of (world self.now.core.setup h).requests }
+            → result ≡ next_of self.now.core.setup.linux (requests_of (world self.now.core.setup h)) }
     {
         self.core.next()
     }
@@ -235,7 +234,7 @@ impl Machine {
     /// The least request from this number on, any number, that can be issued: so all of them, in order, from 0 on, each time from the number behind the last. It is no step, and so not part of a history.
     pub fn next_issuable(&self, number: u64) -> Option<u64>
         ensures { (h : History) → Fits self.now h
-            → result ≡ issuable_from (world self.now.core.setup h).requests number }
+            → result ≡ issuable_from self.now.core.setup.linux (requests_of (world self.now.core.setup h)) number }
     {
         self.core.next_issuable(number)
     }
@@ -243,7 +242,7 @@ impl Machine {
     /// How many requests can be issued. It looks once at each 64 numbers from the least outstanding one on. It is no step, and so not part of a history.
     pub fn issuable(&self) -> u64
         ensures { (h : History) → Fits self.now h
-            → result ≡ length (issuables_of (world self.now.core.setup h).requests) }
+            → result ≡ length (issuables_of self.now.core.setup.linux (requests_of (world self.now.core.setup h))) }
     {
         self.core.issuable()
     }
@@ -251,7 +250,7 @@ impl Machine {
     /// The request at this place, from 0, among those that can be issued, in the order of their numbers: `Some` exactly if the place is below their count. It looks once at each 64 numbers from the least outstanding one on. It is no step, and so not part of a history.
     pub fn nth_issuable(&self, place: u64) -> Option<u64>
         ensures { (h : History) → Fits self.now h
-            → result ≡ slice_get (issuables_of (world self.now.core.setup h).requests) place }
+            → result ≡ slice_get (issuables_of self.now.core.setup.linux (requests_of (world self.now.core.setup h))) place }
     {
         self.core.nth_issuable(place)
     }
@@ -267,7 +266,7 @@ impl Machine {
     /// Why the request of this number, any number, stands as it does. It is no step, and so not part of a history.
     pub fn why(&self, number: u64) -> Why
         ensures { (h : History) → Fits self.now h
-            → result ≡ why_of (world self.now.core.setup h).requests number }
+            → result ≡ why_of self.now.core.setup.linux (requests_of (world self.now.core.setup h)) number }
     {
         self.core.why(number)
     }
@@ -275,7 +274,7 @@ impl Machine {
     /// What the request of this number, any number, would find if it were carried out now: `Some` exactly if it is an outstanding cancel of one request, without a fault. It is no step, and so not part of a history.
     pub fn would_find(&self, number: u64) -> Option<Found>
         ensures { (h : History) → Fits self.now h
-            → result ≡ found_by (world self.now.core.setup h).requests number }
+            → result ≡ found_by self.now.core.setup.linux (world self.now.core.setup h).requests number }
     {
         self.core.would_find(number)
     }

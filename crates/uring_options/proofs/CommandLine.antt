@@ -1,5 +1,5 @@
 -- What the words ask for, as clap's matches say.
-use Rattle.std.proofs.Common.{◌≡◌, ◌∙◌, ◌||◌, ℕ, Bool, true, false, List, Option, Some, None, refl, sym, ap, subst}
+use Rattle.std.proofs.Common.{◌≡◌, ◌∙◌, ◌||◌, ℕ, Bool, true, false, List, Option, Some, None, refl, sym, ap, ap₂, subst}
 use Rattle.std.specs.Prelude.{codes, option_map, if◌then◌else◌}
 use Rattle.clap.specs.Walk.{Row, Text}
 use Rattle.clap.specs.Matches.{subcommand_name_of}
@@ -43,16 +43,22 @@ named_by m words o has name rows =
 
 -- ---- what is asked for over a set-up
 
-abbrev with_stops : Setup → Bool → Setup
-with_stops s stops = record s { stops = stops }
+abbrev with_asked : Setup → (stops linux : Bool) → Setup
+with_asked s stops linux = record s { stops = stops; linux = linux }
 
--- the set-up of numbers, whose calls stop if that is asked for
+-- the set-up of numbers, whose calls stop and whose rules are Linux's if that is asked for
 pub traced_over : (rows : List Row) (n : Numbers) (s t : Setup) → IsSetupOver n s
-    → (stops : Bool) → IsGiven rows (codes "stop") stops → t ≡ record s { stops = stops }
+    → (stops linux : Bool) → IsGiven rows (codes "stop") stops → IsGiven rows (codes "linux") linux
+    → t ≡ record s { stops = stops; linux = linux }
     → IsTracedOver rows n t
-traced_over rows n s t over stops given is =
-    let base : s ≡ with_stops t false = ap (λ (b : Bool). with_stops s b) over.goes_on ∙ ap (λ (u : Setup). with_stops u false) (sym is) in
-    (subst (IsSetupOver n) base over, subst (IsGiven rows (codes "stop")) (ap (λ (u : Setup). u.stops) (sym is)) given)
+traced_over rows n s t over stops linux stop given is =
+    let base : s ≡ with_asked t false false = ap₂ (with_asked s) over.goes_on over.manual ∙ ap (λ (u : Setup). with_asked u false false) (sym is) in (
+      subst (IsSetupOver n) base over,
+      (
+        subst (IsGiven rows (codes "stop")) (ap (λ (u : Setup). u.stops) (sym is)) stop,
+        subst (IsGiven rows (codes "linux")) (ap (λ (u : Setup). u.linux) (sym is)) given,
+      ),
+    )
 
 -- what is explained over it, as the options of the pictures say
 pub explained_over : (rows : List Row) (n : Numbers) (s : Setup) (o : Options) (draws times pages tells : Bool) (at : Option ℕ)

@@ -48,7 +48,7 @@ fits Fills = assumption
 -- without a command no option has a text
 pub nothing_taken : TakesFor Traces []
 nothing_taken =
-    ((inl refl, (inl refl, (inl refl, (inl refl, tt)))), (inl refl, (inl refl, (inl refl, tt))))
+    ((inl refl, (inl refl, (inl refl, (inl refl, tt)))), (inl refl, (inl refl, (inl refl, (inl refl, tt)))))
 
 taken_for : (run : Run) (s : Shape) → Fits s run → (words : List Text)
     → level_fault s [] nothing_held words false [] ≡ [] → TakesFor run (rows_after s.rules [] words)

@@ -15,7 +15,7 @@ use Rattle.clap.specs.declared.error.Error.{Error}
 use Rattle.clap.specs.declared.error.kind.ErrorKind.TheVariants.{OutOfMemory}
 use Rattle.uring_entry.specs.Setup.{Setup, IsBadCq}
 use Rattle.uring_entry.proofs.Powers.{rounded_once}
-use Rattle.uring_options.specs.CommandLine.{uring, command_rows, Gives, Numbers, AreInRange, IsWithin, IsSetupOver, Writes, IsTooSmall, AskFor, AskForTooSmall, IsMemory, IsFaultOf}
+use Rattle.uring_options.specs.CommandLine.{uring, command_rows, Gives, Numbers, AreInRange, IsWithin, IsSetupOver, plain_of, Writes, IsTooSmall, AskFor, AskForTooSmall, IsMemory, IsFaultOf}
 use Rattle.uring_options.specs.OptionRows.{AnswersNamed}
 use Rattle.uring_options.specs.declared.answers.Options.{Options}
 use Rattle.uring_options.specs.declared.answers.Options.TheVariants.{Trace, Explain, Graph, Timeline, Page, Json, Check, CheckEarly, CheckPage, CheckJson, Play, Shared, Crash, Outcomes, Fill}
@@ -85,33 +85,33 @@ not_over words n s writes set_up (m, small_writes, small) =
 
 not_both : (words : List Text) (o : Options) → AskFor words o → AskForTooSmall words → ⊥
 not_both words (Trace s echo strict) (n, writes, over) small =
-    not_over words n (record s { stops = false }) writes over.1.0 small
+    not_over words n (plain_of s) writes over.1.0 small
 not_both words (Explain s) (n, writes, over) small =
-    not_over words n (record s { stops = false }) writes over.1.0 small
+    not_over words n (plain_of s) writes over.1.0 small
 not_both words (Graph s at) (n, writes, over) small =
-    not_over words n (record s { stops = false }) writes over.1.0 small
+    not_over words n (plain_of s) writes over.1.0 small
 not_both words (Timeline s) (n, writes, over) small =
-    not_over words n (record s { stops = false }) writes over.1.0 small
+    not_over words n (plain_of s) writes over.1.0 small
 not_both words (Page s) (n, writes, over) small =
-    not_over words n (record s { stops = false }) writes over.1.0 small
+    not_over words n (plain_of s) writes over.1.0 small
 not_both words (Json s) (n, writes, over) small =
-    not_over words n (record s { stops = false }) writes over.1.0 small
+    not_over words n (plain_of s) writes over.1.0 small
 not_both words (Check s all apart results) (n, writes, over) small =
-    not_over words n (record s { stops = false }) writes over.1.0.0 small
+    not_over words n (plain_of s) writes over.1.0.0 small
 not_both words (CheckEarly s most) (n, writes, over) small =
-    not_over words n (record s { stops = false }) writes over.1.0 small
+    not_over words n (plain_of s) writes over.1.0 small
 not_both words (CheckPage s) (n, writes, over) small =
-    not_over words n (record s { stops = false }) writes over.1.0.0 small
+    not_over words n (plain_of s) writes over.1.0.0 small
 not_both words (CheckJson s) (n, writes, over) small =
-    not_over words n (record s { stops = false }) writes over.1.0.0 small
+    not_over words n (plain_of s) writes over.1.0.0 small
 not_both words (Play s workers) (n, writes, over) small = not_over words n s writes over.1 small
 not_both words (Shared s workers) (n, writes, over) small = not_over words n s writes over.1 small
 not_both words (Crash s file unit at seed is_count is_all most is_holds is_each) (n, writes, over) small =
-    not_over words n (record s { stops = false }) writes over.1.0 small
+    not_over words n (plain_of s) writes over.1.0 small
 not_both words (Outcomes s sorted contents crash unit most line never always) (n, writes, over) small =
     not_over words n s writes over.1 small
 not_both words (Fill s most) (n, writes, over) small =
-    not_over words n (record s { stops = false }) writes over.1.0 small
+    not_over words n (plain_of s) writes over.1.0 small
 
 -- words without a fault fail by memory alone
 memory_alone : (kinds : Kinds) (e : Error) → kinds ≡ [] → HasKind kinds e → kind_of e ≡ OutOfMemory

@@ -47,22 +47,22 @@ setup_options = number (codes "sq") 1 4096 ∷ number (codes "cq") 1 8192
 
 -- the further options of each command; calls of a play go on
 abbrev pub own_options : Run → List CommandOption
-own_options Traces = flag (codes "stop") ∷ flag (codes "echo") ∷ flag (codes "strict") ∷ []
-own_options Explains = flag (codes "stop") ∷ flag (codes "graph")
+own_options Traces = flag (codes "stop") ∷ flag (codes "linux") ∷ flag (codes "echo") ∷ flag (codes "strict") ∷ []
+own_options Explains = flag (codes "stop") ∷ flag (codes "linux") ∷ flag (codes "graph")
     ∷ number (codes "at") 0 4294967295 ∷ flag (codes "timeline")
     ∷ flag (codes "page") ∷ flag (codes "json") ∷ []
-own_options Checks = flag (codes "stop") ∷ flag (codes "all") ∷ flag (codes "apart")
+own_options Checks = flag (codes "stop") ∷ flag (codes "linux") ∷ flag (codes "all") ∷ flag (codes "apart")
     ∷ flag (codes "results") ∷ flag (codes "page") ∷ flag (codes "json")
     ∷ flag (codes "early-effects") ∷ number (codes "most") 1 4294967295 ∷ []
 own_options Plays = number (codes "workers") 1 8 ∷ flag (codes "shared") ∷ []
-own_options Crashes = flag (codes "stop") ∷ number (codes "file") 0 63
+own_options Crashes = flag (codes "stop") ∷ flag (codes "linux") ∷ number (codes "file") 0 63
     ∷ number (codes "unit") 1 65536 ∷ number (codes "at") 0 4294967295
     ∷ number (codes "seed") 0 4294967295 ∷ flag (codes "count") ∷ flag (codes "all")
     ∷ number (codes "most") 1 4294967295 ∷ flag (codes "holds") ∷ flag (codes "each") ∷ []
 own_options Lists = flag (codes "results") ∷ flag (codes "contents") ∷ flag (codes "crash")
     ∷ number (codes "unit") 1 65536 ∷ number (codes "most") 1 4294967295 ∷ number (codes "explain") 1 4294967295
     ∷ flag (codes "never") ∷ flag (codes "always") ∷ []
-own_options Fills = flag (codes "stop") ∷ number (codes "most") 1 4294967295 ∷ []
+own_options Fills = flag (codes "stop") ∷ flag (codes "linux") ∷ number (codes "most") 1 4294967295 ∷ []
 
 -- to clap, an option of this name that takes a number, which this parser checks
 abbrev pub option_rule : Text → ValueParser → Rule
@@ -199,10 +199,18 @@ abbrev pub IsGiven : List Row → Text → Bool → Type 0
 IsGiven rows id true = one_of id rows ≡ Some (codes "true")
 IsGiven rows id false = (one_of id rows ≡ None) ⊎ (one_of id rows ≡ Some (codes "false"))
 
--- the set-up of these numbers, whose calls stop exactly if `--stop` is given
+-- the same set-up with nothing but its numbers asked for: its calls go on, and its rules are the manual pages'
+abbrev pub plain_of : Setup → Setup
+plain_of s = record s { stops = false; linux = false }
+
+-- the options without a value ask for a set-up like this: its calls stop exactly if `--stop` is given, and its rules are Linux's exactly if `--linux` is given
+abbrev pub AskForSetup : List Row → Setup → Type 0
+AskForSetup rows s =
+    IsGiven rows (codes "stop") s.stops × IsGiven rows (codes "linux") s.linux
+
+-- the set-up of these numbers, with what the options without a value ask for
 abbrev pub IsTracedOver : List Row → Numbers → Setup → Type 0
-IsTracedOver rows n s =
-    IsSetupOver n (record s { stops = false }) × IsGiven rows (codes "stop") s.stops
+IsTracedOver rows n s = IsSetupOver n (plain_of s) × AskForSetup rows s
 
 -- a check tells its verdict: if it is asked for that alone, or neither `--page` nor `--json` is given
 abbrev pub TellsVerdict : List Row → Bool → Type 0

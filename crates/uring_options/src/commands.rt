@@ -10,8 +10,8 @@ ghost use Rattle.uring_options.specs.CommandLine.{option_rule, flag_rule, uring}
 use crate::helps::{CLAIMS, IMAGES, ITEMS, REASONS, RECORDS, SEEN, STEPS};
 use crate::option_rows::{
     ALL, ALLOWED, ALWAYS, APART, AT, CONTENTS, COUNT, CQ, EACH, EARLY, ECHO, FILE, FILES, GRAPH,
-    GRAPH_AT, HISTORIES, HOLDS, JSON, LIST, LISTED, MOST, MOVES, NEVER, NUMBER, OptionRow, PAGE,
-    POWER, RESULTS, SEED, SHARED, SQ, START, STOP, STRICT, TIMELINE, UNIT, WORKERS,
+    GRAPH_AT, HISTORIES, HOLDS, JSON, LINUX, LIST, LISTED, MOST, MOVES, NEVER, NUMBER, OptionRow,
+    PAGE, POWER, RESULTS, SEED, SHARED, SQ, START, STOP, STRICT, TIMELINE, UNIT, WORKERS,
 };
 use clap::builder::ValueParser;
 use clap::{Arg, ArgAction, Command};
@@ -31,7 +31,7 @@ static TRACE: CommandRow = CommandRow {
     name: "trace",
     about: "Read steps from standard input, a line each, and write the answer to each",
     after_help: STEPS,
-    options: &[SQ, CQ, FILES, START, STOP, ECHO, STRICT],
+    options: &[SQ, CQ, FILES, START, STOP, LINUX, ECHO, STRICT],
 };
 
 /// `uring explain`.
@@ -40,7 +40,7 @@ static EXPLAIN: CommandRow = CommandRow {
     about: "Do as trace does, and write behind an answer its reason",
     after_help: REASONS,
     options: &[
-        SQ, CQ, FILES, START, STOP, GRAPH, GRAPH_AT, TIMELINE, PAGE, JSON,
+        SQ, CQ, FILES, START, STOP, LINUX, GRAPH, GRAPH_AT, TIMELINE, PAGE, JSON,
     ],
 };
 
@@ -50,7 +50,7 @@ static CHECK: CommandRow = CommandRow {
     about: "Read a recorded trace, a step with its answer on each line, and tell whether it is lawful",
     after_help: RECORDS,
     options: &[
-        SQ, CQ, FILES, START, STOP, ALL, APART, ALLOWED, PAGE, JSON, EARLY, MOVES,
+        SQ, CQ, FILES, START, STOP, LINUX, ALL, APART, ALLOWED, PAGE, JSON, EARLY, MOVES,
     ],
 };
 
@@ -68,7 +68,7 @@ static CRASH: CommandRow = CommandRow {
     about: "Read steps as trace does, let the power fail, and write what is left of a file",
     after_help: IMAGES,
     options: &[
-        SQ, CQ, FILES, START, STOP, FILE, UNIT, AT, SEED, COUNT, LIST, LISTED, HOLDS, EACH,
+        SQ, CQ, FILES, START, STOP, LINUX, FILE, UNIT, AT, SEED, COUNT, LIST, LISTED, HOLDS, EACH,
     ],
 };
 
@@ -87,7 +87,7 @@ static FILL: CommandRow = CommandRow {
     name: "fill",
     about: "Read what was seen of a ring, and write a history that shows it",
     after_help: SEEN,
-    options: &[SQ, CQ, FILES, START, STOP, HISTORIES],
+    options: &[SQ, CQ, FILES, START, STOP, LINUX, HISTORIES],
 };
 
 /// The program's command line.

@@ -95,7 +95,7 @@ The status is 0, 3 and 4 in this order.
 
 The first line may say the set-up, which then counts in place of the options:
   # setup --sq N --cq N --files N --start N
-and --stop behind it. One that begins with # setup and is no such line is bad.
+and --stop, --linux or both behind it. One that begins with # setup and is no such line is bad.
 
 With --all the lines behind a wrong one are looked at too, and each wrong one is
 told: the one answer that was called for counts as given, and if there are more

@@ -39,6 +39,12 @@ pub(crate) const STOP: OptionRow = OptionRow {
     numbers: None,
 };
 
+pub(crate) const LINUX: OptionRow = OptionRow {
+    id: "linux",
+    help: "Keep requests by Linux's rules, as 6.18 was seen to, where they differ from the manual pages'",
+    numbers: None,
+};
+
 pub(crate) const ECHO: OptionRow = OptionRow {
     id: "echo",
     help: "Write each step before its answer, as check reads them",

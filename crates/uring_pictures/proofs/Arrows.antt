@@ -3,7 +3,8 @@ use Rattle.std.proofs.Common.{◌≡◌, ℕ, suc, ◌+◌, List, ◌++◌, Bool
 use Rattle.std.specs.Prelude.{codes, if◌then◌else◌, is_some}
 use Rattle.uring_entry.specs.Layout.{Sqe}
 use Rattle.uring_entry.specs.Requests.{Requests, is_last, entry_outstanding}
-use Rattle.uring_entry.specs.Why.{why_of}
+use Rattle.uring_linux.specs.LinuxRequests.{LinuxRequests}
+use Rattle.uring_rules.specs.Rules.{why_of}
 use Rattle.uring_entry.specs.declared.why.Why.{Why}
 use Rattle.uring_pictures.specs.Graphs.{arrows_below, arrows_text, call_of, first_of, is_chained, member_before, placed_text, in_chain, node_text, line_text, row_text}
 
@@ -67,16 +68,18 @@ whole_graph front one two three four nodes arrows a b c d =
     ∙ simp append_assoc refl
 
 -- the line of a request, by what is asked of it
-pub row_placed : (r : Requests) (n : ℕ) (e : Sqe) (call first : ℕ) (chained : Bool) (why : Why) (before after : List ℕ)
+pub row_placed : (linux : Bool) (l : LinuxRequests) (n : ℕ) (e : Sqe) (call first : ℕ) (chained : Bool) (why : Why) (before after : List ℕ)
     → after ≡ before ++ placed_text call (in_chain chained first (node_text n e why))
-    → call ≡ call_of r n → first ≡ first_of r n → chained ≡ is_chained r n → why ≡ why_of r n
-    → Some e ≡ entry_outstanding r n → after ≡ before ++ row_text r n
-row_placed r n e call first chained why before after is calls same others stands found =
+    → call ≡ call_of l.requests n → first ≡ first_of l.requests n → chained ≡ is_chained l.requests n
+    → why ≡ why_of linux l n → Some e ≡ entry_outstanding l.requests n
+    → after ≡ before ++ row_text linux l n
+row_placed linux l n e call first chained why before after is calls same others stands found =
+    let r = l.requests in
     is ∙ ap (λ (k : ℕ). before ++ placed_text k (in_chain chained first (node_text n e why))) calls
     ∙ ap (λ (k : ℕ). before ++ placed_text (call_of r n) (in_chain chained k (node_text n e why))) same
     ∙ ap (λ (b : Bool). before ++ placed_text (call_of r n) (in_chain b (first_of r n) (node_text n e why))) others
     ∙ ap (λ (w : Why). before ++ placed_text (call_of r n) (in_chain (is_chained r n) (first_of r n) (node_text n e w))) stands
-    ∙ ap (λ (o : Option Sqe). before ++ line_text r n o) found
+    ∙ ap (λ (o : Option Sqe). before ++ line_text linux l n o) found
 
 -- so many parts, counted otherwise
 pub up_to_same : (f : ℕ → List ℕ) (n m : ℕ) (front after : List ℕ) → after ≡ front ++ f n → n ≡ m
@@ -84,9 +87,10 @@ pub up_to_same : (f : ℕ → List ℕ) (n m : ℕ) (front after : List ℕ) →
 up_to_same f n m front after is same = is ∙ ap (λ (k : ℕ). front ++ f k) same
 
 -- the arrows of one request more
-pub arrows_more : (r : Requests) (n : ℕ) (before : Option ℕ) (why : Why) (front so after : List ℕ)
-    → so ≡ front ++ arrows_below r n → after ≡ so ++ arrows_text n before why
-    → before ≡ member_before r n → why ≡ why_of r n → after ≡ front ++ arrows_below r (n + 1)
-arrows_more r n before why front so after a b same stands =
-    part_more (arrows_below r) (arrows_text n (member_before r n) (why_of r n)) n front so after a
-    (b ∙ ap (λ (o : Option ℕ). so ++ arrows_text n o why) same ∙ ap (λ (w : Why). so ++ arrows_text n (member_before r n) w) stands) refl
+pub arrows_more : (linux : Bool) (l : LinuxRequests) (n : ℕ) (before : Option ℕ) (why : Why) (front so after : List ℕ)
+    → so ≡ front ++ arrows_below linux l n → after ≡ so ++ arrows_text n before why
+    → before ≡ member_before l.requests n → why ≡ why_of linux l n
+    → after ≡ front ++ arrows_below linux l (n + 1)
+arrows_more linux l n before why front so after a b same stands =
+    part_more (arrows_below linux l) (arrows_text n (member_before l.requests n) (why_of linux l n)) n front so after a
+    (b ∙ ap (λ (o : Option ℕ). so ++ arrows_text n o why) same ∙ ap (λ (w : Why). so ++ arrows_text n (member_before l.requests n) w) stands) refl

@@ -1,5 +1,5 @@
 -- What a step makes of the entries and cuts that are kept.
-use Rattle.std.proofs.Common.{◌≡◌, ℕ, ◌+◌, ◌<◌, ◌≤◌, Bool, true, false, not, ◌&&◌, List, [], ◌∷◌, ◌++◌, length, take, Option, Some, None, refl, sym, ap, subst, ◌∙◌, arith}
+use Rattle.std.proofs.Common.{◌≡◌, ℕ, ℤ, ◌+◌, ◌<◌, ◌≤◌, Bool, true, false, not, ◌&&◌, List, [], ◌∷◌, ◌++◌, length, take, Option, Some, None, refl, sym, ap, subst, ◌∙◌, arith}
 use Rattle.std.specs.Prelude.{if◌then◌else◌}
 use Rattle.std.specs.Option.{option_to_list}
 use Rattle.std.proofs.lemmas.Bool.{lt-ltb}
@@ -8,7 +8,9 @@ use Rattle.uring_entry.specs.Setup.{Setup}
 use Rattle.uring_entry.specs.Layout.{Sqe, zero_entry}
 use Rattle.uring_entry.specs.Submission.{Call, entries_from}
 use Rattle.uring_entry.specs.Requests.{Requests, entry_of, entry_outstanding, is_outstanding, has_ended, with_call}
-use Rattle.uring_core.specs.World.{World, ending, ending_of}
+use Rattle.uring_linux.specs.LinuxRequests.{LinuxRequests}
+use Rattle.uring_rules.specs.Rules.{with_issued_end}
+use Rattle.uring_core.specs.World.{World, requests_of, ending, ending_of}
 use Rattle.uring_core.specs.Histories.{Event, History, world, IsLawfulApart}
 use Rattle.uring_core.specs.StepAnswers.{end_answer_in}
 use Rattle.uring_core.specs.declared.step.Step.{Step}
@@ -30,15 +32,20 @@ ClosesNone s a = (accepted missed head : ℕ) → s ≡ step.End → a ≡ answe
 abbrev HasSameLists : Requests → Requests → Type 0
 HasSameLists r q = (r.accepted ≡ q.accepted) × (r.cuts ≡ q.cuts)
 
-same_lists : (r : Requests) (s : Step) (a : Answer) (q : Requests) → Move r s a q → ClosesNone s a
-    → HasSameLists r q
-same_lists r s a q (stays _ _ no_start no_end) none = (refl, refl)
-same_lists r s a q (accepts accepted missed head entries) none =
+-- an end as it is issued leaves both
+issued_lists : (linux : Bool) (r : Requests) (n : ℕ) (res : ℤ) → HasSameLists r (with_issued_end linux r n res)
+issued_lists true r n res = (refl, refl)
+issued_lists false r n res = (refl, refl)
+
+same_lists : (linux : Bool) (l : LinuxRequests) (s : Step) (a : Answer) (q : Requests) → Move linux l s a q
+    → ClosesNone s a → HasSameLists l.requests q
+same_lists linux l s a q (stays _ _ no_start no_end) none = (refl, refl)
+same_lists linux l s a q (accepts accepted missed head entries) none =
     absurd (none accepted missed head refl refl)
-same_lists r s a q (starts n outstanding idle spared ready no_cancel) none = (refl, refl)
-same_lists r s a q (ends_doomed n outstanding) none = (refl, refl)
-same_lists r s a q (ends_cancel n outstanding spared ready cancel) none = (refl, refl)
-same_lists r s a q (ends_run n res bytes running) none = (refl, refl)
+same_lists linux l s a q (starts n outstanding idle spared ready no_cancel) none = (refl, refl)
+same_lists linux l s a q (ends_doomed n outstanding) none = issued_lists linux l.requests n _
+same_lists linux l s a q (ends_cancel n outstanding spared ready cancel) none = issued_lists linux l.requests n _
+same_lists linux l s a q (ends_run n res bytes running) none = (refl, refl)
 
 -- a step by which no call closes
 keeps_step : (m m' : Machine) (entries : List Sqe) (cuts : List ℕ) (s : Step) (a : Answer) (h : History)
@@ -47,7 +54,7 @@ keeps_step : (m m' : Machine) (entries : List Sqe) (cuts : List ℕ) (s : Step) 
 keeps_step m m' entries cuts s a h same fits none k =
     let now : Fits m' ((s, a) ∷ h) = fits h k.fits in
     let lawful : IsLawfulApart m.core.setup ((s, a) ∷ h) = subst (λ (g : Setup). IsLawfulApart g ((s, a) ∷ h)) same now.core.lawful in
-    let lists = same_lists (world m.core.setup h).requests s a (world m.core.setup ((s, a) ∷ h)).requests (move_of m.core.setup s a h lawful) none in
+    let lists = same_lists m.core.setup.linux (requests_of (world m.core.setup h)) s a (world m.core.setup ((s, a) ∷ h)).requests (move_of m.core.setup s a h lawful) none in
     record {
       fits = now;
       entries = subst (λ (g : Setup). entries ≡ (world g ((s, a) ∷ h)).requests.accepted) (sym same) (k.entries ∙ lists.0);
@@ -58,10 +65,10 @@ keeps_step m m' entries cuts s a h same fits none k =
 
 closed_by : (g : Setup) (w : World) (call : Option Call) (accepted missed head : ℕ) → w.submission.call ≡ call
     → answer.Taken accepted missed head ≡ end_answer_in g w call
-    → (entries : List Sqe) × ((ending w (answer.Taken accepted missed head)).requests ≡ with_call w.requests entries)
+    → (entries : List Sqe) × ((ending g w (answer.Taken accepted missed head)).requests ≡ with_call w.requests entries)
 closed_by g w None accepted missed head opened is = absurd cc
 closed_by g w (Some call) accepted missed head opened is =
-    (entries_from w.submission call.count, ap (λ (c : Option Call). (ending_of w c).requests) opened)
+    (entries_from w.submission call.count, ap (λ (c : Option Call). (ending_of g w c).requests) opened)
 
 closed : (g : Setup) (h : History) (accepted missed head : ℕ)
     → IsLawfulApart g ((step.End, answer.Taken accepted missed head) ∷ h)

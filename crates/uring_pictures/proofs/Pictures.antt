@@ -4,13 +4,14 @@ use Rattle.std.specs.Prelude.{OnOk}
 use Rattle.std.specs.Io.KnownBytes.{Appends}
 use Rattle.uring_entry.specs.Setup.{Setup}
 use Rattle.uring_core.specs.CalledFor.{IsLawful}
+use Rattle.uring_core.specs.World.{requests_of}
 use Rattle.uring_core.specs.Histories.{History, history_of, world}
 use Rattle.uring_text.specs.Writing.{WritesText}
 use Rattle.uring_trace.specs.Exchanges.{events_of}
 use Rattle.uring_trace.specs.declared.explainer.Explainer.{Explainer}
 use Rattle.uring_pictures.specs.Graphs.{graph_of}
 use Rattle.uring_pictures.specs.Drawings.{Reads, Draws}
-use Rattle.uring_pictures.specs.Following.{Keeps, requests_at}
+use Rattle.uring_pictures.specs.Following.{Keeps, is_linux_at, linux_at}
 use Rattle.uring_pictures.specs.Readings.{ReadsAll, ReadsBoth}
 use Rattle.uring_pictures.specs.declared.accepted.Accepted.{Accepted}
 use Rattle.uring_pictures.specs.declared.moment.Moment.{Moment}
@@ -19,7 +20,7 @@ use Rattle.uring_pictures.proofs.Streams.{Done, Known}
 -- what was read is drawn
 pub draws : (at : Option ℕ) (setup : Setup) (bad : Bool) (s : Explainer) (m : Moment) (drawn : Accepted) (a a' w w' x x' : Known)
     → ReadsBoth at setup bad s m a a' x x' → drawn ≡ m.accepted
-    → ((h : History) → Keeps drawn h → Appends w w' (graph_of (requests_at drawn h)))
+    → ((h : History) → Keeps drawn h → Appends w w' (graph_of (is_linux_at drawn) (linux_at drawn h)))
     → Draws at setup bad a a' w w' x x'
 draws at setup bad s m drawn a a' w w' x x' both same writes =
     let r = both.0 in
@@ -41,16 +42,16 @@ draws at setup bad s m drawn a a' w w' x x' both same writes =
       first = f.taken;
       each = f.each;
       lawful = subst (λ (g : Setup). IsLawful g h) f.same f.keeps.fits.lawful;
-      drawn = subst (λ (g : Setup). Appends w w' (graph_of (world g h).requests)) f.same (subst (λ (d : Accepted). Appends w w' (graph_of (requests_at d h))) same (writes h (subst (λ (d : Accepted). Keeps d h) (sym same) f.keeps)));
+      drawn = subst (λ (g : Setup). Appends w w' (graph_of g.linux (requests_of (world g h)))) f.same (subst (λ (d : Accepted). Appends w w' (graph_of (is_linux_at d) (linux_at d h))) same (writes h (subst (λ (d : Accepted). Keeps d h) (sym same) f.keeps)));
     }
 
 -- a text that was written
 pub written_graph : (result : Done) (drawn : Accepted) (text none : List ℕ) (w w' : Known) → none ≡ []
-    → ((h : History) → Keeps drawn h → text ≡ none ++ graph_of (requests_at drawn h))
+    → ((h : History) → Keeps drawn h → text ≡ none ++ graph_of (is_linux_at drawn) (linux_at drawn h))
     → (written : List ℕ) × Appends w w' written × WritesText result text written
-    → OnOk result ((h : History) → Keeps drawn h → Appends w w' (graph_of (requests_at drawn h)))
+    → OnOk result ((h : History) → Keeps drawn h → Appends w w' (graph_of (is_linux_at drawn) (linux_at drawn h)))
 written_graph (Ok done) drawn text none w w' start tells x = λ h keeps.
-    subst (λ (l : List ℕ). Appends w w' l) (x.2 ∙ tells h keeps ∙ ap (λ (l : List ℕ). l ++ graph_of (requests_at drawn h)) start) x.1
+    subst (λ (l : List ℕ). Appends w w' l) (x.2 ∙ tells h keeps ∙ ap (λ (l : List ℕ). l ++ graph_of (is_linux_at drawn) (linux_at drawn h)) start) x.1
 written_graph (Err f) drawn text none w w' start tells x = tt
 
 -- what was read, without a picture

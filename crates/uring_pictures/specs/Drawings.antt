@@ -3,6 +3,7 @@ use Rattle.std.specs.Prelude.{◌≡◌, ℕ, Bool, List, Option}
 use Rattle.std.specs.List.{AllByRecursion}
 use Rattle.std.specs.Io.KnownBytes.{Consumes, Appends, IsAtEnd}
 use Rattle.uring_entry.specs.Setup.{Setup}
+use Rattle.uring_core.specs.World.{requests_of}
 use Rattle.uring_core.specs.CalledFor.{IsLawful}
 use Rattle.uring_core.specs.Histories.{world, history_of}
 use Rattle.uring_text.specs.Lines.{Splits, with_last}
@@ -37,4 +38,4 @@ pub record Draws (at : Option ℕ) (setup : Setup) (bad : Bool) (left_before lef
   pub first : lines_of exchanges ≡ up_to at (with_last lines rest)
   pub each : AllByRecursion (λ x. IsReadAs x.line x.event) exchanges
   pub lawful : IsLawful setup (history_of (events_of exchanges))
-  pub drawn : Appends held_before held_after (graph_of (world setup (history_of (events_of exchanges))).requests)
+  pub drawn : Appends held_before held_after (graph_of setup.linux (requests_of (world setup (history_of (events_of exchanges)))))

@@ -4,6 +4,8 @@ use Rattle.std.specs.List.{AllByRecursion}
 use Rattle.uring_entry.specs.Setup.{Setup}
 use Rattle.uring_entry.specs.Layout.{Sqe}
 use Rattle.uring_entry.specs.Requests.{Requests, has_ended}
+use Rattle.uring_linux.specs.LinuxRequests.{LinuxRequests}
+use Rattle.uring_core.specs.World.{requests_of}
 use Rattle.uring_core.specs.Histories.{Event, History, history_of, world}
 use Rattle.uring_core.specs.declared.answer.Answer.{Answer}
 use Rattle.uring_core.specs.declared.answer.Answer.TheVariants as answer
@@ -30,6 +32,14 @@ Keeps a h = Keeping a.machine a.entries.items a.cuts.items h
 -- the requests that a history has made on its machine
 abbrev pub requests_at : Accepted → History → Requests
 requests_at a h = (world a.machine.core.setup h).requests
+
+-- the same, with how the drains stand
+abbrev pub linux_at : Accepted → History → LinuxRequests
+linux_at a h = requests_of (world a.machine.core.setup h)
+
+-- whether its rules are Linux's
+abbrev pub is_linux_at : Accepted → Bool
+is_linux_at a = a.machine.core.setup.linux
 
 -- whether an answer tells that a call has closed
 abbrev pub is_taken : Answer → Bool

@@ -1,10 +1,11 @@
--- The graph of the outstanding requests, in Graphviz's language: a node for each, whose shape tells how it stands, in the cluster of its call and of its chain; and arrows from each that waits, to the member of its chain before it, and to the least request for whose drain it waits. Our own rule.
+-- The graph of the outstanding requests, in Graphviz's language: a node for each, whose shape tells how it stands, in the cluster of its call and of its chain; and arrows from each that waits, to the member of its chain before it, and to the least request for whose drain it waits, or, by Linux's rules, to the least that isn't deferred. Our own rule.
 use Rattle.std.specs.Prelude.{ℕ, zero, suc, Bool, not, ◌||◌, nat_lt, nat_le, List, [], ◌++◌, length, count_by, codes, Option, Some, None, is_some, if◌then◌else◌}
 use Rattle.std.specs.Fmt.{decimal}
 use Rattle.uring_entry.specs.Flags.{io_drain, io_link, io_hardlink, skip_success}
 use Rattle.uring_entry.specs.Layout.{Sqe, has, user_data_of}
 use Rattle.uring_entry.specs.Requests.{Requests, entry_outstanding, is_last}
-use Rattle.uring_entry.specs.Why.{why_of}
+use Rattle.uring_linux.specs.LinuxRequests.{LinuxRequests}
+use Rattle.uring_rules.specs.Rules.{why_of}
 use Rattle.uring_entry.specs.declared.why.Why.{Why}
 use Rattle.uring_entry.specs.declared.why.Why.TheVariants.{Runs, IsDoomed, Waits}
 use Rattle.uring_entry.specs.declared.why.Since.{Since}
@@ -78,19 +79,19 @@ placed_text call node =
     codes "  subgraph cluster_call_" ++ decimal call ++ codes " { label=\"call " ++ decimal call ++ codes "\"; " ++ node ++ codes " }\n"
 
 -- the line of a request with this entry, where it stands
-abbrev pub line_text : Requests → ℕ → Option Sqe → List ℕ
-line_text r n None = []
-line_text r n (Some e) =
-    placed_text (call_of r n) (in_chain (is_chained r n) (first_of r n) (node_text n e (why_of r n)))
+abbrev pub line_text : (is_linux : Bool) → LinuxRequests → ℕ → Option Sqe → List ℕ
+line_text is_linux l n None = []
+line_text is_linux l n (Some e) =
+    placed_text (call_of l.requests n) (in_chain (is_chained l.requests n) (first_of l.requests n) (node_text n e (why_of is_linux l n)))
 
 -- the line of a request, if it is outstanding
-abbrev pub row_text : Requests → ℕ → List ℕ
-row_text r n = line_text r n (entry_outstanding r n)
+abbrev pub row_text : (is_linux : Bool) → LinuxRequests → ℕ → List ℕ
+row_text is_linux l n = line_text is_linux l n (entry_outstanding l.requests n)
 
 -- the lines of the first requests, so many
-abbrev pub nodes_below : Requests → ℕ → List ℕ
-nodes_below r zero = []
-nodes_below r (suc n) = nodes_below r n ++ row_text r n
+abbrev pub nodes_below : (is_linux : Bool) → LinuxRequests → ℕ → List ℕ
+nodes_below is_linux l zero = []
+nodes_below is_linux l (suc n) = nodes_below is_linux l n ++ row_text is_linux l n
 
 -- The text of arrows.
 
@@ -112,11 +113,12 @@ arrows_text n before (Waits m since) = chain_arrow n before ++ drain_arrow n m s
 arrows_text n before _ = []
 
 -- the arrows from the first requests, so many
-abbrev pub arrows_below : Requests → ℕ → List ℕ
-arrows_below r zero = []
-arrows_below r (suc n) = arrows_below r n ++ arrows_text n (member_before r n) (why_of r n)
+abbrev pub arrows_below : (is_linux : Bool) → LinuxRequests → ℕ → List ℕ
+arrows_below is_linux l zero = []
+arrows_below is_linux l (suc n) =
+    arrows_below is_linux l n ++ arrows_text n (member_before l.requests n) (why_of is_linux l n)
 
 -- the graph
-abbrev pub graph_of : Requests → List ℕ
-graph_of r =
-    codes "digraph requests {\n" ++ nodes_below r (length r.accepted) ++ arrows_below r (length r.accepted) ++ codes "}\n"
+abbrev pub graph_of : (is_linux : Bool) → LinuxRequests → List ℕ
+graph_of is_linux l =
+    codes "digraph requests {\n" ++ nodes_below is_linux l (length l.requests.accepted) ++ arrows_below is_linux l (length l.requests.accepted) ++ codes "}\n"

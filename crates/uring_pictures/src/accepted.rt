@@ -3,10 +3,10 @@
 ghost use Rattle.std.specs.Prelude.{◌≡◌, ◌++◌, ◌<◌, ◌-◌, ◌^◌, ℕ, [], length, count_by, nat_le, IfOk, IsOk, OnOk};
 ghost use Rattle.std.specs.Option.{option_to_list};
 ghost use Rattle.uring_entry.specs.Requests.{entry_of, entry_outstanding, is_last, is_linked};
-ghost use Rattle.uring_entry.specs.Why.{why_of};
+ghost use Rattle.uring_rules.specs.Rules.{why_of};
 ghost use Rattle.uring_core.specs.Histories.{History, world};
 ghost use Rattle.uring_machine.specs.Machine.{Fits};
-ghost use Rattle.uring_pictures.specs.Following.{Closes, HasAll, Keeps, MakesStep, is_taken, requests_at};
+ghost use Rattle.uring_pictures.specs.Following.{Closes, HasAll, Keeps, MakesStep, is_linux_at, is_taken, linux_at, requests_at};
 ghost use Rattle.uring_pictures.specs.Graphs.{call_of};
 
 use std::alloc::{AllocError, Global};
@@ -91,7 +91,7 @@ impl Accepted {
     /// Why a request stands as it does.
     pub(crate) fn why(&self, number: u64) -> Why
         ensures { (h : History) → Keeps self.now h
-            → result ≡ why_of (requests_at self.now h) number }
+            → result ≡ why_of (is_linux_at self.now) (linux_at self.now h) number }
     {
         self.machine.why(number)
     }

@@ -6,7 +6,7 @@ ghost use Rattle.uring_entry.specs.Setup.{Setup};
 ghost use Rattle.uring_core.specs.Histories.{History};
 ghost use Rattle.uring_trace.specs.Explaining.{HasTold};
 ghost use Rattle.uring_pictures.specs.Drawings.{Draws};
-ghost use Rattle.uring_pictures.specs.Following.{Follows, Keeps, requests_at};
+ghost use Rattle.uring_pictures.specs.Following.{Follows, Keeps, is_linux_at, linux_at};
 ghost use Rattle.uring_pictures.specs.Graphs.{graph_of};
 ghost use Rattle.uring_pictures.specs.Readings.{ReadsBoth, TakesBoth, EndsBoth, EndsLine, TakesIn};
 
@@ -132,7 +132,7 @@ fn write_graph<M: TextMemory, W: Write>(
 ) -> Result<(), TraceFault>
     ensures drawn { OnOk result
         ((h : History) → Keeps accepted.now h
-        → Appends (W.contents writer.old) (W.contents writer.new) (graph_of (requests_at accepted.now h))) }
+        → Appends (W.contents writer.old) (W.contents writer.new) (graph_of (is_linux_at accepted.now) (linux_at accepted.now h))) }
     ensures granted { ((n : ℕ) → M.grants memory.now n) → result ≢ Err TraceFault.Memory }
 {
     let mut text = String::new(alloc);

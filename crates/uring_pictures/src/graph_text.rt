@@ -2,7 +2,7 @@
 
 ghost use Rattle.std.specs.Prelude.{◌≡◌, ◌++◌, ◌+◌, ◌-◌, ◌^◌, ◌<◌, ℕ, OnOk, IsOk, string_bytes, decimal};
 ghost use Rattle.uring_core.specs.Histories.{History};
-ghost use Rattle.uring_pictures.specs.Following.{Keeps, requests_at};
+ghost use Rattle.uring_pictures.specs.Following.{Keeps, is_linux_at, linux_at, requests_at};
 ghost use Rattle.uring_pictures.specs.Graphs.{graph_of, nodes_below, arrows_below, first_of, is_chained, member_before, row_text, arrows_text, chain_arrow, drain_arrow};
 
 use crate::accepted::Accepted;
@@ -20,7 +20,7 @@ pub(crate) fn push_graph<M: TextMemory>(
 ) -> Result<(), AllocError>
     ensures graph { OnOk result
         ((h : History) → Keeps accepted.now h
-        → string_bytes text.new ≡ string_bytes text.old ++ graph_of (requests_at accepted.now h)) }
+        → string_bytes text.new ≡ string_bytes text.old ++ graph_of (is_linux_at accepted.now) (linux_at accepted.now h)) }
     ensures granted { ((n : ℕ) → M.grants memory.now n) → IsOk result }
 {
     push_text(memory, text, "digraph requests {\n")?;
@@ -38,7 +38,7 @@ fn push_nodes<M: TextMemory>(
 ) -> Result<(), AllocError>
     ensures nodes { OnOk result
         ((h : History) → Keeps accepted.now h
-        → string_bytes text.new ≡ string_bytes text.old ++ nodes_below (requests_at accepted.now h) count) }
+        → string_bytes text.new ≡ string_bytes text.old ++ nodes_below (is_linux_at accepted.now) (linux_at accepted.now h) count) }
     ensures granted { ((n : ℕ) → M.grants memory.now n) → IsOk result }
 {
     let mut first: u64 = 0;
@@ -75,7 +75,7 @@ fn push_row<M: TextMemory>(
     ensures row { OnOk result
         ((h : History) → Keeps accepted.now h
         → first ≡ first_of (requests_at accepted.now h) number
-        → string_bytes text.new ≡ string_bytes text.old ++ row_text (requests_at accepted.now h) number) }
+        → string_bytes text.new ≡ string_bytes text.old ++ row_text (is_linux_at accepted.now) (linux_at accepted.now h) number) }
     ensures granted { ((n : ℕ) → M.grants memory.now n) → IsOk result }
 {
     let Some(entry) = accepted.outstanding(number) else {
@@ -108,7 +108,7 @@ fn push_arrows<M: TextMemory>(
 ) -> Result<(), AllocError>
     ensures arrows { OnOk result
         ((h : History) → Keeps accepted.now h
-        → string_bytes text.new ≡ string_bytes text.old ++ arrows_below (requests_at accepted.now h) count) }
+        → string_bytes text.new ≡ string_bytes text.old ++ arrows_below (is_linux_at accepted.now) (linux_at accepted.now h) count) }
     ensures granted { ((n : ℕ) → M.grants memory.now n) → IsOk result }
 {
     let mut before: Option<u64> = None;

@@ -15,7 +15,7 @@ pub(crate) enum Verdict {
     /// The answers differ from the wanted ones, behind as many lines that are the same.
     Differs { lines: usize },
 
-    /// The set-up isn't four numbers with or without the word `stops`, or they are no set-up.
+    /// The set-up isn't four numbers and words that are known, or they are no set-up.
     BadSetup,
 
     /// The trace stopped before its end.
@@ -36,17 +36,28 @@ pub(crate) fn judge(alloc: Global, setup: &str, steps: &str, wanted: &str) -> Ve
     verdict
 }
 
-/// The set-up of four numbers with spaces between them, for a ring that stops if the word `stops` follows them.
+/// The set-up of four numbers with spaces between them, for a ring that stops if the word `stops` follows them, and for one of Linux's rules if the word `linux` does.
 fn setup_of(text: &str) -> Option<Setup> {
     let mut numbers = text.split_whitespace();
     let sq = number_of(numbers.next())?;
     let cq = number_of(numbers.next())?;
     let files = number_of(numbers.next())?;
     let start = number_of(numbers.next())?;
-    let setup = Setup::new(sq, Some(cq), files, start).ok()?;
-    match numbers.next() {
-        None => Some(setup),
-        Some(word) => (word == "stops").then_some(setup.stopping()),
+    let mut setup = Setup::new(sq, Some(cq), files, start).ok()?;
+    for word in numbers {
+        setup = asked(setup, word)?;
+    }
+    Some(setup)
+}
+
+/// The set-up with what a word asks for.
+fn asked(setup: Setup, word: &str) -> Option<Setup> {
+    if word == "stops" {
+        Some(setup.stopping())
+    } else if word == "linux" {
+        Some(setup.linux())
+    } else {
+        None
     }
 }
 

@@ -3,9 +3,9 @@ use Rattle.std.proofs.Common.{◌≡◌, ℕ, Bool, true, false, List, ◌∷◌
 use Rattle.uring_entry.specs.Setup.{Setup}
 use Rattle.uring_entry.specs.Layout.{Cqe}
 use Rattle.uring_entry.specs.Completions.{next_to_reap}
-use Rattle.uring_entry.specs.Requests.{next_of}
+use Rattle.uring_rules.specs.Rules.{next_of}
 use Rattle.uring_entry.specs.Submission.{call_length}
-use Rattle.uring_core.specs.World.{World}
+use Rattle.uring_core.specs.World.{World, requests_of}
 use Rattle.uring_core.specs.Core.{Core, FitsApart, IsNoFinish}
 use Rattle.uring_core.specs.StepAnswers.{CalledForApart, OrAgain, begin_answer, is_spent, reap_answer_of, next_answer_of}
 use Rattle.uring_core.specs.Histories.{History, world}
@@ -163,7 +163,7 @@ guess_called g w step.Reap a of called = subst (IsGuess step.Reap) (sym called) 
   go : (c : Option Cqe) → IsGuess step.Reap (reap_answer_of c)
   go None = tt
   go (Some c) = tt
-guess_called g w step.Next a of called = subst (IsGuess step.Next) (sym called) (go (next_of w.requests)) where
+guess_called g w step.Next a of called = subst (IsGuess step.Next) (sym called) (go (next_of g.linux (requests_of w))) where
   go : (n : Option ℕ) → IsGuess step.Next (next_answer_of n)
   go None = tt
   go (Some n) = tt

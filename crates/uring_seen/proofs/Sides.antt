@@ -1,11 +1,13 @@
 -- What the submission ring and the calls tell of a history: as much as its events do that are of them alone.
-use Rattle.std.proofs.Common.{◌≡◌, ◌++◌, Bool, true, false, List, [], ◌∷◌, Option, Some, None, if◌then◌else◌, refl, sym, ap, subst, ◌∙◌}
+use Rattle.std.proofs.Common.{◌≡◌, ◌++◌, ℕ, ℤ, Bool, true, false, List, [], ◌∷◌, Option, Some, None, if◌then◌else◌, refl, sym, ap, subst, ◌∙◌}
 use Rattle.uring_entry.specs.Setup.{Setup}
 use Rattle.uring_entry.specs.Layout.{Sqe}
 use Rattle.uring_entry.specs.Submission.{Submission, Call, entries_from}
 use Rattle.uring_entry.specs.Requests.{Requests}
 use Rattle.uring_entry.specs.Completions.{Completions}
-use Rattle.uring_core.specs.World.{World, happens, filling, staging, beginning, taking, taking_of, taking_entry_of, ending, ending_of, issuing, finishing, reaping, closing}
+use Rattle.uring_linux.specs.LinuxRequests.{LinuxRequests}
+use Rattle.uring_rules.specs.Rules.{with_issued_end}
+use Rattle.uring_core.specs.World.{World, requests_of, happens, filling, staging, beginning, taking, taking_of, taking_entry_of, ending, ending_of, issuing, finishing, reaping, closing}
 use Rattle.uring_core.specs.StepAnswers.{CalledForApart}
 use Rattle.uring_core.specs.Histories.{History, world}
 use Rattle.uring_core.specs.declared.step.Step.{Step}
@@ -28,8 +30,20 @@ same_side w = record { submission = refl; accepted = refl; closed = refl }
 side_then : (u v w : World) → SameSide u v → SameSide v w → SameSide u w
 side_then u v w s t = record { submission = s.submission ∙ t.submission; accepted = s.accepted ∙ t.accepted; closed = s.closed ∙ t.closed }
 
-abbrev world_with : Submission → Requests → Completions → Bool → World
-world_with l r c closed = record { submission = l; requests = r; completions = c; is_closed = closed }
+abbrev world_with : Submission → LinuxRequests → Completions → Bool → World
+world_with l r c closed = record {
+  submission = l;
+  requests = r.requests;
+  drains = r.drains;
+  completions = c;
+  is_closed = closed;
+}
+
+-- an end as it is issued accepts nothing
+accepted_issued : (linux : Bool) (r : Requests) (n : ℕ) (res : ℤ)
+    → (with_issued_end linux r n res).accepted ≡ r.accepted
+accepted_issued true r n res = refl
+accepted_issued false r n res = refl
 
 -- ---- the answers
 
@@ -48,8 +62,8 @@ called_side g _ a w v of e called = absurd (let f : false ≡ true = of in cc)
 -- ---- the moves
 
 -- what an event of them makes is the same in both
-moved : (g : Setup) (s : Step) (a : Answer) (l : Submission) (closed : Bool) (r q : Requests) (c d : Completions)
-    → is_submitting s ≡ true → r.accepted ≡ q.accepted
+moved : (g : Setup) (s : Step) (a : Answer) (l : Submission) (closed : Bool) (r q : LinuxRequests) (c d : Completions)
+    → is_submitting s ≡ true → r.requests.accepted ≡ q.requests.accepted
     → SameSide (happens g (world_with l r c closed) s a) (happens g (world_with l q d closed) s a)
 moved g (step.Fill slot entry) a l closed r q c d of e = go a where
   go : (a : Answer) → SameSide (filling (world_with l r c closed) slot entry a) (filling (world_with l q d closed) slot entry a)
@@ -79,11 +93,11 @@ moved g step.Take a l closed r q c d of e = go a where
   go answer.Dropped = word_taken l.call
   go _ = record { submission = refl; accepted = e; closed = refl }
 moved g step.End a l closed r q c d of e = go a where
-  ended : (call : Option Call) → SameSide (ending_of (world_with l r c closed) call) (ending_of (world_with l q d closed) call)
+  ended : (call : Option Call) → SameSide (ending_of g (world_with l r c closed) call) (ending_of g (world_with l q d closed) call)
   ended None = record { submission = refl; accepted = e; closed = refl }
   ended (Some call) = record { submission = refl; accepted = ap (λ (es : List Sqe). es ++ entries_from l call.count) e; closed = refl }
 
-  go : (a : Answer) → SameSide (ending (world_with l r c closed) a) (ending (world_with l q d closed) a)
+  go : (a : Answer) → SameSide (ending g (world_with l r c closed) a) (ending g (world_with l q d closed) a)
   go (answer.Taken accepted dropped head) = ended l.call
   go _ = record { submission = refl; accepted = e; closed = refl }
 moved g step.Close a l closed r q c d of e = go a where
@@ -95,9 +109,9 @@ moved g _ a l closed r q c d of e = absurd (let f : false ≡ true = of in cc)
 moved_side : (g : Setup) (s : Step) (a : Answer) (w v : World) → is_submitting s ≡ true → SameSide w v
     → SameSide (happens g w s a) (happens g v s a)
 moved_side g s a w v of e =
-    subst (λ (l : Submission). SameSide (happens g w s a) (happens g (world_with l v.requests v.completions v.is_closed) s a)) e.submission
-    (subst (λ (b : Bool). SameSide (happens g w s a) (happens g (world_with w.submission v.requests v.completions b) s a)) e.closed
-    (moved g s a w.submission w.is_closed w.requests v.requests w.completions v.completions of e.accepted))
+    subst (λ (l : Submission). SameSide (happens g w s a) (happens g (world_with l (requests_of v) v.completions v.is_closed) s a)) e.submission
+    (subst (λ (b : Bool). SameSide (happens g w s a) (happens g (world_with w.submission (requests_of v) v.completions b) s a)) e.closed
+    (moved g s a w.submission w.is_closed (requests_of w) (requests_of v) w.completions v.completions of e.accepted))
 
 -- any other event makes nothing of them
 other_side : (g : Setup) (s : Step) (a : Answer) (w : World) → is_submitting s ≡ false
@@ -105,7 +119,7 @@ other_side : (g : Setup) (s : Step) (a : Answer) (w : World) → is_submitting s
 other_side g (step.Issue n) a w of = go a where
   go : (a : Answer) → SameSide (issuing g w n a) w
   go answer.Run = record { submission = refl; accepted = refl; closed = refl }
-  go (answer.Ended res bytes) = record { submission = refl; accepted = refl; closed = refl }
+  go (answer.Ended res bytes) = record { submission = refl; accepted = accepted_issued g.linux w.requests n res; closed = refl }
   go _ = same_side w
 other_side g (step.Finish n) a w of = go a where
   go : (a : Answer) → SameSide (finishing g w n a) w

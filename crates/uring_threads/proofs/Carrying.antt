@@ -27,7 +27,7 @@ use Rattle.uring_threads.specs.Dispatched.{HaveCarried, AreTakenIn}
 use Rattle.uring_workers.specs.WorkLanes.{IsSent, jobs_sent, results_received}
 use Rattle.uring_threads.specs.Issued.{IssuedAs}
 use Rattle.uring_threads.specs.Delivered.{OnlyPosts}
-use Rattle.uring_threads.proofs.Posting.{end_posts}
+use Rattle.uring_threads.proofs.Posting.{end_posts, accepted_issued}
 use Rattle.uring_threads.proofs.TraceSteps.{grown}
 use Rattle.uring_threads.specs.Kept.{Kept, now, Grows, history}
 use Rattle.uring_threads.specs.Tallies.{Tally, Appends, issues_request, most_results, takes_result}
@@ -98,8 +98,8 @@ carried_stays a b lanes stays carried = λ k d low.
 only_posts : (a : Kept) (n : ℕ) (res : ℤ) (bytes : List ℕ)
     → OnlyPosts (now a) (issuing a.setup (now a) n (answer.Ended res bytes))
 only_posts a n res bytes =
-    let p = end_posts a.setup.cq (now a).completions (entry_of (now a).requests n) res no_bytes in
-    record { submission = refl; accepted = refl; is_closed = refl; reaped = p.0; head = p.1 }
+    let p = end_posts a.setup (now a) n res no_bytes in
+    record { submission = refl; accepted = accepted_issued a.setup.linux (now a).requests n res; is_closed = refl; reaped = p.0; head = p.1 }
 
 ended_stays : (a b : Kept) (n : ℕ) → IssuedAs a b n None → WorkStays a b
 ended_stays a b n issued = by_answer issued.0 issued.1 issued.2 where

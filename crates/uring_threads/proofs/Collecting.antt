@@ -108,7 +108,7 @@ same_taken_in a b workers k u =
 -- the end of a request posts a completion, or none
 posts_end : (a b : Kept) (r : JobResult) → Grows a b (finish_of r) → OnlyPosts (now a) (now b)
 posts_end a b r g =
-    let p = end_posts a.setup.cq (now a).completions (entry_of (now a).requests r.number) r.outcome.res r.outcome.bytes in
+    let p = end_posts a.setup (now a) r.number r.outcome.res r.outcome.bytes in
     subst (OnlyPosts (now a)) (sym (grown a b (step.Finish r.number) (answer.Ended r.outcome.res r.outcome.bytes) g)) (record { submission = refl; accepted = refl; is_closed = refl; reaped = p.0; head = p.1 })
 
 -- what couldn't be taken in still can't where nothing happened

@@ -24,7 +24,7 @@ module _ (a room flushed loaded reaped b : Kept) (x y z : Answer) (all : List Cq
       ∙ ap (λ (w : World). on_completions w (with_tail_loaded w.completions)) (grown room flushed step.Flush x flush ∙ ap (λ (w : World). on_completions w (with_flushed room.setup.cq w.completions)) (unmoved_now a room u))))
 
   pub row_keeps : KeepsAllBut (now a) (now b)
-  row_keeps = subst (λ w. KeepsAllBut (now a) w) (sym row) (record { submission = refl; requests = refl; is_closed = refl; posted = refl })
+  row_keeps = subst (λ w. KeepsAllBut (now a) w) (sym row) (record { submission = refl; requests = refl; drains = refl; is_closed = refl; posted = refl })
 
   pub row_delivers : IsDelivered (now b).completions all
   row_delivers = subst (λ (w : World). IsDelivered w.completions all) (sym row) (record { reaped = refl; head = refl })

@@ -3,7 +3,6 @@ use Rattle.std.proofs.Common.{◌≡◌, ◌+◌, ◌<◌, ◌≤◌, ◌==◌, 
 use Rattle.std.specs.Prelude.{◌⊎◌, None, Result, Ok, Err, IfOk, OnErr, Bool}
 use Rattle.std.proofs.lemmas.List.{length-append}
 use Rattle.std.proofs.lemmas.List.Sums.{length-filter, count_by-le-length}
-use Rattle.uring_entry.specs.Requests.{next_of}
 use Rattle.uring_entry.specs.Setup.{Setup}
 use Rattle.uring_laws.specs.Direct.{with_told}
 use Rattle.uring_core.specs.Histories.{Event, History, world, history_of}
@@ -13,7 +12,7 @@ use Rattle.uring_core.specs.declared.answer.Answer.TheVariants as answer
 use Rattle.uring_core.proofs.Following.{history_of_cons}
 use Rattle.uring_threads.specs.Dispatched.{HaveCarried}
 use Rattle.uring_workers.specs.WorkLanes.{HoldJobs, HoldResults, AreSameLanes, SomeIsFull}
-use Rattle.uring_threads.specs.Kept.{Kept, now, history}
+use Rattle.uring_threads.specs.Kept.{Kept, now, history, next_in}
 use Rattle.uring_threads.specs.Tallies.{Tally, Appends, starts_request}
 use Rattle.uring_threads.specs.Turns.{Counts}
 use Rattle.uring_workers.specs.Work.{place_of}
@@ -72,9 +71,9 @@ short_stays old new same short = λ k d low.
 
 -- so as long as fewer requests were started, no lane keeps one from being issued
 pub next_is_none : {X E : Type 0} (r : Result X E) (k : Kept) (lanes : List WorkLanes)
-    → IfOk r (λ turn. (next_of (now k).requests ≡ None) ⊎ SomeIsFull lanes) → HaveCarried k lanes
+    → IfOk r (λ turn. (next_in k ≡ None) ⊎ SomeIsFull lanes) → HaveCarried k lanes
     → HoldJobs lanes
-    → IfOk r (λ turn. count_by starts_request k.trace < 64 → next_of (now k).requests ≡ None)
+    → IfOk r (λ turn. count_by starts_request k.trace < 64 → next_in k ≡ None)
 next_is_none (Ok x) k lanes left carried hold = λ few. elim left [ inl none ↦ none | inr full ↦ absurd (omega (arith, few, some_full k lanes carried hold full)) ]
 next_is_none (Err e) k lanes left carried hold = tt
 

@@ -7,8 +7,8 @@ use Rattle.std.proofs.lemmas.Grind.{flat_map-append}
 use Rattle.std.proofs.lemmas.List.{map-append, length-map, length-append, take_more, take_all}
 use Rattle.std.specs.List.{slice_get}
 use Rattle.std.proofs.lemmas.Option.{slice_get_within, get_or_from_slice_get}
-use Rattle.uring_entry.specs.Completions.{Completions, unreaped, with_end, with_posted, completion_for}
-use Rattle.uring_entry.specs.Success.{posts_completion}
+use Rattle.uring_entry.specs.Completions.{Completions, unreaped, with_posted, completion_for}
+use Rattle.uring_rules.specs.Rules.{posts}
 use Rattle.uring_core.specs.CalledFor.{IsLawful}
 use Rattle.uring_laws.specs.Laws.{ReapedBeginPosted, in_ring, in_overflow}
 use Rattle.uring_ports.specs.Items.{all_published_as, published_as, AreItems}
@@ -23,7 +23,7 @@ use Rattle.uring_entry.specs.Requests.{entry_of, is_running}
 use Rattle.uring_entry.specs.Setup.{Setup}
 use Rattle.uring_entry.specs.Submission.{Submission, taken, published_items, IsItem}
 use Rattle.uring_core.specs.Histories.{Event, world, history_of}
-use Rattle.uring_core.specs.World.{World}
+use Rattle.uring_core.specs.World.{World, with_end_of}
 use Rattle.uring_core.proofs.Following.{history_of_snoc}
 use Rattle.uring_threads.specs.Delivered.{OnlyPosts}
 use Rattle.uring_threads.specs.Turns.{IsDelivered, Tied, ClosesOnce, waiting_in, is_shut}
@@ -53,7 +53,7 @@ finishes_post : (g : Setup) (events : List Event) (rs : List JobResult)
 finishes_post g events [] = subst (λ es. OnlyPosts (world g (history_of events)) (world g (history_of es))) (sym (append-nil events)) (posts_none (world g (history_of events)))
 finishes_post g events (r ∷ rs) =
     let w : World = world g (history_of events) in
-    let p = end_posts g.cq w.completions (entry_of w.requests r.number) r.outcome.res r.outcome.bytes in
+    let p = end_posts g w r.number r.outcome.res r.outcome.bytes in
     let one : OnlyPosts w (world g (history_of (events ++ finish_of r ∷ []))) = subst (λ h. OnlyPosts w (world g h)) (sym (history_of_snoc events (finish_of r))) (record { submission = refl; accepted = refl; is_closed = refl; reaped = p.0; head = p.1 }) in
     subst (λ es. OnlyPosts w (world g (history_of es))) (append_assoc events (finish_of r ∷ []) (map finish_of rs))
     (posts_then w (world g (history_of (events ++ finish_of r ∷ []))) (world g (history_of ((events ++ finish_of r ∷ []) ++ map finish_of rs))) one (finishes_post g (events ++ finish_of r ∷ []) rs))
@@ -209,11 +209,17 @@ all_listed size l items k law so_far many =
     ap (λ xs. l.reaped ++ xs) (so_far ∙ take_all k (unreaped l) (omega (arith, length-drop (length l.reaped) l.posted, many)) ∙ rest) ∙ sym law.in_order
 
 -- Each result that is taken in posts at most one completion.
-one_end : (size : ℕ) (l : Completions) (entry : Sqe) (res : ℤ) (bytes : List ℕ)
-    → length (unreaped (with_end size l entry res bytes)) ≤ length (unreaped l) + 1
-one_end size l entry res bytes = by_posts (posts_completion entry res) where
-  by_posts : (posts : Bool) → length (unreaped (if posts then with_posted size l (completion_for entry res bytes) else l)) ≤ length (unreaped l) + 1
-  by_posts true = omega (arith, length-drop (length l.reaped) (l.posted ++ completion_for entry res bytes ∷ []), length-append l.posted (completion_for entry res bytes ∷ []), length-drop (length l.reaped) l.posted)
+one_end : (g : Setup) (w : World) (n : ℕ) (res : ℤ) (bytes : List ℕ)
+    → length (unreaped (with_end_of g w n res bytes)) ≤ length (unreaped w.completions) + 1
+one_end g w n res bytes = by_posts (posts g.linux w.requests n res) where
+  l : Completions
+  l = w.completions
+
+  c : Cqe
+  c = completion_for (entry_of w.requests n) res bytes
+
+  by_posts : (told : Bool) → length (unreaped (if told then with_posted g.cq l c else l)) ≤ length (unreaped l) + 1
+  by_posts true = omega (arith, length-drop (length l.reaped) (l.posted ++ c ∷ []), length-append l.posted (c ∷ []), length-drop (length l.reaped) l.posted)
   by_posts false = omega arith
 
 each_posts : (g : Setup) (events : List Event) (rs : List JobResult)
@@ -223,7 +229,7 @@ each_posts g events [] = subst (λ es. length (unreaped (world g (history_of es)
 each_posts g events (r ∷ rs) =
     let w : World = world g (history_of events) in
     let one : length (unreaped (world g (history_of (events ++ finish_of r ∷ []))).completions) ≤ length (unreaped w.completions) + 1 =
-    subst (λ h. length (unreaped (world g h).completions) ≤ length (unreaped w.completions) + 1) (sym (history_of_snoc events (finish_of r))) (one_end g.cq w.completions (entry_of w.requests r.number) r.outcome.res r.outcome.bytes) in
+    subst (λ h. length (unreaped (world g h).completions) ≤ length (unreaped w.completions) + 1) (sym (history_of_snoc events (finish_of r))) (one_end g w r.number r.outcome.res r.outcome.bytes) in
     subst (λ es. length (unreaped (world g (history_of es)).completions) ≤ length (unreaped w.completions) + length (r ∷ rs)) (append_assoc events (finish_of r ∷ []) (map finish_of rs))
     (omega (arith, one, each_posts g (events ++ finish_of r ∷ []) rs))
 

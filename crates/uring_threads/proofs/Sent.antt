@@ -9,8 +9,11 @@ use Rattle.std.proofs.lemmas.List.{map-append, length-append}
 use Rattle.uring_entry.specs.Setup.{Setup}
 use Rattle.uring_entry.specs.Layout.{Sqe, zero_entry}
 use Rattle.uring_entry.specs.Preparation.{operation_of, is_cancel}
-use Rattle.uring_entry.specs.Requests.{Requests, Ending, entry_of, has_started, has_ended, is_outstanding, is_running, is_doomed, is_ready, doomed_result, cancel_result, no_bytes, with_call}
-use Rattle.uring_core.specs.World.{World}
+use Rattle.uring_entry.specs.Requests.{Requests, Ending, entry_of, has_started, has_ended, is_outstanding, is_running, no_bytes, with_call}
+use Rattle.uring_linux.specs.LinuxRequests.{LinuxRequests}
+use Rattle.uring_rules.specs.Rules as by_rules
+use Rattle.uring_rules.specs.Rules.{may_start, doomed_result, cancel_result, with_issued_end}
+use Rattle.uring_core.specs.World.{World, requests_of}
 use Rattle.uring_core.specs.Events.{started_by, end_told_by}
 use Rattle.uring_laws.specs.Direct.{with_told}
 use Rattle.uring_files.specs.Done.{Done}
@@ -41,23 +44,33 @@ jobs_stay r entries (n ∷ ns) within =
     let here : job_in r n ≡ job_in (with_call r entries) n = ap (λ e. record { number = n; op = operation_of e }) (sym (entry_stays r entries n (within n (or_left _ _ (eq-eqb n n refl))))) in
     ap (λ j. j ∷ map (job_in r) ns) here ∙ ap (λ js. job_in (with_call r entries) n ∷ js) (jobs_stay r entries ns (λ m there. within m (or_right _ _ there)))
 
-jobs_then : (r q : Requests) (s : Step) (a : Answer) (jobs : List Job) → Move r s a q
-    → IsSoundRequests r → jobs ≡ map (job_in r) r.started
-    → with_told jobs (option_map (job_in r) (started_by (s, a))) ≡ map (job_in q) q.started
-jobs_then r q s a jobs (stays _ _ no_start no_end) i same =
-    ap (λ o. with_told jobs (option_map (job_in r) o)) no_start ∙ same
-jobs_then r q s a jobs (accepts accepted missed head entries) i same =
-    same ∙ jobs_stay r entries r.started i.started_accepted
-jobs_then r q s a jobs (starts n outstanding idle spared ready no_cancel) i same =
-    ap (λ js. js ++ job_in r n ∷ []) same ∙ sym (map-append (job_in r) r.started (n ∷ []))
-jobs_then r q s a jobs (ends_doomed n outstanding) i same = same
-jobs_then r q s a jobs (ends_cancel n outstanding spared ready cancel) i same = same
-jobs_then r q s a jobs (ends_run n res bytes running) i same = same
+-- an end as it is issued leaves the starts and the entries
+jobs_issued : (linux : Bool) (r : Requests) (n : ℕ) (res : ℤ) (jobs : List Job)
+    → jobs ≡ map (job_in r) r.started
+    → jobs ≡ map (job_in (with_issued_end linux r n res)) (with_issued_end linux r n res).started
+jobs_issued true r n res jobs same = same
+jobs_issued false r n res jobs same = same
+
+jobs_then : (linux : Bool) (l : LinuxRequests) (q : Requests) (s : Step) (a : Answer) (jobs : List Job)
+    → Move linux l s a q → IsSoundRequests l.requests
+    → jobs ≡ map (job_in l.requests) l.requests.started
+    → with_told jobs (option_map (job_in l.requests) (started_by (s, a))) ≡ map (job_in q) q.started
+jobs_then linux l q s a jobs (stays _ _ no_start no_end) i same =
+    ap (λ o. with_told jobs (option_map (job_in l.requests) o)) no_start ∙ same
+jobs_then linux l q s a jobs (accepts accepted missed head entries) i same =
+    same ∙ jobs_stay l.requests entries l.requests.started i.started_accepted
+jobs_then linux l q s a jobs (starts n outstanding idle spared ready no_cancel) i same =
+    ap (λ js. js ++ job_in l.requests n ∷ []) same ∙ sym (map-append (job_in l.requests) l.requests.started (n ∷ []))
+jobs_then linux l q s a jobs (ends_doomed n outstanding) i same =
+    jobs_issued linux l.requests n _ jobs same
+jobs_then linux l q s a jobs (ends_cancel n outstanding spared ready cancel) i same =
+    jobs_issued linux l.requests n _ jobs same
+jobs_then linux l q s a jobs (ends_run n res bytes running) i same = same
 
 pub jobs_are_starts : (g : Setup) (h : History) → IsLawfulApart g h
     → jobs_in g h ≡ map (job_in (world g h).requests) (world g h).requests.started
 jobs_are_starts g [] lawful = refl
-jobs_are_starts g ((s, a) ∷ h) lawful = jobs_then (world g h).requests _ s a (jobs_in g h) (move_of g s a h lawful) (sound_of g h lawful.1).requests (jobs_are_starts g h lawful.1)
+jobs_are_starts g ((s, a) ∷ h) lawful = jobs_then g.linux (requests_of (world g h)) _ s a (jobs_in g h) (move_of g s a h lawful) (sound_of g h lawful.1).requests (jobs_are_starts g h lawful.1)
 
 -- Operations: one for each request that started and ended.
 
@@ -86,23 +99,30 @@ silent_none w (step.Finish n) (answer.Ended res bytes) e = absurd cc
 silent_none w (step.Finish n) a e = refl
 silent_none w s a e = refl
 
-done_then : (w : World) (q : Requests) (s : Step) (a : Answer) (done : List Done)
-    → Move w.requests s a q → IsSoundRequests w.requests → AreOf w.requests.accepted done
+-- an end as it is issued accepts nothing
+of_issued : (linux : Bool) (r : Requests) (n : ℕ) (res : ℤ) (done : List Done) → AreOf r.accepted done
+    → AreOf (with_issued_end linux r n res).accepted done
+of_issued true r n res done all = all
+of_issued false r n res done all = all
+
+done_then : (linux : Bool) (w : World) (q : Requests) (s : Step) (a : Answer) (done : List Done)
+    → Move linux (requests_of w) s a q → IsSoundRequests w.requests → AreOf w.requests.accepted done
     → AreOf q.accepted (with_told done (done_by w (s, a)))
-done_then w q s a done (stays _ _ no_start no_end) i all =
+done_then linux w q s a done (stays _ _ no_start no_end) i all =
     subst (λ o. AreOf w.requests.accepted (with_told done o)) (sym (silent_none w s a no_end)) all
-done_then w q s a done (accepts accepted missed head entries) i all =
+done_then linux w q s a done (accepts accepted missed head entries) i all =
     of_call w.requests entries done all
-done_then w q s a done (starts n outstanding idle spared ready no_cancel) i all = all
-done_then w q s a done (ends_doomed n outstanding) i all = all
-done_then w q s a done (ends_cancel n outstanding spared ready cancel) i all = all
-done_then w q s a done (ends_run n res bytes running) i all =
+done_then linux w q s a done (starts n outstanding idle spared ready no_cancel) i all = all
+done_then linux w q s a done (ends_doomed n outstanding) i all = of_issued linux w.requests n _ done all
+done_then linux w q s a done (ends_cancel n outstanding spared ready cancel) i all =
+    of_issued linux w.requests n _ done all
+done_then linux w q s a done (ends_run n res bytes running) i all =
     of_snoc w.requests.accepted done _ all (i.started_accepted n (and_parts _ _ running).0) refl
 
 pub done_is_of : (g : Setup) (h : History) → IsLawfulApart g h
     → AreOf (world g h).requests.accepted (done_in g h)
 done_is_of g [] lawful = tt
-done_is_of g ((s, a) ∷ h) lawful = done_then (world g h) _ s a (done_in g h) (move_of g s a h lawful) (sound_of g h lawful.1).requests (done_is_of g h lawful.1)
+done_is_of g ((s, a) ∷ h) lawful = done_then g.linux (world g h) _ s a (done_in g h) (move_of g s a h lawful) (sound_of g h lawful.1).requests (done_is_of g h lawful.1)
 
 -- what an Issue ends wasn't running
 issue_idle : (outstanding running doomed ready cancel : Bool) (as_doomed as_cancel res : ℤ) (bytes : List ℕ)
@@ -114,12 +134,12 @@ issue_idle false true doomed ready cancel as_doomed as_cancel res bytes e = absu
 issue_idle true true doomed ready cancel as_doomed as_cancel res bytes e = absurd cc
 
 -- so it hadn't started
-not_started : (w : World) (n : ℕ) (res : ℤ) (bytes : List ℕ)
-    → answer.Ended res bytes ≡ issue_answer w n → is_outstanding w.requests n ≡ true
+not_started : (g : Setup) (w : World) (n : ℕ) (res : ℤ) (bytes : List ℕ)
+    → answer.Ended res bytes ≡ issue_answer g w n → is_outstanding w.requests n ≡ true
     → has_started w.requests n ≡ false
-not_started w n res bytes called outstanding =
+not_started g w n res bytes called outstanding =
     idle_tells w.requests n
-    (issue_idle (is_outstanding w.requests n) (is_running w.requests n) (is_doomed w.requests n) (is_ready w.requests n) (is_cancel (entry_of w.requests n)) (doomed_result w.requests n) (cancel_result w.requests n) res bytes called)
+    (issue_idle (is_outstanding w.requests n) (is_running w.requests n) (by_rules.ends_doomed g.linux w.requests n) (may_start g.linux (requests_of w) n) (is_cancel (entry_of w.requests n)) (doomed_result g.linux w.requests n) (cancel_result g.linux w.requests n) res bytes called)
     (outstanding_tells w.requests n outstanding).1
 
 -- what has started and ended was carried out
@@ -138,8 +158,16 @@ end_carries r m end done at fresh all n started ended =
       | inr new ↦ absurd (both_ways _ (subst (λ k. has_started r k ≡ false) (sym at ∙ eqb-true _ _ new) fresh) started)
     ]
 
+-- one that ended as it was issued
+carried_issued : (linux : Bool) (r : Requests) (m : ℕ) (res : ℤ) (done : List Done)
+    → has_started r m ≡ false → Carried r done → Carried (with_issued_end linux r m res) done
+carried_issued true r m res done fresh all =
+    end_carries r m (record { number = m; res = res; bytes = no_bytes }) done refl fresh all
+carried_issued false r m res done fresh all =
+    end_carries r m (record { number = m; res = res; bytes = no_bytes }) done refl fresh all
+
 carried_then : (g : Setup) (w : World) (q : Requests) (s : Step) (a : Answer) (done : List Done)
-    → Move w.requests s a q → CalledForApart g w s a → Carried w.requests done
+    → Move g.linux (requests_of w) s a q → CalledForApart g w s a → Carried w.requests done
     → Carried q (with_told done (done_by w (s, a)))
 carried_then g w q s a done (stays _ _ no_start no_end) called all = λ n started ended. omega (arith, all n started ended, times_told (λ (d : Done). d.number == n) done (done_by w (s, a)))
 carried_then g w q s a done (accepts accepted missed head entries) called all = all
@@ -150,9 +178,9 @@ carried_then g w q s a done (starts m outstanding idle spared ready no_cancel) c
       | inr new ↦ absurd (both_ways _ (subst (λ k. has_ended w.requests k ≡ false) (eqb-true _ _ new) (outstanding_tells w.requests m outstanding).1) ended)
     ]
 carried_then g w q s a done (ends_doomed m outstanding) called all =
-    end_carries w.requests m (record { number = m; res = doomed_result w.requests m; bytes = no_bytes }) done refl (not_started w m _ _ called outstanding) all
+    carried_issued g.linux w.requests m _ done (not_started g w m _ _ called outstanding) all
 carried_then g w q s a done (ends_cancel m outstanding spared ready cancel) called all =
-    end_carries w.requests m (record { number = m; res = cancel_result w.requests m; bytes = no_bytes }) done refl (not_started w m _ _ called outstanding) all
+    carried_issued g.linux w.requests m _ done (not_started g w m _ _ called outstanding) all
 carried_then g w q s a done (ends_run m res bytes running) called all = λ n started ended.
     elim (any_new (λ e. e.number == n) w.requests.ended (record { number = m; res = res; bytes = bytes }) ended) [
       | inl old ↦ omega (arith, all n started old, times_told (λ (d : Done). d.number == n) done (done_by w (s, a)))
@@ -168,16 +196,23 @@ carried_out g ((s, a) ∷ h) lawful = carried_then g (world g h) _ s a (done_in 
 abbrev FewerDone : Requests → List Done → Type 0
 FewerDone r done = (n : ℕ) → times (λ d. d.number == n) done ≤ times (λ e. e.number == n) r.ended
 
-ended_then : (w : World) (q : Requests) (s : Step) (a : Answer) (done : List Done)
-    → Move w.requests s a q → FewerDone w.requests done
+fewer_issued : (linux : Bool) (r : Requests) (m : ℕ) (res : ℤ) (done : List Done) → FewerDone r done
+    → FewerDone (with_issued_end linux r m res) done
+fewer_issued true r m res done all = λ n. omega (arith, all n, times_append (λ (e : Ending). e.number == n) r.ended (record { number = m; res = res; bytes = no_bytes } ∷ []))
+fewer_issued false r m res done all = λ n. omega (arith, all n, times_append (λ (e : Ending). e.number == n) r.ended (record { number = m; res = res; bytes = no_bytes } ∷ []))
+
+ended_then : (linux : Bool) (w : World) (q : Requests) (s : Step) (a : Answer) (done : List Done)
+    → Move linux (requests_of w) s a q → FewerDone w.requests done
     → FewerDone q (with_told done (done_by w (s, a)))
-ended_then w q s a done (stays _ _ no_start no_end) all =
+ended_then linux w q s a done (stays _ _ no_start no_end) all =
     subst (λ o. FewerDone w.requests (with_told done o)) (sym (silent_none w s a no_end)) all
-ended_then w q s a done (accepts accepted missed head entries) all = all
-ended_then w q s a done (starts m outstanding idle spared ready no_cancel) all = all
-ended_then w q s a done (ends_doomed m outstanding) all = λ n. omega (arith, all n, times_append (λ (e : Ending). e.number == n) w.requests.ended (record { number = m; res = doomed_result w.requests m; bytes = no_bytes } ∷ []))
-ended_then w q s a done (ends_cancel m outstanding spared ready cancel) all = λ n. omega (arith, all n, times_append (λ (e : Ending). e.number == n) w.requests.ended (record { number = m; res = cancel_result w.requests m; bytes = no_bytes } ∷ []))
-ended_then w q s a done (ends_run m res bytes running) all = λ n.
+ended_then linux w q s a done (accepts accepted missed head entries) all = all
+ended_then linux w q s a done (starts m outstanding idle spared ready no_cancel) all = all
+ended_then linux w q s a done (ends_doomed m outstanding) all =
+    fewer_issued linux w.requests m _ done all
+ended_then linux w q s a done (ends_cancel m outstanding spared ready cancel) all =
+    fewer_issued linux w.requests m _ done all
+ended_then linux w q s a done (ends_run m res bytes running) all = λ n.
     omega (
       arith,
       all n,
@@ -189,4 +224,4 @@ pub done_ended : (g : Setup) (h : History) → IsLawfulApart g h
     → FewerDone (world g h).requests (done_in g h)
 done_ended g [] lawful = λ n. omega arith
 done_ended g ((s, a) ∷ h) lawful =
-    ended_then (world g h) _ s a (done_in g h) (move_of g s a h lawful) (done_ended g h lawful.1)
+    ended_then g.linux (world g h) _ s a (done_in g h) (move_of g s a h lawful) (done_ended g h lawful.1)

@@ -1,7 +1,7 @@
 -- The dispatcher's ties stay through the parts of a turn, and their tallies add up.
 use Rattle.std.proofs.Common.{◌≡◌, ℕ, List, [], ◌++◌, sum, refl, sym, subst, ap, ap₂, ◌∙◌, arith}
 use Rattle.std.specs.Prelude.{◌⊎◌, ◌+◌, ◌-◌, ◌^◌, length, nat_lt, None, Result, Ok, Err, IfOk, OnOk}
-use Rattle.uring_entry.specs.Requests.{Requests, next_of}
+use Rattle.uring_entry.specs.Requests.{Requests}
 use Rattle.uring_entry.specs.Setup.{Setup}
 use Rattle.uring_entry.specs.Layout.{Cqe, Sqe}
 use Rattle.uring_entry.specs.Submission.{Submission, published_items}
@@ -10,8 +10,10 @@ use Rattle.uring_ports.specs.Ports.{Put}
 use Rattle.uring_threads.specs.Delivered.{KeepsAllBut, OnlyPosts}
 use Rattle.uring_threads.specs.Dispatched.{HaveCarried}
 use Rattle.uring_workers.specs.WorkLanes.{AreSameLanes, OnlyReceives, SomeIsFull}
-use Rattle.uring_core.specs.World.{World}
-use Rattle.uring_threads.specs.Kept.{Kept, now, IsUnmoved}
+use Rattle.uring_linux.specs.Drains.{Drains}
+use Rattle.uring_rules.specs.Rules.{next_of}
+use Rattle.uring_core.specs.World.{World, requests_of}
+use Rattle.uring_threads.specs.Kept.{Kept, now, IsUnmoved, next_in}
 use Rattle.uring_threads.specs.Kernel.{Kernel, IsKernel}
 use Rattle.uring_threads.specs.Served.{HasServed}
 use Rattle.uring_threads.specs.Taking.{TakesIn}
@@ -185,7 +187,7 @@ served_with old new turn lent back same s =
       counts = s.counts;
       begun = s.begun;
       pulls = s.pulls;
-      none_left = subst (λ ls. (next_of (now new.kept).requests ≡ None) ⊎ SomeIsFull ls) (sym same) s.none_left;
+      none_left = subst (λ ls. (next_in new.kept ≡ None) ⊎ SomeIsFull ls) (sym same) s.none_left;
       all = s.all;
       most = s.most;
       looked = s.looked;
@@ -197,3 +199,10 @@ pub with_ok : {X E : Type 0} (r : Result X E) (P Q : X → Type 0) (A B : Type 0
     → ((x : X) → P x → A → B → Q x) → IfOk r P → OnOk r A → OnOk r B → IfOk r Q
 with_ok (Ok x) P Q A B follows p a b = follows x p a b
 with_ok (Err e) P Q A B follows p a b = tt
+
+-- what can be issued next stays where only the completion ring changes
+pub same_next : (a b : Kept) → KeepsAllBut (now a) (now b) → b.setup ≡ a.setup → next_in b ≡ next_in a
+same_next a b keeps same =
+    ap (λ (g : Setup). next_of g.linux (requests_of (now b))) same
+    ∙ ap (λ (r : Requests). next_of a.setup.linux (record { requests = r; drains = (now b).drains })) keeps.requests
+    ∙ ap (λ (d : Drains). next_of a.setup.linux (record { requests = (now a).requests; drains = d })) keeps.drains

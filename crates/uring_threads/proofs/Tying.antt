@@ -93,7 +93,7 @@ tied_published size w put items t not_closed few =
           items_published l size shown t.stands.fresh (omega (arith, few, length-map items published_as)) (all_last (IsItem size) before shown all)
           ∙ ap (λ xs. xs ++ shown) (t.published (all_first (IsItem size) before shown all)) ∙ sym whole;
       calls = ap (λ xs. xs ++ length items ∷ []) (items_keep_calls l 0 shown ∙ sym (append-nil l.calls) ∙ t.calls) ∙ sym (map-append length put.calls (items ∷ []));
-      stands = subst (Stands _ []) (many ∙ omega arith) (tail_publishes (record { sq = size; cq = 0; files = 0; start = 0; stops = false }) _ _ put_stands.0);
+      stands = subst (Stands _ []) (many ∙ omega arith) (tail_publishes (record { sq = size; cq = 0; files = 0; start = 0; stops = false; linux = false }) _ _ put_stands.0);
       spent = tt;
       closed = t.closed;
       shut = sym not_closed;

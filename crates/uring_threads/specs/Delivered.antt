@@ -16,6 +16,7 @@ with_reaped_all l reaped = record l { reaped = reaped }
 pub record KeepsAllBut (w v : World) : Type 0 where
   pub submission : v.submission ≡ w.submission
   pub requests : v.requests ≡ w.requests
+  pub drains : v.drains ≡ w.drains
   pub is_closed : v.is_closed ≡ w.is_closed
   pub posted : v.completions.posted ≡ w.completions.posted
 

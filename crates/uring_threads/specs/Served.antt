@@ -1,11 +1,10 @@
 -- What a turn does, and what it pulls and delivers at least. Our own rule.
 use Rattle.std.specs.Prelude.{◌≡◌, ◌≤◌, ◌⊎◌, ℕ, false, None, length}
 use Rattle.uring_entry.specs.Completions.{Completions}
-use Rattle.uring_entry.specs.Requests.{next_of}
 use Rattle.uring_entry.specs.Submission.{dropped}
 use Rattle.uring_ports.specs.Dropped.{with_word}
 use Rattle.uring_ports.specs.Seen.{SeenCalls, FindsNoCall, HasLooked}
-use Rattle.uring_threads.specs.Kept.{now}
+use Rattle.uring_threads.specs.Kept.{now, next_in}
 use Rattle.uring_threads.specs.Kernel.{Kernel}
 use Rattle.uring_threads.specs.Turns.{Counts, awaits_memory}
 use Rattle.uring_threads.specs.declared.intake.Intake.{Intake}
@@ -31,7 +30,7 @@ pub record HasServed (old new : Kernel) (turn : Turn) : Type 0 where
   -- what waited was pulled: if the intake is ready and no item was pulled, the port has looked, and shows no whole call and no close mark
   pub pulls : PullsMost new.intake turn.popped old.saw_calls new.saw_calls
   -- no request is left that can be issued, unless some worker's lane shows no room
-  pub none_left : (next_of (now new.kept).requests ≡ None) ⊎ SomeIsFull new.lanes
+  pub none_left : (next_in new.kept ≡ None) ⊎ SomeIsFull new.lanes
   -- as long as no more was posted than the completion ring holds, all of it is reaped
   pub all : length (now new.kept).completions.posted ≤ old.kept.setup.cq
       → length new.reaped ≡ length (now new.kept).completions.posted

@@ -1,6 +1,5 @@
 //! Requests that the dispatcher issues.
 ghost use Rattle.std.specs.Prelude.{◌≡◌, ◌≤◌, ◌<◌, ℕ, ◌⊎◌, [], ◌∷◌, length, None, Some, IfSome, IsOk, IfOk, OnErr};
-ghost use Rattle.uring_entry.specs.Requests.{next_of};
 ghost use Rattle.uring_files.specs.Operations.{IsForFiles};
 ghost use Rattle.uring_core.specs.declared.step.Step.TheVariants as step;
 ghost use Rattle.uring_threads.specs.Dispatched.{HaveCarried};
@@ -8,7 +7,7 @@ ghost use Rattle.uring_workers.specs.WorkLanes.{ShowRoom, SomeIsFull, AreSameLan
 ghost use Rattle.uring_threads.specs.Delivered.{OnlyPosts};
 ghost use Rattle.uring_threads.specs.Issued.{IssuedAs};
 ghost use Rattle.uring_threads.specs.EventRows.{Records, RecordsIssues};
-ghost use Rattle.uring_threads.specs.Kept.{now};
+ghost use Rattle.uring_threads.specs.Kept.{now, next_in};
 ghost use Rattle.uring_threads.specs.Tallies.{Appends, issues_counted};
 
 use crate::kept::Kept;
@@ -21,7 +20,7 @@ use uring_workers::{Job, WorkLanes, all_show_room, place_of, send};
 /// Issues the request of this number: returns its operation if it runs, and nothing if it ended at once. Conditions: it is the next that can be issued, and the trace has room for an event.
 pub fn issue_next(kept: &mut Kept, number: u64) -> Option<Op>
     requires room { length kept.old.trace < kept.old.room }
-    requires next { next_of (now kept.old).requests ≡ Some number }
+    requires next { next_in kept.old ≡ Some number }
     ensures issued { IssuedAs kept.old kept.new number result }
     ensures asks { IfSome result IsForFiles }
     ensures tally { Appends kept.old kept.new (issues_counted 1) }
@@ -44,7 +43,7 @@ fn issue_one(kept: &mut Kept, lanes: &mut [WorkLanes], number: u64)
     requires some { 0 < length lanes.old }
     requires few { length lanes.old ≤ 8 }
     requires room { length kept.old.trace < kept.old.room }
-    requires next { next_of (now kept.old).requests ≡ Some number }
+    requires next { next_in kept.old ≡ Some number }
     requires lanes { ShowRoom lanes.old }
     requires carried { HaveCarried kept.old lanes.old }
     ensures carried { HaveCarried kept.new lanes.new }
@@ -76,7 +75,7 @@ pub fn issue_all<M: Memory>(
     ensures tally { IfOk result (λ count. Appends kept.old kept.new (issues_counted count)) }
     ensures row { RecordsIssues kept.old kept.new }
     ensures none_left { IfOk result
-        (λ count. (next_of (now kept.new).requests ≡ None) ⊎ SomeIsFull lanes.new) }
+        (λ count. (next_in kept.new ≡ None) ⊎ SomeIsFull lanes.new) }
     ensures idle { IfOk result (λ count. count ≡ 0 → kept.new.trace ≡ kept.old.trace) }
     ensures err { OnErr result ((count : ℕ) × Appends kept.old kept.new (issues_counted count)) }
     ensures granted { ((n : ℕ) → M.grants memory.now n) → IsOk result }

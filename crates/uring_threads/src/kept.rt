@@ -1,7 +1,7 @@
 //! The dispatcher's core, and the trace of what was done with it.
 ghost use Rattle.std.specs.Prelude.{◌≡◌, ℕ, ◌+◌, ◌^◌, ◌<◌, ◌≤◌, [], length, false, IsOk, IfOk, IfSome, OnOk, OnErr, slice_get};
 ghost use Rattle.uring_entry.specs.Completions.{unreaped};
-ghost use Rattle.uring_entry.specs.Requests.{operation_running, next_of};
+ghost use Rattle.uring_entry.specs.Requests.{operation_running};
 ghost use Rattle.uring_entry.specs.Setup.{IsWithinLimits};
 ghost use Rattle.uring_entry.specs.Submission.{dropped};
 ghost use Rattle.uring_files.specs.Operations.{IsForFiles};
@@ -42,7 +42,7 @@ impl Model for Kept {
 }
 
 impl Kept {
-    ghost use Rattle.uring_threads.specs.Kept.{Grows, IsUnmoved, now};
+    ghost use Rattle.uring_threads.specs.Kept.{Grows, IsUnmoved, now, next_in};
 
     /// A new core of this set-up, whose calls don't stop, with nothing recorded. `AllocError`: memory was refused; it wasn't if as many elements are granted as either ring's size.
     pub fn new<M: Memory>(memory: &M, alloc: Global, setup: &Setup) -> Result<Kept, AllocError>
@@ -115,7 +115,7 @@ impl Kept {
 
     /// The least request that can be issued. Nothing is recorded.
     pub fn next(&self) -> Option<u64>
-        ensures { result ≡ next_of (now self.now).requests }
+        ensures { result ≡ next_in self.now }
     {
         self.core.next()
     }

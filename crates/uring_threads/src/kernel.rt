@@ -1,7 +1,6 @@
 //! The dispatcher's end.
 ghost use Rattle.std.specs.Prelude.{◌≡◌, ℕ, ◌↔◌, ◌+◌, ◌*◌, ◌<◌, ◌≤◌, [], length, count_by, false, None, IsTrue, IsOk, IfOk, IfErr, OnErr, OnOk, vec_capacity};
 ghost use Rattle.uring_entry.specs.Completions.{unreaped};
-ghost use Rattle.uring_entry.specs.Requests.{next_of};
 ghost use Rattle.uring_entry.specs.Setup.{IsWithinLimits};
 ghost use Rattle.uring_core.specs.Histories.{IsLawfulApart, history_of};
 ghost use Rattle.uring_ports.specs.Dropped.{WereStored};
@@ -9,7 +8,7 @@ ghost use Rattle.uring_ports.specs.Items.{AreItems};
 ghost use Rattle.uring_ports.specs.Ports.{nothing_put, sizes_of, items_of_calls, LeavesItems, LeavesCompletions};
 ghost use Rattle.uring_workers.specs.WorkLanes.{AreSameLanes, HaveCarriedNone, HoldJobs, HoldResults, numbers_of_lanes};
 ghost use Rattle.uring_threads.specs.EventRows.{RecordsTurn};
-ghost use Rattle.uring_threads.specs.Kept.{now};
+ghost use Rattle.uring_threads.specs.Kept.{now, next_in};
 ghost use Rattle.uring_threads.specs.Served.{HasServed};
 ghost use Rattle.uring_threads.specs.Tallies.{Tally, Appends, TakesFewResults, starts_request};
 ghost use Rattle.uring_threads.specs.declared.intake.Intake.TheVariants.{Ready};
@@ -89,7 +88,7 @@ impl<P: KernelPort> Kernel<P> {
         // As long as fewer than 64 requests were started, none is left that can be issued.
         ensures next { IfOk result
             (λ turn. count_by starts_request self.new.kept.trace < 64
-            → next_of (now self.new.kept).requests ≡ None) }
+            → next_in self.new.kept ≡ None) }
         ensures err { OnErr result ((t : Tally) × Appends self.old.kept self.new.kept t) }
 
         // Its events are rows of steps, one behind the other, also if memory was refused.
@@ -118,7 +117,7 @@ impl<P: KernelPort> Kernel<P> {
         ensures served { IfOk result (HasServed self.old self.new) }
         ensures next { IfOk result
             (λ turn. count_by starts_request self.new.kept.trace < 64
-            → next_of (now self.new.kept).requests ≡ None) }
+            → next_in self.new.kept ≡ None) }
         ensures err { OnErr result ((t : Tally) × Appends self.old.kept self.new.kept t) }
         ensures rows { RecordsTurn self.old.kept self.new.kept self.old.intake self.old.pulled
             self.new.pulled result }

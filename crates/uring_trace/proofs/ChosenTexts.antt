@@ -6,6 +6,8 @@ use Rattle.uring_entry.specs.Below.{all_below}
 use Rattle.uring_entry.specs.Layout.{Sqe, addr_of, user_data_of}
 use Rattle.uring_entry.specs.Requests.{Requests, entry_of, entry_outstanding, has_ended, is_doomed, is_outstanding, is_running, is_target, targets_of}
 use Rattle.uring_entry.specs.Why.{why_of, waiting_for, holder_of, doom_of}
+use Rattle.uring_linux.specs.LinuxRequests.{LinuxRequests}
+use Rattle.uring_rules.specs.Rules as rules
 use Rattle.uring_entry.specs.declared.why.Why.{Why}
 use Rattle.uring_entry.specs.declared.why.Why.TheVariants.{NeverAccepted, HasEnded, Runs, IsDoomed, Waits, MayStart}
 use Rattle.uring_entry.specs.declared.why.Doom.{Doom}
@@ -54,19 +56,26 @@ pub stands_open : (r : Requests) (m : ℕ) → is_outstanding r m ≡ true
     → is_open (why_of r m) ≡ not (is_doomed r m) && not (is_running r m)
 stands_open r m e = open_by (nat_lt m (length r.accepted)) (has_ended r m) (is_running r m) (is_doomed r m) (doom_of r m) r m (holder_of r m) e
 
-outstanding_by : (accepted ended running doomed : Bool) (doom : Doom) (r : Requests) (m : ℕ) (holder : Option ℕ)
-    → (if not accepted then NeverAccepted else if ended then HasEnded else if running then Runs else if doomed then IsDoomed doom else waiting_for r m holder) ≡ MayStart
+outstanding_by : (accepted ended running : Bool) (rest : Why)
+    → (if not accepted then NeverAccepted else if ended then HasEnded else if running then Runs else rest) ≡ MayStart
     → accepted && not ended ≡ true
-outstanding_by true false running doomed doom r m holder e = refl
-outstanding_by true true running doomed doom r m holder e = absurd cc
-outstanding_by false ended running doomed doom r m holder e = absurd cc
+outstanding_by true false running rest e = refl
+outstanding_by true true running rest e = absurd cc
+outstanding_by false ended running rest e = absurd cc
 
--- one that may start is outstanding, so that its entry is told
-pub entry_told : (r : Requests) (n : ℕ) → MayStart ≡ why_of r n
-    → entry_outstanding r n ≡ Some (entry_of r n)
-entry_told r n e =
-    let is : is_outstanding r n ≡ true = outstanding_by (nat_lt n (length r.accepted)) (has_ended r n) (is_running r n) (is_doomed r n) (doom_of r n) r n (holder_of r n) (sym e) in
-    ap (λ (b : Bool). if b then Some (entry_of r n) else None) is
+-- one that may start is outstanding
+start_outstanding : (linux : Bool) (l : LinuxRequests) (n : ℕ) → rules.why_of linux l n ≡ MayStart
+    → is_outstanding l.requests n ≡ true
+start_outstanding true l n e =
+    outstanding_by (nat_lt n (length l.requests.accepted)) (has_ended l.requests n) (is_running l.requests n) _ e
+start_outstanding false l n e =
+    outstanding_by (nat_lt n (length l.requests.accepted)) (has_ended l.requests n) (is_running l.requests n) _ e
+
+-- so that its entry is told
+pub entry_told : (linux : Bool) (l : LinuxRequests) (n : ℕ) → MayStart ≡ rules.why_of linux l n
+    → entry_outstanding l.requests n ≡ Some (entry_of l.requests n)
+entry_told linux l n e =
+    ap (λ (b : Bool). if b then Some (entry_of l.requests n) else None) (start_outstanding linux l n (sym e))
 
 told_entry : (b : Bool) (e x : Sqe) → (if b then Some e else None) ≡ Some x → (b ≡ true) × (e ≡ x)
 told_entry true e x is = (refl, search is)

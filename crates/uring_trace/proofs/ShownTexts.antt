@@ -1,10 +1,11 @@
 -- The text of what is shown.
-use Rattle.std.proofs.Common.{◌≡◌, ℕ, zero, suc, ◌+◌, List, [], ◌∷◌, ◌++◌, Option, take, refl, sym, ap, ◌∙◌, append_assoc, arith}
+use Rattle.std.proofs.Common.{◌≡◌, Bool, ℕ, zero, suc, ◌+◌, List, [], ◌∷◌, ◌++◌, Option, take, refl, sym, ap, ◌∙◌, append_assoc, arith}
 use Rattle.std.specs.Prelude.{slice_get, Some}
 use Rattle.std.proofs.lemmas.List.{append-nil}
 use Rattle.uring_entry.specs.Layout.{Cqe, Sqe}
-use Rattle.uring_entry.specs.Requests.{Requests, entry_outstanding}
-use Rattle.uring_entry.specs.Why.{why_of}
+use Rattle.uring_entry.specs.Requests.{entry_outstanding}
+use Rattle.uring_linux.specs.LinuxRequests.{LinuxRequests}
+use Rattle.uring_rules.specs.Rules.{why_of}
 use Rattle.uring_entry.specs.declared.why.Why.{Why}
 use Rattle.uring_trace.specs.Shown.{list_text, listed_text, row_text, rows_below}
 
@@ -29,13 +30,14 @@ overflow_more cs place o front so after a b is =
     b ∙ ap (λ (l : List ℕ). l ++ listed_text o) a ∙ ap (λ (p : Option Cqe). (front ++ t) ++ listed_text p) is ∙ append_assoc front t x ∙ ap (λ (l : List ℕ). front ++ l) more
 
 -- one request more
-pub rows_more : (r : Requests) (n : ℕ) (e : Option Sqe) (why : Why) (front so after : List ℕ)
-    → so ≡ front ++ rows_below r n → after ≡ so ++ row_text n e why → e ≡ entry_outstanding r n
-    → why ≡ why_of r n → after ≡ front ++ rows_below r (n + 1)
-rows_more r n e why front so after a b entry is =
+pub rows_more : (linux : Bool) (l : LinuxRequests) (n : ℕ) (e : Option Sqe) (why : Why) (front so after : List ℕ)
+    → so ≡ front ++ rows_below linux l n → after ≡ so ++ row_text n e why
+    → e ≡ entry_outstanding l.requests n → why ≡ why_of linux l n
+    → after ≡ front ++ rows_below linux l (n + 1)
+rows_more linux l n e why front so after a b entry is =
     let next : suc n ≡ n + 1 = omega arith in
-    b ∙ ap (λ (l : List ℕ). l ++ row_text n e why) a
-    ∙ ap (λ (x : Option Sqe). (front ++ rows_below r n) ++ row_text n x why) entry
-    ∙ ap (λ (w : Why). (front ++ rows_below r n) ++ row_text n (entry_outstanding r n) w) is
-    ∙ append_assoc front (rows_below r n) (row_text n (entry_outstanding r n) (why_of r n))
-    ∙ ap (λ (k : ℕ). front ++ rows_below r k) next
+    b ∙ ap (λ (t : List ℕ). t ++ row_text n e why) a
+    ∙ ap (λ (x : Option Sqe). (front ++ rows_below linux l n) ++ row_text n x why) entry
+    ∙ ap (λ (w : Why). (front ++ rows_below linux l n) ++ row_text n (entry_outstanding l.requests n) w) is
+    ∙ append_assoc front (rows_below linux l n) (row_text n (entry_outstanding l.requests n) (why_of linux l n))
+    ∙ ap (λ (k : ℕ). front ++ rows_below linux l k) next

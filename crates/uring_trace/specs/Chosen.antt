@@ -3,7 +3,8 @@ use Rattle.std.specs.Prelude.{ℕ, Bool, true, false, List, [], ◌∷◌, ◌++
 use Rattle.std.specs.Fmt.{decimal}
 use Rattle.uring_entry.specs.Preparation.{is_cancel_all}
 use Rattle.uring_entry.specs.Requests.{Requests, entry_of, targets_of}
-use Rattle.uring_entry.specs.Why.{why_of}
+use Rattle.uring_linux.specs.LinuxRequests.{LinuxRequests}
+use Rattle.uring_rules.specs.Rules.{why_of}
 use Rattle.uring_entry.specs.declared.why.Why.{Why}
 use Rattle.uring_entry.specs.declared.why.Why.TheVariants.{Waits, MayStart}
 use Rattle.uring_core.specs.declared.step.Step.{Step}
@@ -25,16 +26,20 @@ abbrev pub chose_text : List ℕ → List ℕ
 chose_text [] = codes "found none"
 chose_text (m ∷ more) = codes "chose" ++ spaced (m ∷ more)
 
+-- whom the cancel of all n dooms if it is carried out now: by Linux's rules nobody
+abbrev pub chosen_of : (is_linux : Bool) → Requests → ℕ → List ℕ
+chosen_of is_linux r n = if is_linux then [] else targets_of r n
+
 -- what is told of n that stands so: whom it would doom if it were carried out now, if it is a cancel of all that may start
-abbrev pub chosen_for : Requests → ℕ → Why → Option (List ℕ)
-chosen_for r n MayStart =
-    if is_cancel_all (entry_of r n) then Some (chose_text (targets_of r n)) else None
-chosen_for r n _ = None
+abbrev pub chosen_for : (is_linux : Bool) → Requests → ℕ → Why → Option (List ℕ)
+chosen_for is_linux r n MayStart =
+    if is_cancel_all (entry_of r n) then Some (chose_text (chosen_of is_linux r n)) else None
+chosen_for is_linux r n _ = None
 
 -- what is told of the request that a step issues
-abbrev pub chosen_told : Requests → Step → Option (List ℕ)
-chosen_told r (step.Issue n) = chosen_for r n (why_of r n)
-chosen_told r _ = None
+abbrev pub chosen_told : (is_linux : Bool) → LinuxRequests → Step → Option (List ℕ)
+chosen_told is_linux l (step.Issue n) = chosen_for is_linux l.requests n (why_of is_linux l n)
+chosen_told is_linux l _ = None
 
 -- the same behind an answer
 abbrev pub behind_text : Option (List ℕ) → List ℕ

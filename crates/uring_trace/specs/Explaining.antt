@@ -39,7 +39,7 @@ pub record TellsStep (granted : Type 0) (old new : Machine) (step : Step) (befor
   pub answer : Answer
   pub told : (h : History) → Fits old h
       → after
-      ≡ before ++ ended (text_of answer ++ reasons_text (world old.core.setup h) step answer)
+      ≡ before ++ ended (text_of answer ++ reasons_text old.core.setup (world old.core.setup h) step answer)
   pub same : new.core.setup ≡ old.core.setup
   pub fits : (h : History) → Fits old h → Fits new ((step, answer) ∷ h)
   pub unrefused : granted → (h : History) → Fits old h

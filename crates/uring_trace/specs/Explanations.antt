@@ -59,7 +59,7 @@ events_in (x ∷ before) = events_in before ++ option_to_list (event_in x.said)
 
 -- what is told of a line in this world: of a step its answer with the reason, of a question what it asks for, of a remark nothing, and of any other that it is bad
 abbrev pub told_of : Setup → World → Said → List ℕ
-told_of g w (Made event) = ended (text_of event.1 ++ reasons_text w event.0 event.1)
+told_of g w (Made event) = ended (text_of event.1 ++ reasons_text g w event.0 event.1)
 told_of g w (Asked question) = ended (shown g w question)
 told_of g w Remark = []
 told_of g w Bad = ended (codes "bad line")

@@ -1,19 +1,20 @@
 -- The reason of an answer. Which answers have one, and its text, is our own rule.
-use Rattle.std.specs.Prelude.{ℕ, List, [], ◌++◌, Option, Some, None, codes}
+use Rattle.std.specs.Prelude.{ℕ, Bool, List, [], ◌++◌, Option, Some, None, codes}
 use Rattle.std.specs.Fmt.{decimal}
 use Rattle.uring_entry.specs.Requests.{Requests}
 use Rattle.uring_entry.specs.Texts.{fault_text}
-use Rattle.uring_entry.specs.Why.{why_of}
+use Rattle.uring_entry.specs.Setup.{Setup}
+use Rattle.uring_linux.specs.LinuxRequests.{LinuxRequests}
+use Rattle.uring_rules.specs.Rules.{why_of, found_by}
 use Rattle.uring_entry.specs.declared.why.Why.{Why}
 use Rattle.uring_entry.specs.declared.why.Why.TheVariants.{NeverAccepted, HasEnded, Runs, IsDoomed, Waits, MayStart}
 use Rattle.uring_entry.specs.declared.why.Doom.{Doom}
-use Rattle.uring_entry.specs.declared.why.Doom.TheVariants.{OwnFault, FaultOf, FailureOf, Cancel}
+use Rattle.uring_entry.specs.declared.why.Doom.TheVariants.{OwnFault, FaultOf, FailureOf, Cancel, RefusedDrain}
 use Rattle.uring_entry.specs.declared.why.Since.{Since}
-use Rattle.uring_entry.specs.declared.why.Since.TheVariants.{SameGroup, ItDrains, OwnDrains}
-use Rattle.uring_dispatch.specs.Cancels.{found_by}
+use Rattle.uring_entry.specs.declared.why.Since.TheVariants.{SameGroup, ItDrains, OwnDrains, Deferred}
 use Rattle.uring_dispatch.specs.declared.answers.Found.{Found}
 use Rattle.uring_dispatch.specs.declared.answers.Found.TheVariants.{Nobody, Running, Chosen}
-use Rattle.uring_core.specs.World.{World}
+use Rattle.uring_core.specs.World.{World, requests_of}
 use Rattle.uring_core.specs.declared.step.Step.{Step}
 use Rattle.uring_core.specs.declared.step.Step.TheVariants as step
 use Rattle.uring_core.specs.declared.answer.Answer.{Answer}
@@ -23,15 +24,15 @@ use Rattle.uring_trace.specs.declared.reason_text.Reason.{Reason}
 use Rattle.uring_trace.specs.declared.reason_text.Reason.TheVariants.{Stands, Finds}
 
 -- why the request that a step issues or finishes stands as it does
-abbrev pub asked : Requests → Step → Option Why
-asked r (step.Issue n) = Some (why_of r n)
-asked r (step.Finish n) = Some (why_of r n)
-asked r _ = None
+abbrev pub asked : (is_linux : Bool) → LinuxRequests → Step → Option Why
+asked is_linux l (step.Issue n) = Some (why_of is_linux l n)
+asked is_linux l (step.Finish n) = Some (why_of is_linux l n)
+asked is_linux l _ = None
 
 -- what the request that a step issues would find
-abbrev pub sought : Requests → Step → Option Found
-sought r (step.Issue n) = found_by r n
-sought r _ = None
+abbrev pub sought : (is_linux : Bool) → Requests → Step → Option Found
+sought is_linux r (step.Issue n) = found_by is_linux r n
+sought is_linux r _ = None
 
 abbrev pub standing : Option Why → Option Reason
 standing (Some why) = Some (Stands why)
@@ -52,9 +53,10 @@ kept_reason (answer.Ended res bytes) why found = end_reason why found
 kept_reason answer.Running why found = None
 kept_reason _ why found = standing why
 
--- the reason of the answer to a step, by the world before the step
-abbrev pub reason_of : World → Step → Answer → Option Reason
-reason_of w s a = kept_reason a (asked w.requests s) (sought w.requests s)
+-- the reason of the answer to a step, by the world before the step, and by the rules of the set-up
+abbrev pub reason_of : Setup → World → Step → Answer → Option Reason
+reason_of g w s a =
+    kept_reason a (asked g.linux (requests_of w) s) (sought g.linux w.requests s)
 
 -- The text of a reason.
 
@@ -67,11 +69,13 @@ doom_text (OwnFault fault) = fault_text fault
 doom_text (FaultOf m) = numbered m (codes " of its group has a fault")
 doom_text (FailureOf m) = numbered m (codes " failed before it")
 doom_text Cancel = codes "a cancel chose it"
+doom_text RefusedDrain = codes "a drain, which this ring refuses"
 
 abbrev pub since_text : ℕ → Since → List ℕ
 since_text m SameGroup = codes "a member of its group"
 since_text m ItDrains = numbered m (codes "'s group drains")
 since_text m OwnDrains = codes "its own group drains"
+since_text m Deferred = codes "its group is deferred"
 
 abbrev pub why_text : Why → List ℕ
 why_text NeverAccepted = codes "never accepted"
@@ -93,5 +97,6 @@ reason_text (Some (Stands why)) = codes "  # " ++ why_text why
 reason_text (Some (Finds found)) = codes "  # " ++ found_text found
 
 -- all that stands behind an answer, by the world before the step: its reason, and whom a cancel of all chose
-abbrev pub reasons_text : World → Step → Answer → List ℕ
-reasons_text w s a = reason_text (reason_of w s a) ++ behind_text (chosen_told w.requests s)
+abbrev pub reasons_text : Setup → World → Step → Answer → List ℕ
+reasons_text g w s a =
+    reason_text (reason_of g w s a) ++ behind_text (chosen_told g.linux (requests_of w) s)

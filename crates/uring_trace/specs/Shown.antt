@@ -1,17 +1,18 @@
 -- What is answered to a question of an explanation, by the world in which it is asked. The texts are our own rule.
-use Rattle.std.specs.Prelude.{ℕ, zero, suc, ◌==◌, List, [], ◌∷◌, ◌++◌, length, drop, Option, Some, None, codes, if◌then◌else◌}
+use Rattle.std.specs.Prelude.{ℕ, zero, suc, Bool, ◌==◌, List, [], ◌∷◌, ◌++◌, length, drop, Option, Some, None, codes, if◌then◌else◌}
 use Rattle.std.specs.Fmt.{decimal}
 use Rattle.uring_entry.specs.Setup.{Setup}
 use Rattle.uring_entry.specs.Layout.{Cqe, Sqe, opcode_of, user_data_of}
 use Rattle.uring_entry.specs.Preparation.{is_cancel_all}
 use Rattle.uring_entry.specs.declared.opcode.TheConstants.{NOP, FSYNC, ASYNC_CANCEL, READ, WRITE}
 use Rattle.uring_entry.specs.Completions.{Completions}
-use Rattle.uring_entry.specs.Requests.{Requests, entry_outstanding, outstanding_in, running_in}
-use Rattle.uring_entry.specs.Why.{why_of}
+use Rattle.uring_entry.specs.Requests.{entry_outstanding, outstanding_in, running_in}
+use Rattle.uring_linux.specs.LinuxRequests.{LinuxRequests}
+use Rattle.uring_rules.specs.Rules.{why_of}
 use Rattle.uring_entry.specs.declared.why.Why.{Why}
 use Rattle.uring_files.specs.Operations.{state_of}
 use Rattle.uring_files.specs.declared.file.FileState.{FileState}
-use Rattle.uring_core.specs.World.{World}
+use Rattle.uring_core.specs.World.{World, requests_of}
 use Rattle.uring_core.specs.CalledFor.{files_of}
 use Rattle.uring_core.specs.declared.cores.Counts.{Counts}
 use Rattle.uring_text.specs.Completions.{completion_text}
@@ -78,14 +79,15 @@ row_text n (Some e) why =
     codes ", " ++ decimal n ++ codes " " ++ decimal (user_data_of e) ++ codes " " ++ operation_text e ++ codes ": " ++ why_text why
 
 -- the outstanding ones of the first requests, so many
-abbrev pub rows_below : Requests → ℕ → List ℕ
-rows_below r zero = []
-rows_below r (suc n) = rows_below r n ++ row_text n (entry_outstanding r n) (why_of r n)
+abbrev pub rows_below : (is_linux : Bool) → LinuxRequests → ℕ → List ℕ
+rows_below is_linux l zero = []
+rows_below is_linux l (suc n) =
+    rows_below is_linux l n ++ row_text n (entry_outstanding l.requests n) (why_of is_linux l n)
 
 -- how many requests are outstanding, and which, the least first
-abbrev pub requests_text : Requests → List ℕ
-requests_text r =
-    codes "requests " ++ decimal (outstanding_in r) ++ rows_below r (length r.accepted)
+abbrev pub requests_text : (is_linux : Bool) → LinuxRequests → List ℕ
+requests_text is_linux l =
+    codes "requests " ++ decimal (outstanding_in l.requests) ++ rows_below is_linux l (length l.requests.accepted)
 
 -- a file's length in bytes, how many of its writes succeeded, and how many of these its last sync made safe; or that there is none
 abbrev pub file_text : Option FileState → List ℕ
@@ -98,6 +100,6 @@ abbrev pub shown : Setup → World → Question → List ℕ
 shown g w question.Counts = counts_text (counts_of w)
 shown g w question.Sizes = sizes_text g
 shown g w question.Overflow = overflow_text (overflow_of w.completions)
-shown g w question.Requests = requests_text w.requests
-shown g w (question.Why n) = why_text (why_of w.requests n)
+shown g w question.Requests = requests_text g.linux (requests_of w)
+shown g w (question.Why n) = why_text (why_of g.linux (requests_of w) n)
 shown g w (question.File fd) = file_text (state_of (files_of g w) fd)

@@ -1,13 +1,14 @@
 //! Whom a cancel of all chooses, as a text.
 
-ghost use Rattle.std.specs.Prelude.{◌≡◌, ◌++◌, ◌∷◌, ◌==◌, ◌&&◌, not, [], ℕ, IfOk, IsOk, OnOk, Some, None, List, option_map, string_bytes, if◌then◌else◌};
+ghost use Rattle.std.specs.Prelude.{◌≡◌, ◌++◌, ◌∷◌, ◌==◌, ◌&&◌, not, false, [], ℕ, IfOk, IsOk, OnOk, Some, None, List, option_map, string_bytes, if◌then◌else◌};
 ghost use Rattle.uring_entry.specs.Layout.{addr_of, user_data_of};
 ghost use Rattle.uring_entry.specs.Requests.{entry_outstanding, is_target, targets_of};
 ghost use Rattle.uring_entry.specs.Preparation.{is_cancel_all};
-ghost use Rattle.uring_entry.specs.Why.{why_of};
+ghost use Rattle.uring_rules.specs.Rules.{why_of};
 ghost use Rattle.uring_core.specs.Core.{FitsApart};
 ghost use Rattle.uring_core.specs.Histories.{History, world};
-ghost use Rattle.uring_trace.specs.Chosen.{behind_text, chose_text, chosen_for, chosen_told, is_open, spaced};
+ghost use Rattle.uring_core.specs.World.{requests_of};
+ghost use Rattle.uring_trace.specs.Chosen.{behind_text, chose_text, chosen_for, chosen_of, chosen_told, is_open, spaced};
 
 use std::alloc::{AllocError, Global};
 use uring_machine::{Core, Sqe, Step, Why};
@@ -22,7 +23,7 @@ pub fn chosen_text<M: TextMemory>(
 ) -> Result<Option<String>, AllocError>
     ensures told { IfOk result
         (λ told. (h : History) → FitsApart core.now h
-        → option_map (λ text. string_bytes text) told ≡ chosen_told (world core.now.setup h).requests step.now) }
+        → option_map (λ text. string_bytes text) told ≡ chosen_told core.now.setup.linux (requests_of (world core.now.setup h)) step.now) }
     ensures granted { ((n : ℕ) → M.grants memory.now n) → IsOk result }
 {
     match step {
@@ -41,8 +42,8 @@ fn chosen_by<M: TextMemory>(
 ) -> Result<Option<String>, AllocError>
     ensures told { IfOk result
         (λ told. (h : History) → FitsApart core.now h
-        → why ≡ why_of (world core.now.setup h).requests number
-        → option_map (λ text. string_bytes text) told ≡ chosen_for (world core.now.setup h).requests number why) }
+        → why ≡ why_of core.now.setup.linux (requests_of (world core.now.setup h)) number
+        → option_map (λ text. string_bytes text) told ≡ chosen_for core.now.setup.linux (world core.now.setup h).requests number why) }
     ensures granted { ((n : ℕ) → M.grants memory.now n) → IsOk result }
 {
     match why {
@@ -60,8 +61,8 @@ fn chosen_free<M: TextMemory>(
 ) -> Result<Option<String>, AllocError>
     ensures told { IfOk result
         (λ told. (h : History) → FitsApart core.now h
-        → Why.MayStart ≡ why_of (world core.now.setup h).requests number
-        → option_map (λ text. string_bytes text) told ≡ chosen_for (world core.now.setup h).requests number Why.MayStart) }
+        → Why.MayStart ≡ why_of core.now.setup.linux (requests_of (world core.now.setup h)) number
+        → option_map (λ text. string_bytes text) told ≡ chosen_for core.now.setup.linux (world core.now.setup h).requests number Why.MayStart) }
     ensures granted { ((n : ℕ) → M.grants memory.now n) → IsOk result }
 {
     match core.entry(number) {
@@ -81,7 +82,7 @@ fn chosen_with<M: TextMemory>(
     ensures told { IfOk result
         (λ told. (h : History) → FitsApart core.now h
         → entry_outstanding (world core.now.setup h).requests number ≡ Some entry.now
-        → option_map (λ text. string_bytes text) told ≡ (if is_cancel_all entry.now then Some (chose_text (targets_of (world core.now.setup h).requests number)) else None)) }
+        → option_map (λ text. string_bytes text) told ≡ (if is_cancel_all entry.now then Some (chose_text (chosen_of core.now.setup.linux (world core.now.setup h).requests number)) else None)) }
     ensures granted { ((n : ℕ) → M.grants memory.now n) → IsOk result }
 {
     if entry.is_cancel_all() {
@@ -91,7 +92,7 @@ fn chosen_with<M: TextMemory>(
     }
 }
 
-/// Whom a cancel of all with this number and entry would doom.
+/// Whom a cancel of all with this number and entry would doom: by Linux's rules nobody.
 fn chose<M: TextMemory>(
     memory: &M,
     alloc: Global,
@@ -102,9 +103,12 @@ fn chose<M: TextMemory>(
     ensures told { IfOk result
         (λ text. (h : History) → FitsApart core.now h
         → entry_outstanding (world core.now.setup h).requests number ≡ Some entry.now
-        → string_bytes text ≡ chose_text (targets_of (world core.now.setup h).requests number)) }
+        → string_bytes text ≡ chose_text (chosen_of core.now.setup.linux (world core.now.setup h).requests number)) }
     ensures granted { ((n : ℕ) → M.grants memory.now n) → IsOk result }
 {
+    if core.setup().is_linux() {
+        return text_of(memory, alloc, "found none", "");
+    }
     let targets = targets(memory, alloc, core, number, entry)?;
     let told = told_by(memory, alloc, targets.as_str());
     drop(targets);
@@ -142,7 +146,7 @@ fn text_of<M: TextMemory>(
     Ok(text)
 }
 
-/// The targets of a cancel of all with this number and entry, each behind a space.
+/// The targets of a cancel of all with this number and entry, each behind a space, by the manual pages' rules.
 fn targets<M: TextMemory>(
     memory: &M,
     alloc: Global,
@@ -150,6 +154,7 @@ fn targets<M: TextMemory>(
     number: u64,
     entry: &Sqe,
 ) -> Result<String, AllocError>
+    requires { core.now.setup.linux ≡ false }
     ensures told { IfOk result
         (λ text. (h : History) → FitsApart core.now h
         → entry_outstanding (world core.now.setup h).requests number ≡ Some entry.now
@@ -187,8 +192,9 @@ fn push_target<M: TextMemory>(
     push_number(memory, text, number)
 }
 
-/// Whether request `other` is a target of the cancel of all with this number and entry.
+/// Whether request `other` is a target of the cancel of all with this number and entry, by the manual pages' rules.
 fn is_target_of(core: &Core, number: u64, entry: &Sqe, other: u64) -> bool
+    requires { core.now.setup.linux ≡ false }
     ensures { (h : History) → FitsApart core.now h
         → entry_outstanding (world core.now.setup h).requests number ≡ Some entry.now
         → result ≡ is_target (world core.now.setup h).requests number other }

@@ -3,6 +3,7 @@
 ghost use Rattle.std.specs.Prelude.{◌≡◌, ◌++◌, ℕ, OnOk, IsOk, string_bytes, codes, decimal};
 ghost use Rattle.uring_entry.specs.Texts.{fault_text};
 ghost use Rattle.uring_core.specs.Histories.{History, world};
+ghost use Rattle.uring_core.specs.World.{requests_of};
 ghost use Rattle.uring_machine.specs.Machine.{Fits};
 ghost use Rattle.uring_trace.specs.Reasons.{asked, sought, end_reason, finding, standing, kept_reason, reason_text, why_text, found_text, doom_text, since_text, numbered};
 
@@ -24,7 +25,7 @@ pub enum Reason {
 /// Why the request that a step issues or finishes stands as it does, asked before the step.
 pub(crate) fn ask(machine: &Machine, step: &Step) -> Option<Why>
     ensures { (h : History) → Fits machine.now h
-        → result ≡ asked (world machine.now.core.setup h).requests step.now }
+        → result ≡ asked machine.now.core.setup.linux (requests_of (world machine.now.core.setup h)) step.now }
 {
     match step {
         Step::Issue { number } => Some(machine.why(*number)),
@@ -36,7 +37,7 @@ pub(crate) fn ask(machine: &Machine, step: &Step) -> Option<Why>
 /// What the request that a step issues would find, asked before the step.
 pub(crate) fn seek(machine: &Machine, step: &Step) -> Option<Found>
     ensures { (h : History) → Fits machine.now h
-        → result ≡ sought (world machine.now.core.setup h).requests step.now }
+        → result ≡ sought machine.now.core.setup.linux (world machine.now.core.setup h).requests step.now }
 {
     match step {
         Step::Issue { number } => machine.would_find(*number),
@@ -186,6 +187,7 @@ fn push_doom<M: TextMemory>(memory: &M, text: &mut String, doom: Doom) -> Result
         Doom::FaultOf(m) => push_numbered(memory, text, m, " of its group has a fault"),
         Doom::FailureOf(m) => push_numbered(memory, text, m, " failed before it"),
         Doom::Cancel => push_text(memory, text, "a cancel chose it"),
+        Doom::RefusedDrain => push_text(memory, text, "a drain, which this ring refuses"),
     }
 }
 
@@ -245,5 +247,6 @@ pub fn push_since_in<M: TextMemory>(
         Since::SameGroup => push_text(memory, text, "a member of its group"),
         Since::ItDrains => push_numbered(memory, text, least, "'s group drains"),
         Since::OwnDrains => push_text(memory, text, "its own group drains"),
+        Since::Deferred => push_text(memory, text, "its group is deferred"),
     }
 }

@@ -3,6 +3,7 @@
 ghost use Rattle.std.specs.Prelude.{◌≡◌, ◌++◌, ℕ, OnOk, IsOk, string_bytes};
 ghost use Rattle.uring_core.specs.Core.{FitsApart};
 ghost use Rattle.uring_core.specs.Histories.{History, world};
+ghost use Rattle.uring_core.specs.World.{requests_of};
 ghost use Rattle.uring_trace.specs.Shown.{named_text, operation_text, requests_text, row_text};
 
 use crate::answer_text::push_named;
@@ -20,7 +21,7 @@ pub(crate) fn push_requests<M: TextMemory>(
 ) -> Result<(), AllocError>
     ensures bytes { OnOk result
         ((h : History) → FitsApart core.now h
-        → string_bytes text.new ≡ string_bytes text.old ++ requests_text (world core.now.setup h).requests) }
+        → string_bytes text.new ≡ string_bytes text.old ++ requests_text core.now.setup.linux (requests_of (world core.now.setup h))) }
     ensures granted { ((n : ℕ) → M.grants memory.now n) → IsOk result }
 {
     let counts = core.counts();

@@ -1,34 +1,66 @@
--- A failure in a chain.
-use Rattle.std.proofs.Common.{◌≡◌, ◌≢◌, ℕ, ◌+◌, ◌<◌, ◌≤◌, ℤ, negsuc, Bool, true, false, not, ◌&&◌, nat_lt, List, ◌∷◌, length, if◌then◌else◌, refl, sym, subst, ◌∙◌, ap, arith}
-use Rattle.std.proofs.lemmas.Bool.{and_parts, not-true}
+-- A failure in a chain, by either's rules.
+use Rattle.std.proofs.Common.{◌≡◌, ◌≢◌, ℕ, ◌+◌, ◌<◌, ◌≤◌, ℤ, negsuc, Bool, true, false, not, ◌&&◌, ◌==◌, nat_lt, List, ◌∷◌, length, if◌then◌else◌, refl, sym, subst, ◌∙◌, ap, arith, inl, inr}
+use Rattle.std.proofs.lemmas.Bool.{and_parts, and_left, and_right, and_from, or_right, cases_eq, cases_Bool, not-true}
 use Rattle.uring_entry.specs.Setup.{Setup}
 use Rattle.uring_entry.specs.Preparation.{is_cancel}
-use Rattle.uring_entry.specs.Requests.{Requests, entry_of, has_ended, is_outstanding, is_running, is_last, is_doomed, is_ready, doomed_result, cancel_result, no_bytes, with_ended}
-use Rattle.uring_entry.proofs.RequestLemmas.{is_joined_yes, is_doomed_behind, has_ended_other, is_running_ended_other, has_failed_same, never_success}
+use Rattle.uring_entry.specs.Requests.{Requests, entry_of, has_ended, is_outstanding, is_running, is_last, is_joined, is_behind_failure, no_bytes, with_ended}
+use Rattle.uring_entry.proofs.BelowLemmas.{some_below_none}
+use Rattle.uring_entry.proofs.RequestLemmas.{is_joined_yes, is_joined_inside, is_doomed_behind, has_ended_same, has_ended_other, is_running_ended_other, has_failed_same, never_success}
 use Rattle.uring_entry.proofs.EventLemmas.{is_joined_ended, is_behind_failure_from}
-use Rattle.uring_core.specs.World.{World}
-use Rattle.uring_core.specs.Histories.{History, world}
+use Rattle.uring_linux.specs.LinuxRequests.{is_in_turn, keeps_back}
+use Rattle.uring_rules.specs.Rules.{ends_doomed, may_start, doomed_result, cancel_result}
+use Rattle.uring_core.specs.World.{World, requests_of}
+use Rattle.uring_core.specs.Histories.{History, world, IsLawfulApart}
 use Rattle.uring_core.specs.declared.step.Step.TheVariants as step
 use Rattle.uring_core.specs.StepAnswers.{issue_answer}
 use Rattle.uring_core.specs.declared.answer.Answer.{Answer}
 use Rattle.uring_core.specs.declared.answer.Answer.TheVariants as answer
+use Rattle.uring_core.proofs.ListCounts.{any_kept}
+use Rattle.uring_laws.proofs.LinuxSound.{by_linux, IsFirst, linux_sound}
 use Rattle.uring_uses.specs.Simulations.{IsNextInChain}
 
--- who failed with a negative result dooms the next behind its soft link
-next_doomed : (r : Requests) (n below : ℕ) (bytes : List ℕ) → IsNextInChain r n
-    → is_doomed (with_ended r n (negsuc below) bytes) (n + 1) ≡ true
-next_doomed r n below bytes next =
-    let after : Requests = with_ended r n (negsuc below) bytes in
-    let unended : has_ended r n ≡ false = not-true _ (and_parts _ _ next.runs).1 in
-    let last : (k : ℕ) → n ≤ k → k < n + 1 → is_last r k ≡ false = λ k from to. subst (λ j. is_last r j ≡ false) (let same : n ≡ k = omega arith in same) next.joined in
-    is_doomed_behind after (n + 1)
-    (is_behind_failure_from after (n + 1) n
-    (record {
-      before = omega arith;
-      joined = is_joined_ended r n (negsuc below) bytes n (n + 1) ∙ is_joined_yes r n (n + 1) last;
-      soft = next.soft;
-      failed = has_failed_same r n (negsuc below) bytes unended ∙ ap not (never_success (entry_of r n) below);
-    }))
+module _ (r : Requests) (n below : ℕ) (bytes : List ℕ) (next : IsNextInChain r n) where
+  -- who failed with a negative result has the next behind its failure, if a soft link joins them
+  next_behind : is_behind_failure (with_ended r n (negsuc below) bytes) (n + 1) ≡ true
+  next_behind =
+      let unended : has_ended r n ≡ false = not-true _ (and_parts _ _ next.runs).1 in
+      let last : (k : ℕ) → n ≤ k → k < n + 1 → is_last r k ≡ false = λ k from to. subst (λ j. is_last r j ≡ false) (let same : n ≡ k = omega (arith, from, to) in same) next.joined in
+      is_behind_failure_from (with_ended r n (negsuc below) bytes) (n + 1) n
+      (record {
+        before = omega arith;
+        joined = is_joined_ended r n (negsuc below) bytes n (n + 1) ∙ is_joined_yes r n (n + 1) last;
+        soft = next.soft;
+        failed = has_failed_same r n (negsuc below) bytes unended ∙ ap not (never_success (entry_of r n) below);
+      })
+
+  -- and it is in its turn, as whoever runs is
+  keeps_none : IsFirst r n → (k : ℕ) → k < n + 1 → keeps_back (with_ended r n (negsuc below) bytes) (n + 1) k ≡ false
+  keeps_none first k lt = elim (cases_eq k n) [
+    | inl same ↦ and_right _ _ (ap not (subst (λ j. has_ended (with_ended r n (negsuc below) bytes) j ≡ true) (sym same) (has_ended_same r n (negsuc below) bytes)))
+    | inr other ↦ elim (cases_Bool (is_joined r k (n + 1))) [
+      | inl joined ↦
+          let before : k < n = omega (arith, lt, other) in
+          let same : is_joined r k n ≡ true = is_joined_yes r k n (λ j le low. is_joined_inside r k (n + 1) j joined le (omega (arith, low))) in
+          and_right _ _ (ap not (any_kept (λ x. x.number == k) r.ended _ (first k before same)))
+      | inr apart ↦ and_left _ _ (is_joined_ended r n (negsuc below) bytes k (n + 1) ∙ apart)
+    ]
+  ]
+
+  next_turn : IsFirst r n → is_in_turn (with_ended r n (negsuc below) bytes) (n + 1) ≡ true
+  unfolding is_in_turn
+  next_turn first = ap not (some_below_none (keeps_back (with_ended r n (negsuc below) bytes) (n + 1)) (n + 1) (keeps_none first))
+
+  -- so it ends as doomed
+  pub next_ends : (linux : Bool) → (linux ≡ true → IsFirst r n)
+      → ends_doomed linux (with_ended r n (negsuc below) bytes) (n + 1) ≡ true
+  next_ends true first = and_from _ _ (next_turn (first refl)) (or_right _ _ next_behind)
+  next_ends false first = is_doomed_behind (with_ended r n (negsuc below) bytes) (n + 1) next_behind
+
+-- whose failure it is makes no difference to the result
+same_result : (linux : Bool) (r : Requests) (n k : ℕ) (res : ℤ) (bytes : List ℕ)
+    → doomed_result linux (with_ended r n res bytes) k ≡ doomed_result linux r k
+same_result true r n k res bytes = refl
+same_result false r n k res bytes = refl
 
 doomed_ends : (outstanding running doomed ready cancel : Bool) (as_doomed as_cancel : ℤ)
     → outstanding ≡ true → running ≡ false
@@ -40,26 +72,37 @@ doomed_ends true true doomed ready cancel x y o r d = cc
 doomed_ends true false false ready cancel x y o r d = cc
 doomed_ends true false true ready cancel x y o r d = refl
 
--- so its issue ends it
-pub next_cancelled : (w : World) (after : World) (n below : ℕ) (bytes : List ℕ)
-    → IsNextInChain w.requests n
+-- and its issue ends it
+next_cancelled : (g : Setup) (w after : World) (n below : ℕ) (bytes : List ℕ)
+    → IsNextInChain w.requests n → (g.linux ≡ true → IsFirst w.requests n)
     → after.requests ≡ with_ended w.requests n (negsuc below) bytes
-    → issue_answer after (n + 1) ≡ answer.Ended (doomed_result w.requests (n + 1)) no_bytes
-next_cancelled w after n below bytes next is =
+    → issue_answer g after (n + 1) ≡ answer.Ended (doomed_result g.linux w.requests (n + 1)) no_bytes
+next_cancelled g w after n below bytes next first is =
     let r : Requests = w.requests in
+    let q : Requests = after.requests in
     let e : Requests = with_ended r n (negsuc below) bytes in
     let other : n + 1 ≢ n = λ same. omega (arith, same) in
     let outstanding : is_outstanding e (n + 1) ≡ true = ap (λ b. nat_lt (n + 1) (length r.accepted) && not b) (has_ended_other r n (negsuc below) bytes (n + 1) other) ∙ next.waits in
     let running : is_running e (n + 1) ≡ false = is_running_ended_other r n (negsuc below) bytes (n + 1) other ∙ next.unstarted in
-    subst (λ (q : Requests). (if not (is_outstanding q (n + 1)) then answer.Unknown else (if is_running q (n + 1) then answer.Running else (if is_doomed q (n + 1) then answer.Ended (doomed_result q (n + 1)) no_bytes else (if not (is_ready q (n + 1)) then answer.NotReady else (if is_cancel (entry_of q (n + 1)) then answer.Ended (cancel_result q (n + 1)) no_bytes else answer.Run))))) ≡ answer.Ended (doomed_result r (n + 1)) no_bytes)
-    (sym is)
-    (doomed_ends (is_outstanding e (n + 1)) (is_running e (n + 1)) (is_doomed e (n + 1)) (is_ready e (n + 1)) (is_cancel (entry_of e (n + 1))) (doomed_result e (n + 1)) (cancel_result e (n + 1)) outstanding running (next_doomed r n below bytes next))
+    let ends : ends_doomed g.linux e (n + 1) ≡ true = next_ends r n below bytes next g.linux first in
+    doomed_ends (is_outstanding q (n + 1)) (is_running q (n + 1)) (ends_doomed g.linux q (n + 1)) (may_start g.linux (requests_of after) (n + 1)) (is_cancel (entry_of q (n + 1))) (doomed_result g.linux q (n + 1)) (cancel_result g.linux q (n + 1))
+    (ap (λ (x : Requests). is_outstanding x (n + 1)) is ∙ outstanding) (ap (λ (x : Requests). is_running x (n + 1)) is ∙ running) (ap (λ (x : Requests). ends_doomed g.linux x (n + 1)) is ∙ ends)
+    ∙ ap (λ (x : Requests). answer.Ended (doomed_result g.linux x (n + 1)) no_bytes) is
+    ∙ ap (λ z. answer.Ended z no_bytes) (same_result g.linux r n (n + 1) (negsuc below) bytes)
+
+-- by Linux's rules whoever runs is in its turn
+runs_first : (g : Setup) (h : History) (n : ℕ) → IsLawfulApart g h
+    → is_running (world g h).requests n ≡ true → g.linux ≡ true → IsFirst (world g h).requests n
+runs_first g h n lawful running is =
+    let same : g ≡ by_linux g = ap (λ linux. record g { linux = linux }) is in
+    subst (λ k. IsFirst (world k h).requests n) (sym same)
+    ((linux_sound g h (subst (λ k. IsLawfulApart k h) same lawful)).started_first n (and_parts _ _ (subst (λ k. is_running (world k h).requests n ≡ true) same running)).0)
 
 -- the failure is a finish, and the issue is the next step
 pub cancelled_after : (g : Setup) (h : History) (n below : ℕ) (bytes : List ℕ) (a b : Answer)
-    → IsNextInChain (world g h).requests n → a ≡ answer.Ended (negsuc below) bytes
-    → b ≡ issue_answer (world g ((step.Finish n, a) ∷ h)) (n + 1)
-    → b ≡ answer.Ended (doomed_result (world g h).requests (n + 1)) no_bytes
-cancelled_after g h n below bytes a b next failed is =
-    let told : b ≡ issue_answer (world g ((step.Finish n, answer.Ended (negsuc below) bytes) ∷ h)) (n + 1) = subst (λ d. b ≡ issue_answer (world g ((step.Finish n, d) ∷ h)) (n + 1)) failed is in
-    told ∙ next_cancelled (world g h) (world g ((step.Finish n, answer.Ended (negsuc below) bytes) ∷ h)) n below bytes next refl
+    → IsLawfulApart g h → IsNextInChain (world g h).requests n → a ≡ answer.Ended (negsuc below) bytes
+    → b ≡ issue_answer g (world g ((step.Finish n, a) ∷ h)) (n + 1)
+    → b ≡ answer.Ended (doomed_result g.linux (world g h).requests (n + 1)) no_bytes
+cancelled_after g h n below bytes a b lawful next failed is =
+    let told : b ≡ issue_answer g (world g ((step.Finish n, answer.Ended (negsuc below) bytes) ∷ h)) (n + 1) = subst (λ d. b ≡ issue_answer g (world g ((step.Finish n, d) ∷ h)) (n + 1)) failed is in
+    told ∙ next_cancelled g (world g h) (world g ((step.Finish n, answer.Ended (negsuc below) bytes) ∷ h)) n below bytes next (runs_first g h n lawful next.runs) refl

@@ -1,20 +1,26 @@
 -- What one turn of a simulation makes.
-use Rattle.std.proofs.Common.{◌≡◌, ℕ, ◌+◌, ◌≤◌, ℤ, Bool, true, false, ◌||◌, List, [], ◌∷◌, ◌++◌, length, Option, Some, None, if◌then◌else◌, refl, sym, subst, ◌∙◌, ap, arith, inl, inr, append_assoc}
-use Rattle.std.proofs.lemmas.Bool.{and_parts, and_from, or_cases, both_ways, not-true, cases_eq}
+use Rattle.std.proofs.Common.{◌≡◌, ℕ, ◌+◌, ◌≤◌, ℤ, Bool, true, false, List, [], ◌∷◌, ◌++◌, length, Option, Some, None, is_some, if◌then◌else◌, refl, sym, subst, ◌∙◌, ap, arith, ◌⊎◌, inl, inr, append_assoc}
+use Rattle.std.proofs.lemmas.Bool.{and_parts, and_from, both_ways, not-true, cases_eq}
 use Rattle.std.proofs.lemmas.List.Folds.{list_all-append}
 use Rattle.uring_entry.specs.Preparation.{operation_of}
-use Rattle.uring_entry.specs.Requests.{Requests, entry_of, has_ended, is_outstanding, is_running, is_issuable, is_doomed, is_ready, no_bytes, next_of, least_of, with_started, with_ended, operation_running, outstanding_in}
-use Rattle.uring_entry.proofs.BelowLemmas.{least_below_tells, least_below_out}
-use Rattle.uring_entry.proofs.RequestLemmas.{least_of_goes_on, is_running_started_same, is_running_started_other, is_running_ended_same, is_running_ended_other}
-use Rattle.uring_core.specs.World.{World}
+use Rattle.uring_entry.specs.Requests.{Requests, entry_of, has_ended, is_outstanding, is_running, no_bytes, least_of, with_started, with_ended, operation_running, outstanding_in}
+use Rattle.uring_entry.proofs.BelowLemmas.{least_below_out}
+use Rattle.uring_entry.proofs.RequestLemmas.{is_running_started_same, is_running_started_other, is_running_ended_same, is_running_ended_other}
+use Rattle.uring_entry.specs.Setup.{Setup}
+use Rattle.uring_linux.specs.LinuxRequests.{LinuxRequests}
+use Rattle.uring_rules.specs.Rules as by_rules
+use Rattle.uring_rules.specs.Rules.{with_issued_end}
+use Rattle.uring_core.specs.World.{World, requests_of}
 use Rattle.uring_core.specs.StepAnswers.{IsEnded, FinishesApart, issue_answer, next_answer_of, IsIssued}
-use Rattle.uring_core.specs.Histories.{History, world}
+use Rattle.uring_core.specs.Histories.{History, world, IsLawfulApart}
 use Rattle.uring_core.specs.Core.{Core, FitsApart}
 use Rattle.uring_machine.specs.Settling.{is_issue_or_finish}
+use Rattle.uring_machine.proofs.GoingOn.{least_goes_on}
 use Rattle.uring_core.specs.declared.step.Step.TheVariants as step
 use Rattle.uring_core.specs.declared.answer.Answer.{Answer}
 use Rattle.uring_core.specs.declared.answer.Answer.TheVariants as answer
 use Rattle.uring_core.proofs.Outstanding.{ended_less, none_outstanding, count_below_zero}
+use Rattle.uring_core.proofs.ByRules.{issuable_tells}
 use Rattle.uring_core.proofs.Issuable.{next_tells}
 use Rattle.uring_core.proofs.Issuable.{issue_goes, issued_ends}
 use Rattle.uring_uses.specs.Simulations.{NoneRuns, HasRun, IsIdle}
@@ -22,22 +28,24 @@ use Rattle.uring_uses.specs.Simulations.{NoneRuns, HasRun, IsIdle}
 -- The next request.
 
 -- with something outstanding and nothing running there is a next
-pub some_next : (r : Requests) (a : Answer) → ((n : ℕ) → is_running r n ≡ false)
-    → 1 ≤ outstanding_in r
-    → a ≡ next_answer_of (next_of r) → ((k : ℕ) → a ≡ answer.Next k → ⊥) → ⊥
-some_next r a quiet some is other = by_least (least_of r) refl where
-  by_next : (n : ℕ) → least_of r ≡ Some n → (next : Option ℕ) → next_of r ≡ next → a ≡ next_answer_of next → ⊥
-  by_next n least (Some m) next e = other m e
-  by_next n least None next e =
-      elim (or_cases _ _ (least_of_goes_on r n least)) [
-        | inl running ↦ both_ways _ (quiet n) running
-        | inr issuable ↦ both_ways _ (least_below_out (is_issuable r) (length r.accepted) next n (least_below_tells (is_outstanding r) (length r.accepted) n least).below) issuable
-      ]
+pub some_next : (linux : Bool) (l : LinuxRequests) (a : Answer)
+    → ((n : ℕ) → least_of l.requests ≡ Some n → (is_running l.requests n ≡ true) ⊎ (is_some (by_rules.next_of linux l) ≡ true))
+    → ((n : ℕ) → is_running l.requests n ≡ false)
+    → 1 ≤ outstanding_in l.requests
+    → a ≡ next_answer_of (by_rules.next_of linux l) → ((k : ℕ) → a ≡ answer.Next k → ⊥) → ⊥
+some_next linux l a goes quiet some is other = by_least (least_of l.requests) refl where
+  by_next : (next : Option ℕ) → is_some next ≡ true → a ≡ next_answer_of next → ⊥
+  by_next (Some m) there e = other m e
+  by_next None there e = let f : false ≡ true = there in cc
 
-  by_least : (least : Option ℕ) → least_of r ≡ least → ⊥
-  by_least (Some n) least = by_next n least (next_of r) refl is
+  by_least : (least : Option ℕ) → least_of l.requests ≡ least → ⊥
+  by_least (Some n) least =
+      elim (goes n least) [
+        | inl running ↦ both_ways _ (quiet n) running
+        | inr next ↦ by_next (by_rules.next_of linux l) next is
+      ]
   by_least None none =
-      let zero_of : outstanding_in r ≡ 0 = count_below_zero (is_outstanding r) (length r.accepted) (least_below_out (is_outstanding r) (length r.accepted) none) in
+      let zero_of : outstanding_in l.requests ≡ 0 = count_below_zero (is_outstanding l.requests) (length l.requests.accepted) (least_below_out (is_outstanding l.requests) (length l.requests.accepted) none) in
       omega (arith, some, zero_of)
 
 -- The issue of the next request.
@@ -46,20 +54,20 @@ pub record IsWaiting (r : Requests) (n : ℕ) : Type 0 where
   pub outstanding : is_outstanding r n ≡ true
   pub unended : has_ended r n ≡ false
   pub unstarted : is_running r n ≡ false
-  pub free : (is_doomed r n || is_ready r n) ≡ true
 
-pub issuable_waits : (r : Requests) (n : ℕ) → is_issuable r n ≡ true → IsWaiting r n
-issuable_waits r n issuable =
-    let p = and_parts _ _ issuable in
-    let q = and_parts _ _ p.0 in
-    record { outstanding = q.0; unended = not-true _ (and_parts _ _ q.0).1; unstarted = not-true _ q.1; free = p.1 }
+pub issuable_waits : (linux : Bool) (l : LinuxRequests) (n : ℕ)
+    → by_rules.is_issuable linux l n ≡ true → IsWaiting l.requests n
+issuable_waits linux l n issuable =
+    let c = issuable_tells linux l n issuable in
+    record { outstanding = c.outstanding; unended = not-true _ (and_parts _ _ c.outstanding).1; unstarted = c.idle }
 
 -- what is issued next and doesn't run, ends
-pub issue_ends : (w : World) (n : ℕ) (a : Answer) → is_issuable w.requests n ≡ true
-    → a ≡ issue_answer w n → (a ≡ answer.Run → ⊥)
+pub issue_ends : (g : Setup) (w : World) (n : ℕ) (a : Answer)
+    → by_rules.is_issuable g.linux (requests_of w) n ≡ true
+    → a ≡ issue_answer g w n → (a ≡ answer.Run → ⊥)
     → IsEnded a
-issue_ends w n a issuable is other =
-    issued_ends a (subst IsIssued (sym is) (issue_goes w n issuable)) other
+issue_ends g w n a issuable is other =
+    issued_ends a (subst IsIssued (sym is) (issue_goes g w n issuable)) other
 
 -- Nothing runs afterwards.
 
@@ -71,6 +79,18 @@ quiet_after_end r n res bytes quiet k =
       | inl same ↦ subst (λ j. is_running (with_ended r n res bytes) j ≡ false) (sym same) (is_running_ended_same r n res bytes)
       | inr other ↦ is_running_ended_other r n res bytes k other ∙ quiet k
     ]
+
+-- an end as a request is issued, by either's rules
+quiet_after_issue : (linux : Bool) (r : Requests) (n : ℕ) (res : ℤ)
+    → ((k : ℕ) → is_running r k ≡ false) → (k : ℕ)
+    → is_running (with_issued_end linux r n res) k ≡ false
+quiet_after_issue true r n res quiet k = quiet_after_end r n res no_bytes quiet k
+quiet_after_issue false r n res quiet k = quiet_after_end r n res no_bytes quiet k
+
+less_after_issue : (linux : Bool) (r : Requests) (n : ℕ) (res : ℤ) → is_outstanding r n ≡ true
+    → outstanding_in (with_issued_end linux r n res) + 1 ≡ outstanding_in r
+less_after_issue true r n res outstanding = ended_less r n res no_bytes outstanding
+less_after_issue false r n res outstanding = ended_less r n res no_bytes outstanding
 
 quiet_after_run : (r : Requests) (n : ℕ) (res : ℤ) (bytes : List ℕ)
     → ((k : ℕ) → is_running r k ≡ false) → (k : ℕ)
@@ -97,8 +117,8 @@ turn_ended p h n (answer.Ended res bytes) quiet outstanding ended fits =
       events = (step.Issue n, answer.Ended res bytes) ∷ [];
       issues_and_finishes = refl;
       fits = fits;
-      quiet = quiet_after_end (world p.setup h).requests n res no_bytes quiet;
-      fewer = ended_less (world p.setup h).requests n res no_bytes outstanding;
+      quiet = quiet_after_issue p.setup.linux (world p.setup h).requests n res quiet;
+      fewer = less_after_issue p.setup.linux (world p.setup h).requests n res outstanding;
     }
 turn_ended p h n _ quiet outstanding ended fits = absurd ended
 
@@ -120,9 +140,9 @@ turn_run p h n res bytes quiet outstanding fits =
 -- the parts as a turn leaves them have the set-up that they had
 next_told : (old asked : Core) (h : History) (a : Answer) → asked.setup ≡ old.setup
     → FitsApart asked ((step.Next, a) ∷ h)
-    → a ≡ next_answer_of (next_of (world old.setup h).requests)
+    → a ≡ next_answer_of (by_rules.next_of old.setup.linux (requests_of (world old.setup h)))
 next_told old asked h a same fits =
-    subst (λ g. a ≡ next_answer_of (next_of (world g h).requests)) same fits.lawful.0
+    subst (λ (g : Setup). a ≡ next_answer_of (by_rules.next_of g.linux (requests_of (world g h)))) same fits.lawful.0
 
 -- Next is answered
 pub turn_goes_on : (old asked : Core) (h : History) (a : Answer) → asked.setup ≡ old.setup
@@ -131,14 +151,19 @@ pub turn_goes_on : (old asked : Core) (h : History) (a : Answer) → asked.setup
     → ((k : ℕ) → a ≡ answer.Next k → ⊥)
     → ⊥
 turn_goes_on old asked h a same quiet some fits other =
-    some_next (world old.setup h).requests a quiet some (next_told old asked h a same fits) other
+    let lawful : IsLawfulApart old.setup h = subst (λ g. IsLawfulApart g h) same fits.lawful.1 in
+    some_next old.setup.linux (requests_of (world old.setup h)) a (λ n least. least_goes_on old.setup h n lawful least) quiet some (next_told old asked h a same fits) other
+
+-- it can be issued behind this history
+abbrev IsNext : Setup → History → ℕ → Type 0
+IsNext g h n = by_rules.is_issuable g.linux (requests_of (world g h)) n ≡ true
 
 -- the next request, named by the answer
 named_waits : (old asked : Core) (h : History) (n : ℕ) (a : Answer) → asked.setup ≡ old.setup
     → a ≡ answer.Next n
-    → FitsApart asked ((step.Next, a) ∷ h) → is_issuable (world old.setup h).requests n ≡ true
+    → FitsApart asked ((step.Next, a) ∷ h) → IsNext old.setup h n
 named_waits old asked h n a same named fits =
-    next_tells (world old.setup h).requests n (sym named ∙ next_told old asked h a same fits)
+    next_tells old.setup.linux (requests_of (world old.setup h)) n (sym named ∙ next_told old asked h a same fits)
 
 -- the next request ends as it is issued
 pub turn_issue : (old asked new : Core) (h : History) (n : ℕ) (a b : Answer)
@@ -146,9 +171,9 @@ pub turn_issue : (old asked new : Core) (h : History) (n : ℕ) (a b : Answer)
     → a ≡ answer.Next n → (b ≡ answer.Run → ⊥) → NoneRuns (world old.setup h)
     → FitsApart asked ((step.Next, a) ∷ h) → FitsApart new ((step.Issue n, b) ∷ h) → HasRun new h 1
 turn_issue old asked new h n a b same kept named other quiet asked_fits fits =
-    let issuable : is_issuable (world new.setup h).requests n ≡ true = subst (λ g. is_issuable (world g h).requests n ≡ true) (sym (kept ∙ same)) (named_waits old asked h n a same named asked_fits) in
-    turn_ended new h n b (subst (λ g. NoneRuns (world g h)) (sym (kept ∙ same)) quiet) (issuable_waits (world new.setup h).requests n issuable).outstanding
-    (issue_ends (world new.setup h) n b issuable fits.lawful.0 other) fits
+    let issuable : IsNext new.setup h n = subst (λ g. IsNext g h n) (sym (kept ∙ same)) (named_waits old asked h n a same named asked_fits) in
+    turn_ended new h n b (subst (λ g. NoneRuns (world g h)) (sym (kept ∙ same)) quiet) (issuable_waits new.setup.linux (requests_of (world new.setup h)) n issuable).outstanding
+    (issue_ends new.setup (world new.setup h) n b issuable fits.lawful.0 other) fits
 
 -- the next request runs
 pub record IsStarted (p : Core) (h : History) (n : ℕ) : Type 0 where
@@ -163,8 +188,8 @@ pub turn_start : (old asked new : Core) (h : History) (n : ℕ) (a b : Answer)
     → FitsApart asked ((step.Next, a) ∷ h) → FitsApart new ((step.Issue n, b) ∷ h)
     → IsStarted new h n
 turn_start old asked new h n a b same kept named ran quiet asked_fits fits =
-    let issuable : is_issuable (world new.setup h).requests n ≡ true = subst (λ g. is_issuable (world g h).requests n ≡ true) (sym (kept ∙ same)) (named_waits old asked h n a same named asked_fits) in
-    let waits = issuable_waits (world new.setup h).requests n issuable in
+    let issuable : IsNext new.setup h n = subst (λ g. IsNext g h n) (sym (kept ∙ same)) (named_waits old asked h n a same named asked_fits) in
+    let waits = issuable_waits new.setup.linux (requests_of (world new.setup h)) n issuable in
     record {
       waits = waits;
       quiet = subst (λ g. NoneRuns (world g h)) (sym (kept ∙ same)) quiet;

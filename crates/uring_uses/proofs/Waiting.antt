@@ -1,9 +1,18 @@
 -- A request that runs waits for nobody.
-use Rattle.std.proofs.Common.{◌≡◌, ℕ, ◌<◌, ℤ, Bool, true, false, not, ◌&&◌, if◌then◌else◌, refl}
-use Rattle.uring_entry.specs.Requests.{Requests, entry_of, has_ended, is_outstanding, is_running, is_doomed, is_ready, waits_for, doomed_result, cancel_result, no_bytes}
+use Rattle.std.proofs.Common.{◌≡◌, ℕ, ◌<◌, ℤ, Bool, true, false, not, ◌&&◌, if◌then◌else◌, refl, subst}
+use Rattle.uring_entry.specs.Requests.{Requests, entry_of, has_ended, is_outstanding, is_running, is_doomed, is_ready, is_joined, waits_for, doomed_result, cancel_result, no_bytes}
 use Rattle.uring_entry.specs.Preparation.{is_cancel}
 use Rattle.uring_entry.proofs.RequestLemmas.{is_ready_inside}
-use Rattle.uring_core.specs.World.{World}
+use Rattle.std.proofs.lemmas.Bool.{and_parts}
+use Rattle.uring_entry.specs.Setup.{Setup}
+use Rattle.uring_linux.specs.LinuxRequests.{LinuxRequests}
+use Rattle.uring_rules.specs.Rules as by_rule
+use Rattle.uring_rules.specs.Rules.{ends_doomed, may_start}
+use Rattle.uring_core.specs.World.{World, requests_of}
+use Rattle.uring_core.specs.Histories.{by_manual}
+use Rattle.uring_core.proofs.ByRules.{is_by_manual}
+use Rattle.uring_core.proofs.SoundRequests.{ready_first}
+use Rattle.uring_laws.proofs.LinuxSound.{turn_first}
 use Rattle.uring_core.specs.StepAnswers.{issue_answer}
 use Rattle.uring_core.specs.declared.answer.Answer.TheVariants as answer
 
@@ -21,12 +30,32 @@ ended_or : (ended waits : Bool) → (not ended && waits) ≡ false → waits ≡
 ended_or true waits back waiting = refl
 ended_or false waits back waiting = cc
 
--- what a request that runs waits for has ended
-pub run_waits_for_none : (w : World) (n m : ℕ) → answer.Run ≡ issue_answer w n → m < n
+-- by either's rules each earlier member of the group of a request that runs has ended
+run_first : (linux : Bool) (g : Setup) (w : World) (n m : ℕ)
+    → answer.Run ≡ issue_answer (record g { linux = linux }) w n → m < n
+    → is_joined w.requests m n ≡ true
+    → has_ended w.requests m ≡ true
+run_first linux g w n m is lt joined =
+    let r : Requests = w.requests in
+    let l : LinuxRequests = requests_of w in
+    by_rules linux (run_ready (is_outstanding r n) (is_running r n) (ends_doomed linux r n) (may_start linux l n) (is_cancel (entry_of r n)) (by_rule.doomed_result linux r n) (by_rule.cancel_result linux r n) is) where
+      by_rules : (linux : Bool) → may_start linux (requests_of w) n ≡ true → has_ended w.requests m ≡ true
+      by_rules true ready = turn_first w.requests n (and_parts _ _ ready).0 m lt joined
+      by_rules false ready = ready_first w.requests n ready m lt joined
+
+pub run_behind_ended : (g : Setup) (w : World) (n m : ℕ) → answer.Run ≡ issue_answer g w n → m < n
+    → is_joined w.requests m n ≡ true
+    → has_ended w.requests m ≡ true
+run_behind_ended g w n m is lt joined = run_first g.linux g w n m is lt joined
+
+-- by the manual pages' rules what a request that runs waits for has ended
+pub run_waits_for_none : (g : Setup) (w : World) (n m : ℕ) → g.linux ≡ false
+    → answer.Run ≡ issue_answer g w n → m < n
     → waits_for w.requests n m ≡ true
     → has_ended w.requests m ≡ true
-run_waits_for_none w n m is lt waits =
+run_waits_for_none g w n m manual is lt waits =
     let r : Requests = w.requests in
+    let told : answer.Run ≡ issue_answer (by_manual g) w n = subst (λ k. answer.Run ≡ issue_answer k w n) (is_by_manual g manual) is in
     ended_or (has_ended r m) (waits_for r n m)
-    (is_ready_inside r n m (run_ready (is_outstanding r n) (is_running r n) (is_doomed r n) (is_ready r n) (is_cancel (entry_of r n)) (doomed_result r n) (cancel_result r n) is) lt)
+    (is_ready_inside r n m (run_ready (is_outstanding r n) (is_running r n) (is_doomed r n) (is_ready r n) (is_cancel (entry_of r n)) (doomed_result r n) (cancel_result r n) told) lt)
     waits

@@ -1,7 +1,8 @@
 //! A simulator: requests of the core, carried out on a disk of its own.
 
 ghost use Rattle.std.specs.Prelude.{◌≡◌, ◌<◌, ◌≤◌, ◌+◌, ◌^◌};
-ghost use Rattle.uring_entry.specs.Requests.{outstanding_in, doomed_result, no_bytes};
+ghost use Rattle.uring_entry.specs.Requests.{outstanding_in, no_bytes};
+ghost use Rattle.uring_rules.specs.Rules.{doomed_result};
 ghost use Rattle.uring_core.specs.Core.{FitsApart};
 ghost use Rattle.uring_core.specs.Histories.{History, world};
 ghost use Rattle.uring_core.specs.declared.answer.Answer.TheVariants as answer;
@@ -46,7 +47,7 @@ pub fn break_chain(core: &mut Core, number: u64) -> Answer
     requires { number + 1 < 2 ^ 64 }
     ensures setup { core.new.setup ≡ core.old.setup }
     ensures cancelled { (h : History) → FitsApart core.old h → IsNextInChain (world core.old.setup h).requests number
-        → result ≡ answer.Ended (doomed_result (world core.old.setup h).requests (number + 1)) no_bytes }
+        → result ≡ answer.Ended (doomed_result core.old.setup.linux (world core.old.setup h).requests (number + 1)) no_bytes }
 {
     let failed = Outcome {
         res: -EIO,

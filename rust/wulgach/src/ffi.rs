@@ -28,6 +28,7 @@ pub struct Setup {
     pub start: u32,
     pub has_cq: bool,
     pub stops: bool,
+    pub linux_rules: bool,
 }
 
 #[repr(C)]

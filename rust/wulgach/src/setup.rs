@@ -24,10 +24,12 @@ pub struct Setup {
     pub start: u32,
     /// Whether a submission call ends behind an entry with a fault, also one with a link flag, and leaves the rest to later calls. Else it goes on.
     pub stops: bool,
+    /// Whether requests are kept by Linux's rules, as 6.18 was seen to, where they differ from the manual pages'. Else by the manual pages'.
+    pub linux: bool,
 }
 
 impl Default for Setup {
-    /// 4 entries, 8 completions, 2 files, from word 0 on, and calls that go on.
+    /// 4 entries, 8 completions, 2 files, from word 0 on, calls that go on, and the manual pages' rules.
     fn default() -> Setup {
         Setup {
             sq: 4,
@@ -35,6 +37,7 @@ impl Default for Setup {
             files: 2,
             start: 0,
             stops: false,
+            linux: false,
         }
     }
 }
@@ -69,6 +72,7 @@ impl Setup {
             start: self.start,
             has_cq: self.cq.is_some(),
             stops: self.stops,
+            linux_rules: self.linux,
         }
     }
 }

@@ -36,6 +36,9 @@ pub enum Doom {
 
     /// A cancel that chose it.
     Cancel,
+
+    /// It asks to drain in a ring that has used skipped success, which Linux's rules refuse.
+    RefusedDrain,
 }
 
 /// Why a request waits for an earlier one: the first of these that holds.
@@ -49,6 +52,9 @@ pub enum Since {
 
     /// The later one's group drains.
     OwnDrains,
+
+    /// The later one's group is deferred, by Linux's rules: until nothing else is outstanding.
+    Deferred,
 }
 
 /// What is wrong with an entry. If several things are, the first in this order is told.
@@ -105,7 +111,8 @@ fn doom(words: &ffi::Why) -> Doom {
         2 => Doom::FaultOf(words.number),
         3 => Doom::FailureOf(words.number),
         4 => Doom::Cancel,
-        _ => unreachable!("the library tells four dooms"),
+        5 => Doom::RefusedDrain,
+        _ => unreachable!("the library tells five dooms"),
     }
 }
 
@@ -114,7 +121,8 @@ fn since(word: u32) -> Since {
         1 => Since::SameGroup,
         2 => Since::ItDrains,
         3 => Since::OwnDrains,
-        _ => unreachable!("the library tells three reasons to wait"),
+        4 => Since::Deferred,
+        _ => unreachable!("the library tells four reasons to wait"),
     }
 }
 

@@ -5,8 +5,8 @@ ghost use Rattle.std.specs.Prelude.{IsTrue};
 use super::{check_done, first_false};
 use std::alloc::Global;
 use std::test::Fail;
-use uring_entry::{Op, Sqe};
-use uring_linux::{Issued, LinuxDispatch, Posts, ReserveError};
+use uring_entry::{Doom, Fault, Op, Since, Sqe, Why};
+use uring_linux::{Found, Issued, LinuxDispatch, Posts, ReserveError};
 
 const DRAIN: u8 = 2;
 
@@ -149,11 +149,14 @@ fn cancels(alloc: Global) -> Result<Option<usize>, Fail> {
     two(&mut dispatch, Sqe::nop(7, LINK), Sqe::nop(8, 0))?;
     two(&mut dispatch, Sqe::cancel(1, 0, 8), Sqe::cancel(2, 0, 7))?;
     let running = starts(&mut dispatch, 0);
+    let none = dispatch.would_find(2) == Some(Found::Nobody);
+    let one = dispatch.would_find(3) == Some(Found::Running(0));
     let nobody = ends(&mut dispatch, 2, -2, true);
     let found = ends(&mut dispatch, 3, -114, true);
+    let no_more = dispatch.would_find(3).is_none() && dispatch.would_find(0).is_none();
     let ended = finish(&mut dispatch, 0);
     let later = starts(&mut dispatch, 1);
-    Ok(first_false(&[running, nobody, found, ended, later]))
+    Ok(first_false(&[running, none, one, nobody, found, no_more, ended, later]))
 }
 
 /// Behind a failure that skips nobody posts, also in a chain with a fault whose head skips.
@@ -171,6 +174,61 @@ fn silent_members(alloc: Global) -> Result<Option<usize>, Fail> {
     let failed = matches!(dispatch.end_running(2, -5), Some(Posts::Completion(3)));
     let cancelled = ends(&mut dispatch, 3, -125, false);
     Ok(first_false(&[head, silent, running, failed, cancelled]))
+}
+
+/// Whether this request waits for that one, for this reason.
+fn waits_for(dispatch: &LinuxDispatch, n: u64, least: u64, since: Since) -> bool
+    requires { IsTrue dispatch.now.is_between_calls }
+{
+    dispatch.why(n) == Why::Waits { least, since }
+}
+
+/// Whether this dooms the request.
+fn is_doomed_by(dispatch: &LinuxDispatch, n: u64, doom: Doom) -> bool
+    requires { IsTrue dispatch.now.is_between_calls }
+{
+    dispatch.why(n) == Why::IsDoomed(doom)
+}
+
+/// Of a chain with a fault the second is told to be doomed in its turn, and not before.
+fn reasons_in_a_group(dispatch: &mut LinuxDispatch) -> Result<Option<usize>, ReserveError>
+    requires { IsTrue dispatch.old.is_between_calls }
+    ensures { IsTrue dispatch.new.is_between_calls }
+{
+    two(dispatch, Sqe::nop(0, LINK), Sqe::with_opcode(99, 1, 0))?;
+    let head = is_doomed_by(dispatch, 0, Doom::FaultOf(1));
+    let held = waits_for(dispatch, 1, 0, Since::SameGroup);
+    let ended = ends(dispatch, 0, -125, true) && dispatch.why(0) == Why::HasEnded;
+    let faulty = is_doomed_by(dispatch, 1, Doom::OwnFault(Fault::Opcode));
+    let last = ends(dispatch, 1, -22, true) && dispatch.why(2) == Why::NeverAccepted;
+    Ok(first_false(&[head, held, ended, faulty, last]))
+}
+
+/// A drain and one behind it are deferred while a request runs, and a drain behind skipped success is refused.
+fn reasons_beside_a_drain(dispatch: &mut LinuxDispatch) -> Result<Option<usize>, ReserveError>
+    requires { IsTrue dispatch.old.is_between_calls }
+    ensures { IsTrue dispatch.new.is_between_calls }
+{
+    one(dispatch, Sqe::nop(2, 0))?;
+    let running = starts(dispatch, 2) && dispatch.why(2) == Why::Runs;
+    one(dispatch, Sqe::nop(3, DRAIN))?;
+    two(dispatch, Sqe::nop(4, SKIP), Sqe::nop(5, DRAIN))?;
+    let drain = waits_for(dispatch, 3, 2, Since::Deferred);
+    let behind = waits_for(dispatch, 4, 2, Since::Deferred);
+    let refused = is_doomed_by(dispatch, 5, Doom::RefusedDrain);
+    let free = ends(dispatch, 5, -95, true)
+        && finish(dispatch, 2)
+        && dispatch.why(3) == Why::MayStart;
+    let still = waits_for(dispatch, 4, 3, Since::Deferred);
+    Ok(first_false(&[running, drain, behind, refused, free, still]))
+}
+
+/// Both, one behind the other.
+fn reasons(alloc: Global) -> Result<Option<usize>, Fail> {
+    let mut dispatch = LinuxDispatch::new(alloc);
+    let in_a_group = reasons_in_a_group(&mut dispatch)?;
+    let beside_a_drain = reasons_beside_a_drain(&mut dispatch)?;
+    Ok(in_a_group.or(beside_a_drain))
 }
 
 /// Whether so many requests are outstanding, running and issuable.
@@ -212,6 +270,11 @@ fn counts_made(alloc: Global) -> Result<Option<usize>, Fail> {
     let wrong = counts(&mut dispatch)?;
     drop(dispatch);
     Ok(wrong)
+}
+
+#[test]
+fn tells_reasons_as_linux_does(rt: HostRuntime) -> Result<(), Fail> {
+    check_done(&rt, reasons(rt.alloc()))
 }
 
 #[test]

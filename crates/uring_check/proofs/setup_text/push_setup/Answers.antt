@@ -1,6 +1,7 @@
-use Rattle.std.proofs.Common.{◌≡◌, ◌++◌, List, ℕ, Bool, if◌then◌else◌, refl, ap, ◌∙◌, append_assoc}
+use Rattle.std.proofs.Common.{◌≡◌, ◌++◌, List, ℕ, refl, ap, ap₂, ◌∙◌, append_assoc}
 use Rattle.std.specs.Prelude.{codes, string_bytes}
 use Rattle.std.specs.Fmt.{decimal}
+use Rattle.uring_check.specs.SetupLines.{end_text}
 use Rattle.std.proofs.lemmas.Result.{on_ok_weaker}
 use Rattle.uring_check.proofs.setup_text.push_setup.Goals as goal
 
@@ -16,7 +17,7 @@ five_parts old a b c d new u k v l w m x n y z e f g h i is =
 pub returns : goal.returns
 returns c =
     let g = c.args.setup.now in
-    let stop : c.stop_of.result.now ≡ (if g.stops then codes " --stop\n" else codes "\n") = c.stop_of.ensures ∙ ap (λ (b : Bool). if b then codes " --stop\n" else codes "\n") c.stops.ensures.value in
+    let stop : c.end_of.result.now ≡ end_text g.stops g.linux = c.end_of.ensures ∙ ap₂ end_text c.stops.ensures.value c.is_linux.ensures.value in
     on_ok_weaker c.push_text.result
     (λ last. five_parts (string_bytes c.args.text.now) _ _ _ _ _ (codes "# setup --sq ") (decimal g.sq) (codes " --cq ") (decimal g.cq) (codes " --files ") (decimal g.files) (codes " --start ") (decimal g.start) _ _
     (rw c.sq.ensures.value at c.in_ok-push_named.ensures) (rw c.cq.ensures.value at c.in_ok-push_named-2.ensures) (rw c.files.ensures.value at c.in_ok-push_named-3.ensures) (rw c.start.ensures.value at c.in_ok-push_named-4.ensures) last stop)

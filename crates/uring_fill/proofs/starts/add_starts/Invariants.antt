@@ -1,6 +1,8 @@
 use Rattle.std.proofs.Common.{◌≡◌, ℕ, ◌+◌, ◌<◌, ◌≤◌, true, List}
 use Rattle.std.specs.Prelude.{Contains}
-use Rattle.uring_entry.specs.Requests.{is_issuable, entry_outstanding}
+use Rattle.uring_entry.specs.Requests.{entry_outstanding}
+use Rattle.uring_rules.specs.Rules.{is_issuable}
+use Rattle.uring_core.specs.World.{requests_of}
 use Rattle.uring_core.specs.Histories.{Event, History, world}
 use Rattle.uring_core.specs.declared.step.Step.TheVariants as step
 use Rattle.uring_core.specs.declared.answer.Answer.TheVariants as answer
@@ -13,7 +15,7 @@ abbrev pub invariant-loop-place : goal.invariant-loop-place
 invariant-loop-place l = record {
   adds : Adds l.core l.wanted l.fn.next.items l.next.items;
   added : (seen : List Event) (h : History) (n : ℕ) → StandsAt l.core seen l.wanted h → n < l.accepted → l.accepted ≤ n + l.place
-      → is_issuable (world l.core.setup h).requests n ≡ true
+      → is_issuable l.core.setup.linux (requests_of (world l.core.setup h)) n ≡ true
       → parts.is_asked (entry_outstanding (world l.core.setup h).requests n) l.wanted ≡ l.asked
       → Contains l.next.items (step.Issue n, answer.Run);
 }

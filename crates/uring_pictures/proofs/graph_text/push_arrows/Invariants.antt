@@ -1,13 +1,13 @@
 use Rattle.std.proofs.Common.{◌≡◌, ◌++◌}
 use Rattle.std.specs.Prelude.{string_bytes}
 use Rattle.uring_core.specs.Histories.{History}
-use Rattle.uring_pictures.specs.Following.{Keeps, requests_at}
+use Rattle.uring_pictures.specs.Following.{Keeps, is_linux_at, linux_at, requests_at}
 use Rattle.uring_pictures.specs.Graphs.{arrows_below, member_before}
 use Rattle.uring_pictures.proofs.graph_text.push_arrows.Given as goal
 
 -- the lines so far, and the member before the next request
 abbrev pub invariant-loop-number : goal.invariant-loop-number
 invariant-loop-number g l = record {
-  arrows : (h : History) → Keeps l.fn.accepted h → string_bytes l.text ≡ string_bytes l.fn.text ++ arrows_below (requests_at l.fn.accepted h) l.number;
+  arrows : (h : History) → Keeps l.fn.accepted h → string_bytes l.text ≡ string_bytes l.fn.text ++ arrows_below (is_linux_at l.fn.accepted) (linux_at l.fn.accepted h) l.number;
   chain : (h : History) → Keeps l.fn.accepted h → l.before ≡ member_before (requests_at l.fn.accepted h) l.number;
 }

@@ -1,6 +1,6 @@
 use Rattle.std.proofs.Common.{length}
 use Rattle.std.proofs.lemmas.Result.{on_ok_weaker}
-use Rattle.uring_pictures.specs.Following.{requests_at}
+use Rattle.uring_pictures.specs.Following.{is_linux_at, linux_at}
 use Rattle.uring_pictures.specs.Graphs.{nodes_below, arrows_below}
 use Rattle.uring_pictures.proofs.Arrows.{up_to_same, whole_graph}
 use Rattle.uring_pictures.proofs.graph_text.push_graph.Goals as goal
@@ -9,8 +9,9 @@ pub returns-clause-graph : goal.returns-clause-graph
 returns-clause-graph g c =
     on_ok_weaker c.push_text-2.result
     (λ end h keeps.
-    let r = requests_at c.args.accepted.now h in
-    whole_graph _ _ _ _ _ (nodes_below r (length r.accepted)) (arrows_below r (length r.accepted)) c.in_ok-push_text.ensures.bytes
-    (up_to_same (nodes_below r) _ _ _ _ (c.in_ok-push_nodes.ensures.nodes h keeps) (c.count.ensures h keeps))
-    (up_to_same (arrows_below r) _ _ _ _ (c.in_ok-push_arrows.ensures.arrows h keeps) (c.count-2.ensures h keeps)) end)
+    let linux = is_linux_at c.args.accepted.now in
+    let l = linux_at c.args.accepted.now h in
+    whole_graph _ _ _ _ _ (nodes_below linux l (length l.requests.accepted)) (arrows_below linux l (length l.requests.accepted)) c.in_ok-push_text.ensures.bytes
+    (up_to_same (nodes_below linux l) _ _ _ _ (c.in_ok-push_nodes.ensures.nodes h keeps) (c.count.ensures h keeps))
+    (up_to_same (arrows_below linux l) _ _ _ _ (c.in_ok-push_arrows.ensures.arrows h keeps) (c.count-2.ensures h keeps)) end)
     c.push_text-2.ensures.bytes

@@ -3,18 +3,18 @@ use Rattle.std.specs.Prelude.{string_bytes}
 use Rattle.std.proofs.lemmas.List.{append-nil}
 use Rattle.std.proofs.lemmas.Result.{on_ok_weaker}
 use Rattle.uring_entry.specs.Layout.{Sqe}
-use Rattle.uring_pictures.specs.Following.{requests_at}
+use Rattle.uring_pictures.specs.Following.{is_linux_at, linux_at}
 use Rattle.uring_pictures.specs.Graphs.{line_text}
 use Rattle.uring_pictures.proofs.Arrows.{row_placed}
 use Rattle.uring_pictures.proofs.graph_text.push_row.Goals as goal
 
 pub returns-in_default-clause-row : goal.returns-in_default-clause-row
 returns-in_default-clause-row g c = λ h keeps same.
-    sym (append-nil (string_bytes c.args.text.now)) ∙ ap (λ (o : Option Sqe). string_bytes c.args.text.now ++ line_text (requests_at c.args.accepted.now h) c.args.number o) (sym c.in_default.is ∙ c.outstanding.ensures h keeps)
+    sym (append-nil (string_bytes c.args.text.now)) ∙ ap (λ (o : Option Sqe). string_bytes c.args.text.now ++ line_text (is_linux_at c.args.accepted.now) (linux_at c.args.accepted.now h) c.args.number o) (sym c.in_default.is ∙ c.outstanding.ensures h keeps)
 
 pub returns-clause-row : goal.returns-clause-row
 returns-clause-row g c =
     on_ok_weaker c.push_placed.result
     (λ line h keeps same.
-    row_placed (requests_at c.args.accepted.now h) c.args.number c.in-Some.entry _ _ _ _ _ _ line (c.call.ensures h keeps) same (c.has_others.ensures h keeps same) (c.why.ensures h keeps) (sym c.in-Some.is ∙ c.outstanding.ensures h keeps))
+    row_placed (is_linux_at c.args.accepted.now) (linux_at c.args.accepted.now h) c.args.number c.in-Some.entry _ _ _ _ _ _ line (c.call.ensures h keeps) same (c.has_others.ensures h keeps same) (c.why.ensures h keeps) (sym c.in-Some.is ∙ c.outstanding.ensures h keeps))
     c.push_placed.ensures.line

@@ -1,7 +1,6 @@
 use Rattle.std.proofs.lemmas.Bool.{false≢true}
 use Rattle.std.proofs.Common.{◌≡◌, ◌<◌, ◌≤◌, zero, [], length, subst, sym, refl, ap, ◌∙◌, arith}
 use Rattle.std.specs.Prelude.{◌⊎◌, None, OnOk, OnErr}
-use Rattle.uring_entry.specs.Requests.{next_of}
 use Rattle.uring_entry.specs.Setup.{Setup}
 use Rattle.uring_entry.specs.Submission.{dropped}
 use Rattle.uring_ports.specs.Dropped.{with_word}
@@ -18,7 +17,7 @@ use Rattle.uring_threads.proofs.Collecting.{on_err, on_ok}
 use Rattle.uring_threads.proofs.FewResults.{few_of_none, few_behind, few_before}
 use Rattle.uring_threads.proofs.Recording.{finishes_many, issues_many, records_none, records_nothing, turn_recorded}
 use Rattle.uring_threads.proofs.TraceSteps.{appends_none}
-use Rattle.uring_threads.proofs.Turning.{ties_taken, ties_posted, ties_worked, ties_unmoved, ties_delivered, counts_all, some_then, lanes_then, with_ok}
+use Rattle.uring_threads.proofs.Turning.{ties_taken, ties_posted, ties_worked, ties_unmoved, ties_delivered, counts_all, some_then, lanes_then, with_ok, same_next}
 use Rattle.uring_workers.specs.WorkLanes.{SomeIsFull}
 use Rattle.uring_threads.proofs.turns.make_turn.Goals as goal
 
@@ -83,7 +82,7 @@ returns-clause-served g c =
           c.in_ok-popped.ensures.taken c.in_ok-finished.ensures.tally c.in_ok-finished.ensures.idle c.in_ok-issued.ensures.tally c.in_ok-issued.ensures.idle c.in_ok-delivered.ensures.tally c.in_ok-delivered.ensures.idle;
       begun = begun;
       pulls = subst (PullsMost c.take_in.new.intake c.in_ok-popped.popped (g.P.KernelPort.saw_calls c.args.port.now)) (sym (told.calls ∙ c.deliver.ensures.calls)) c.in_ok-popped.ensures.most;
-      none_left = subst (λ r. (next_of r ≡ None) ⊎ SomeIsFull c.issue_all.new.lanes) (sym c.deliver.ensures.keeps.requests) c.in_ok-issued.ensures.none_left;
+      none_left = subst (λ n. (n ≡ None) ⊎ SomeIsFull c.issue_all.new.lanes) (sym (same_next c.issue_all.new.kept c.deliver.new.kept c.deliver.ensures.keeps c.in_ok-delivered.ensures.tally.setup)) c.in_ok-issued.ensures.none_left;
       all = λ few. ap length told.delivered ∙ c.in_ok-delivered.ensures.all (omega (arith, few, posted, cq)) ∙ sym posted;
       most = subst (λ q. DeliversMost (now c.deliver.new.kept).completions (g.P.KernelPort.free c.tell_dropped.new.port) q c.in_ok-delivered.delivered) cq
           (subst (λ f. DeliversMost (now c.deliver.new.kept).completions f c.issue_all.new.kept.setup.cq c.in_ok-delivered.delivered) (sym told.free) c.in_ok-delivered.ensures.most);

@@ -9,5 +9,5 @@ pub returns-in-Issue-clause-told : goal.returns-in-Issue-clause-told
 returns-in-Issue-clause-told g c =
     rw c.in-Issue.is
     (IfOk-weaker c.chosen_by.result _ _
-    (λ told is h fits. is h fits (c.why.ensures h fits) ∙ ap (λ (w : Why). chosen_for (world c.args.core.now.setup h).requests c.in-Issue.number w) (c.why.ensures h fits))
+    (λ told is h fits. is h fits (c.why.ensures h fits) ∙ ap (λ (w : Why). chosen_for c.args.core.now.setup.linux (world c.args.core.now.setup h).requests c.in-Issue.number w) (c.why.ensures h fits))
     c.chosen_by.ensures.told)

@@ -1,8 +1,11 @@
-use Rattle.std.proofs.Common.{sym, ◌∙◌}
+use Rattle.std.proofs.Common.{ap, sym, ◌∙◌}
 use Rattle.uring_core.specs.Histories.{world}
+use Rattle.uring_core.specs.World.{requests_of}
+use Rattle.uring_rules.specs.Rules.{why_of}
 use Rattle.uring_trace.proofs.ChosenTexts.{target_told}
 use Rattle.uring_trace.proofs.chosen.is_target_of.Goals as goal
 
 pub returns-in-Some : goal.returns-in-Some
 returns-in-Some c = λ h fits is.
-    target_told (world c.args.core.now.setup h).requests c.args.number c.args.other c.args.entry.now _ _ _ is (sym (c.entry.ensures h fits) ∙ c.in-Some.is) (c.why.ensures h fits) c.is_target_by.ensures
+    let stands = c.why.ensures h fits ∙ ap (λ linux. why_of linux (requests_of (world c.args.core.now.setup h)) c.args.other) c.requires in
+    target_told (world c.args.core.now.setup h).requests c.args.number c.args.other c.args.entry.now _ _ _ is (sym (c.entry.ensures h fits) ∙ c.in-Some.is) stands c.is_target_by.ensures

@@ -1,7 +1,11 @@
 use Rattle.uring_core.specs.Histories.{world}
-use Rattle.uring_uses.proofs.Waiting.{run_waits_for_none}
+use Rattle.uring_uses.proofs.Waiting.{run_behind_ended, run_waits_for_none}
 use Rattle.uring_uses.proofs.one_step.starts.Goals as goal
 
 pub returns-in-Run-clause-in_order : goal.returns-in-Run-clause-in_order
-returns-in-Run-clause-in_order c = λ runs h m fits lt waits.
-    run_waits_for_none (world c.args.machine.now.core.setup h) c.args.number m (c.in-Run.ensures.called h fits) lt waits
+returns-in-Run-clause-in_order c = λ runs manual h m fits lt waits.
+    run_waits_for_none c.args.machine.now.core.setup (world c.args.machine.now.core.setup h) c.args.number m manual (c.in-Run.ensures.called h fits) lt waits
+
+pub returns-in-Run-clause-links : goal.returns-in-Run-clause-links
+returns-in-Run-clause-links c = λ runs h m fits lt joined.
+    run_behind_ended c.args.machine.now.core.setup (world c.args.machine.now.core.setup h) c.args.number m (c.in-Run.ensures.called h fits) lt joined

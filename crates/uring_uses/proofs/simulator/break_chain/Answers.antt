@@ -12,5 +12,5 @@ returns-clause-cancelled c = λ h fits next.
     let n = c.args.number in
     let told : c.finish.result ≡ answer.Ended (negsuc 4) no_bytes = c.finish.ensures.outcome h fits ∙ ap (λ b. if b then answer.Ended (negsuc 4) no_bytes else answer.NotRunning) next.runs in
     let issued = c.step.ensures.fits _ (c.finish.ensures.fits h fits) in
-    cancelled_after c.args.core.now.setup h n 4 no_bytes c.finish.result c.step.result next told
-    (subst (λ s. c.step.result ≡ issue_answer (world s ((step.Finish n, c.finish.result) ∷ h)) (n + 1)) (c.step.ensures.setup ∙ c.finish.ensures.setup) issued.lawful.0)
+    cancelled_after c.args.core.now.setup h n 4 no_bytes c.finish.result c.step.result fits.lawful next told
+    (subst (λ s. c.step.result ≡ issue_answer s (world s ((step.Finish n, c.finish.result) ∷ h)) (n + 1)) (c.step.ensures.setup ∙ c.finish.ensures.setup) issued.lawful.0)

@@ -1,5 +1,7 @@
-use Rattle.std.proofs.Common.{sym, ◌∙◌}
+use Rattle.std.proofs.Common.{ℕ, sym, ◌∙◌}
+use Rattle.std.specs.Prelude.{string_bytes}
 use Rattle.std.proofs.lemmas.Result.{on_ok_weaker, IfOk-weaker}
+use Rattle.uring_trace.specs.Explaining.{TellsShown}
 use Rattle.uring_trace.proofs.ExplainLines.{if_ok_both, line_made, line_asked, line_remark, line_bad}
 use Rattle.uring_trace.proofs.explainer.Explainer.tell_line.Goals as goal
 
@@ -12,7 +14,9 @@ returns-in-Some-clause-told g c =
 pub returns-in-Some-read_question-clause-told : goal.returns-in-Some-read_question-clause-told
 returns-in-Some-read_question-clause-told g c =
     on_ok_weaker c.tell_shown.result
-    (λ h line k. line_asked _ c.args.self.now.machine c.args.self.now.number c.args.self.now.has_bad line _ _ _ c.in-Some-read_question.question (rw c.in-Some-read_question.is at (c.read_question.ensures line k)) h)
+    (λ (h : TellsShown c.args.self.now.machine c.in-Some-read_question.question (string_bytes c.args.text.now) (string_bytes c.tell_shown.new.text)). λ line k.
+    line_asked ((n : ℕ) → g.M.Memory.grants c.args.memory.now n) c.args.self.now.machine c.args.self.now.number c.args.self.now.has_bad line (string_bytes c.args.text.now) (string_bytes c.tell_shown.new.text) (string_bytes c.args.notes.now) c.in-Some-read_question.question
+    (rw c.in-Some-read_question.is at (c.read_question.ensures line k)) h)
     c.tell_shown.ensures.told
 
 pub returns-in-None-clause-told : goal.returns-in-None-clause-told
