@@ -1,6 +1,6 @@
 //! What an entry is to the core, and which fault it has. io_uring_enter(2), DESCRIPTION and CQE ERRORS.
 
-ghost use Rattle.std.specs.Prelude.{◌≡◌};
+ghost use Rattle.std.specs.Prelude.{◌≡◌, pos, true};
 ghost use Rattle.uring_enter.specs.Forms as spec;
 
 use crate::socket_form::{
@@ -335,7 +335,31 @@ pub fn form_of(entry: &Submission, refusal: i32, is_allowed: bool) -> Form
         Form::Refused(refusal)
     } else if !is_allowed {
         Form::Refused(-13)
-    } else if selects_in_vain(entry) {
+    } else {
+        match entry.opcode {
+            22 => form_of_read(entry),
+            _ => form_by_rule(entry),
+        }
+    }
+}
+
+/// What a READ is that nothing refuses: most entries of those that call most are these.
+fn form_of_read(entry: &Submission) -> Form
+    requires { entry.now.opcode ≡ 22 }
+    ensures { result ≡ spec.form_of entry.now (pos 0) true }
+{
+    if entry.flags & 128 == 0 && entry.personality == 0 && entry.ioprio < 32768 {
+        Form::Token
+    } else {
+        Form::Refused(-22)
+    }
+}
+
+/// What an entry is that nothing refuses.
+fn form_by_rule(entry: &Submission) -> Form
+    ensures { result ≡ spec.form_of entry.now (pos 0) true }
+{
+    if selects_in_vain(entry) {
         Form::Refused(-95)
     } else if is_malformed(entry) {
         Form::Refused(-22)
