@@ -124,6 +124,12 @@ static void copy_pieces(void)
     struct wulgach_submission receive = {.opcode = RECVMSG, .ioprio = 2};
     demand(wulgach_room_fault(&receive, 8, 8) == 0 && wulgach_room_fault(&receive, UINT32_MAX, 8) == -22 && wulgach_room_fault(&receive, INT32_MAX, 8) == -75 && wulgach_room_fault(&set, UINT32_MAX, 8) == 0, "what stands in front");
     demand(wulgach_form_flags(255) == 94, "the core's flags");
+    for (int code = 0; code < 256; code++) {
+        struct wulgach_submission entry = {.opcode = (uint8_t)code, .flags = 32, .addr = 8, .len = 3};
+        bool is_buffer = next(entry, 0, &piece) == 1 && piece.what == WULGACH_BUFFER, ends = next(entry, 1, &piece) == 0;
+        demand(!wulgach_has_one_buffer(&entry) || (is_buffer && ends), "one buffer is told, and then nothing");
+    }
+    demand(wulgach_has_one_buffer(&(struct wulgach_submission){.opcode = READ}) && !wulgach_has_one_buffer(&set), "a read has one buffer");
 }
 
 /* The fault of an entry behind its pieces, of which the last has one. */
