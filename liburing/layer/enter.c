@@ -35,7 +35,7 @@ struct waiting {
     const sigset_t *signals;        /* the thread's mask, while the call sleeps, */
     uint64_t mask;                  /* unless the call gives one, at this address */
     size_t mask_size;
-    sigset_t given;
+    sigset_t *given;                /* room for that */
     uint32_t flags;
     int fault;                      /* of the last argument, read behind the submission; 0: none */
 };
@@ -64,9 +64,9 @@ static int read_mask(struct waiting *waiting)
 {
     if (!waiting->mask)
         return 0;
-    sigemptyset(&waiting->given);
-    waiting->signals = &waiting->given;
-    bool is_readable = waiting->mask_size == _NSIG / 8 && copy_in(&waiting->given, waiting->mask, _NSIG / 8) == 0;
+    sigemptyset(waiting->given);
+    waiting->signals = waiting->given;
+    bool is_readable = waiting->mask_size == _NSIG / 8 && copy_in(waiting->given, waiting->mask, _NSIG / 8) == 0;
     return wulgach_mask_fault(waiting->mask_size, is_readable);
 }
 
@@ -270,7 +270,7 @@ int enter(int fd, uint32_t to_submit, uint32_t min_complete, uint32_t flags, con
     if (!ring)
         return fcntl(fd, F_GETFD) < 0 ? -EBADF : -EOPNOTSUPP;
     ring->called_fd = fd;
-    sigset_t own;
+    sigset_t own, given;
     struct waiting waiting = {
         .to_submit = to_submit,
         .min_complete = min_complete,
@@ -278,6 +278,7 @@ int enter(int fd, uint32_t to_submit, uint32_t min_complete, uint32_t flags, con
         .signals = signals ? signals : &own,
         .mask = (uintptr_t)argument,
         .mask_size = size,
+        .given = &given,
         .flags = flags,
     };
     if (!signals)

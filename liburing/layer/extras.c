@@ -72,13 +72,20 @@ static struct message *take_message(struct inbox *inbox)
     return message;
 }
 
-void post_messages(struct ring *ring)
+/* (mostly there are none, which is found without a call) */
+__attribute__((noinline)) static void post_waiting(struct ring *ring)
 {
     struct message *message;
     while (has_messages(ring) && can_post_extra(ring) && (message = take_message(&ring->inbox))) {
         post_extra(ring, NO_CALL, message->user_data, message->res, message->flags);
         free(message);
     }
+}
+
+void post_messages(struct ring *ring)
+{
+    if (has_messages(ring))
+        post_waiting(ring);
 }
 
 struct message *make_message_of(uint64_t user_data, int32_t res)

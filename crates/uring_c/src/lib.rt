@@ -51,6 +51,7 @@ mod slot;
 mod state_words;
 mod step_words;
 mod strict_exports;
+mod taken_words;
 mod taking_exports;
 mod time_exports;
 mod time_words;

@@ -83,6 +83,7 @@ pub use chain_laws::limits_one_at_most;
 pub use chain_laws::limits_the_one_before;
 pub use command::Command;
 pub use copying::Copying;
+pub use copying::has_one_buffer;
 pub use copying::next_piece;
 pub use core_entry::CoreEntry;
 pub use core_entry::core_entry_of;
