@@ -115,7 +115,7 @@ static void reap(struct ring *ring, uint32_t count)
     reap_oldest(ring, count);
     completions->first += count;
     wulgach_shown_reap(&completions->at, count);
-    ring->has_changed = true;
+    wulgach_lookout_changes(&ring->lookout);
 }
 
 /* What was heard matters: so many were reaped, or what has overflowed is asked for. */

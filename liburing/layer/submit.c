@@ -130,7 +130,7 @@ static int take_staged(struct ring *ring, uint32_t given, uint32_t head)
         accept_one(ring, ring->staged.rows[i], i > 0 ? ring->staged.rows[i - 1] : NULL);
     drop_requests(&ring->staged, count);
     note_chains(ring, ring->requests.count - (size_t)(ring->accepted - accepted));
-    ring->has_changed = true;
+    wulgach_lookout_changes(&ring->lookout);
     demand(taken.accepted == ring->accepted - accepted, "the core accepts another number of requests");
     note_accepted(ring, accepted);
     demand(taken.head - ring->own_positions == head, "the core stands at another position");
