@@ -51,6 +51,7 @@ pub fn needs_of(entry: &Submission) -> Needs
     match entry.opcode {
         22 => Needs {
             needs_file: true,
+            asks_file: false,
             is_registered: entry.flags & 1 != 0,
             needs_second: false,
             is_second_registered: entry.op_flags & 0x8000_0000 != 0,
