@@ -216,10 +216,10 @@ enum wulgach_why_kind {
 
 /* What dooms a request: the first of these that does. */
 enum wulgach_doom {
-    WULGACH_OWN_FAULT = 1,  /* its own entry has a fault: fault is an enum wulgach_fault */
-    WULGACH_FAULT_OF = 2,   /* request number, the least member of its group with a fault */
-    WULGACH_FAILURE_OF = 3, /* request number, the least earlier member of its group that has a soft link and failed */
-    WULGACH_CANCELLED = 4,  /* a cancel chose it */
+    WULGACH_OWN_FAULT = 1,    /* its own entry has a fault: fault is an enum wulgach_fault */
+    WULGACH_FAULT_OF = 2,     /* request number, the least member of its group with a fault */
+    WULGACH_FAILURE_OF = 3,   /* request number, the least earlier member of its group that has a soft link and failed */
+    WULGACH_CANCELLED = 4,    /* a cancel chose it */
     WULGACH_REFUSED_DRAIN = 5 /* it asks to drain in a ring that has used skipped success, which Linux's rules refuse */
 };
 

@@ -118,13 +118,12 @@ bool wulgach_updates_linked(uint64_t user_data, const struct wulgach_linked *see
 struct wulgach_poll {
     uint64_t user_data;
     uint32_t events;
-    bool is_multishot;
 };
 
-/* Changes a poll as this entry updates it. */
+/* Changes a poll as this entry updates it. Whether it goes on stays as it is. */
 void wulgach_updated_poll(struct wulgach_poll *poll, const struct wulgach_submission *entry);
 
-/* The flags of a timeout behind an update by this entry: whether the new time is absolute, and its clock, are the update's. */
+/* The flags of a timeout behind an update by this entry: whether the new time is absolute is the update's, and its clock stays. */
 uint32_t wulgach_updated_flags(uint32_t flags, const struct wulgach_submission *entry);
 
 #ifdef __cplusplus

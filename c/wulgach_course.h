@@ -65,8 +65,18 @@ bool wulgach_course_end(struct wulgach_course *course);
  * copied. False, and nothing is written: it has none, since a cancel has found it, or no completion may be posted before its end. */
 bool wulgach_course_notice(const struct wulgach_course *course, bool reports, bool may_post, int32_t *res);
 
-/* Whether the time of a timeout begins that starts now: not of one that a cancel has found before. */
-bool wulgach_course_starts_time(const struct wulgach_course *course);
+/* Whether the update of a poll begins it afresh, so that what is there already is told: if it runs. */
+bool wulgach_course_begins_afresh(const struct wulgach_course *course);
+
+/* Whether a cancel by io_uring_register(2) waits for a request. */
+enum wulgach_awaited {
+    WULGACH_NOT_AWAITED = 0,
+    WULGACH_AWAITED_RUNS = 1,   /* it does, and the request runs */
+    WULGACH_AWAITED_WAITS = 2   /* it does, and the request hasn't started: it starts first */
+};
+
+/* Returns which (enum wulgach_awaited): it waits for each that a cancel has found and that hasn't ended. */
+uint32_t wulgach_course_awaited(const struct wulgach_course *course);
 
 /* ---- what is shown of an end ---- */
 
@@ -93,7 +103,7 @@ struct wulgach_submission;
 /* How an operation was carried out. */
 struct wulgach_carried {
     uint64_t length;        /* how many bytes its vectors have */
-    uint32_t message_flags; /* of a message that was received: its flags */
+    uint32_t message_flags; /* of what was received: the flags of its message */
     bool has_message;       /* it has a message, as an operation of sockets */
     bool is_cancelled;      /* a cancel has found it */
 };
@@ -169,6 +179,23 @@ void wulgach_member_next(struct wulgach_member *member, const struct wulgach_mem
 
 /* Whether a request is a linked timeout that limits the request `before`: the one right before it, if that links it. */
 bool wulgach_member_limits(const struct wulgach_member *timeout, const struct wulgach_member *before);
+
+/* Whether two requests of a call are of one chain. */
+bool wulgach_is_one_chain(const struct wulgach_member *one, const struct wulgach_member *other);
+
+/* What becomes of a timeout's time. */
+enum wulgach_timing {
+    WULGACH_TIMING_STAYS = 0,
+    WULGACH_TIMING_BEGINS = 1,
+    WULGACH_TIMING_STOPS = 2
+};
+
+/* Returns what becomes of a timeout's time (enum wulgach_timing) when a request starts, when a cancel finds one, and when one has ended. The
+ * time of a linked timeout runs while the request runs that it limits. That of another runs from its own start on, unless a cancel has found
+ * it before (`is_found`), until it ends or a cancel finds it. */
+uint32_t wulgach_timing_behind_start(const struct wulgach_member *timeout, const struct wulgach_member *request, bool is_found);
+uint32_t wulgach_timing_behind_finding(const struct wulgach_member *timeout, const struct wulgach_member *request);
+uint32_t wulgach_timing_behind_end(const struct wulgach_member *timeout, const struct wulgach_member *request);
 
 #ifdef __cplusplus
 }

@@ -108,9 +108,27 @@ int32_t wulgach_room_fault(const struct wulgach_submission *entry, uint32_t name
 int32_t wulgach_how_fault(bool is_rest_zero);
 int32_t wulgach_open_fault(const struct wulgach_submission *entry, uint64_t flags);
 
-/* Writes how many bytes of a message have room in a buffer of this size, of a RECVMSG that goes on, behind what stands in front: 16 bytes,
- * and room for so many of an address and of control data; and returns true. False: that has no room itself. */
-bool wulgach_room_for(uint32_t name, uint64_t control, uint64_t size, uint64_t *room);
+/* Where the parts of a message stand in a buffer, of a RECVMSG that goes on, in bytes from its beginning. */
+struct wulgach_layout {
+    uint64_t name;      /* the address, */
+    uint64_t control;   /* the control data, */
+    uint64_t bytes;     /* and the bytes of the message, */
+    uint64_t room;      /* of which so many have room */
+};
+
+/* Writes where they stand in a buffer of this size, behind 16 bytes, with room for so many of an address and of control data; and returns
+ * true. False: what stands in front of the bytes has no room itself. */
+bool wulgach_layout_of(uint32_t name, uint64_t control, uint64_t size, struct wulgach_layout *layout);
+
+/* How much of the buffer has something behind a message of so many bytes. */
+uint64_t wulgach_layout_filled(const struct wulgach_layout *layout, uint32_t came);
+
+/* The flags with which the call of a message is made: it doesn't wait (MSG_DONTWAIT), and no send ends the program by a signal
+ * (MSG_NOSIGNAL). */
+uint32_t wulgach_call_flags(const struct wulgach_submission *entry);
+
+/* What a no-op ends with that has found the file and the buffer that it looks for: the number that it is to inject, or 0. */
+int32_t wulgach_no_op_result(const struct wulgach_submission *entry);
 
 /* ---- a strict ring, which goes by a kernel ---- */
 
@@ -121,9 +139,10 @@ struct wulgach_strict {
 /* Begins one that has seen no entry. */
 void wulgach_strict_begin(struct wulgach_strict *strict);
 
-/* Returns the error with which it refuses the next entry, with these flags, or 0: -22 (EINVAL) of an operation, or of
- * IOSQE_CQE_SKIP_SUCCESS, that the kernel hasn't; -95 (EOPNOTSUPP) of a drain once an entry has skipped its success, for good. */
-int32_t wulgach_strict_refusal(struct wulgach_strict *strict, uint8_t flags, bool is_served, bool knows_skip);
+/* Returns the error with which it refuses the next entry, or 0: -22 (EINVAL) of an operation, or of IOSQE_CQE_SKIP_SUCCESS, that the
+ * kernel hasn't, and the fault that any ring finds first, of an operation and of flags; else -95 (EOPNOTSUPP) of a drain once an entry
+ * without such a fault has skipped its success, for good. */
+int32_t wulgach_strict_refusal(struct wulgach_strict *strict, const struct wulgach_submission *entry, bool is_served, bool knows_skip);
 
 /* ---- messages between rings ---- */
 
@@ -159,8 +178,33 @@ uint32_t wulgach_sending_of(const struct wulgach_submission *entry, const struct
  * that result. False: nothing, of what has failed or has IORING_MSG_RING_CQE_SKIP. */
 bool wulgach_told_of(const struct wulgach_submission *entry, int32_t res, struct wulgach_message *message);
 
-/* The flags of an entry that the core is told, whatever fault it has. */
-uint8_t wulgach_form_flags(uint8_t flags);
+/* What the sender of a message does behind it. */
+enum wulgach_visit {
+    WULGACH_VISITS_NOBODY = 0,
+    WULGACH_POSTS_OWN = 1,      /* it posts what its own ring was sent */
+    WULGACH_VISITS_OTHER = 2    /* it posts what the other ring was sent, if nobody is in a call on that; else who is does */
+};
+
+/* Returns what the sender of a message to this ring does behind one that has come to this result (enum wulgach_visit): of one that failed
+ * nothing. */
+uint32_t wulgach_visit_of(const struct wulgach_receiver *to, int32_t res);
+
+/* Whether an index word names a slot of a table of so many entries: the one of that number. Else it is dropped. */
+bool wulgach_names_slot(uint32_t word, uint32_t entries);
+
+/* What the core is given of an entry. */
+struct wulgach_core_entry {
+    uint64_t user_data;
+    uint64_t target;    /* of a cancel: the user data that it looks for, else 0 */
+    uint8_t code;       /* a no-op, a cancel, or 255, which it doesn't serve, of an entry with a fault */
+    uint8_t flags;      /* those that it is told, whatever fault the entry has */
+};
+
+/* Writes what the core is given of an entry that is this to it (enum wulgach_form). */
+void wulgach_core_entry_of(const struct wulgach_submission *entry, uint32_t form, struct wulgach_core_entry *made);
+
+/* Whether the flags of an entry are those of a drain. */
+bool wulgach_is_drain(uint8_t flags);
 
 #ifdef __cplusplus
 }

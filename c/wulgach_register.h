@@ -34,6 +34,44 @@ int32_t wulgach_set_up(const struct wulgach_asked_ring *asked, struct wulgach_se
 /* What a ring can do (IORING_FEAT_..), whose rings stand in one mapping or in two. */
 uint32_t wulgach_features(bool is_one_mapping);
 
+/* What a set-up does. */
+enum wulgach_stage {
+    WULGACH_SET_UP_READS = 0,       /* it reads the parameters, */
+    WULGACH_SET_UP_ASKS = 1,        /* asks the kernel, where the ring is strict, */
+    WULGACH_SET_UP_MAKES = 2,       /* makes the ring, */
+    WULGACH_SET_UP_TELLS = 3,       /* and tells the parameters */
+    WULGACH_SET_UP_FAILS = 4,       /* it fails with what the last came to, */
+    WULGACH_SET_UP_DROPS = 5,       /* and the ring is dropped */
+    WULGACH_SET_UP_IS_DONE = 6,
+    WULGACH_SET_UP_BEGINS = 7
+};
+
+/* Returns what a set-up does behind this (enum wulgach_stage), which came to `res`: BEGINS, and 0, at first. The first fault ends it. */
+uint32_t wulgach_set_up_next(uint32_t last, int32_t res);
+
+/* ---- the memory of a ring, and its end ---- */
+
+enum wulgach_region {
+    WULGACH_NO_REGION = 0,
+    WULGACH_RINGS = 1,
+    WULGACH_ENTRIES = 2
+};
+
+/* The part of a ring's memory at an offset (enum wulgach_region), where both rings stand in one mapping; and why so many bytes aren't mapped
+ * from an offset on, or 0: -22 (EINVAL) of none, -12 (ENOMEM) of an offset that names no part. A mapping may be longer than its part. */
+uint32_t wulgach_region_of(uint64_t offset);
+int32_t wulgach_mapping_fault(uint64_t size, uint64_t offset);
+
+enum wulgach_fate {
+    WULGACH_RING_STAYS = 0,
+    WULGACH_RING_ASKS = 1,      /* whether a descriptor of this process is open on it is to be asked */
+    WULGACH_RING_GOES = 2       /* it is freed */
+};
+
+/* Returns what becomes of a ring (enum wulgach_fate) of this process or another, with so many calls on it, once one of its descriptors is
+ * closed or another ring is made: it is freed once no call is on it and no descriptor is open on it, if that is known. */
+uint32_t wulgach_ring_fate(bool is_own, uint32_t calls, bool knows, bool is_open);
+
 /* ---- calls of io_uring_register(2) ---- */
 
 /* Who calls on what. */
@@ -225,6 +263,12 @@ enum wulgach_row {
  * tag (-22), and another has 1 to 2^30 bytes (-14, EFAULT). */
 uint32_t wulgach_file_row(int32_t fd, uint64_t tag, bool is_update, int32_t *fault);
 uint32_t wulgach_buffer_row(uint64_t from, uint64_t size, uint64_t tag, int32_t *fault);
+
+/* The fault of a descriptor that a request is to close or to register, or 0: -9 (EBADF) of none and of a ring. */
+int32_t wulgach_holding_fault(int32_t fd, bool is_ring);
+
+/* What the row of a file ends with that was put into a slot, which could be told or not: 0, or -14 (EFAULT), and then it is taken out again. */
+int32_t wulgach_telling_fault(bool is_told);
 
 /* What a call returns that has changed so many slots, and ended with this fault or 0: how many, or of none the fault. */
 int32_t wulgach_updated(uint32_t done, int32_t fault);

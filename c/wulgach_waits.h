@@ -16,7 +16,8 @@ extern "C" {
 /* What the operation of an entry needs, of one that is a token. */
 struct wulgach_needs {
     bool needs_file;            /* an open file, */
-    bool is_registered;         /* which the entry names by the slot of a table: IOSQE_FIXED_FILE */
+    bool asks_file;             /* of which is asked before whether it is open, */
+    bool is_registered;         /* and which the entry names by the slot of a table: IOSQE_FIXED_FILE */
     bool needs_second;          /* a second one, that a splice or a tee reads from, */
     bool is_second_registered;  /* by the slot of a table: SPLICE_F_FD_IN_FIXED */
     bool uses_buffer;           /* a registered buffer */

@@ -43,9 +43,9 @@ static void cancel_one(void)
 {
     struct wulgach_course course = started();
     int32_t res;
-    demand(wulgach_course_starts_time(&course), "a timeout's time begins");
+    demand(wulgach_course_awaited(&course) == WULGACH_NOT_AWAITED && wulgach_course_begins_afresh(&course), "nobody waits for one that no cancel has found");
     demand(wulgach_course_note(&course, WULGACH_FACT_CANCELLED, 0), "a cancel");
-    demand(!wulgach_course_starts_time(&course), "but not behind a cancel");
+    demand(wulgach_course_awaited(&course) == WULGACH_AWAITED_RUNS, "but for one that it has");
     demand(wulgach_course_act(&course, &res) == WULGACH_ACT_END && res == -125, "one that was cancelled");
 }
 

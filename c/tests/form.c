@@ -35,7 +35,7 @@ static void look_at_fields(void)
     demand(FORM(.opcode = POLL_REMOVE) == 0 && FORM(.opcode = POLL_REMOVE, .len = 1) == -22 && FORM(.opcode = POLL_REMOVE, .len = 4, .off = 9) == 0 && FORM(.opcode = POLL_REMOVE, .len = 2, .off = 9) == -22, "its removal");
     demand(FORM(.opcode = TIMEOUT, .len = 1, .off = 3, .op_flags = 37) == 0 && FORM(.opcode = TIMEOUT, .len = 1, .op_flags = 12) == -22 && FORM(.opcode = TIMEOUT) == -22, "a timeout");
     demand(FORM(.opcode = LINK_TIMEOUT, .len = 1) == 0 && FORM(.opcode = LINK_TIMEOUT, .len = 1, .off = 1) == -22, "a linked timeout");
-    demand(FORM(.opcode = TIMEOUT_REMOVE) == 0 && FORM(.opcode = TIMEOUT_REMOVE, .op_flags = 1) == -22 && FORM(.opcode = TIMEOUT_REMOVE, .op_flags = 3) == 0 && FORM(.opcode = TIMEOUT_REMOVE, .op_flags = 34) == -22, "its removal");
+    demand(FORM(.opcode = TIMEOUT_REMOVE) == 0 && FORM(.opcode = TIMEOUT_REMOVE, .op_flags = 1) == -22 && FORM(.opcode = TIMEOUT_REMOVE, .op_flags = 3) == 0 && FORM(.opcode = TIMEOUT_REMOVE, .op_flags = 10) == -22, "its removal");
     demand(FORM(.opcode = CANCEL) == 1 && FORM(.opcode = CANCEL, .flags = 4) == 0 && FORM(.opcode = CANCEL, .op_flags = 1) == 0 && FORM(.opcode = CANCEL, .op_flags = 6) == -22 && FORM(.opcode = CANCEL, .op_flags = 16) == -22, "a cancel");
 }
 
@@ -44,7 +44,8 @@ static void look_at_more_fields(void)
     demand(FORM(.opcode = 18, .file_index = 1) == 0 && FORM(.opcode = 18, .file_index = 1, .op_flags = 0x80000) == -22 && FORM(.opcode = 28, .len = 24) == 0 && FORM(.opcode = 28, .len = 23) == -22 && FORM(.opcode = 28, .len = 24, .buf_index = 1) == -22, "opens");
     demand(FORM(.opcode = 19, .fd = 3) == 0 && FORM(.opcode = 19, .file_index = 1) == 0 && FORM(.opcode = 19, .fd = 3, .file_index = 1) == -22, "a close");
     demand(FORM(.opcode = 20, .len = 1) == 0 && FORM(.opcode = 20) == -22 && FORM(.opcode = 20, .len = 1, .flags = 1) == -22, "an update of files");
-    demand(FORM(.opcode = 31, .fd = 65536, .len = 1, .off = 65535) == 0 && FORM(.opcode = 31, .fd = 65537, .len = 1) == -22 && FORM(.opcode = 31, .fd = -1, .len = 1) == -22 && FORM(.opcode = 31, .fd = 1, .len = 1, .off = 65536) == -22, "provided buffers");
+    demand(FORM(.opcode = 31, .fd = 65536, .len = 1, .off = 65535) == 0 && FORM(.opcode = 31, .fd = 65537, .len = 1) == -7 && FORM(.opcode = 31, .fd = -1, .op_flags = 1) == -22 && FORM(.opcode = 31, .fd = 1, .len = 1, .off = 65536) == -7, "provided buffers");
+    demand(FORM(.opcode = 31, .fd = 1) == -22 && FORM(.opcode = 31, .fd = 2, .len = 1, .off = 65535) == -22 && FORM(.opcode = 31, .fd = 1, .len = 4, .addr = UINT64_MAX) == -75 && FORM(.opcode = 31, .fd = 1, .len = 1, .addr = 0x7ffffffff000) == -14, "their ends");
     demand(FORM(.opcode = 32, .fd = 1) == 0 && FORM(.opcode = 32, .fd = 0) == -22 && FORM(.opcode = 32, .fd = 1, .len = 1) == -22, "their removal");
     demand(FORM(.opcode = 40, .op_flags = 3) == 0 && FORM(.opcode = 40, .op_flags = 4) == -22 && FORM(.opcode = 34, .len = 2) == 0 && FORM(.opcode = 34, .off = 1) == -22, "a message, a shutdown");
     demand(FORM(.opcode = 45, .off = 0x80000) == 0 && FORM(.opcode = 45, .off = 0x80000, .file_index = 1) == -22, "a socket");
@@ -54,11 +55,12 @@ static void look_at_more_fields(void)
 static void look_at_order(void)
 {
     int32_t fault;
-    struct wulgach_submission selects = {.opcode = 2, .flags = 32, .personality = 1}, unknown = {.opcode = 99, .flags = 32};
+    struct wulgach_submission selects = {.opcode = 2, .flags = 32, .personality = 1}, unknown = {.opcode = 99, .flags = 32}, plain = {.opcode = 2, .personality = 1};
     demand(wulgach_form_of(&selects, -22, false, &fault) == WULGACH_FORM_REFUSED && fault == -22, "a strict ring");
-    demand(wulgach_form_of(&selects, 0, false, &fault) == WULGACH_FORM_REFUSED && fault == -13, "restrictions");
-    demand(wulgach_form_of(&selects, 0, true, &fault) == WULGACH_FORM_REFUSED && fault == -95, "a buffer");
-    demand(wulgach_form_of(&unknown, 0, true, &fault) == WULGACH_FORM_REFUSED && fault == -22, "an operation that isn't served");
+    demand(wulgach_form_of(&selects, 0, false, &fault) == WULGACH_FORM_REFUSED && fault == -95, "a buffer");
+    demand(wulgach_form_of(&unknown, 0, false, &fault) == WULGACH_FORM_REFUSED && fault == -22, "an operation that isn't served");
+    demand(wulgach_form_of(&plain, 0, false, &fault) == WULGACH_FORM_REFUSED && fault == -13, "restrictions");
+    demand(wulgach_form_of(&plain, 0, true, &fault) == WULGACH_FORM_REFUSED && fault == -22, "a personality");
     demand(FORM(.opcode = 22, .flags = 32) == 0 && FORM(.opcode = 27, .flags = 32) == 0, "one that may select");
     demand(wulgach_is_served(0) && !wulgach_is_served(46) && !wulgach_is_served(200), "what a probe tells");
 }
@@ -115,16 +117,34 @@ static void be_strict(void)
 {
     struct wulgach_strict strict;
     wulgach_strict_begin(&strict);
-    demand(wulgach_strict_refusal(&strict, 2, true, true) == 0 && wulgach_strict_refusal(&strict, 0, false, true) == -22, "a drain, an unknown operation");
-    demand(wulgach_strict_refusal(&strict, 64, true, false) == -22 && wulgach_strict_refusal(&strict, 2, true, true) == 0, "a flag that isn't known");
-    demand(wulgach_strict_refusal(&strict, 66, true, true) == -95 && wulgach_strict_refusal(&strict, 2, true, true) == -95 && wulgach_strict_refusal(&strict, 64, true, true) == 0, "a drain behind a skip");
+    struct wulgach_submission none = {0}, drain = {.flags = 2}, skip = {.flags = 64}, both = {.flags = 66}, selects = {.flags = 32 | 66}, wrong = {.flags = 128 | 66};
+    demand(wulgach_strict_refusal(&strict, &drain, true, true) == 0 && wulgach_strict_refusal(&strict, &none, false, true) == -22, "a drain, an unknown operation");
+    demand(wulgach_strict_refusal(&strict, &skip, true, false) == -22 && wulgach_strict_refusal(&strict, &drain, true, true) == 0, "a flag that isn't known");
+    demand(wulgach_strict_refusal(&strict, &selects, true, true) == -95 && wulgach_strict_refusal(&strict, &wrong, true, true) == -22 && wulgach_strict_refusal(&strict, &drain, true, true) == 0, "faults that go before");
+    demand(wulgach_strict_refusal(&strict, &both, true, true) == -95 && wulgach_strict_refusal(&strict, &drain, true, true) == -95 && wulgach_strict_refusal(&strict, &skip, true, true) == 0, "a drain behind a skip");
 }
 
 static void have_room(void)
 {
-    uint64_t room = 9;
-    demand(wulgach_room_for(4, 8, 30, &room) && room == 2 && wulgach_room_for(4, 8, 28, &room) && room == 0, "a buffer");
-    demand(!wulgach_room_for(4, 8, 27, &room) && !wulgach_room_for(0, UINT64_MAX, 64, &room) && room == 0, "one that is too small");
+    struct wulgach_layout layout = {0};
+    demand(wulgach_layout_of(4, 8, 30, &layout) && layout.name == 16 && layout.control == 20 && layout.bytes == 28 && layout.room == 2, "a buffer");
+    demand(wulgach_layout_filled(&layout, 1) == 29 && wulgach_layout_filled(&layout, 9) == 30, "what is filled");
+    demand(!wulgach_layout_of(4, 8, 27, &layout) && !wulgach_layout_of(0, UINT64_MAX, 64, &layout) && layout.room == 2, "one that is too small");
+    struct wulgach_submission send = {.opcode = 26, .op_flags = 1}, receive = {.opcode = 27, .op_flags = 2};
+    demand(wulgach_call_flags(&send) == 0x4041 && wulgach_call_flags(&receive) == 0x42, "flags of a call");
+}
+
+static void do_nothing(void)
+{
+    struct wulgach_submission plain = {.len = 5}, injects = {.op_flags = 1, .len = 5}, fails = {.op_flags = 1, .len = (uint32_t)-5};
+    demand(wulgach_no_op_result(&plain) == 0 && wulgach_no_op_result(&injects) == 5 && wulgach_no_op_result(&fails) == -5, "no-ops");
+    demand(FORM(.opcode = 0, .op_flags = 31) == 0 && FORM(.opcode = 0, .op_flags = 32) == -22 && FORM(.opcode = 0, .ioprio = 1) == -22, "their flags");
+}
+
+static void visit(void)
+{
+    struct wulgach_receiver none = {.is_open = true}, ring = {true, true, false, false}, own = {true, true, true, false};
+    demand(wulgach_visit_of(&none, 0) == WULGACH_VISITS_NOBODY && wulgach_visit_of(&ring, 0) == WULGACH_VISITS_OTHER && wulgach_visit_of(&own, 0) == WULGACH_POSTS_OWN && wulgach_visit_of(&ring, -9) == WULGACH_VISITS_NOBODY, "who posts a message");
 }
 
 int main(void)
@@ -138,6 +158,8 @@ int main(void)
     open_files();
     be_strict();
     have_room();
+    do_nothing();
+    visit();
     printf("form: as called for\n");
     return 0;
 }

@@ -1,6 +1,6 @@
-/* Why requests stand as they do: each case, each doom, each reason to wait and each fault, by its name in the header, of a core
- * and of a machine. And that a function that makes an entry leaves nothing of what the words held before, and that a write has its
- * bytes. */
+/* Why requests stand as they do: each case, each doom and each reason to wait that the manual pages' rules have, and each fault, by
+ * its name in the header, of a core and of a machine. And that a function that makes an entry leaves nothing of what the words
+ * held before, and that a write has its bytes. */
 #include "wulgach.h"
 
 #include <stdio.h>

@@ -242,9 +242,22 @@ static void enroll_rings(void)
     demand(wulgach_enrolled_named(rows, 16, 9, &fd) == -9 && wulgach_enrolled_place(rows, 16, UINT32_MAX, &row) == 0 && row == 9, "one that was dismissed");
 }
 
+static void go_through_set_ups(void)
+{
+    demand(wulgach_set_up_next(WULGACH_SET_UP_BEGINS, 0) == WULGACH_SET_UP_READS && wulgach_set_up_next(WULGACH_SET_UP_READS, 0) == WULGACH_SET_UP_ASKS && wulgach_set_up_next(WULGACH_SET_UP_ASKS, 0) == WULGACH_SET_UP_MAKES, "a set-up");
+    demand(wulgach_set_up_next(WULGACH_SET_UP_MAKES, 0) == WULGACH_SET_UP_TELLS && wulgach_set_up_next(WULGACH_SET_UP_TELLS, 0) == WULGACH_SET_UP_IS_DONE, "its end");
+    demand(wulgach_set_up_next(WULGACH_SET_UP_READS, -14) == WULGACH_SET_UP_FAILS && wulgach_set_up_next(WULGACH_SET_UP_TELLS, -14) == WULGACH_SET_UP_DROPS, "its faults");
+    demand(wulgach_region_of(0) == WULGACH_RINGS && wulgach_region_of(0x8001000) == WULGACH_RINGS && wulgach_region_of(0x10000000) == WULGACH_ENTRIES && wulgach_region_of(0x18000000) == WULGACH_NO_REGION, "what is mapped");
+    demand(wulgach_mapping_fault(0, 0) == -22 && wulgach_mapping_fault(1, 1ull << 31) == -12 && wulgach_mapping_fault(1 << 20, 1ull << 32) == 0, "why it isn't");
+    demand(wulgach_ring_fate(false, 0, true, false) == WULGACH_RING_STAYS && wulgach_ring_fate(true, 1, true, false) == WULGACH_RING_STAYS && wulgach_ring_fate(true, 0, false, false) == WULGACH_RING_ASKS, "rings that stay");
+    demand(wulgach_ring_fate(true, 0, true, true) == WULGACH_RING_STAYS && wulgach_ring_fate(true, 0, true, false) == WULGACH_RING_GOES, "one that goes");
+    demand(wulgach_holding_fault(-1, false) == -9 && wulgach_holding_fault(3, true) == -9 && wulgach_holding_fault(3, false) == 0 && wulgach_telling_fault(true) == 0 && wulgach_telling_fault(false) == -14, "files");
+}
+
 int main(void)
 {
     make_rings();
+    go_through_set_ups();
     refuse_flags();
     make_calls();
     read_contents();

@@ -82,16 +82,16 @@ static void search_and_update(void)
     demand(!wulgach_search_sees(&search, &other) && wulgach_search_sees(&search, &poll) && !wulgach_search_sees(&search, &poll) && wulgach_search_has_cancelled(&search), "the oldest that waits");
     wulgach_search_begin(&search, 2);
     demand(!wulgach_search_sees(&search, &read) && !wulgach_search_sees(&search, &poll) && !wulgach_search_has_cancelled(&search), "the oldest is carried out");
-    struct wulgach_poll changed = {.user_data = 5, .events = 1, .is_multishot = true};
+    struct wulgach_poll changed = {.user_data = 5, .events = 1};
     wulgach_updated_poll(&changed, &(struct wulgach_submission){.len = 4, .off = 6});
-    demand(changed.user_data == 6 && changed.events == 1 && changed.is_multishot, "user data");
+    demand(changed.user_data == 6 && changed.events == 1, "user data");
     wulgach_updated_poll(&changed, &(struct wulgach_submission){.len = 2, .off = 8, .op_flags = 4});
-    demand(changed.user_data == 6 && changed.events == 4 && !changed.is_multishot, "events");
+    demand(changed.user_data == 6 && changed.events == 4, "events");
     demand(wulgach_poll_removal(&(struct wulgach_submission){.len = 1}) == WULGACH_REMOVAL_CANCELS && wulgach_poll_removal(&(struct wulgach_submission){.len = 2}) == WULGACH_REMOVAL_UPDATES, "a poll's removal");
     demand(wulgach_timeout_removal(&(struct wulgach_submission){0}) == WULGACH_REMOVAL_CANCELS && wulgach_timeout_removal(&(struct wulgach_submission){.op_flags = 3}) == WULGACH_REMOVAL_UPDATES && wulgach_timeout_removal(&(struct wulgach_submission){.op_flags = 19}) == WULGACH_REMOVAL_UPDATES_LINKED && wulgach_timeout_removal(&(struct wulgach_submission){.op_flags = 17}) == WULGACH_REMOVAL_CANCELS, "a timeout's");
     struct wulgach_linked linked = {.user_data = 5, .is_linked = true, .runs = true}, still = {.user_data = 5, .is_linked = true}, loose = {.user_data = 5, .runs = true};
     demand(wulgach_updates_linked(5, &linked) && !wulgach_updates_linked(6, &linked) && !wulgach_updates_linked(5, &still) && !wulgach_updates_linked(5, &loose), "a linked timeout's");
-    demand(wulgach_updated_flags(33, &(struct wulgach_submission){.op_flags = 2}) == 32 && wulgach_updated_flags(32, &(struct wulgach_submission){.op_flags = 11}) == 41, "a timeout's flags");
+    demand(wulgach_updated_flags(33, &(struct wulgach_submission){.op_flags = 2}) == 32 && wulgach_updated_flags(40, &(struct wulgach_submission){.op_flags = 3}) == 41, "a timeout's flags");
 }
 
 /* What comes behind so many pieces of an entry, none of which has a fault, and which hold one vector. */
@@ -123,7 +123,15 @@ static void copy_pieces(void)
     demand(wulgach_message_fault(1024) == 0 && wulgach_message_fault(1025) == -90, "a message");
     struct wulgach_submission receive = {.opcode = RECVMSG, .ioprio = 2};
     demand(wulgach_room_fault(&receive, 8, 8) == 0 && wulgach_room_fault(&receive, UINT32_MAX, 8) == -22 && wulgach_room_fault(&receive, INT32_MAX, 8) == -75 && wulgach_room_fault(&set, UINT32_MAX, 8) == 0, "what stands in front");
-    demand(wulgach_form_flags(255) == 94, "the core's flags");
+    struct wulgach_core_entry made;
+    struct wulgach_submission cancel = {.opcode = 14, .flags = 255, .user_data = 5, .addr = 6};
+    wulgach_core_entry_of(&cancel, WULGACH_FORM_CANCEL, &made);
+    demand(made.code == 14 && made.flags == 94 && made.user_data == 5 && made.target == 6, "a cancel of the core's");
+    wulgach_core_entry_of(&cancel, WULGACH_FORM_TOKEN, &made);
+    demand(made.code == 0 && made.flags == 94 && made.user_data == 5 && made.target == 0, "a token");
+    wulgach_core_entry_of(&cancel, WULGACH_FORM_REFUSED, &made);
+    demand(made.code == 255 && made.flags == 94 && wulgach_is_drain(2) && !wulgach_is_drain(253), "an entry with a fault");
+    demand(wulgach_names_slot(7, 8) && !wulgach_names_slot(8, 8), "a slot");
 }
 
 /* The fault of an entry behind its pieces, of which the last has one. */

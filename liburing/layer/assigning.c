@@ -5,7 +5,6 @@
 #include "files.h"
 #include "operations.h"
 #include "passing.h"
-#include "polls.h"
 #include "ring.h"
 #include "trying.h"
 
@@ -79,6 +78,19 @@ void find_kind(struct request *request)
         request->started = -EBADF;
 }
 
+/* Finds the files that an operation needs. False: one isn't there. */
+static bool find_files(struct ring *ring, struct request *request)
+{
+    const struct io_uring_sqe *entry = &request->entry;
+    const struct wulgach_needs *needs = &request->needs;
+    request->fd = find_fd(ring, entry->fd, needs->is_registered, &request->file);
+    if (needs->needs_second)
+        request->second_fd = find_fd(ring, entry->splice_fd_in, needs->is_second_registered, &request->second_file);
+    if (request->fd < 0 || (needs->needs_second && request->second_fd < 0))
+        return false;
+    return !needs->asks_file || fcntl(request->fd, F_GETFD) >= 0;
+}
+
 void assign(struct ring *ring, struct request *request)
 {
     const struct io_uring_sqe *entry = &request->entry;
@@ -87,16 +99,10 @@ void assign(struct ring *ring, struct request *request)
     request->fd = entry->fd;
     if (request->mapping == TOKEN)
         wulgach_needs_of(submission_of(entry), needs);
-    if (!needs->needs_file)
-        return;
-    request->fd = find_fd(ring, entry->fd, needs->is_registered, &request->file);
-    if (needs->needs_second)
-        request->second_fd = find_fd(ring, entry->splice_fd_in, needs->is_second_registered, &request->second_file);
-    if (request->fd < 0 || (needs->needs_second && request->second_fd < 0) || (is_poll(request) && fcntl(request->fd, F_GETFD) < 0))
+    if (needs->needs_file && !find_files(ring, request))
         request->started = -EBADF;
     else if (needs->uses_buffer)
         request->started = use_buffer(ring, entry->buf_index, request->vectors, &request->buffer);
-    if (request->started < 0)
-        return;
-    find_kind(request);
+    if (request->started == 0 && needs->needs_file)
+        find_kind(request);
 }

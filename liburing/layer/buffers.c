@@ -152,7 +152,8 @@ int use_buffer(struct ring *ring, uint32_t index, const struct iovec *bytes, str
     struct buffer *buffer = buffer_of(wulgach_table_content(&buffers->table, buffers->words, buffers->table.count, index));
     if (!buffer)
         return -EFAULT;
-    int fault = wulgach_bytes_fault((uintptr_t)buffer->bytes.iov_base, buffer->bytes.iov_len, (uintptr_t)bytes->iov_base, bytes->iov_len);
+    /* (a no-op looks for a buffer, and moves no bytes) */
+    int fault = bytes ? wulgach_bytes_fault((uintptr_t)buffer->bytes.iov_base, buffer->bytes.iov_len, (uintptr_t)bytes->iov_base, bytes->iov_len) : 0;
     if (fault < 0)
         return fault;
     wulgach_uses_take(&buffer->uses);

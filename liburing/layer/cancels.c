@@ -26,8 +26,7 @@ static void look_again_at(struct ring *ring, const struct request *request)
 void cancel_request(struct ring *ring, struct request *request)
 {
     look_again_at(ring, request);
-    if (is_timeout(request))
-        stop_timeout(ring, request);
+    note_found(ring, request);
     note_fact(request, WULGACH_FACT_CANCELLED, 0);
     request->standing.has_to_wait = false;
 }
@@ -123,17 +122,17 @@ static int32_t change_poll(struct ring *ring, struct request *poll, const struct
     struct wulgach_poll changed = {
         .user_data = poll->entry.user_data,
         .events = poll->entry.poll32_events,
-        .is_multishot = poll->entry.len & IORING_POLL_ADD_MULTI,
     };
     look_again_at(ring, poll);
     wulgach_updated_poll(&changed, submission_of(change));
     poll->entry.user_data = changed.user_data;
     poll->entry.poll32_events = changed.events;
-    poll->entry.len = changed.is_multishot ? IORING_POLL_ADD_MULTI : 0;
     wulgach_needs_of(submission_of(&poll->entry), &poll->needs);
     poll->standing.has_to_wait = false;
     poll->looked_at = UINT64_MAX;
-    return poll->course.has_started ? start_poll(poll) : 0;
+    if (wulgach_course_begins_afresh(&poll->course))
+        poll->started = start_poll(poll);
+    return 0;
 }
 
 static int32_t remove_poll(struct ring *ring, const struct io_uring_sqe *removal)

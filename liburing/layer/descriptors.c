@@ -70,10 +70,15 @@ static bool is_open(const struct ring *ring)
     return is_found;
 }
 
-/* A call begins under the list's lock. It ends without: behind that it doesn't touch the ring. */
-static bool has_calls(const struct ring *ring)
+/* Whether a ring is to be freed now. A call begins under the list's lock. It ends without: behind that it doesn't touch the ring. */
+static bool is_gone(const struct ring *ring)
 {
-    return __atomic_load_n(&ring->calls, __ATOMIC_ACQUIRE) > 0;
+    bool is_of_process = is_own(ring);
+    uint32_t calls = __atomic_load_n(&ring->calls, __ATOMIC_ACQUIRE);
+    uint32_t fate = wulgach_ring_fate(is_of_process, calls, false, false);
+    if (fate == WULGACH_RING_ASKS)
+        fate = wulgach_ring_fate(is_of_process, calls, true, is_open(ring));
+    return fate == WULGACH_RING_GOES;
 }
 
 static void forget(const struct ring *ring)
@@ -88,7 +93,7 @@ static void free_closed_rings(void)
 {
     for (struct ring **at = &rings; *at;) {
         struct ring *ring = *at;
-        if (is_own(ring) && !has_calls(ring) && !is_open(ring)) {
+        if (is_gone(ring)) {
             *at = ring->next;
             forget(ring);
             free_ring(ring);
@@ -163,7 +168,7 @@ int close_descriptor(int fd)
     pthread_mutex_lock(&rings_lock);
     struct ring *ring = find_ring(fd);
     int result = close(fd) < 0 ? -errno : 0;
-    if (ring && !has_calls(ring) && !is_open(ring))
+    if (ring && is_gone(ring))
         drop_ring(ring);
     pthread_mutex_unlock(&rings_lock);
     return result;

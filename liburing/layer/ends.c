@@ -49,10 +49,8 @@ void end_of(struct ring *ring, struct request *request, int32_t res, int32_t tol
     if (told >= 0 && request->entry.flags & IOSQE_CQE_SKIP_SUCCESS)
         record_silent_end(ring, request);
     wulgach_times_count_end(&ring->times, &request->course, is_timeout(request), note_end(ring, request, told));
-    if (is_timeout(request) || is_linked_timeout(request))
-        stop_timeout(ring, request);
+    note_ended(ring, request);
     note_counts(ring);
-    disarm_linked_timeout(ring, request);
     if (request->file)
         unwatch(ring, request->file->fd);
     ring->has_changed = true;

@@ -150,13 +150,13 @@ int32_t send_message(struct ring *ring, const struct io_uring_sqe *entry)
     uint32_t sending = wulgach_sending_of(submission_of(entry), &to, &result);
     if (sending != WULGACH_SENDS_NOTHING)
         result = send_to(ring, target, entry, sending == WULGACH_SENDS_FILE);
-    if (!target)
-        return result;
-    if (target == ring)
+    uint32_t visit = wulgach_visit_of(&to, result);
+    if (visit == WULGACH_POSTS_OWN)
         post_messages(ring);
-    else if (result >= 0)
+    else if (visit == WULGACH_VISITS_OTHER)
         visit_ring(target);
-    release_ring(target);
+    if (target)
+        release_ring(target);
     return result;
 }
 

@@ -87,11 +87,11 @@ static int high_copy_of(int fd)
     return copy < 0 ? -errno : copy;
 }
 
-/* A registered file of a descriptor that stays the application's, with a tag, which its ring is told once it is gone, or NULL. A ring
- * can't be one. */
+/* A registered file of a descriptor that stays the application's, with a tag, which its ring is told once it is gone, or NULL. */
 static int make_file_with(struct file **made, int fd, struct inbox *told, struct message *tag)
 {
-    int copy = fd < 0 || is_ring(fd) ? -EBADF : high_copy_of(fd);
+    int32_t fault = wulgach_holding_fault(fd, is_ring(fd));
+    int copy = fault < 0 ? fault : high_copy_of(fd);
     if (copy < 0)
         return copy;
     *made = malloc(sizeof **made);
@@ -319,7 +319,7 @@ static int place_file(struct ring *ring, uint64_t fds, uint32_t index)
     int slot = put_file(ring, file, IORING_FILE_INDEX_ALLOC);
     if (slot < 0)
         return slot;
-    result = copy_out(fds + index * sizeof slot, &slot, sizeof slot);
+    result = wulgach_telling_fault(copy_out(fds + index * sizeof slot, &slot, sizeof slot) == 0);
     if (result < 0)
         remove_file(ring, (uint32_t)slot);
     return result;

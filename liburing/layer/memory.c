@@ -5,6 +5,8 @@
  */
 #define _GNU_SOURCE
 #include "memory.h"
+#include "wulgach.h"
+#include "wulgach_register.h"
 
 #include <errno.h>
 #include <pthread.h>
@@ -124,13 +126,10 @@ int make_file(void)
 /* A shared mapping of no size that is moved is mapped once more, and stays. */
 void *map_again(const struct memory *memory, size_t size, uint64_t offset)
 {
-    bool is_rings = offset == IORING_OFF_SQ_RING || offset == IORING_OFF_CQ_RING;
-    void *at = is_rings ? (void *)memory->sq : memory->entries;
-    size_t most = is_rings ? first_size(memory) : memory->entries_size;
-    size_t page = (size_t)sysconf(_SC_PAGESIZE);
-    if ((is_rings || offset == IORING_OFF_SQES) && size > 0 && size <= (most + page - 1) / page * page)
-        return mremap(at, 0, size, MREMAP_MAYMOVE);
-    errno = EINVAL;
+    int32_t fault = wulgach_mapping_fault(size, offset);
+    if (fault == 0)
+        return mremap(wulgach_region_of(offset) == WULGACH_RINGS ? (void *)memory->sq : memory->entries, 0, size, MREMAP_MAYMOVE);
+    errno = -fault;
     return MAP_FAILED;
 }
 

@@ -176,8 +176,8 @@ static int32_t close_file(struct ring *ring, const struct request *request)
 {
     if (request->entry.file_index)
         return remove_file(ring, request->entry.file_index - 1);
-    /* A ring doesn't close a ring. */
-    return is_ring(request->entry.fd) ? -EBADF : result_of(close(request->entry.fd));
+    int32_t fault = wulgach_holding_fault(request->entry.fd, is_ring(request->entry.fd));
+    return fault < 0 ? fault : result_of(close(request->entry.fd));
 }
 
 static int32_t open_socket(struct ring *ring, const struct request *request)
@@ -322,7 +322,7 @@ int32_t carry_out(struct ring *ring, struct request *request, enum injection fau
     if (request->started < 0)
         return request->started;
     if (request->entry.opcode == IORING_OP_NOP)
-        return 0;
+        return wulgach_no_op_result(submission_of(&request->entry));
     if (fault == FAULT_EIO)
         return -EIO;
     if (fault == FAULT_ENOSPC)
@@ -337,7 +337,8 @@ int32_t carry_out(struct ring *ring, struct request *request, enum injection fau
 
 bool is_success(const struct request *request, int32_t res)
 {
-    const struct msghdr *received = request->entry.opcode == IORING_OP_RECVMSG ? request->value : NULL;
+    uint8_t code = request->entry.opcode;
+    const struct msghdr *received = code == IORING_OP_RECVMSG || code == IORING_OP_RECV ? request->value : NULL;
     struct wulgach_carried carried = {
         .length = request->length,
         .message_flags = received ? (uint32_t)received->msg_flags : 0,

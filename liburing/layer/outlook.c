@@ -8,6 +8,14 @@
 #include <fcntl.h>
 #include <inttypes.h>
 
+/* Whether a no-op looks for no file and no buffer. */
+static bool is_loose(const struct io_uring_sqe *entry)
+{
+    struct wulgach_needs needs;
+    wulgach_needs_of(submission_of(entry), &needs);
+    return !needs.needs_file && !needs.uses_buffer;
+}
+
 /* Whether all that an operation does is to move bytes at its offset, in a file that it neither appends to nor has a place in;
  * or it syncs a file or does nothing. */
 static bool is_plain(const struct request *request)
@@ -17,6 +25,7 @@ static bool is_plain(const struct request *request)
         return false;
     switch (entry->opcode) {
     case IORING_OP_NOP:
+        return is_loose(entry);
     case IORING_OP_FSYNC:
         return true;
     case IORING_OP_READ:

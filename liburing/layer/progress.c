@@ -136,11 +136,9 @@ static void start(struct ring *ring, struct request *request)
     if (!request->is_assigned)
         assign(ring, request);
     log_start(ring, request);
-    if (is_timeout(request))
-        start_timeout(ring, request);
+    note_started(ring, request);
     if (is_poll(request) && request->started == 0)
         request->started = start_poll(request);
-    arm_linked_timeout(ring, request);
     if (request->standing.is_stream)
         look_at(ring, request);
 }
@@ -221,14 +219,17 @@ bool can_go_on(struct ring *ring)
 
 void end_cancelled(struct ring *ring)
 {
-    for (size_t i = 0; i < ring->running.count;) {
-        struct request *request = ring->running.rows[i];
-        if (!request->course.is_cancelled) {
+    for (size_t i = 0; i < ring->requests.count;) {
+        struct request *request = ring->requests.rows[i];
+        uint32_t awaited = wulgach_course_awaited(&request->course);
+        bool may_end = awaited == WULGACH_AWAITED_RUNS || (awaited == WULGACH_AWAITED_WAITS && can_issue(ring, request->number));
+        if (!may_end) {
             i++;
             continue;
         }
         record_break();
-        finish_running(ring, request);
+        if (awaited == WULGACH_AWAITED_RUNS || issue_waiting(ring, request))
+            finish_running(ring, request);
     }
 }
 

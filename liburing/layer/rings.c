@@ -130,27 +130,48 @@ static int make_ring(struct ring **made, uint32_t entries, struct io_uring_param
     return 0;
 }
 
+/* A set-up that is under way. */
+struct making {
+    uint32_t entries;
+    bool is_polled;
+    uint64_t at;                        /* where its parameters are, */
+    struct io_uring_params params;      /* and these */
+    struct ring *ring;                  /* once it is made */
+};
+
+/* Does what is next of a set-up, and says what that came to: 0, or a fault. */
+static int do_stage(struct making *making, uint32_t stage)
+{
+    switch (stage) {
+    case WULGACH_SET_UP_READS:
+        return copy_in(&making->params, making->at, sizeof making->params);
+    case WULGACH_SET_UP_ASKS:
+        return ask_set_up(making->entries, &making->params);
+    case WULGACH_SET_UP_MAKES:
+        return make_ring(&making->ring, making->entries, &making->params, making->is_polled);
+    default:
+        return copy_out(making->at, &making->params, sizeof making->params);
+    }
+}
+
 int setup(uint32_t entries, struct io_uring_params *params, bool is_polled)
 {
-    struct io_uring_params own;
-    struct ring *ring = NULL;
+    struct making making = {.entries = entries, .is_polled = is_polled, .at = (uintptr_t)params};
+    uint32_t stage = WULGACH_SET_UP_BEGINS;
+    int result = 0;
     serve_at_set_up();
     read_policy();
     read_injection();
-    if (copy_in(&own, (uintptr_t)params, sizeof own) < 0)
-        return -EFAULT;
-    int result = ask_set_up(entries, &own);
-    if (result == 0)
-        result = make_ring(&ring, entries, &own, is_polled);
-    if (result < 0)
-        return result;
-    int fd = ring->fd;
-    if (copy_out((uintptr_t)params, &own, sizeof own) < 0) {
-        close(fd);
-        free_ring(ring);
-        return -EFAULT;
+    while ((stage = wulgach_set_up_next(stage, result)) <= WULGACH_SET_UP_TELLS)
+        result = do_stage(&making, stage);
+    if (stage == WULGACH_SET_UP_DROPS) {
+        close(making.ring->fd);
+        free_ring(making.ring);
     }
-    add_ring(ring);
+    if (stage != WULGACH_SET_UP_IS_DONE)
+        return result;
+    int fd = making.ring->fd;
+    add_ring(making.ring);
     return fd;
 }
 

@@ -134,9 +134,9 @@ static int tell_message(const struct request *request)
 
 static int32_t move_message(struct request *request)
 {
-    int flags = (int)request->entry.msg_flags | MSG_DONTWAIT;
+    int flags = (int)wulgach_call_flags(submission_of(&request->entry));
     if (is_sending(request))
-        return result_of(sendmsg(request->fd, request->value, flags | MSG_NOSIGNAL));
+        return result_of(sendmsg(request->fd, request->value, flags));
     int32_t res = result_of(recvmsg(request->fd, request->value, flags));
     if (res >= 0 && request->entry.opcode == IORING_OP_RECVMSG && tell_message(request) < 0)
         return -EFAULT;
@@ -157,29 +157,27 @@ static int32_t move_some(struct request *request)
 static int32_t receive_into_buffer(struct request *request, int32_t *filled)
 {
     const struct msghdr *asked = request->value;
-    uint64_t room;
-    char *at = request->vectors->iov_base, *name = at + sizeof(struct io_uring_recvmsg_out);
-    if (!wulgach_room_for(asked->msg_namelen, asked->msg_controllen, request->vectors->iov_len, &room))
+    struct wulgach_layout layout;
+    char *at = request->vectors->iov_base;
+    if (!wulgach_layout_of(asked->msg_namelen, asked->msg_controllen, request->vectors->iov_len, &layout))
         return -EFAULT;
-    size_t in_front = request->vectors->iov_len - room;
-    struct iovec bytes = {at + in_front, room};
+    struct iovec bytes = {at + layout.bytes, layout.room};
     struct msghdr message = {
-        .msg_name = asked->msg_namelen ? name : NULL,
+        .msg_name = asked->msg_namelen ? at + layout.name : NULL,
         .msg_namelen = asked->msg_namelen,
-        .msg_control = asked->msg_controllen ? name + asked->msg_namelen : NULL,
+        .msg_control = asked->msg_controllen ? at + layout.control : NULL,
         .msg_controllen = asked->msg_controllen,
         .msg_iov = &bytes,
         .msg_iovlen = 1,
     };
-    int32_t res = result_of(recvmsg(request->fd, &message, (int)request->entry.msg_flags | MSG_DONTWAIT));
+    int32_t res = result_of(recvmsg(request->fd, &message, (int)wulgach_call_flags(submission_of(&request->entry))));
     if (res < 0)
         return res;
     struct io_uring_recvmsg_out told = {message.msg_namelen, (uint32_t)message.msg_controllen, (uint32_t)res, (uint32_t)message.msg_flags};
-    size_t moved = (uint32_t)res < bytes.iov_len ? (uint32_t)res : bytes.iov_len;
     if (copy_out((uintptr_t)at, &told, sizeof told) < 0)
         return -EFAULT;
     request->done = (uint32_t)res;
-    *filled = (int32_t)(in_front + moved);
+    *filled = (int32_t)wulgach_layout_filled(&layout, (uint32_t)res);
     return res;
 }
 

@@ -30,24 +30,12 @@ static uint32_t make_word(struct ring *ring, uint32_t kind, uint32_t expected)
     return answer.word;
 }
 
-/* No operation has this code: its request ends as faulty. */
-enum { REFUSED_CODE = 255 };
-
 void write_token(struct wulgach_entry *entry, const struct request *request)
 {
-    const struct io_uring_sqe *real = &request->entry;
-    uint8_t flags = wulgach_form_flags(real->flags);
-    switch (request->mapping) {
-    case TOKEN:
-        wulgach_nop(entry->words, real->user_data, flags);
-        break;
-    case CANCEL:
-        wulgach_cancel(entry->words, real->user_data, flags, real->addr);
-        break;
-    case REFUSED:
-        wulgach_entry(entry->words, REFUSED_CODE, real->user_data, flags, 0);
-        break;
-    }
+    struct wulgach_core_entry made;
+    wulgach_core_entry_of(submission_of(&request->entry), request->mapping, &made);
+    wulgach_entry(entry->words, made.code, made.user_data, made.flags, 0);
+    entry->words[2] = made.target;
 }
 
 void fill_slot(struct ring *ring, uint32_t slot, const struct wulgach_entry *entry)

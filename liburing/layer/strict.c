@@ -74,5 +74,5 @@ int32_t strict_fault(struct ring *ring, const struct io_uring_sqe *entry)
 {
     if (!is_on)
         return 0;
-    return wulgach_strict_refusal(&ring->strict, entry->flags, operations[entry->opcode], features & IORING_FEAT_CQE_SKIP);
+    return wulgach_strict_refusal(&ring->strict, submission_of(entry), operations[entry->opcode], features & IORING_FEAT_CQE_SKIP);
 }

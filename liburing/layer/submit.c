@@ -37,7 +37,7 @@ static struct request *read_entry(struct ring *ring, uint32_t slot)
 static bool stage(struct ring *ring, uint32_t word, struct request **row)
 {
     *row = NULL;
-    if (word < ring->memory.sq_entries) {
+    if (wulgach_names_slot(word, ring->memory.sq_entries)) {
         *row = read_entry(ring, word);
         if (!*row)
             return false;
@@ -98,7 +98,7 @@ static void mark_draining(struct ring *ring, size_t first, size_t end)
 {
     bool has_drain = false;
     for (size_t i = first; i < end; i++)
-        has_drain |= (ring->requests.rows[i]->entry.flags & IOSQE_IO_DRAIN) != 0;
+        has_drain |= wulgach_is_drain(ring->requests.rows[i]->entry.flags);
     bool is_draining = has_drain && wulgach_drains_accept(&ring->drains, (uint32_t)(end - first), has_drain);
     for (size_t i = first; i < end && is_draining; i++)
         ring->requests.rows[i]->is_draining = true;
@@ -109,7 +109,7 @@ static void note_chains(struct ring *ring, size_t first)
 {
     struct request **rows = ring->requests.rows;
     for (size_t end; first < ring->requests.count; first = end) {
-        for (end = first + 1; end < ring->requests.count && rows[end]->member.chain == rows[first]->member.chain;)
+        for (end = first + 1; end < ring->requests.count && wulgach_is_one_chain(&rows[end]->member, &rows[first]->member);)
             end++;
         mark_draining(ring, first, end);
         for (size_t i = first; i < end; i++)

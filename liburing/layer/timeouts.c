@@ -66,15 +66,13 @@ static void run(struct ring *ring, const struct request *timeout)
     ring->may_count |= start.count > 0;
 }
 
-void start_timeout(struct ring *ring, const struct request *timeout)
+/* Does with a timeout's time what the library said. */
+static void clock_timeout(struct ring *ring, const struct request *timeout, uint32_t timing)
 {
-    if (wulgach_course_starts_time(&timeout->course))
+    if (timing == WULGACH_TIMING_BEGINS)
         run(ring, timeout);
-}
-
-void stop_timeout(struct ring *ring, const struct request *timeout)
-{
-    wulgach_times_stop(&ring->times, ring->timeouts, ring->timeouts_room, timeout->number);
+    else if (timing == WULGACH_TIMING_STOPS)
+        wulgach_times_stop(&ring->times, ring->timeouts, ring->timeouts_room, timeout->number);
 }
 
 int32_t end_timeout(struct ring *ring, const struct request *timeout)
@@ -102,18 +100,29 @@ struct request *timeout_behind(const struct ring *ring, const struct request *re
     return next && wulgach_member_limits(&next->member, &request->member) ? next : NULL;
 }
 
-void arm_linked_timeout(struct ring *ring, struct request *request)
+/* What happens to a request matters to itself, if it is a timeout, and to the linked one behind it. */
+void note_started(struct ring *ring, const struct request *request)
 {
-    struct request *timeout = timeout_behind(ring, request);
-    if (timeout)
-        run(ring, timeout);
+    const struct request *behind = timeout_behind(ring, request);
+    if (is_timeout(request))
+        clock_timeout(ring, request, wulgach_timing_behind_start(&request->member, &request->member, request->course.is_cancelled));
+    if (behind)
+        clock_timeout(ring, behind, wulgach_timing_behind_start(&behind->member, &request->member, behind->course.is_cancelled));
 }
 
-void disarm_linked_timeout(struct ring *ring, const struct request *request)
+void note_found(struct ring *ring, const struct request *request)
 {
-    struct request *timeout = timeout_behind(ring, request);
-    if (timeout)
-        stop_timeout(ring, timeout);
+    if (is_timeout(request))
+        clock_timeout(ring, request, wulgach_timing_behind_finding(&request->member, &request->member));
+}
+
+void note_ended(struct ring *ring, const struct request *request)
+{
+    const struct request *behind = timeout_behind(ring, request);
+    if (is_timeout(request) || is_linked_timeout(request))
+        clock_timeout(ring, request, wulgach_timing_behind_end(&request->member, &request->member));
+    if (behind)
+        clock_timeout(ring, behind, wulgach_timing_behind_end(&behind->member, &request->member));
 }
 
 void fire_linked_timeout(struct ring *ring, const struct wulgach_timeout *timeout)

@@ -14,23 +14,17 @@ bool is_linked_timeout(const struct request *request);
 /* Makes sure that so many timeouts can run; false if memory was refused. */
 bool reserve_timeouts(struct ring *ring, size_t count);
 
-/* A timeout has started: time runs, unless a cancel has found it already. */
-void start_timeout(struct ring *ring, const struct request *timeout);
-
-/* It was cancelled, or has ended: no time runs any more. */
-void stop_timeout(struct ring *ring, const struct request *timeout);
-
 /* A running timeout ends. Returns its result. */
 int32_t end_timeout(struct ring *ring, const struct request *timeout);
 
 /* The timeout that is linked behind a request, or NULL. */
 struct request *timeout_behind(const struct ring *ring, const struct request *request);
 
-/* A request has started: time runs for a timeout that is linked behind it. */
-void arm_linked_timeout(struct ring *ring, struct request *request);
-
-/* A request ends: no time runs any more for a timeout that is linked behind it. */
-void disarm_linked_timeout(struct ring *ring, const struct request *request);
+/* A request has started, was found by a cancel, or has ended: what that makes of its time, and of that of a timeout which is linked behind it, is
+ * the library's decision. */
+void note_started(struct ring *ring, const struct request *request);
+void note_found(struct ring *ring, const struct request *request);
+void note_ended(struct ring *ring, const struct request *request);
 
 /* Whether as many completions were posted as a timeout counts. */
 bool has_counted(const struct ring *ring, const struct request *timeout);

@@ -218,6 +218,41 @@ static void test_whole_calls(void)
     close_ring(&ring);
 }
 
+/* The flags of a no-op, as Linux 6.18 was seen to have them. <linux/io_uring.h> of this machine may know none of them. */
+static void test_no_ops(void)
+{
+    enum { INJECTS = 1, HAS_FILE = 2, BY_SLOT = 4, HAS_BUFFER = 8, LATER = 16, LARGE = 32 };
+    static const struct {
+        uint32_t flags, length;
+        uint8_t entry, slot;
+        int32_t res;
+    } rows[] = {
+        {0, 7, 0, 0, 0}, {INJECTS, 7, 0, 0, 7}, {INJECTS, (uint32_t)-5, 0, 0, -5}, {HAS_FILE, 7, 0, 99, -EBADF}, {HAS_FILE | INJECTS, 7, 0, 99, -EBADF}, {HAS_FILE, 0, 0, 1, 0},
+        {BY_SLOT, 0, 0, 1, 0}, {HAS_FILE | BY_SLOT, 0, 0, 0, 0}, {HAS_FILE | BY_SLOT, 0, 0, 1, -EBADF}, {HAS_FILE, 0, IOSQE_FIXED_FILE, 1, -EBADF}, {0, 0, IOSQE_FIXED_FILE, 1, 0},
+        {HAS_BUFFER | INJECTS, 3, 0, 0, 3}, {HAS_BUFFER | INJECTS, 3, 0, 1, -EFAULT}, {HAS_FILE | HAS_BUFFER, 0, 0, 99, -EBADF}, {LATER, 0, 0, 0, 0}, {LARGE, 0, 0, 0, -EINVAL}, {64, 0, 0, 0, -EINVAL},
+    };
+    static char bytes[64];
+    struct iovec vector = {bytes, sizeof bytes};
+    int fds[2] = {1, -1};
+    struct ring ring;
+    make_ring(&ring, 8, 0, IORING_SETUP_SUBMIT_ALL);
+    check(register_at(ring.fd, IORING_REGISTER_FILES, fds, 2) == 0 && register_at(ring.fd, IORING_REGISTER_BUFFERS, &vector, 1) == 0);
+    for (size_t i = 0; i < sizeof rows / sizeof *rows; i++) {
+        int32_t results[2];
+        bool is_faulty = rows[i].res == -EINVAL;
+        struct io_uring_sqe *entry = put(&ring, IORING_OP_NOP, 0, (uint8_t)(rows[i].entry | (is_faulty ? 0 : IOSQE_IO_LINK)));
+        entry->rw_flags = (int)rows[i].flags;
+        entry->len = rows[i].length;
+        entry->fd = rows[i].slot;
+        entry->buf_index = rows[i].slot;
+        put(&ring, IORING_OP_NOP, 1, 0);
+        check(enter(&ring, 2, 0, 0) == 2);
+        reap_all(&ring, 2, results);
+        check(results[0] == rows[i].res && results[1] == (rows[i].res < 0 && !is_faulty ? -ECANCELED : 0));
+    }
+    close_ring(&ring);
+}
+
 /* Beside an older request that waits, two chains go on. */
 static void test_beside_one_that_waits(void)
 {
@@ -252,6 +287,7 @@ int main(int count, char **words)
         {"faulty link", test_faulty_link},
         {"dropped word", test_dropped_word},
         {"whole calls", test_whole_calls},
+        {"no-ops", test_no_ops},
         {"beside one that waits", test_beside_one_that_waits},
     };
     return run_tests(tests, sizeof tests / sizeof *tests, count > 1 ? words[1] : NULL);

@@ -45,8 +45,15 @@ static void test_refused(void)
     make_ring(&ring, 4, 0, 0);
     check(read(ring.fd, bytes, 8) == -1 && errno == EINVAL);
     check(write(ring.fd, bytes, 8) == -1 && errno == EINVAL);
-    check(wulgach_mmap(NULL, 1 << 20, PROT_READ, MAP_SHARED, ring.fd, IORING_OFF_SQ_RING) == MAP_FAILED && errno == EINVAL);
-    check(wulgach_mmap(NULL, 64, PROT_READ, MAP_SHARED, ring.fd, 4096) == MAP_FAILED && errno == EINVAL);
+    /* As a real ring has it: an offset names a part by its upper bits, and a mapping may be longer. */
+    static const off_t offsets[] = {IORING_OFF_SQ_RING, IORING_OFF_CQ_RING, 4096, IORING_OFF_SQES};
+    for (size_t i = 0; i < sizeof offsets / sizeof *offsets; i++) {
+        unsigned *part = wulgach_mmap(NULL, 1 << 20, PROT_READ, MAP_SHARED, ring.fd, offsets[i]);
+        check(part != MAP_FAILED && (i == 3 || part[ring.params.sq_off.ring_entries / sizeof *part] == ring.params.sq_entries));
+        munmap(part, 1 << 20);
+    }
+    check(wulgach_mmap(NULL, 0, PROT_READ, MAP_SHARED, ring.fd, IORING_OFF_SQ_RING) == MAP_FAILED && errno == EINVAL);
+    check(wulgach_mmap(NULL, 64, PROT_READ, MAP_SHARED, ring.fd, 0x18000000) == MAP_FAILED && errno == ENOMEM);
     int file = make_file();
     check(write(file, "file", 4) == 4);
     char *mapped = wulgach_mmap(NULL, 4, PROT_READ, MAP_SHARED, file, 0);

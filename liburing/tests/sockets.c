@@ -131,6 +131,32 @@ static void test_multishot_receive(void)
     close_ring(&ring);
 }
 
+/* A receive that is to wait for all breaks its chain if what came was cut, and another doesn't: as on a real ring. */
+static void test_cut_receives(void)
+{
+    struct ring ring;
+    char text[4];
+    int ends[2];
+    check(socketpair(AF_UNIX, SOCK_DGRAM, 0, ends) == 0);
+    make_ring(&ring, 8, 0, 0);
+    for (int row = 0; row < 6; row++) {
+        int32_t results[2];
+        struct iovec vector = {text, 4};
+        struct msghdr message = {.msg_iov = &vector, .msg_iovlen = 1};
+        bool is_whole = row & 1, is_short = row > 3;
+        check(send(ends[1], "12345678", is_short ? 2 : 8, 0) > 0);
+        struct io_uring_sqe *entry = put_transfer(&ring, row & 2 ? IORING_OP_RECVMSG : IORING_OP_RECV, 0, IOSQE_IO_LINK, ends[0], row & 2 ? (void *)&message : text, row & 2 ? 1 : 4, 0);
+        entry->msg_flags = is_whole ? MSG_WAITALL : 0;
+        put(&ring, IORING_OP_NOP, 1, 0);
+        check(enter(&ring, 2, 0, 0) == 2);
+        reap_all(&ring, 2, results);
+        check(results[0] == (is_short ? 2 : 4) && results[1] == (is_whole ? -ECANCELED : 0));
+    }
+    close(ends[0]);
+    close(ends[1]);
+    close_ring(&ring);
+}
+
 /* An accept that goes on puts each socket where there is room, and ends if there is none. */
 static void test_multishot_accept(void)
 {
@@ -251,6 +277,7 @@ int main(int count, char **words)
         {"no waiting", test_no_waiting},
         {"multishot receive", test_multishot_receive},
         {"multishot accept", test_multishot_accept},
+        {"cut receives", test_cut_receives},
         {"zero copy", test_zero_copy},
         {"multishot messages", test_multishot_messages},
     };

@@ -39,7 +39,7 @@ static long ask(long call, ...)
 
 /* ---- what is asked ---- */
 
-enum { MOST_ANSWERS = 2048 };
+enum { MOST_ANSWERS = 4096 };
 
 static int32_t answers[2][MOST_ANSWERS];
 static size_t counts[2];
@@ -94,6 +94,73 @@ static void ask_operations(void)
     for (unsigned i = 0; i < 3; i++)
         put(&ring, (uint8_t)(i == 0 ? 200 : i == 1 ? 255 : IORING_OP_NOP), i, 0);
     submit(&ring, 3, 3);
+    close_ring(&ring);
+}
+
+/* Puts a single entry on a ring, and tells its result, or 0 if it has none. */
+static void ask_entry(struct ring *ring, struct io_uring_sqe entry)
+{
+    *put(ring, 0, 0, 0) = entry;
+    check(enter(ring, 1, 0, 0) == 1);
+    enter_for(ring, 1, 1000000);
+    int32_t res = 0;
+    while (count_ready(ring) > 0)
+        res += reap(ring).res;
+    told(res);
+}
+
+/* Which fault of an entry's operation, flags and fields comes first, and whether a drain is taken behind it. */
+static void ask_flags(void)
+{
+    static const uint8_t codes[] = {IORING_OP_NOP, 200, IORING_OP_READ, IORING_OP_FSYNC};
+    for (size_t i = 0; i < 4 * sizeof codes; i++) {
+        for (unsigned faults = 0; faults < 16; faults++) {
+            struct ring ring;
+            make_ring(&ring, 8, 0, IORING_SETUP_SUBMIT_ALL);
+            if (i & 1)
+                ask_entry(&ring, (struct io_uring_sqe){.flags = IOSQE_CQE_SKIP_SUCCESS});
+            struct io_uring_sqe entry = {.opcode = codes[i / 4], .fd = -1, .personality = faults & 8 ? 3 : 0, .ioprio = i & 2 ? 0xffff : 0};
+            entry.flags = (uint8_t)((faults & 1 ? 128 : 0) | (faults & 2 ? IOSQE_BUFFER_SELECT : 0) | (faults & 4 ? IOSQE_CQE_SKIP_SUCCESS : 0) | IOSQE_IO_DRAIN);
+            ask_entry(&ring, entry);
+            ask_entry(&ring, (struct io_uring_sqe){.flags = IOSQE_IO_DRAIN});
+            close_ring(&ring);
+        }
+    }
+}
+
+/* The same of a ring that allows reads alone. */
+static void ask_restricted(void)
+{
+    static const uint8_t flags[] = {0, 128, IOSQE_BUFFER_SELECT, IOSQE_CQE_SKIP_SUCCESS | IOSQE_IO_DRAIN};
+    struct io_uring_restriction row = {.opcode = IORING_RESTRICTION_SQE_OP, .sqe_op = IORING_OP_READ};
+    struct ring ring;
+    make_ring(&ring, 8, 0, IORING_SETUP_SUBMIT_ALL | IORING_SETUP_R_DISABLED);
+    check(register_at(ring.fd, IORING_REGISTER_RESTRICTIONS, &row, 1) == 0 && register_at(ring.fd, IORING_REGISTER_ENABLE_RINGS, NULL, 0) == 0);
+    for (size_t i = 0; i < sizeof flags; i++) {
+        ask_entry(&ring, (struct io_uring_sqe){.flags = flags[i], .ioprio = 1, .personality = 4});
+        ask_entry(&ring, (struct io_uring_sqe){.opcode = 200, .flags = flags[i]});
+    }
+    close_ring(&ring);
+}
+
+/* Buffers that are provided, and updates of a timeout that isn't there. */
+static void ask_fields(void)
+{
+    static const struct {
+        int32_t count;
+        uint32_t length, flags;
+        uint64_t number, address;
+    } rows[] = {
+        {1, 16, 0, 65535, 0}, {1, 16, 0, 65536, 0}, {2, 16, 0, 65535, 0}, {65536, 1, 0, 0, 0}, {65537, 1, 0, 0, 0}, {65536, 1, 0, 1, 0}, {0, 1, 0, 0, 0}, {-1, 1, 0, 0, 0},
+        {1, 0, 0, 65536, 0}, {0, 0, 0, 0, 0}, {1, 16, 0, 65536, UINT64_MAX}, {1, 16, 0, 65536, 1ull << 63}, {1, 16, 1, 65536, 0}, {0, 1, 1, 0, 0}, {1, 16, 0, 0, 0x7fffffffeff0}, {1, 16, 0, 0, 0x7fffffffeff1}, {2, 4097, 0, 0, 0x7fffffffdffe},
+    };
+    struct ring ring;
+    make_ring(&ring, 8, 0, IORING_SETUP_SUBMIT_ALL);
+    for (size_t i = 0; i < sizeof rows / sizeof *rows; i++)
+        ask_entry(&ring, (struct io_uring_sqe){.opcode = IORING_OP_PROVIDE_BUFFERS, .fd = rows[i].count, .len = rows[i].length, .rw_flags = (int)rows[i].flags, .off = rows[i].number, .addr = rows[i].address, .buf_group = (uint16_t)i});
+    struct __kernel_timespec hour = {3600, 0};
+    for (uint32_t flags = 0; flags < 64; flags++)
+        ask_entry(&ring, (struct io_uring_sqe){.opcode = IORING_OP_TIMEOUT_REMOVE, .addr = 5, .addr2 = (uintptr_t)&hour, .timeout_flags = flags});
     close_ring(&ring);
 }
 
@@ -285,6 +352,9 @@ static void ask_all(void)
     ask_numbers();
     ask_drains();
     ask_operations();
+    ask_flags();
+    ask_restricted();
+    ask_fields();
     ask_set_ups();
     ask_other_threads();
 }

@@ -7,6 +7,7 @@
 #include "engines.h"
 
 #include <poll.h>
+#include <time.h>
 
 /* A read that nobody feeds is limited by a timeout: the chain behind them is cancelled. One that is fed isn't, and the chain
  * goes on. */
@@ -257,6 +258,105 @@ static void write_and_read(const int ends[2])
     check(write(ends[1], "b", 1) == 1 && read(ends[0], &byte, 1) == 1);
 }
 
+/* An update changes what a poll waits for, and neither whether it goes on nor how: what is there is told at once, and again. */
+static void test_updated_polls(void)
+{
+    struct ring ring;
+    char byte;
+    make_ring(&ring, 8, 0, 0);
+    for (unsigned row = 0; row < 4; row++) {
+        bool goes_on = row & 1;
+        int ends[2];
+        check(pipe(ends) == 0);
+        put_poll(&ring, 1, ends[0], goes_on ? IORING_POLL_ADD_MULTI : 0);
+        check(enter(&ring, 1, 0, 0) == 1);
+        check(enter_for(&ring, 1, 1000) == -ETIME);
+        struct io_uring_sqe *change = put(&ring, IORING_OP_POLL_REMOVE, 2, 0);
+        change->addr = 1;
+        change->len = IORING_POLL_UPDATE_EVENTS | (row & 2 ? IORING_POLL_ADD_MULTI : 0);
+        change->poll32_events = POLLIN;
+        check(enter(&ring, 1, 0, 0) == 1);
+        check(next_of(&ring).user_data == 2 && enter_for(&ring, 1, 1000) == -ETIME);
+        for (int round = 0; round < (goes_on ? 2 : 1); round++) {
+            check(write(ends[1], "b", 1) == 1);
+            struct seen found = next_of(&ring);
+            check(found.user_data == 1 && found.res == POLLIN && found.flags == (goes_on ? IORING_CQE_F_MORE : 0));
+            check(round == 1 || read(ends[0], &byte, 1) == 1);
+        }
+        if (goes_on) {
+            change = put(&ring, IORING_OP_POLL_REMOVE, 2, 0);
+            change->addr = 1;
+            change->off = 3;
+            change->len = IORING_POLL_UPDATE_USER_DATA;
+            check(enter(&ring, 1, 0, 0) == 1);
+            bool is_told = false, is_done = false;
+            for (int i = 0; i < 2; i++) {
+                struct seen found = next_of(&ring);
+                is_told |= found.user_data == 3 && found.res == POLLIN && found.flags == IORING_CQE_F_MORE;
+                is_done |= found.user_data == 2 && found.res == 0;
+            }
+            check(is_told && is_done);
+            put(&ring, IORING_OP_POLL_REMOVE, 4, 0)->addr = 3;
+            check(enter(&ring, 1, 0, 0) == 1);
+            next_of(&ring);
+            next_of(&ring);
+        }
+        close(ends[0]);
+        close(ends[1]);
+    }
+    close_ring(&ring);
+}
+
+/* An update keeps the clock of a timeout, and names none: a time that is over by that clock ends it before another. */
+static void test_updated_clock(void)
+{
+    struct ring ring;
+    struct timespec now;
+    struct __kernel_timespec hour = {3600, 0}, minute = {60, 0}, past;
+    make_ring(&ring, 8, 0, IORING_SETUP_SUBMIT_ALL);
+    check(clock_gettime(CLOCK_REALTIME, &now) == 0);
+    past = (struct __kernel_timespec){now.tv_sec - 5, 0};
+    put_transfer(&ring, IORING_OP_TIMEOUT, 1, 0, -1, &hour, 1, 0)->timeout_flags = IORING_TIMEOUT_REALTIME;
+    put_transfer(&ring, IORING_OP_TIMEOUT, 2, 0, -1, &minute, 1, 0);
+    check(enter(&ring, 2, 0, 0) == 2);
+    check(enter_for(&ring, 1, 1000) == -ETIME);
+    put_update(&ring, 3, 1, IORING_TIMEOUT_UPDATE | IORING_TIMEOUT_REALTIME, &past);
+    put_update(&ring, 4, 1, IORING_TIMEOUT_UPDATE | IORING_TIMEOUT_ABS, &past);
+    check(enter(&ring, 2, 0, 0) == 2);
+    int32_t ends = 0;
+    for (int i = 0; i < 3; i++) {
+        struct seen found = next_of(&ring);
+        check(found.res == (found.user_data == 3 ? -EINVAL : found.user_data == 4 ? 0 : -ETIME) && found.user_data != 2);
+        ends += found.user_data == 1;
+    }
+    check(ends == 1);
+    close_ring(&ring);
+}
+
+/* A cancel by io_uring_register(2) waits for all that it has found, also for what hasn't started. */
+static void test_awaited(void)
+{
+    struct ring ring;
+    char text[4];
+    int ends[2];
+    struct io_uring_sync_cancel_reg any = {.flags = IORING_ASYNC_CANCEL_ANY, .timeout = {-1, -1}};
+    check(pipe(ends) == 0);
+    for (int has_started = 0; has_started < 2; has_started++) {
+        make_ring(&ring, 8, 0, 0);
+        for (uint64_t i = 0; i < 3; i++)
+            put_transfer(&ring, IORING_OP_READ, i, 0, ends[0], text, 4, 0);
+        check(enter(&ring, 3, 0, 0) == 3);
+        if (has_started)
+            check(enter_for(&ring, 1, 1000) == -ETIME);
+        check(register_at(ring.fd, IORING_REGISTER_SYNC_CANCEL, &any, 1) == 3 && count_ready(&ring) == 3);
+        for (int i = 0; i < 3; i++)
+            check(reap(&ring).res == -ECANCELED);
+        close_ring(&ring);
+    }
+    close(ends[0]);
+    close(ends[1]);
+}
+
 /* A poll that runs is told of what a pipe had between two calls, and one that comes later isn't; nor is one of another pipe. */
 static void test_come_and_gone(void)
 {
@@ -424,6 +524,9 @@ int main(int count, char **words)
         {"cancels of any", test_cancels_of_any},
         {"count of removed", test_count_of_removed},
         {"polls", test_polls},
+        {"updated polls", test_updated_polls},
+        {"updated clock", test_updated_clock},
+        {"awaited", test_awaited},
         {"come and gone", test_come_and_gone},
         {"gone before", test_gone_before},
         {"events in choices", test_events_in_choices},

@@ -34,15 +34,15 @@ pub no_walk_refused : (w : SetupWords) (lens : List ℕ) → IsRefused w → IsN
 no_walk_refused w lens refused = λ t b takes. refused t b
 
 pub no_walk_stops : (w : SetupWords) (lens : List ℕ) → w.stops ≡ true → IsNoWalk w lens
-no_walk_stops w lens stops = λ t b takes. both_ways t.stops takes.0 (b.1.0 ∙ stops)
+no_walk_stops w lens stops = λ t b takes. both_ways t.stops takes.0 (b.1 ∙ stops)
 
 pub no_walk_linux : (w : SetupWords) (lens : List ℕ) → w.linux ≡ true → IsNoWalk w lens
-no_walk_linux w lens linux = λ t b takes. both_ways t.linux takes.1.0 (b.1.1 ∙ linux)
+no_walk_linux w lens linux = λ t b takes. both_ways t.linux takes.1 (b.2 ∙ linux)
 
 pub no_walk_long : (w : SetupWords) (s : Setup) (lens : List ℕ) → IsAskedFor w s
     → (All (λ len. len ≤ s.sq) lens → ⊥) → IsNoWalk w lens
 no_walk_long w s lens a long = λ t b takes.
-    long (subst (λ (k : ℕ). All (λ len. len ≤ k) lens) (sym (rounded_once w.sq s.sq t.sq a.0.sq_rounded b.0.sq_rounded a.0.sq_asked)) takes.1.1)
+    long (subst (λ (k : ℕ). All (λ len. len ≤ k) lens) (sym (rounded_once w.sq s.sq t.sq a.0.sq_rounded b.0.sq_rounded a.0.sq_asked)) takes.2)
 
 pub is_walk : (w : SetupWords) (s : Setup) (lens : List ℕ) → IsAskedFor w s → TakesWhole s lens
     → IsNoWalk w lens → ⊥

@@ -24,3 +24,4 @@ pub mod UsesForm
 pub mod WaitForm
 pub mod MessageForm
 pub mod RoundForm
+pub mod RingForm

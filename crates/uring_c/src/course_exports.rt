@@ -4,7 +4,7 @@ ghost use Rattle.uring_enter.specs.declared.act.Fact.{Fact};
 ghost use Rattle.uring_enter.specs.declared.act.Fact.TheVariants.{Started, Done};
 ghost use Rattle.uring_enter.specs.declared.act.Fact.TheVariants.{Ended as HasEnded};
 ghost use Rattle.uring_enter.specs.declared.member.Entry.{Entry};
-ghost use Rattle.uring_enter.specs.Courses.{KeepsCourse, act, behind_act, fits, notice_of, starts_time};
+ghost use Rattle.uring_enter.specs.Courses.{KeepsCourse, act, behind_act, fits, notice_of};
 ghost use Rattle.uring_enter.specs.Courses.{shown as shown_by};
 ghost use Rattle.uring_enter.specs.Outcomes.{is_success, looks_for_running, shown_of, success_of_entry};
 ghost use Rattle.uring_enter.specs.Shots as shots;
@@ -168,14 +168,6 @@ pub extern "C" fn wulgach_looks_for_running(is_cancel: bool, res: i32) -> bool
     ensures { result ≡ looks_for_running is_cancel res }
 {
     looks_for_running(is_cancel, res)
-}
-
-/// Whether the time of a timeout begins that starts now.
-#[unsafe(no_mangle)]
-pub extern "C" fn wulgach_course_starts_time(course: &Course) -> bool
-    ensures { (log : List Fact) → KeepsCourse log course.now → result ≡ starts_time log }
-{
-    course.starts_time()
 }
 
 /// What is shown of a request that the core has ended with this result.

@@ -2,14 +2,13 @@
 ghost use Rattle.std.specs.Prelude.{◌≡◌};
 ghost use Rattle.uring_enter.specs.Pieces as spec;
 ghost use Rattle.uring_enter.specs.Copies.{next_of};
-ghost use Rattle.uring_enter.specs.Forms as forms;
 ghost use Rattle.uring_c.specs.TakingForm.{word_of_what, words_of_piece, word_of_copying, words_of_copying};
 ghost use Rattle.uring_c.specs.CourseForm.{entry_of};
 
 use crate::course_words::entry_if;
 use uring_enter::{
-    Copying, Entry, Piece, Submission, What, core_flags, how_fault, message_fault, next_piece,
-    open_fault, room_fault, time_fault,
+    Copying, Entry, Piece, Submission, What, how_fault, message_fault, next_piece, open_fault,
+    room_fault, time_fault,
 };
 
 /// A piece that is copied: `struct wulgach_piece` of the header.
@@ -118,12 +117,4 @@ pub extern "C" fn wulgach_room_fault(entry: &Submission, name: u32, control: u64
     ensures { result ≡ spec.room_fault entry.now name control }
 {
     room_fault(entry, name, control)
-}
-
-/// The flags of an entry that the core is told.
-#[unsafe(no_mangle)]
-pub extern "C" fn wulgach_form_flags(flags: u8) -> u8
-    ensures { result ≡ forms.core_flags flags }
-{
-    core_flags(flags)
 }

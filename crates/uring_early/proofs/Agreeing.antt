@@ -5,14 +5,14 @@ use Rattle.std.specs.Option.{option_map}
 use Rattle.std.proofs.lemmas.Bool.{le-ltb, lt-ltb}
 use Rattle.std.proofs.lemmas.List.{length-append, length-map, map-append}
 use Rattle.std.proofs.lemmas.Option.{slice_get-map, same_Some}
-use Rattle.uring_entry.specs.Completions.{Completions, completion_for, next_to_reap, with_end, with_posted}
+use Rattle.uring_entry.specs.Completions.{Completions, completion_for, next_to_reap, with_posted}
 use Rattle.uring_entry.specs.Layout.{Cqe}
 use Rattle.uring_entry.specs.Requests.{Ending, entry_of}
 use Rattle.uring_entry.specs.Setup.{Setup}
-use Rattle.uring_entry.specs.Success.{posts_completion}
+use Rattle.uring_rules.specs.Rules.{posts}
 use Rattle.uring_core.specs.Events.{end_told_by}
 use Rattle.uring_core.specs.Histories.{Event, History, world, IsLawfulApart}
-use Rattle.uring_core.specs.World.{World}
+use Rattle.uring_core.specs.World.{World, with_end_of}
 use Rattle.uring_core.specs.declared.step.Step.{Step}
 use Rattle.uring_core.specs.declared.answer.Answer.{Answer}
 use Rattle.uring_core.proofs.CompletionMoves.{CompletionMove, stays, ends, flushes, sees_tail, reaps, stores_head, completion_move}
@@ -109,7 +109,7 @@ agrees_by : (known : List (List ℕ)) (g : Setup) (w : World) (s : Step) (a : An
     → EndMeets (bytes_at known (length w.completions.posted) (length v.completions.posted)) (end_told_by (s, a))
     → Agree known (payloads v.completions.posted)
 agrees_by known g w s a v (ends _ _ n res bytes r off is same one) agree meets =
-    end_agrees known g.cq w.completions (completion_for (entry_of w.requests n) res bytes) (posts_completion (entry_of w.requests n) res) agree (subst (EndMeets (bytes_at known (length w.completions.posted) (length (with_end g.cq w.completions (entry_of w.requests n) res bytes).posted))) is meets)
+    end_agrees known g.cq w.completions (completion_for (entry_of w.requests n) res bytes) (posts g.linux w.requests n res) agree (subst (EndMeets (bytes_at known (length w.completions.posted) (length (with_end_of g w n res bytes).posted))) is meets)
 agrees_by known g w s a v _ agree meets = agree
 
 met_by : (known : List (List ℕ)) (g : Setup) (w : World) (s : Step) (a : Answer) (v : World) → CompletionMove g w s a v
@@ -117,8 +117,8 @@ met_by : (known : List (List ℕ)) (g : Setup) (w : World) (s : Step) (a : Answe
     → EndMeets (bytes_at known (length w.completions.posted) (length v.completions.posted)) (end_told_by (s, a)) × Agree known (payloads w.completions.posted)
 met_by known g w s a v (stays _ _ l r is_closed off none left) agree = (subst (EndMeets _) (sym none) tt, agree)
 met_by known g w s a v (ends _ _ n res bytes r off is same one) agree =
-    let met = end_met known g.cq w.completions (completion_for (entry_of w.requests n) res bytes) (posts_completion (entry_of w.requests n) res) agree in
-    (subst (EndMeets (bytes_at known (length w.completions.posted) (length (with_end g.cq w.completions (entry_of w.requests n) res bytes).posted))) (sym is) met.0, met.1)
+    let met = end_met known g.cq w.completions (completion_for (entry_of w.requests n) res bytes) (posts g.linux w.requests n res) agree in
+    (subst (EndMeets (bytes_at known (length w.completions.posted) (length (with_end_of g w n res bytes).posted))) (sym is) met.0, met.1)
 met_by known g w s a v (flushes moved) agree = (tt, agree)
 met_by known g w s a v (sees_tail tail) agree = (tt, agree)
 met_by known g w s a v (reaps completion next) agree = (tt, agree)
@@ -148,7 +148,7 @@ reaped_by_move : (g : Setup) (w : World) (s : Step) (a : Answer) (v : World) →
 reaped_by_move g w s a v (stays _ _ l r is_closed off none left) =
     sym (append-nil (payloads w.completions.reaped)) ∙ ap (λ (o : Option Cqe). payloads w.completions.reaped ++ bytes_of o) (sym off.reaps)
 reaped_by_move g w s a v (ends _ _ n res bytes r off is same one) =
-    ap payloads (end_reaps g.cq w.completions (completion_for (entry_of w.requests n) res bytes) (posts_completion (entry_of w.requests n) res))
+    ap payloads (end_reaps g.cq w.completions (completion_for (entry_of w.requests n) res bytes) (posts g.linux w.requests n res))
     ∙ sym (append-nil (payloads w.completions.reaped)) ∙ ap (λ (o : Option Cqe). payloads w.completions.reaped ++ bytes_of o) (sym off.reaps)
 reaped_by_move g w s a v (reaps completion next) = grown w.completions.reaped completion
 reaped_by_move g w s a v _ = sym (append-nil (payloads w.completions.reaped))

@@ -1,23 +1,26 @@
--- Requests stand as they do whatever bytes they ended with.
-use Rattle.std.proofs.Common.{◌≡◌, ℕ, zero, suc, ◌==◌, ℤ, pos, neg_ℤ, Bool, not, ◌&&◌, ◌||◌, nat_lt, if◌then◌else◌, List, [], ◌∷◌, ◌++◌, length, map, Option, Some, None, refl, ap, ap₂, ◌∙◌}
+-- Requests stand as they do by the manual pages' rules whatever bytes they ended with.
+use Rattle.std.proofs.Common.{◌≡◌, ℕ, zero, suc, ◌==◌, ℤ, pos, neg_ℤ, Bool, not, ◌&&◌, ◌||◌, nat_lt, if◌then◌else◌, List, [], ◌∷◌, ◌++◌, length, map, Option, Some, None, refl, sym, ap, ap₂, ◌∙◌}
 use Rattle.std.specs.List.{list_any}
 use Rattle.std.specs.Option.{option_to_list}
+use Rattle.std.proofs.lemmas.List.{map-append}
 use Rattle.uring_entry.specs.declared.errno.TheConstants.{EALREADY}
 use Rattle.uring_entry.specs.Layout.{addr_of, user_data_of}
 use Rattle.uring_entry.specs.Below.{all_below}
 use Rattle.uring_entry.specs.Preparation.{is_cancel, is_cancel_all}
 use Rattle.uring_entry.specs.Success.{is_success}
-use Rattle.uring_entry.specs.Requests.{Requests, Ending, entry_of, is_outstanding, is_running, is_doomed, is_behind_failure, is_in_faulty_group, is_cancelled, some_member, is_joined, is_ready, is_issuable, is_candidate, is_target, is_soft, holds_back, has_ended, has_failed, waits_for, target_of, targets_of, result_for, count_result, cancel_result, doomed_result, chosen_by, next_of, no_bytes}
+use Rattle.uring_entry.specs.Requests.{Requests, Ending, entry_of, is_outstanding, is_running, is_doomed, is_behind_failure, is_in_faulty_group, is_cancelled, some_member, is_joined, is_ready, is_issuable, is_candidate, is_target, is_soft, holds_back, has_ended, has_failed, waits_for, target_of, targets_of, result_for, count_result, cancel_result, chosen_by, no_bytes}
 use Rattle.uring_entry.proofs.BelowLemmas.{some_below_same, least_below_same}
-use Rattle.uring_core.specs.World.{World}
-use Rattle.uring_core.specs.StepAnswers.{issue_answer}
-use Rattle.uring_core.specs.declared.answer.Answer.TheVariants as answer
 
 abbrev pub blank_end : Ending → Ending
 blank_end e = record e { bytes = no_bytes }
 
 abbrev pub blank_requests : Requests → Requests
 blank_requests r = record r { ended = map blank_end r.ended }
+
+pub ends_same : (es : List Ending) (n : ℕ) (res : ℤ) (bytes : List ℕ)
+    → map blank_end es ++ record { number = n; res = res; bytes = no_bytes } ∷ [] ≡ map blank_end (es ++ record { number = n; res = res; bytes = bytes } ∷ [])
+ends_same es n res bytes =
+    sym (map-append blank_end es (record { number = n; res = res; bytes = bytes } ∷ []))
 
 -- what asks for numbers and results alone finds the same
 any_blank : (p : ℕ → ℤ → Bool) (es : List Ending)
@@ -38,20 +41,20 @@ module _ (r : Requests) where
   pub running_same : (n : ℕ) → is_running q n ≡ is_running r n
   running_same n = ap (λ b. list_any (λ m. m == n) r.started && not b) (ended_same n)
 
-  failed_same : (n : ℕ) → has_failed q n ≡ has_failed r n
+  pub failed_same : (n : ℕ) → has_failed q n ≡ has_failed r n
   failed_same n = any_blank (λ m res. (m == n) && not (is_success (entry_of r n) res)) r.ended
 
-  behind_same : (n : ℕ) → is_behind_failure q n ≡ is_behind_failure r n
+  pub behind_same : (n : ℕ) → is_behind_failure q n ≡ is_behind_failure r n
   unfolding is_behind_failure is_joined
   behind_same n =
       some_below_same (λ m. is_joined q m n && is_soft (entry_of r m) && has_failed q m) (λ m. is_joined r m n && is_soft (entry_of r m) && has_failed r m) n
       (λ k lt. ap (λ b. is_joined r k n && is_soft (entry_of r k) && b) (failed_same k))
 
-  doomed_same : (n : ℕ) → is_doomed q n ≡ is_doomed r n
+  pub doomed_same : (n : ℕ) → is_doomed q n ≡ is_doomed r n
   unfolding is_doomed some_member is_joined
   doomed_same n = ap (λ x. is_in_faulty_group r n || x || is_cancelled r n) (behind_same n)
 
-  ready_same : (n : ℕ) → is_ready q n ≡ is_ready r n
+  pub ready_same : (n : ℕ) → is_ready q n ≡ is_ready r n
   unfolding is_ready some_member is_joined
   ready_same n =
       ap not
@@ -82,7 +85,7 @@ module _ (r : Requests) where
   found_same None = refl
   found_same (Some m) = ap (λ b. if b then neg_ℤ EALREADY else pos 0) (running_same m)
 
-  cancel_same : (n : ℕ) → cancel_result q n ≡ cancel_result r n
+  pub cancel_same : (n : ℕ) → cancel_result q n ≡ cancel_result r n
   cancel_same n =
       ap₂ (λ xs z. if is_cancel_all (entry_of r n) then count_result (length xs) else z) (all_same n)
       (ap (result_for q) (one_same n) ∙ found_same (target_of r n))
@@ -91,21 +94,7 @@ module _ (r : Requests) where
   chosen_same n res =
       ap₂ (λ xs o. if is_cancel (entry_of r n) && is_success (entry_of r n) res then (if is_cancel_all (entry_of r n) then xs else option_to_list o) else []) (all_same n) (one_same n)
 
-  issuable_same : (n : ℕ) → is_issuable q n ≡ is_issuable r n
+  pub issuable_same : (n : ℕ) → is_issuable q n ≡ is_issuable r n
   issuable_same n =
       ap₂ (λ x y. x && not y && (is_doomed q n || is_ready q n)) (outstanding_same n) (running_same n)
       ∙ ap₂ (λ x y. is_outstanding r n && not (is_running r n) && (x || y)) (doomed_same n) (ready_same n)
-
-  pub next_same : next_of q ≡ next_of r
-  next_same = least_below_same (is_issuable q) (is_issuable r) (length r.accepted) (λ k lt. issuable_same k)
-
-  issue_by : (n : ℕ) → (if not (is_outstanding q n) then answer.Unknown else if is_running q n then answer.Running else if is_doomed q n then answer.Ended (doomed_result q n) no_bytes else if not (is_ready q n) then answer.NotReady else if is_cancel (entry_of q n) then answer.Ended (cancel_result q n) no_bytes else answer.Run)
-      ≡ (if not (is_outstanding r n) then answer.Unknown else if is_running r n then answer.Running else if is_doomed r n then answer.Ended (doomed_result r n) no_bytes else if not (is_ready r n) then answer.NotReady else if is_cancel (entry_of r n) then answer.Ended (cancel_result r n) no_bytes else answer.Run)
-  issue_by n =
-      ap₂ (λ x y. if not x then answer.Unknown else if y then answer.Running else if is_doomed q n then answer.Ended (doomed_result r n) no_bytes else if not (is_ready q n) then answer.NotReady else if is_cancel (entry_of r n) then answer.Ended (cancel_result q n) no_bytes else answer.Run) (outstanding_same n) (running_same n)
-      ∙ ap₂ (λ x y. if not (is_outstanding r n) then answer.Unknown else if is_running r n then answer.Running else if x then answer.Ended (doomed_result r n) no_bytes else if not y then answer.NotReady else if is_cancel (entry_of r n) then answer.Ended (cancel_result q n) no_bytes else answer.Run) (doomed_same n) (ready_same n)
-      ∙ ap (λ z. if not (is_outstanding r n) then answer.Unknown else if is_running r n then answer.Running else if is_doomed r n then answer.Ended (doomed_result r n) no_bytes else if not (is_ready r n) then answer.NotReady else if is_cancel (entry_of r n) then answer.Ended z no_bytes else answer.Run) (cancel_same n)
-
-pub issue_same : (w v : World) (n : ℕ) → v.requests ≡ blank_requests w.requests
-    → issue_answer v n ≡ issue_answer w n
-issue_same w v n is = ap (λ (r : Requests). issue_answer (record w { requests = r }) n) is ∙ issue_by w.requests n

@@ -1,25 +1,27 @@
 -- A history without its bytes makes the world without them, and is lawful apart if the history is; and back, if what is reaped has the bytes that were posted.
-use Rattle.std.proofs.Common.{◌≡◌, ℕ, ℤ, ◌+◌, ◌-◌, ◌==◌, ◌&&◌, nat_lt, pos, Bool, true, false, min, List, [], ◌∷◌, ◌++◌, length, map, Option, Some, None, if◌then◌else◌, refl, sym, ap, subst, ◌∙◌}
+use Rattle.std.proofs.Common.{◌≡◌, ℕ, ℤ, ◌+◌, ◌-◌, ◌==◌, ◌&&◌, nat_lt, pos, Bool, true, false, min, List, [], ◌∷◌, length, map, Option, Some, None, if◌then◌else◌, refl, sym, ap, subst, ◌∙◌}
 use Rattle.std.specs.Prelude.{slice_get}
 use Rattle.std.specs.Option.{option_map}
 use Rattle.std.proofs.lemmas.List.{length-map, map-append}
 use Rattle.std.proofs.lemmas.Option.{slice_get-map}
-use Rattle.uring_entry.specs.Completions.{Completions, completion_for, has_room, next_to_reap, put_by_flush, with_end, with_posted}
+use Rattle.uring_entry.specs.Completions.{Completions, completion_for, has_room, next_to_reap, put_by_flush, with_posted}
 use Rattle.uring_entry.specs.IndexWords.{word_of}
 use Rattle.uring_entry.specs.Layout.{Cqe, Sqe}
-use Rattle.uring_entry.specs.Requests.{Ending, entry_of, is_running, no_bytes}
+use Rattle.uring_entry.specs.Requests.{entry_of, is_running, no_bytes}
 use Rattle.uring_entry.specs.Setup.{Setup}
-use Rattle.uring_entry.specs.Submission.{Call}
-use Rattle.uring_entry.specs.Success.{posts_completion}
+use Rattle.uring_entry.specs.Submission.{Call, entries_from}
+use Rattle.uring_linux.specs.Drains.{Drains}
+use Rattle.uring_rules.specs.Rules.{posts}
 use Rattle.uring_core.specs.Histories.{History, world, IsLawfulApart}
 use Rattle.uring_core.specs.StepAnswers.{CalledForApart, FinishesApart, next_answer_of, reap_answer_of}
-use Rattle.uring_core.specs.World.{World, happens, filling, staging, beginning, taking, taking_of, taking_entry_of, ending, ending_of, issuing, finishing, reaping, closing}
+use Rattle.uring_core.specs.World.{World, requests_of, with_end_of, happens, filling, staging, beginning, taking, taking_of, taking_entry_of, ending, ending_of, issuing, finishing, reaping, closing}
 use Rattle.uring_core.specs.declared.step.Step.{Step}
 use Rattle.uring_core.specs.declared.step.Step.TheVariants as step
 use Rattle.uring_core.specs.declared.answer.Answer.{Answer}
 use Rattle.uring_core.specs.declared.answer.Answer.TheVariants as answer
 use Rattle.uring_early.specs.Bare.{blank, blank_answer, blank_completion}
-use Rattle.uring_early.proofs.BlankRequests.{blank_end, blank_requests, chosen_same, issue_same, next_same, running_same}
+use Rattle.uring_early.proofs.BlankRequests.{blank_requests, ends_same, running_same}
+use Rattle.uring_early.proofs.BlankRules.{drains_called_same, drains_ended_same, issue_same, issued_same, next_same, posts_same}
 
 abbrev pub blank_completions : Completions → Completions
 blank_completions l =
@@ -47,14 +49,11 @@ posted_same size l e res bytes true = λ i. record {
   seen_tail = l.seen_tail;
 }
 
-end_same : (size : ℕ) (l : Completions) (e : Sqe) (res : ℤ) (bytes : List ℕ)
-    → with_end size (blank_completions l) e res no_bytes ≡ blank_completions (with_end size l e res bytes)
-end_same size l e res bytes = posted_same size l e res bytes (posts_completion e res)
-
-ends_same : (es : List Ending) (n : ℕ) (res : ℤ) (bytes : List ℕ)
-    → map blank_end es ++ record { number = n; res = res; bytes = no_bytes } ∷ [] ≡ map blank_end (es ++ record { number = n; res = res; bytes = bytes } ∷ [])
-ends_same es n res bytes =
-    sym (map-append blank_end es (record { number = n; res = res; bytes = bytes } ∷ []))
+end_same : (g : Setup) (w : World) (n : ℕ) (res : ℤ) (bytes : List ℕ)
+    → with_end_of g (blank_world w) n res no_bytes ≡ blank_completions (with_end_of g w n res bytes)
+end_same g w n res bytes =
+    ap (λ (b : Bool). if b then with_posted g.cq (blank_completions w.completions) (completion_for (entry_of w.requests n) res no_bytes) else blank_completions w.completions) (posts_same g.linux w.requests n res)
+    ∙ posted_same g.cq w.completions (entry_of w.requests n) res bytes (posts g.linux w.requests n res)
 
 put_same : (size : ℕ) (l : Completions) → put_by_flush size (blank_completions l) ≡ put_by_flush size l
 put_same size l = ap (λ (n : ℕ). min n (l.head + size)) (length-map l.posted blank_completion)
@@ -94,20 +93,22 @@ take_made g w (answer.Entry entry) = entry_made g w entry w.submission.call
 take_made g w answer.Dropped = taking_made w w.submission.call
 take_made g w _ = refl
 
-ending_made : (w : World) (call : Option Call) → ending_of (blank_world w) call ≡ blank_world (ending_of w call)
-ending_made w None = refl
-ending_made w (Some call) = refl
+ending_made : (g : Setup) (w : World) (call : Option Call) → ending_of g (blank_world w) call ≡ blank_world (ending_of g w call)
+ending_made g w None = refl
+ending_made g w (Some call) =
+    ap (λ (d : Drains). record (blank_world (ending_of g w (Some call))) { drains = d }) (drains_called_same g.linux (requests_of w) (entries_from w.submission call.count))
 
-end_made : (w : World) (a : Answer) → ending (blank_world w) a ≡ blank_world (ending w a)
-end_made w (answer.Taken accepted missed head) = ending_made w w.submission.call
-end_made w _ = refl
+end_made : (g : Setup) (w : World) (a : Answer) → ending g (blank_world w) a ≡ blank_world (ending g w a)
+end_made g w (answer.Taken accepted missed head) = ending_made g w w.submission.call
+end_made g w _ = refl
 
 issue_made : (g : Setup) (w : World) (n : ℕ) (a : Answer) → issuing g (blank_world w) n a ≡ blank_world (issuing g w n a)
 issue_made g w n answer.Run = refl
 issue_made g w n (answer.Ended res bytes) = λ i. record {
   submission = w.submission;
-  requests = record { accepted = w.requests.accepted; cuts = w.requests.cuts; started = w.requests.started; cancelled = w.requests.cancelled ++ chosen_same w.requests n res i; ended = ends_same w.requests.ended n res no_bytes i };
-  completions = end_same g.cq w.completions (entry_of w.requests n) res no_bytes i;
+  requests = issued_same g.linux w.requests n res i;
+  drains = drains_ended_same g.linux (requests_of w) n res i;
+  completions = end_same g w n res no_bytes i;
   is_closed = w.is_closed;
 }
 issue_made g w n _ = refl
@@ -117,7 +118,8 @@ finish_made : (g : Setup) (w : World) (n : ℕ) (a : Answer)
 finish_made g w n (answer.Ended res bytes) = λ i. record {
   submission = w.submission;
   requests = record { accepted = w.requests.accepted; cuts = w.requests.cuts; started = w.requests.started; cancelled = w.requests.cancelled; ended = ends_same w.requests.ended n res bytes i };
-  completions = end_same g.cq w.completions (entry_of w.requests n) res bytes i;
+  drains = drains_ended_same g.linux (requests_of w) n res i;
+  completions = end_same g w n res bytes i;
   is_closed = w.is_closed;
 }
 finish_made g w n _ = refl
@@ -126,6 +128,7 @@ reap_made : (w : World) (a : Answer) → reaping (blank_world w) (blank_answer s
 reap_made w (answer.Reaped c) = λ i. record {
   submission = w.submission;
   requests = blank_requests w.requests;
+  drains = w.drains;
   completions = record (blank_completions w.completions) { reaped = sym (map-append blank_completion w.completions.reaped (c ∷ [])) i };
   is_closed = w.is_closed;
 }
@@ -146,7 +149,7 @@ made_same g w step.StoreTail a = refl
 made_same g w step.LoadHead a = refl
 made_same g w (step.Begin count) a = begin_made w count a
 made_same g w step.Take a = take_made g w a
-made_same g w step.End a = end_made w a
+made_same g w step.End a = end_made g w a
 made_same g w (step.Issue n) a = issue_made g w n a
 made_same g w (step.Finish n) a = finish_made g w n a
 made_same g w step.Flush a = ap (λ (n : ℕ). record w { requests = blank_requests w.requests; completions = record (blank_completions w.completions) { put = n; seen_head = w.completions.head } }) (put_same g.cq w.completions)
@@ -188,14 +191,14 @@ head_same g l = ap (λ (n : ℕ). answer.Head (word_of g.start n)) (length-map l
 
 pub called_blank : (g : Setup) (w : World) (s : Step) (a : Answer) → CalledForApart g w s a
     → CalledForApart g (blank_world w) s (blank_answer s a)
-called_blank g w (step.Issue n) a called = called ∙ sym (issue_same w (blank_world w) n refl)
+called_blank g w (step.Issue n) a called = called ∙ sym (issue_same g w (blank_world w) n refl)
 called_blank g w (step.Finish n) a called =
     subst (λ b. FinishesApart b (blank_answer (step.Finish n) a)) (sym (running_same w.requests n)) (finish_blank (is_running w.requests n) n a called)
 called_blank g w step.Flush a called = called ∙ sym (flush_same g w.completions)
 called_blank g w step.Reap a called =
     ap (blank_answer step.Reap) called ∙ reaped_blank (next_to_reap w.completions) ∙ ap reap_answer_of (sym (reap_same w.completions))
 called_blank g w step.StoreCqHead a called = called ∙ sym (head_same g w.completions)
-called_blank g w step.Next a called = called ∙ ap next_answer_of (sym (next_same w.requests))
+called_blank g w step.Next a called = called ∙ ap next_answer_of (sym (next_same g.linux (requests_of w)))
 called_blank g w _ a called = called
 
 finish_back : (b : Bool) (n : ℕ) (a : Answer) → FinishesApart b (blank_answer (step.Finish n) a) → FinishesApart b a
@@ -223,14 +226,14 @@ reap_back (Some d) w a next called meets = absurd (none_such a d called)
 
 pub called_back : (g : Setup) (w : World) (s : Step) (a : Answer)
     → CalledForApart g (blank_world w) s (blank_answer s a) → ReapMeets w s a → CalledForApart g w s a
-called_back g w (step.Issue n) a called meets = called ∙ issue_same w (blank_world w) n refl
+called_back g w (step.Issue n) a called meets = called ∙ issue_same g w (blank_world w) n refl
 called_back g w (step.Finish n) a called meets =
     finish_back (is_running w.requests n) n a (subst (λ b. FinishesApart b (blank_answer (step.Finish n) a)) (running_same w.requests n) called)
 called_back g w step.Flush a called meets = called ∙ flush_same g w.completions
 called_back g w step.Reap a called meets =
     reap_back (next_to_reap w.completions) w a refl (called ∙ ap reap_answer_of (reap_same w.completions)) meets
 called_back g w step.StoreCqHead a called meets = called ∙ head_same g w.completions
-called_back g w step.Next a called meets = called ∙ ap next_answer_of (next_same w.requests)
+called_back g w step.Next a called meets = called ∙ ap next_answer_of (next_same g.linux (requests_of w))
 called_back g w _ a called meets = called
 
 pub lawful_blank : (g : Setup) (h : History) → IsLawfulApart g h → IsLawfulApart g (map blank h)

@@ -2,8 +2,9 @@
 use Rattle.std.proofs.Common.{◌≡◌, ◌==◌, ◌||◌, ◌&&◌, ℕ, ℤ, Bool, true, false, not, List, Some, None, if◌then◌else◌, refl, sym, ap, subst, ◌∙◌}
 use Rattle.std.proofs.lemmas.Bool.{and_parts, eq-eqb, eqb-true}
 use Rattle.uring_entry.specs.Preparation.{operation_of}
-use Rattle.uring_entry.specs.Requests.{Ending, Requests, entry_of, has_ended, has_started, is_outstanding, is_running, no_bytes, chosen_by, cancel_result, doomed_result, with_cancelled, with_started, with_ended}
+use Rattle.uring_entry.specs.Requests.{Ending, Requests, entry_of, has_ended, has_started, is_outstanding, is_running, no_bytes, chosen_by, with_cancelled, with_started, with_ended}
 use Rattle.uring_entry.specs.Setup.{Setup}
+use Rattle.uring_rules.specs.Rules.{cancel_result, doomed_result, with_issued_end}
 use Rattle.uring_entry.proofs.RequestLemmas.{list_any_push}
 use Rattle.uring_core.specs.World.{World, happens, taking_of, taking_entry_of, ending_of}
 use Rattle.uring_core.specs.declared.step.Step.{Step}
@@ -59,6 +60,12 @@ end_idle : (r : Requests) (m n : ℕ) (res : ℤ) (bytes : List ℕ) → is_runn
 end_idle r m n res bytes idle =
     end_is r m n res bytes ∙ ended_idle (has_started r n) (has_ended r n) (m == n) (λ same. ap (is_running r) (sym (eqb-true m n same)) ∙ idle)
 
+issued_idle : (linux : Bool) (r : Requests) (m n : ℕ) (res : ℤ) → is_running r m ≡ false
+    → is_running (with_issued_end linux r m res) n ≡ is_running r n
+issued_idle true r m n res idle = end_idle r m n res no_bytes idle
+issued_idle false r m n res idle =
+    end_idle (with_cancelled r (chosen_by r m res)) m n res no_bytes idle
+
 pub open_of : (r : Requests) (m : ℕ) → is_outstanding r m ≡ true → has_ended r m ≡ false
 open_of r m outstanding = by (has_ended r m) (and_parts _ _ outstanding).1 where
   by : (b : Bool) → not b ≡ true → b ≡ false
@@ -98,15 +105,15 @@ runs_by g w s a n (takes entry call place opened left at valid) =
 runs_by g w s a n (drops call place opened left at invalid) =
     subst (λ o. is_running (taking_of w o).requests n ≡ is_running w.requests n) (sym opened) refl
 runs_by g w s a n (closes accepted missed head call opened all told) =
-    subst (λ o. is_running (ending_of w o).requests n ≡ is_running w.requests n) (sym opened) refl
+    subst (λ o. is_running (ending_of g w o).requests n ≡ is_running w.requests n) (sym opened) refl
 runs_by g w s a n (runs m outstanding idle spared ready no_cancel) =
     let unended : has_ended w.requests m ≡ false = open_of w.requests m outstanding in
     start_runs w.requests m n unended
     ∙ sym (ap (λ (k : Mark). runs_behind k (is_running w.requests n) n) (started_mark w.requests m unended))
 runs_by g w s a n (dooms m outstanding idle doomed) =
-    end_idle (with_cancelled w.requests (chosen_by w.requests m (doomed_result w.requests m))) m n (doomed_result w.requests m) no_bytes idle
+    issued_idle g.linux w.requests m n (doomed_result g.linux w.requests m) idle
 runs_by g w s a n (cancels m outstanding idle spared ready cancel) =
-    end_idle (with_cancelled w.requests (chosen_by w.requests m (cancel_result w.requests m))) m n (cancel_result w.requests m) no_bytes idle
+    issued_idle g.linux w.requests m n (cancel_result g.linux w.requests m) idle
 runs_by g w s a n (finishes m res bytes ran) =
     end_is w.requests m n res bytes ∙ ended_run (has_started w.requests n) (has_ended w.requests n) (m == n)
 runs_by g w s a n _ = refl

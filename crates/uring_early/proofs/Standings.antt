@@ -6,6 +6,7 @@ use Rattle.std.proofs.lemmas.Option.{same_Some}
 use Rattle.uring_entry.specs.Preparation.{operation_of}
 use Rattle.uring_entry.specs.Requests.{Requests, entry_of, has_ended, has_started, is_running, operation_running}
 use Rattle.uring_entry.specs.Setup.{Setup}
+use Rattle.uring_rules.specs.Rules.{cancel_result, doomed_result, with_issued_end}
 use Rattle.uring_entry.specs.declared.operation.Op.{Op}
 use Rattle.uring_entry.specs.declared.operation.Outcome.{Outcome}
 use Rattle.uring_files.specs.Contents.{FileContents, empty_files}
@@ -18,7 +19,7 @@ use Rattle.uring_core.specs.declared.answer.Answer.{Answer}
 use Rattle.uring_core.specs.declared.answer.Answer.TheVariants as answer
 use Rattle.uring_core.specs.StepAnswers.{CalledForApart, FinishesApart}
 use Rattle.uring_core.specs.World.{World, happens, taking_of, taking_entry_of, ending_of}
-use Rattle.uring_core.proofs.Changes.{Change, IsSilent, change_of, refuses, takes, drops, closes, runs}
+use Rattle.uring_core.proofs.Changes.{Change, IsSilent, change_of, refuses, takes, drops, closes, runs, dooms, cancels}
 use Rattle.uring_entry.proofs.RequestLemmas.{list_any_push}
 use Rattle.uring_core.proofs.Sound.{sound_of}
 use Rattle.uring_laws.proofs.Growth.{event_grows}
@@ -116,6 +117,12 @@ runs_one false n op op2 taken r is = let f : None ≡ Some r = is in absurd cc
 
 -- ---- effects
 
+-- an end at an issue starts none
+issued_starts : (linux : Bool) (r : Requests) (m n : ℕ) (res : ℤ)
+    → has_started (with_issued_end linux r m res) n ≡ has_started r n
+issued_starts true r m n res = refl
+issued_starts false r m n res = refl
+
 -- an effect that was taken was by what had started
 starts_stay : (g : Setup) (w : World) (s : Step) (a : Answer) (n : ℕ) → Change g w s a
     → has_started w.requests n ≡ true → has_started (happens g w s a).requests n ≡ true
@@ -126,9 +133,13 @@ starts_stay g w s a n (takes entry call place opened left at valid) started =
 starts_stay g w s a n (drops call place opened left at invalid) started =
     subst (λ o. has_started (taking_of w o).requests n ≡ true) (sym opened) started
 starts_stay g w s a n (closes accepted missed head call opened all told) started =
-    subst (λ o. has_started (ending_of w o).requests n ≡ true) (sym opened) started
+    subst (λ o. has_started (ending_of g w o).requests n ≡ true) (sym opened) started
 starts_stay g w s a n (runs m outstanding idle spared ready no_cancel) started =
     list_any_push (λ k. k == n) w.requests.started m ∙ ap (λ (b : Bool). b || (m == n)) started
+starts_stay g w s a n (dooms m outstanding idle doomed) started =
+    issued_starts g.linux w.requests m n (doomed_result g.linux w.requests m) ∙ started
+starts_stay g w s a n (cancels m outstanding idle spared ready cancel) started =
+    issued_starts g.linux w.requests m n (cancel_result g.linux w.requests m) ∙ started
 starts_stay g w s a n _ started = started
 
 started_kept : (g : Setup) (s : Step) (a : Answer) (h : History) (n : ℕ) → IsLawfulApart g ((s, a) ∷ h)

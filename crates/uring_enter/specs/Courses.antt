@@ -26,10 +26,6 @@ is_cancelled [] = false
 is_cancelled (Cancelled ∷ earlier) = true
 is_cancelled (_ ∷ earlier) = is_cancelled earlier
 
--- whether the time of a timeout begins that starts now: one that a cancel has found before ends without it
-abbrev pub starts_time : List Fact → Bool
-starts_time log = not (is_cancelled log)
-
 -- its operation is being carried out: what became of that hasn't been told
 abbrev pub is_tried : List Fact → Bool
 is_tried [] = false

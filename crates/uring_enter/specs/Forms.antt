@@ -1,19 +1,23 @@
 -- What an entry is to the core, and which fault it has. io_uring_enter(2), DESCRIPTION and CQE ERRORS; which fields an operation leaves free is what the kernel does.
-use Rattle.std.specs.Prelude.{ℕ, ℤ, Bool, true, false, not, ◌&&◌, ◌||◌, ◌==◌, nat_lt, nat_le, pos, negsuc, Option, Some, None, if◌then◌else◌}
+use Rattle.std.specs.Prelude.{ℕ, ℤ, Bool, true, false, not, ◌&&◌, ◌||◌, ◌==◌, nat_lt, nat_le, pos, Option, Some, None, if◌then◌else◌}
 use Rattle.std.specs.Ordering.{int_eq}
 use Rattle.std.specs.Int.RustNames.{bit_and}
 use Rattle.uring_enter.specs.declared.submission.Submission.{Submission}
 use Rattle.uring_enter.specs.declared.form.Rule.{Rule}
-use Rattle.uring_enter.specs.declared.form.Rule.TheVariants.{Plain, Transfer, Vectors, Fsync, Advice, Timeout, LinkedTimeout, TimeoutRemoval, Cancel, Poll, PollRemoval, Open, OpenHow, Close, FilesUpdate, Provision, ProvisionRemoval, Message, Shutdown, Socket, Splice, Tee, Send, Receive, ReceiveMessage, SendZeroCopy, SendMessageZeroCopy, Connect, Accept}
+use Rattle.uring_enter.specs.declared.form.Rule.TheVariants.{Plain, NoOp, Transfer, Vectors, Fsync, Advice, Timeout, LinkedTimeout, TimeoutRemoval, Cancel, Poll, PollRemoval, Open, OpenHow, Close, FilesUpdate, Provision, ProvisionRemoval, Message, Shutdown, Socket, Splice, Tee, Send, Receive, ReceiveMessage, SendZeroCopy, SendMessageZeroCopy, Connect, Accept}
 use Rattle.uring_enter.specs.declared.form.Form.{Form}
 use Rattle.uring_enter.specs.declared.form.Form.TheVariants as form
 use Rattle.uring_enter.specs.Clocks.{has_some, are_timeout_flags}
 use Rattle.uring_enter.specs.SocketForms.{is_send, is_receive, is_receive_message, is_send_zero_copy, is_send_message_zero_copy, is_connect, is_accept}
+use Rattle.uring_enter.specs.NoOps.{is_no_op}
+use Rattle.uring_enter.specs.Provisions.{has_count, provision_fault}
 use Rattle.uring_entry.specs.Errors.{error, is_below}
 
 -- the operations that are served, each with the rule of its fields; the numbers are those of <linux/io_uring.h>
 abbrev pub rule_of : ℕ → Option Rule
 rule_of code =
+    -- NOP
+    if code == 0 then Some NoOp else
     -- READV and WRITEV
     if code == 1 || code == 2 then Some Vectors else
     -- FSYNC
@@ -65,11 +69,11 @@ abbrev pub is_timeout : Submission → Bool
 is_timeout e =
     has_no_buffer e && e.len == 1 && e.file_index == 0 && are_timeout_flags e.op_flags
 
--- a removal has no flags; an update (2, of a linked one 16) may have those of a time
+-- a removal has no flags; an update (2, of a linked one 16) may say that its time is absolute (1), and names no clock: that of the timeout stays. What Linux 6.18 was seen to do
 abbrev pub is_timeout_removal : Submission → Bool
 is_timeout_removal e =
     has_no_buffer e && e.len == 0 && e.file_index == 0
-    && (if has_some e.op_flags 18 then bit_and e.op_flags 4294967264 == 0 else e.op_flags == 0)
+    && (if has_some e.op_flags 18 then bit_and e.op_flags 4294967276 == 0 else e.op_flags == 0)
 
 -- IORING_ASYNC_CANCEL_ALL is 1, FD 2, ANY 4 and FD_FIXED 8; by a descriptor or any, and not both
 abbrev pub is_cancel : Submission → Bool
@@ -89,21 +93,13 @@ is_poll_removal e =
     has_no_buffer e && e.file_index == 0 && (nat_le e.len 7 && not (e.len == 1))
     && (has_some e.len 4 || e.off == 0) && (has_some e.len 2 || e.op_flags == 0)
 
--- 1 to 65,536 of them
-abbrev pub is_count : ℤ → Bool
-is_count (pos n) = nat_lt 0 n && nat_le n 65536
-is_count (negsuc _) = false
+abbrev pub is_bare_provision : Submission → Bool
+is_bare_provision e = e.ioprio == 0 && e.op_flags == 0 && e.file_index == 0
 
-abbrev pub has_count_alone : Submission → Bool
-has_count_alone e = e.ioprio == 0 && e.op_flags == 0 && e.file_index == 0 && is_count e.fd
-
--- so many buffers, of some bytes each, and up to the last number
-abbrev pub is_provision : Submission → Bool
-is_provision e = has_count_alone e && not (e.len == 0) && nat_le e.off 65535
-
--- and their removal, which says no more
+-- a removal of buffers says how many, and no more
 abbrev pub is_provision_removal : Submission → Bool
-is_provision_removal e = has_count_alone e && e.addr == 0 && e.len == 0 && e.off == 0
+is_provision_removal e =
+    is_bare_provision e && e.addr == 0 && e.len == 0 && e.off == 0 && has_count e.fd
 
 -- the four flags of splice(2), and SPLICE_F_FD_IN_FIXED (2^31)
 abbrev pub is_splice : Submission → Bool
@@ -151,6 +147,7 @@ is_socket e =
 -- whether the fields of an entry are what its operation may have. A class of priority is at most 3, in the three highest bits
 abbrev pub meets : Rule → Submission → Bool
 meets Plain e = e.ioprio == 0
+meets NoOp e = is_no_op e
 meets Transfer e = nat_lt e.ioprio 32768
 meets Vectors e = nat_lt e.ioprio 32768 && nat_le e.len 1024
 meets Fsync e = is_fsync e
@@ -165,7 +162,7 @@ meets Open e = is_open e
 meets OpenHow e = is_open_how e
 meets Close e = is_close e
 meets FilesUpdate e = is_files_update e
-meets Provision e = is_provision e
+meets Provision e = is_bare_provision e
 meets ProvisionRemoval e = is_provision_removal e
 meets Message e = is_message e
 meets Shutdown e = is_shutdown e
@@ -188,30 +185,53 @@ abbrev pub is_rule : Option Rule → Bool
 is_rule (Some _) = true
 is_rule None = false
 
--- another that is served asks for one: IOSQE_BUFFER_SELECT is 32
+-- there is no such operation, or no such flag (128)
+abbrev pub is_unknown : Submission → Bool
+is_unknown e = has_some e.flags 128 || not (is_rule (rule_of e.opcode))
+
+-- another asks for one: IOSQE_BUFFER_SELECT is 32
 abbrev pub selects_in_vain : Submission → Bool
-selects_in_vain e = has_some e.flags 32 && is_rule (rule_of e.opcode) && not (can_select e.opcode)
+selects_in_vain e = has_some e.flags 32 && not (can_select e.opcode)
+
+-- the fault of an entry's operation and flags, which Linux 6.18 was seen to find before it looks at a drain, at restrictions and at other fields: -22 (EINVAL), and then -95 (EOPNOTSUPP) of a buffer that can't be selected; or 0
+abbrev pub first_fault : Submission → ℤ
+first_fault e =
+    if is_unknown e then error 22 else
+    if selects_in_vain e then error 95 else pos 0
 
 abbrev pub breaks : Option Rule → Submission → Bool
 breaks (Some rule) e = not (meets rule e)
 breaks None e = true
 
--- a flag that there isn't (128), a personality, an operation that isn't served, or fields that it may not have
+-- a personality, an operation that isn't served, or fields that it may not have
 abbrev pub is_malformed : Submission → Bool
-is_malformed e = has_some e.flags 128 || not (e.personality == 0) || breaks (rule_of e.opcode) e
+is_malformed e = not (e.personality == 0) || breaks (rule_of e.opcode) e
+
+-- the fault of an entry's fields, or 0: -22 (EINVAL), and of PROVIDE_BUFFERS (31) others
+abbrev pub field_fault : Submission → ℤ
+field_fault e =
+    if is_malformed e then error 22 else
+    if e.opcode == 31 then provision_fault e else pos 0
+
+-- the first fault that an entry has, or 0: what a strict ring says, that of its operation and flags, -13 (EACCES) of a restriction, and that of its fields. This order is what Linux 6.18 was seen to have; that one which refuses an operation goes before is our own rule
+abbrev pub fault_of : Submission → ℤ → Bool → ℤ
+fault_of e refusal allowed =
+    if is_below refusal then refusal else
+    if is_below (first_fault e) then first_fault e else
+    if not allowed then error 13 else field_fault e
 
 -- a cancel by user data, on whose success nothing rests: no link (4, 8) and no skipped success (64)
 abbrev pub is_plain_cancel : Submission → Bool
 is_plain_cancel e = e.opcode == 14 && e.op_flags == 0 && not (has_some e.flags 76)
 
--- the first of these faults that it has: what a strict ring says, -13 (EACCES) of a restriction, -95 (EOPNOTSUPP) of a buffer that can't be selected, -22 (EINVAL) of its form. Else it is a cancel of the core's, or a token of it. Our own rule
+abbrev pub form_by : ℤ → Bool → Form
+form_by fault is_cancel =
+    if is_below fault then form.Refused fault else
+    if is_cancel then form.Cancel else form.Token
+
+-- an entry with a fault is refused with it. Else it is a cancel of the core's, or a token of it: our own rule
 abbrev pub form_of : Submission → ℤ → Bool → Form
-form_of e refusal allowed =
-    if is_below refusal then form.Refused refusal else
-    if not allowed then form.Refused (error 13) else
-    if selects_in_vain e then form.Refused (error 95) else
-    if is_malformed e then form.Refused (error 22) else
-    if is_plain_cancel e then form.Cancel else form.Token
+form_of e refusal allowed = form_by (fault_of e refusal allowed) (is_plain_cancel e)
 
 -- the flags of an entry that the core is told, also of one with a fault, which so is a member of its chain: IOSQE_IO_DRAIN (2), IO_LINK (4), IO_HARDLINK (8), ASYNC (16) and CQE_SKIP_SUCCESS (64). The others are the layer's. Our own rule
 abbrev pub core_flags : ℕ → ℕ

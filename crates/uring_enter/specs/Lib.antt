@@ -20,6 +20,8 @@ pub mod Chains
 pub mod ChainLaws
 pub mod Clocks
 pub mod SocketForms
+pub mod NoOps
+pub mod Provisions
 pub mod Forms
 pub mod Pieces
 pub mod Needs
@@ -41,3 +43,8 @@ pub mod Layouts
 pub mod Arguments
 pub mod Rounds
 pub mod Sleeps
+pub mod Timings
+pub mod Visits
+pub mod Afresh
+pub mod CoreEntries
+pub mod Ringing

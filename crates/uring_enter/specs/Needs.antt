@@ -4,6 +4,7 @@ use Rattle.std.specs.Int.RustNames.{bit_and}
 use Rattle.uring_enter.specs.declared.submission.Submission.{Submission}
 use Rattle.uring_enter.specs.declared.needs.Needs.{Needs}
 use Rattle.uring_enter.specs.Clocks.{has_some}
+use Rattle.uring_enter.specs.NoOps.{wants_file, is_of_slot, wants_buffer}
 
 -- READV, READ_FIXED and READ
 abbrev pub is_read : ℕ → Bool
@@ -48,9 +49,14 @@ advised_length e =
     let long = if e.opcode == 24 then e.addr else e.off in
     if long == 0 then e.len else long
 
--- READ_FIXED and WRITE_FIXED; a SEND_ZC with IORING_RECVSEND_FIXED_BUF (4)
+-- READ_FIXED and WRITE_FIXED; a SEND_ZC with IORING_RECVSEND_FIXED_BUF (4); a no-op that looks for one
 abbrev pub uses_buffer : Submission → Bool
-uses_buffer e = e.opcode == 4 || e.opcode == 5 || e.opcode == 47 && has_some e.ioprio 4
+uses_buffer e =
+    e.opcode == 4 || e.opcode == 5 || e.opcode == 47 && has_some e.ioprio 4 || wants_buffer e
+
+-- a poll and a no-op ask whether their file is open: no call of theirs would say that it isn't
+abbrev pub asks_file : Submission → Bool
+asks_file e = is_poll e.opcode || wants_file e
 
 -- it has more than one completion: IORING_POLL_ADD_MULTI is 1, IORING_ACCEPT_MULTISHOT 1 and IORING_RECV_MULTISHOT 2
 abbrev pub goes_on : Submission → Bool
@@ -73,8 +79,9 @@ events_of e =
 -- TIMEOUT is 11; IOSQE_FIXED_FILE is 1, SPLICE_F_FD_IN_FIXED 2^31 and IOSQE_BUFFER_SELECT 32
 abbrev pub needs_of : Submission → Needs
 needs_of e = record {
-  needs_file = needs_file e.opcode;
-  is_registered = has_some e.flags 1;
+  needs_file = needs_file e.opcode || wants_file e;
+  asks_file = asks_file e;
+  is_registered = has_some e.flags 1 || is_of_slot e;
   needs_second = is_splice e.opcode;
   is_second_registered = has_some e.op_flags 2147483648;
   uses_buffer = uses_buffer e;

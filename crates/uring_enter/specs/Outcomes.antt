@@ -16,9 +16,9 @@ wants_whole e has_message =
     if is_of_sockets e.opcode then has_message && not (e.opcode == 16) && has_some e.op_flags 256 else
     is_splice e.opcode || is_transfer e.opcode
 
--- a RECVMSG (10) was cut if its message says so: MSG_CTRUNC is 8, MSG_TRUNC 32. recvmsg(2)
+-- what a RECVMSG (10) or a RECV (27) has received was cut if its message says so: MSG_CTRUNC is 8, MSG_TRUNC 32. recvmsg(2); what Linux 6.18 was seen to do
 abbrev pub cuts : Submission → Carried → Bool
-cuts e c = e.opcode == 10 && c.has_message && has_some c.message_flags 40
+cuts e c = (e.opcode == 10 || e.opcode == 27) && c.has_message && has_some c.message_flags 40
 
 -- what success is of the operation of an entry: a splice's length is the entry's, and IORING_TIMEOUT_ETIME_SUCCESS 32 of a timeout's (11) flags. LINK_TIMEOUT is 15
 abbrev pub success_of_entry : Submission → Carried → Success

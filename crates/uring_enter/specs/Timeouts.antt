@@ -139,7 +139,7 @@ linked_outcome has_cancelled = if has_cancelled then error 62 else error 125
 abbrev pub cancelled_by : Timeout → Option ℕ
 cancelled_by t = if t.is_linked then Some (t.number - 1) else None
 
--- whether it does: that runs, and is one that a cancel can end. Else that goes on to its own end, and the timeout has cancelled nothing
+-- whether it does: that runs, and is one that a cancel can end. Else that goes on to its own end, and the timeout has cancelled nothing, and ends with -125: Linux 6.18 was seen so of an open that a worker of the kernel's carries out, whose linked timeout never fires
 abbrev pub fires : Timeout → Bool → Bool → Bool
 fires t runs is_cancellable = t.is_linked && runs && is_cancellable
 

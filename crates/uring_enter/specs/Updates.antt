@@ -21,14 +21,13 @@ timeout_removal e =
 abbrev pub updates_linked : ℕ → Linked → Bool
 updates_linked user_data seen = seen.is_linked && seen.runs && seen.user_data == user_data
 
--- a poll keeps what isn't updated; with its events an update says whether it goes on, IORING_POLL_ADD_MULTI, which is 1
+-- a poll keeps what isn't updated, and goes on, or doesn't, as before, whether or not the update has IORING_POLL_ADD_MULTI: what Linux 6.18 was seen to do
 abbrev pub updated_poll : Poll → Submission → Poll
 updated_poll p e = record {
   user_data = if has_some e.len 4 then e.off else p.user_data;
   events = if has_some e.len 2 then e.op_flags else p.events;
-  is_multishot = if has_some e.len 2 then has_some e.len 1 else p.is_multishot;
 }
 
--- whether the new time is absolute, and by which clock, the update says: IORING_TIMEOUT_ABS (1), BOOTTIME (4) and REALTIME (8), which are 13. Other flags stay, which is all of 32 bits but these
+-- whether the new time is absolute the update says: IORING_TIMEOUT_ABS is 1. Its clock is that of the timeout, which keeps all other flags of 32 bits: what Linux 6.18 was seen to do
 abbrev pub updated_flags : ℕ → Submission → ℕ
-updated_flags flags e = bit_or (bit_and flags 4294967282) (bit_and e.op_flags 13)
+updated_flags flags e = bit_or (bit_and flags 4294967294) (bit_and e.op_flags 1)

@@ -2,7 +2,7 @@
 
 ghost use Rattle.std.specs.Prelude.{◌≡◌, List, [], ◌∷◌, true, false};
 ghost use Rattle.uring_enter.specs.declared.act.Fact.{Fact};
-ghost use Rattle.uring_enter.specs.Courses.{KeepsCourse, act, starts_time, act_by, behind_act, end_by, fits, is_ending, is_carrying_out, notice_of, option_of, shown};
+ghost use Rattle.uring_enter.specs.Courses.{KeepsCourse, act, act_by, behind_act, end_by, fits, is_ending, is_carrying_out, notice_of, option_of, shown};
 
 use crate::act::{Act, Fact};
 
@@ -72,13 +72,6 @@ impl Course {
         } else {
             None
         }
-    }
-
-    /// Whether the time of a timeout begins that starts now: not of one that a cancel has found before.
-    pub fn starts_time(&self) -> bool
-        ensures { (log : List Fact) → KeepsCourse log self.now → result ≡ starts_time log }
-    {
-        !self.is_cancelled
     }
 
     /// What the second completion of a send without copies shows, if it has one: that its memory is free. `reports`: it is to say that it was copied. `may_post`: a completion may be posted before its end.

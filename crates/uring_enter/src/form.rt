@@ -3,6 +3,8 @@
 ghost use Rattle.std.specs.Prelude.{◌≡◌};
 ghost use Rattle.uring_enter.specs.Forms as spec;
 
+use crate::no_op::is_no_op;
+use crate::provision::{has_count, provision_fault};
 use crate::socket_form::{
     is_accept, is_connect, is_receive, is_receive_message, is_send, is_send_message_zero_copy,
     is_send_zero_copy,
@@ -15,6 +17,9 @@ use crate::timeout::are_timeout_flags;
 pub enum Rule {
     /// No priority.
     Plain,
+
+    /// A no-op: flags that it may have.
+    NoOp,
 
     /// A transfer of one buffer: a class of priority that there is.
     Transfer,
@@ -102,6 +107,7 @@ pub fn rule_of(code: u8) -> Option<Rule>
     ensures { result ≡ spec.rule_of code }
 {
     match code {
+        0 => Some(Rule::NoOp),
         1 | 2 => Some(Rule::Vectors),
         3 => Some(Rule::Fsync),
         4 | 5 | 22 | 23 => Some(Rule::Transfer),
@@ -142,6 +148,7 @@ fn meets(rule: Rule, entry: &Submission) -> bool
 {
     match rule {
         Rule::Plain => entry.ioprio == 0,
+        Rule::NoOp => is_no_op(entry),
         Rule::Transfer => entry.ioprio < 32768,
         Rule::Vectors => entry.ioprio < 32768 && entry.len <= 1024,
         Rule::Fsync => is_fsync(entry),
@@ -156,7 +163,7 @@ fn meets(rule: Rule, entry: &Submission) -> bool
         Rule::OpenHow => has_no_buffer(entry) && entry.len >= 24,
         Rule::Close => is_close(entry),
         Rule::FilesUpdate => is_files_update(entry),
-        Rule::Provision => has_count_alone(entry) && entry.len != 0 && entry.off <= 65535,
+        Rule::Provision => is_bare_provision(entry),
         Rule::ProvisionRemoval => is_provision_removal(entry),
         Rule::Message => has_no_buffer(entry) && entry.op_flags & !3 == 0,
         Rule::Shutdown => is_shutdown(entry),
@@ -198,7 +205,7 @@ fn is_timeout_removal(entry: &Submission) -> bool
     let is_bare = has_no_buffer(entry) && entry.len == 0 && entry.file_index == 0;
     is_bare
         && if entry.op_flags & 18 != 0 {
-            entry.op_flags & !31 == 0
+            entry.op_flags & !19 == 0
         } else {
             entry.op_flags == 0
         }
@@ -228,23 +235,17 @@ fn is_poll_removal(entry: &Submission) -> bool
     is_bare && is_asked && gives_data && gives_events
 }
 
-/// Whether a count of buffers is one from 1 to 65,536.
-fn is_count(fd: i32) -> bool
-    ensures { result ≡ spec.is_count fd }
+fn is_bare_provision(entry: &Submission) -> bool
+    ensures { result ≡ spec.is_bare_provision entry.now }
 {
-    if fd < 0 { false } else { 0 < fd && fd <= 65536 }
-}
-
-fn has_count_alone(entry: &Submission) -> bool
-    ensures { result ≡ spec.has_count_alone entry.now }
-{
-    entry.ioprio == 0 && entry.op_flags == 0 && entry.file_index == 0 && is_count(entry.fd)
+    entry.ioprio == 0 && entry.op_flags == 0 && entry.file_index == 0
 }
 
 fn is_provision_removal(entry: &Submission) -> bool
     ensures { result ≡ spec.is_provision_removal entry.now }
 {
-    has_count_alone(entry) && entry.addr == 0 && entry.len == 0 && entry.off == 0
+    let is_bare = is_bare_provision(entry) && entry.addr == 0 && entry.len == 0 && entry.off == 0;
+    is_bare && has_count(entry.fd)
 }
 
 fn is_splice(entry: &Submission) -> bool
@@ -300,11 +301,31 @@ fn can_select(code: u8) -> bool
     matches!(code, 1 | 10 | 22 | 27)
 }
 
+/// Whether there is no such operation, or no such flag.
+fn is_unknown(entry: &Submission) -> bool
+    ensures { result ≡ spec.is_unknown entry.now }
+{
+    entry.flags & 128 != 0 || rule_of(entry.opcode).is_none()
+}
+
 /// Whether it asks for one and can't have it.
 fn selects_in_vain(entry: &Submission) -> bool
     ensures { result ≡ spec.selects_in_vain entry.now }
 {
-    entry.flags & 32 != 0 && rule_of(entry.opcode).is_some() && !can_select(entry.opcode)
+    entry.flags & 32 != 0 && !can_select(entry.opcode)
+}
+
+/// The fault of an entry's operation and flags, which is found before its other fields are looked at, or 0.
+pub(crate) fn first_fault(entry: &Submission) -> i32
+    ensures { result ≡ spec.first_fault entry.now }
+{
+    if is_unknown(entry) {
+        -22
+    } else if selects_in_vain(entry) {
+        -95
+    } else {
+        0
+    }
 }
 
 /// Whether the core can cancel by this entry itself: by user data, and nothing rests on its success.
@@ -314,11 +335,11 @@ fn is_plain_cancel(entry: &Submission) -> bool
     entry.opcode == 14 && entry.op_flags == 0 && entry.flags & 76 == 0
 }
 
-/// Whether its form has a fault.
+/// Whether its fields have a fault.
 fn is_malformed(entry: &Submission) -> bool
     ensures { result ≡ spec.is_malformed entry.now }
 {
-    if entry.flags & 128 != 0 || entry.personality != 0 {
+    if entry.personality != 0 {
         return true;
     }
     match rule_of(entry.opcode) {
@@ -327,19 +348,49 @@ fn is_malformed(entry: &Submission) -> bool
     }
 }
 
+/// The fault of an entry's fields, or 0.
+fn field_fault(entry: &Submission) -> i32
+    ensures { result ≡ spec.field_fault entry.now }
+{
+    if is_malformed(entry) {
+        -22
+    } else if entry.opcode == 31 {
+        provision_fault(entry)
+    } else {
+        0
+    }
+}
+
+/// The first fault of an entry, or 0.
+fn fault_of(entry: &Submission, refusal: i32, is_allowed: bool) -> i32
+    ensures { result ≡ spec.fault_of entry.now refusal is_allowed }
+{
+    let first = first_fault(entry);
+    if refusal < 0 {
+        refusal
+    } else if first < 0 {
+        first
+    } else if !is_allowed {
+        -13
+    } else {
+        field_fault(entry)
+    }
+}
+
 /// What an entry is to the core, where `refusal` is an error by which a strict ring refuses it, or 0, and restrictions allow it or not.
 pub fn form_of(entry: &Submission, refusal: i32, is_allowed: bool) -> Form
     ensures { result ≡ spec.form_of entry.now refusal is_allowed }
 {
-    if refusal < 0 {
-        Form::Refused(refusal)
-    } else if !is_allowed {
-        Form::Refused(-13)
-    } else if selects_in_vain(entry) {
-        Form::Refused(-95)
-    } else if is_malformed(entry) {
-        Form::Refused(-22)
-    } else if is_plain_cancel(entry) {
+    form_by(fault_of(entry, refusal, is_allowed), is_plain_cancel(entry))
+}
+
+/// What an entry is with this fault, or without one.
+fn form_by(fault: i32, is_cancel: bool) -> Form
+    ensures { result ≡ spec.form_by fault is_cancel }
+{
+    if fault < 0 {
+        Form::Refused(fault)
+    } else if is_cancel {
         Form::Cancel
     } else {
         Form::Token

@@ -3,6 +3,7 @@
 ghost use Rattle.std.specs.Prelude.{◌≡◌};
 ghost use Rattle.uring_enter.specs.Needs as spec;
 
+use crate::no_op::{is_of_slot, wants_buffer, wants_file};
 use crate::submission::Submission;
 
 /// What an operation needs.
@@ -11,6 +12,9 @@ use crate::submission::Submission;
 pub struct Needs {
     /// It is carried out on an open file.
     pub needs_file: bool,
+
+    /// Whether that is open is asked before.
+    pub asks_file: bool,
 
     /// Its entry names that by the slot of a table. IOSQE_FIXED_FILE.
     pub is_registered: bool,
@@ -45,8 +49,9 @@ pub fn needs_of(entry: &Submission) -> Needs
     ensures { result ≡ spec.needs_of entry.now }
 {
     Needs {
-        needs_file: needs_file(entry.opcode),
-        is_registered: entry.flags & 1 != 0,
+        needs_file: needs_file(entry.opcode) || wants_file(entry),
+        asks_file: asks_file(entry),
+        is_registered: entry.flags & 1 != 0 || is_of_slot(entry),
         needs_second: is_splice(entry.opcode),
         is_second_registered: entry.op_flags & 0x8000_0000 != 0,
         uses_buffer: uses_buffer(entry),
@@ -70,6 +75,13 @@ pub(crate) fn is_transfer(code: u8) -> bool
     ensures { result ≡ spec.is_transfer code }
 {
     matches!(code, 1 | 2 | 4 | 5 | 22 | 23)
+}
+
+/// SENDMSG, SEND, SEND_ZC and SENDMSG_ZC.
+pub(crate) fn is_send(code: u8) -> bool
+    ensures { result ≡ spec.is_send code }
+{
+    matches!(code, 9 | 26 | 47 | 48)
 }
 
 /// RECVMSG and RECV.
@@ -117,7 +129,16 @@ pub fn advised_length(entry: &Submission) -> u64
 fn uses_buffer(entry: &Submission) -> bool
     ensures { result ≡ spec.uses_buffer entry.now }
 {
-    matches!(entry.opcode, 4 | 5) || entry.opcode == 47 && entry.ioprio & 4 != 0
+    matches!(entry.opcode, 4 | 5)
+        || entry.opcode == 47 && entry.ioprio & 4 != 0
+        || wants_buffer(entry)
+}
+
+/// A poll and a no-op find their file closed before they are carried out.
+fn asks_file(entry: &Submission) -> bool
+    ensures { result ≡ spec.asks_file entry.now }
+{
+    entry.opcode == 6 || wants_file(entry)
 }
 
 fn goes_on(entry: &Submission) -> bool

@@ -37,7 +37,7 @@ pub struct Carried {
     /// How many bytes its vectors have.
     pub length: u64,
 
-    /// Of a message that was received: its flags.
+    /// Of what was received: the flags of its message.
     pub message_flags: u32,
 
     /// It has a message, as an operation of sockets.
@@ -77,11 +77,11 @@ fn wants_whole(entry: &Submission, has_message: bool) -> bool
     }
 }
 
-/// Whether the message that an operation has received was cut.
+/// Whether what an operation has received was cut.
 fn cuts(entry: &Submission, carried: &Carried) -> bool
     ensures { result ≡ cuts entry.now carried.now }
 {
-    entry.opcode == 10 && carried.has_message && carried.message_flags & 40 != 0
+    matches!(entry.opcode, 10 | 27) && carried.has_message && carried.message_flags & 40 != 0
 }
 
 /// Whether a result is a success to the links behind the request of an entry.

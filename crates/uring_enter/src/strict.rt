@@ -1,7 +1,10 @@
 //! What a ring that goes by a kernel refuses of an entry. io_uring_enter(2), IOSQE_CQE_SKIP_SUCCESS; io_uring_register(2), IORING_REGISTER_PROBE.
 
 ghost use Rattle.std.specs.Prelude.{◌≡◌, List, [], ◌∷◌};
-ghost use Rattle.uring_enter.specs.Strictness.{Looked, Looks, KeepsStrict, refusal_of};
+ghost use Rattle.uring_enter.specs.Strictness.{Looked, Looks, KeepsStrict, refusal_of, unserved_fault};
+
+use crate::form::first_fault;
+use crate::submission::Submission;
 
 /// What a strict ring has seen of its entries.
 #[repr(C)]
@@ -19,22 +22,33 @@ impl Strict {
         Strict { has_skipped: false }
     }
 
-    /// The error with which it refuses the next entry, with these flags, or 0. `is_served`: the kernel serves its operation; `knows_skip`: and IOSQE_CQE_SKIP_SUCCESS.
-    pub fn refusal(&mut self, flags: u8, is_served: bool, knows_skip: bool) -> i32
+    /// The error with which it refuses the next entry, or 0. `is_served`: the kernel serves its operation; `knows_skip`: and IOSQE_CQE_SKIP_SUCCESS.
+    pub fn refusal(&mut self, entry: &Submission, is_served: bool, knows_skip: bool) -> i32
         ensures refusal { (log : List Looked) → KeepsStrict log self.old
-            → result ≡ refusal_of log flags is_served knows_skip }
+            → result ≡ refusal_of log entry.now is_served knows_skip }
         ensures after { (log : List Looked) → KeepsStrict log self.old
-            → KeepsStrict (Looks flags is_served knows_skip ∷ log) self.new }
+            → KeepsStrict (Looks entry.now is_served knows_skip ∷ log) self.new }
     {
-        let skips = flags & 64 != 0;
-        if !is_served || skips && !knows_skip {
-            return -22;
+        let fault = unserved_fault(entry, is_served, knows_skip);
+        if fault < 0 {
+            return fault;
         }
-        self.has_skipped = self.has_skipped || skips;
-        if self.has_skipped && flags & 2 != 0 {
+        self.has_skipped = self.has_skipped || entry.flags & 64 != 0;
+        if self.has_skipped && entry.flags & 2 != 0 {
             -95
         } else {
             0
         }
+    }
+}
+
+/// The fault of an entry's operation and flags in a kernel that serves the operation or not, and knows IOSQE_CQE_SKIP_SUCCESS or not.
+fn unserved_fault(entry: &Submission, is_served: bool, knows_skip: bool) -> i32
+    ensures { result ≡ unserved_fault entry.now is_served knows_skip }
+{
+    if !is_served || entry.flags & 64 != 0 && !knows_skip {
+        -22
+    } else {
+        first_fault(entry)
     }
 }

@@ -13,9 +13,6 @@ pub struct Poll {
 
     /// The events that it waits for.
     pub events: u32,
-
-    /// It goes on. IORING_POLL_ADD_MULTI.
-    pub is_multishot: bool,
 }
 
 /// A request as an update of linked timeouts sees it.
@@ -75,33 +72,27 @@ pub fn updates_linked(user_data: u64, seen: &Linked) -> bool
     seen.is_linked && seen.runs && seen.user_data == user_data
 }
 
-/// A poll behind an update by this entry.
+/// A poll behind an update by this entry. One that goes on still does, and another doesn't, whatever the update says.
 pub fn updated_poll(poll: Poll, entry: &Submission) -> Poll
     ensures { result ≡ spec.updated_poll poll entry.now }
 {
-    let has_events = entry.len & 2 != 0;
     Poll {
         user_data: if entry.len & 4 != 0 {
             entry.off
         } else {
             poll.user_data
         },
-        events: if has_events {
+        events: if entry.len & 2 != 0 {
             entry.op_flags
         } else {
             poll.events
         },
-        is_multishot: if has_events {
-            entry.len & 1 != 0
-        } else {
-            poll.is_multishot
-        },
     }
 }
 
-/// The flags of a timeout behind an update by this entry: the clock of the new time is the update's.
+/// The flags of a timeout behind an update by this entry: whether its time is absolute is the update's, and its clock stays.
 pub fn updated_flags(flags: u32, entry: &Submission) -> u32
     ensures { result ≡ spec.updated_flags flags entry.now }
 {
-    flags & !13 | entry.op_flags & 13
+    flags & !1 | entry.op_flags & 1
 }

@@ -37,6 +37,10 @@ pub mod Sides
 pub mod Reordered
 -- By Linux's rules:
 pub mod LinuxSound
+pub mod LinuxGroups
+pub mod LinuxKept
+pub mod LinuxDrains
+pub mod LinuxHistories
 pub mod LinuxLaws
 -- The definitions, computed on one history:
 mod WorkedHistory

@@ -1,9 +1,9 @@
 -- The laws of `linux.rt`: doomed requests, links, drains and cancels by Linux's rules.
-use Rattle.std.proofs.Common.{◌≡◌, ℕ, ◌<◌, ◌==◌, pos, neg_ℤ, true, false, not, List, [], ◌∷◌, ◌++◌, Some, length, slice_get, count_by, if◌then◌else◌, refl, sym, subst, ap, ◌∙◌, ◌⊎◌, inl, inr, arith}
+use Rattle.std.proofs.Common.{◌≡◌, ℕ, ◌<◌, ◌==◌, pos, neg_ℤ, Bool, true, false, not, ◌&&◌, ◌||◌, List, [], ◌∷◌, ◌++◌, Option, Some, None, length, slice_get, count_by, if◌then◌else◌, refl, sym, subst, ap, ◌∙◌, ◌⊎◌, inl, inr, arith}
 use Rattle.std.specs.Prelude.{is_some}
 use Rattle.std.specs.List.{list_any}
 use Rattle.std.specs.Ordering.{int_eq}
-use Rattle.std.proofs.lemmas.Bool.{and_from, and_parts, both_ways, eq-eqb, true_from_ne_false, false_from_ne_true, cond_both}
+use Rattle.std.proofs.lemmas.Bool.{and_from, and_parts, or_parts, cases_Bool, ltb-true, both_ways, eq-eqb, true_from_ne_false, false_from_ne_true, cond_both}
 use Rattle.std.proofs.lemmas.Bool.Decides.{Decides-int_eq}
 use Rattle.std.proofs.lemmas.List.Folds.{list_any_at}
 use Rattle.std.proofs.lemmas.Option.{slice_get_within, get_or_from_slice_get}
@@ -11,8 +11,9 @@ use Rattle.uring_entry.specs.Setup.{Setup}
 use Rattle.uring_entry.specs.declared.errno.TheConstants.{ENOENT, EALREADY, ECANCELED}
 use Rattle.uring_entry.specs.Preparation.{is_cancel_all}
 use Rattle.uring_entry.specs.Submission.{entries_of, places_from}
-use Rattle.uring_entry.specs.Requests.{Requests, Ending, entry_of, has_started, has_ended}
-use Rattle.uring_linux.specs.LinuxRequests.{is_doomed, doomed_result, cancel_result, found_by, is_deferred}
+use Rattle.uring_entry.specs.Requests.{Requests, Ending, entry_of, has_started, has_ended, is_joined, is_draining, is_outstanding, least_of}
+use Rattle.uring_linux.specs.Happenings.{Happening, made_by, MayHaveHappened}
+use Rattle.uring_linux.specs.LinuxRequests.{LinuxRequests, is_in_faulty_group, is_doomed, doomed_result, cancel_result, found_by, is_deferred}
 use Rattle.uring_core.specs.World.{World, requests_of, happens, taking_of, taking_entry_of, ending_of}
 use Rattle.uring_core.specs.StepAnswers.{IsEnded, IsIssued}
 use Rattle.uring_core.specs.Histories.{History, world, IsLawfulApart}
@@ -24,11 +25,18 @@ use Rattle.uring_core.proofs.Changes.{Change, IsSilent, refuses, takes, drops, c
 use Rattle.uring_core.proofs.ListCounts.{count_none, count_some}
 use Rattle.uring_core.proofs.SoundRequests.{outstanding_tells}
 use Rattle.uring_core.proofs.Sound.{sound_of}
-use Rattle.uring_laws.specs.LinuxLaws.{DoomedNeverRun, DoomedStayDoomed, CancelledWereDoomed, MembersGoInOrder, IsStart, DeferredDontStart, CancelsDoomNobody}
+use Rattle.uring_core.proofs.Issuable.{issue_goes}
+use Rattle.uring_entry.proofs.BelowLemmas.{least_below_out}
+use Rattle.uring_linux.specs.Laws.{GoesOn}
+use Rattle.uring_linux.proofs.GoingOn.{goes_on_from}
+use Rattle.uring_laws.specs.LinuxLaws.{DoomedNeverRun, DoomedStayDoomed, CancelledWereDoomed, MembersGoInOrder, IsStart, DeferredDontStart, waits_for, DrainsHold, LeastFreeCanGoOn, LeastFreeGoesOn, CancelsDoomNobody}
 use Rattle.uring_laws.proofs.ToldRequests.{tells_requests}
 use Rattle.uring_laws.proofs.Growth.{grows, event_grows, then_grows, lawful_before}
 use Rattle.uring_laws.proofs.OrderLaws.{refused_no_end, refused_no_run}
-use Rattle.uring_laws.proofs.LinuxSound.{by_linux, IsFirst, IsSoundLinux, is_otherwise, turn_first, doom_started, doom_stays, doom_called, starts_so, linux_sound}
+use Rattle.uring_laws.proofs.LinuxHistories.{HasHappened, history_happens}
+use Rattle.uring_laws.proofs.LinuxKept.{Waits}
+use Rattle.uring_laws.proofs.LinuxDrains.{waits_for_none}
+use Rattle.uring_laws.proofs.LinuxSound.{by_linux, IsFirst, IsSoundLinux, is_otherwise, turn_first, doom_started, doom_stays, doom_called, Starts, starts_so, linux_sound}
 
 -- The doomed.
 
@@ -168,6 +176,87 @@ pub not_deferred : (g : Setup) → DeferredDontStart (by_linux g)
 not_deferred g after before n a lawful start =
     let l = lawful_before (by_linux g) after ((step.Issue n, a) ∷ before) lawful in
     start_free g (world (by_linux g) before) n a (change_of (by_linux g) (world (by_linux g) before) (step.Issue n) a l.0) start
+
+-- of a request that starts: it was accepted, is spared, in its turn and not deferred
+record IsStarting (w : World) (n : ℕ) : Type 0 where
+  accepted : n < length w.requests.accepted
+  starts : Starts (requests_of w) n
+
+starting : (g : Setup) (w : World) (n : ℕ) (a : Answer) → Change (by_linux g) w (step.Issue n) a
+    → IsStart w.requests n a → IsStarting w n
+starting g w n a (refuses _ _ same silent) (inl run) = absurd (refused_no_run n a silent run)
+starting g w n a (refuses _ _ same silent) (inr ended) = absurd (refused_no_end n a silent ended.0)
+starting g w n a (runs _ outstanding idle spared ready no_cancel) start = record {
+  accepted = (outstanding_tells w.requests n outstanding).0;
+  starts = starts_so (requests_of w) n spared ready;
+}
+starting g w n a (dooms _ outstanding idle doomed) (inl run) = absurd cc
+starting g w n a (dooms _ outstanding idle doomed) (inr ended) =
+    absurd (both_ways _ ended.1 (and_parts _ _ doomed).1)
+starting g w n a (cancels _ outstanding idle spared ready cancel) start = record {
+  accepted = (outstanding_tells w.requests n outstanding).0;
+  starts = starts_so (requests_of w) n spared ready;
+}
+
+-- what it waits for without being of its group
+waits_apart : (joined drains other right : Bool) → joined ≡ false
+    → ((joined || drains) || (other && not right)) ≡ true
+    → (drains ≡ true) ⊎ ((other ≡ true) × (right ≡ false))
+waits_apart false true other right e w = inl refl
+waits_apart false false true false e w = inr (refl, refl)
+waits_apart false false true true e w = absurd (let f : false ≡ true = w in cc)
+waits_apart false false false right e w = absurd (let f : false ≡ true = w in cc)
+waits_apart true drains other right e w = absurd (let f : true ≡ false = e in cc)
+
+-- whatever happened, what may start waits for nobody that hasn't ended
+none_waited : (l : LinuxRequests) (n m : ℕ) → HasHappened l → n < length l.requests.accepted → m < n
+    → Starts l n → waits_for l.requests n m ≡ true → has_ended l.requests m ≡ true
+none_waited l n m so lt under starts w = elim (cases_Bool (is_joined l.requests m n)) [
+  | inl joined ↦ turn_first l.requests n starts.turn m under joined
+  | inr apart ↦
+      let right : is_in_faulty_group l.requests n ≡ false = (or_parts (is_in_faulty_group l.requests n) _ starts.spared).0 in
+      let why : Waits l.requests n m = elim (waits_apart (is_joined l.requests m n) (is_draining l.requests n) (is_draining l.requests m) (is_in_faulty_group l.requests m) apart w) [
+        | inl drains ↦ inl drains
+        | inr other ↦ inr (record { drains = other.0; right = other.1 })
+      ] in
+      as_made so.happened so.may so.made lt apart starts.free right why
+] where
+  as_made : (happened : List Happening) → MayHaveHappened happened → made_by happened ≡ l → n < length l.requests.accepted → is_joined l.requests m n ≡ false → is_deferred l n ≡ false → is_in_faulty_group l.requests n ≡ false → Waits l.requests n m → has_ended l.requests m ≡ true
+  as_made happened may made = subst (λ (k : LinuxRequests). n < length k.requests.accepted → is_joined k.requests m n ≡ false → is_deferred k n ≡ false → is_in_faulty_group k.requests n ≡ false → Waits k.requests n m → has_ended k.requests m ≡ true) made (λ lt apart free right why. waits_for_none happened may n m lt under apart free right why)
+
+pub drains_hold : (g : Setup) → DrainsHold (by_linux g)
+drains_hold g after before m n a lawful start lt waits =
+    let l = lawful_before (by_linux g) after ((step.Issue n, a) ∷ before) lawful in
+    let w : World = world (by_linux g) before in
+    let at = starting g w n a (change_of (by_linux g) w (step.Issue n) a l.0) start in
+    let ended = none_waited (requests_of w) n m (history_happens g before l.1) at.accepted lt at.starts waits in
+    let s = (sound_of (by_linux g) before l.1).requests in
+    let t = tells_requests (by_linux g) before l.1 in
+    let once : count_by (λ e. e.number == m) w.requests.ended ≡ 1 = omega (arith, s.ends_once m, count_some (λ e. e.number == m) w.requests.ended ended) in
+    subst (λ xs. count_by (λ e. e.number == m) xs ≡ 1) (sym t.ended) once
+
+-- Nothing waits for ever.
+
+free_goes_on : (g : Setup) (w : World) (n : ℕ) → HasHappened (requests_of w)
+    → least_of w.requests ≡ Some n → LeastFreeCanGoOn (by_linux g) w
+free_goes_on g w n so least =
+    let on : GoesOn (requests_of w) = subst GoesOn so.made (goes_on_from so.happened n so.may (subst (λ (l : LinuxRequests). least_of l.requests ≡ Some n) (sym so.made) least)) in
+    record {
+      least = on.number;
+      is_least = on.least;
+      goes_on = elim on.goes [
+        | inl running ↦ inl running
+        | inr issuable ↦ inr (issue_goes (by_linux g) w on.number issuable)
+      ];
+    }
+
+pub free_goes : (g : Setup) → LeastFreeGoesOn (by_linux g)
+free_goes g h n lawful outstanding = by_least (least_of (world (by_linux g) h).requests) refl where
+  by_least : (least : Option ℕ) → least_of (world (by_linux g) h).requests ≡ least → LeastFreeCanGoOn (by_linux g) (world (by_linux g) h)
+  by_least None e =
+      let r : Requests = (world (by_linux g) h).requests in
+      absurd (both_ways _ (least_below_out (is_outstanding r) (length r.accepted) e n (ltb-true _ _ (and_parts _ _ outstanding).0)) outstanding)
+  by_least (Some m) e = free_goes_on g (world (by_linux g) h) m (history_happens g h lawful) e
 
 -- Cancels.
 

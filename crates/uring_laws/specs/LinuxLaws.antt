@@ -1,11 +1,12 @@
 -- What holds of every lawful history of a ring that keeps requests by Linux's rules. What these are is told in docs/PROTOCOL.md, under the words "Linux 6.18".
-use Rattle.std.specs.Prelude.{◌≡◌, ℕ, ◌<◌, neg_ℤ, true, false, List, [], ◌∷◌, ◌++◌, length, Some, slice_get, ◌⊎◌}
+use Rattle.std.specs.Prelude.{◌≡◌, ℕ, ◌<◌, neg_ℤ, Bool, true, false, not, ◌&&◌, ◌||◌, List, [], ◌∷◌, ◌++◌, length, Some, slice_get, ◌⊎◌}
 use Rattle.uring_entry.specs.Setup.{Setup}
-use Rattle.uring_entry.specs.Requests.{Requests, Ending, is_joined}
+use Rattle.uring_entry.specs.Requests.{Requests, Ending, is_joined, is_draining, is_outstanding, is_running}
 use Rattle.uring_entry.specs.declared.errno.TheConstants.{ECANCELED}
-use Rattle.uring_linux.specs.LinuxRequests.{is_doomed, doomed_result, is_deferred}
-use Rattle.uring_core.specs.World.{requests_of}
-use Rattle.uring_core.specs.StepAnswers.{IsEnded, IsIssued}
+use Rattle.uring_linux.specs.LinuxRequests.{is_in_faulty_group, is_doomed, doomed_result, is_deferred}
+use Rattle.uring_linux.specs.LinuxWhy.{least_free_of}
+use Rattle.uring_core.specs.World.{World, requests_of}
+use Rattle.uring_core.specs.StepAnswers.{IsEnded, IsIssued, issue_answer}
 use Rattle.uring_core.specs.Histories.{History, world, IsLawfulApart}
 use Rattle.uring_core.specs.declared.step.Step.TheVariants as step
 use Rattle.uring_core.specs.declared.answer.Answer.{Answer}
@@ -48,6 +49,27 @@ abbrev pub DeferredDontStart : Setup → Type 0
 DeferredDontStart g = (after before : History) (n : ℕ) (a : Answer)
     → IsLawfulApart g (after ++ (step.Issue n, a) ∷ before) → IsStart (world g before).requests n a
     → is_deferred (requests_of (world g before)) n ≡ false
+
+-- whether n waits for m, a request before it: they are members of one group, or n's group drains, or m's does and has no fault. A group drains if some member asks to
+abbrev pub waits_for : Requests → ℕ → ℕ → Bool
+waits_for r n m =
+    is_joined r m n || is_draining r n || (is_draining r m && not (is_in_faulty_group r m))
+
+-- Links and drains: when a request starts, each earlier one that it waits for has ended, once.
+abbrev pub DrainsHold : Setup → Type 0
+DrainsHold g = (after before : History) (m n : ℕ) (a : Answer)
+    → IsLawfulApart g (after ++ (step.Issue n, a) ∷ before) → IsStart (world g before).requests n a
+    → m < n → waits_for (world g before).requests n m ≡ true → times_ended before m ≡ 1
+
+-- With something outstanding not all of it is deferred, and the least outstanding request that isn't is running, or else Issue doesn't refuse it.
+pub record LeastFreeCanGoOn (g : Setup) (w : World) : Type 0 where
+  pub least : ℕ
+  pub is_least : least_free_of (requests_of w) ≡ Some least
+  pub goes_on : (is_running w.requests least ≡ true) ⊎ IsIssued (issue_answer g w least)
+
+abbrev pub LeastFreeGoesOn : Setup → Type 0
+LeastFreeGoesOn g = (h : History) (n : ℕ) → IsLawfulApart g h
+    → is_outstanding (world g h).requests n ≡ true → LeastFreeCanGoOn g (world g h)
 
 -- No cancel dooms anybody.
 abbrev pub CancelsDoomNobody : Setup → Type 0

@@ -2,7 +2,7 @@
 ghost use Rattle.std.specs.Prelude.{◌≡◌, true};
 ghost use Rattle.uring_entry.specs.Setup.{Setup, IsWithinLimits};
 ghost use Rattle.uring_core.specs.Histories.{History, IsLawfulApart};
-ghost use Rattle.uring_laws.specs.LinuxLaws.{DoomedNeverRun, DoomedStayDoomed, CancelledWereDoomed, MembersGoInOrder, DeferredDontStart, CancelsDoomNobody};
+ghost use Rattle.uring_laws.specs.LinuxLaws.{DoomedNeverRun, DoomedStayDoomed, CancelledWereDoomed, MembersGoInOrder, DeferredDontStart, DrainsHold, LeastFreeGoesOn, CancelsDoomNobody};
 
 /// A doomed request is never started, and its end has the result of the doomed; it stays doomed. An `Issue` that ends with -125 (`ECANCELED`) is that of a request that was doomed just before.
 pub fn doomed_are_never_started()
@@ -20,6 +20,16 @@ pub fn members_go_in_order()
 /// What starts is of no group that a drain holds back.
 pub fn deferred_dont_start()
     ensures { (g : Setup) → g.linux ≡ true → IsWithinLimits g → DeferredDontStart g }
+{}
+
+/// What starts has waited for all that links and drains put before it: each earlier member of its group, everything before a group that drains, and each group before it that drains and has no fault. All of these have ended, once.
+pub fn drains_hold()
+    ensures { (g : Setup) → g.linux ≡ true → IsWithinLimits g → DrainsHold g }
+{}
+
+/// With something outstanding, not all of it is deferred, and the least outstanding request that isn't is running, or else `Issue` doesn't refuse it: nothing waits for ever.
+pub fn least_free_goes_on()
+    ensures { (g : Setup) → g.linux ≡ true → IsWithinLimits g → LeastFreeGoesOn g }
 {}
 
 /// No cancel dooms anybody: what it finds runs, and goes on.

@@ -1,10 +1,11 @@
-//! Tests of the public calls of entries, rings, files and both dispatchers.
+//! Tests of the public calls of entries, rings, files and dispatchers.
 
 mod dispatch;
 mod entry;
 mod files;
 mod linux_dispatch;
 mod rings;
+mod rules;
 
 use std::process::Abort;
 use std::test::Fail;

@@ -129,14 +129,14 @@ ends_accept true accepted missed head moves e = absurd cc
 
 call_ends : {moves : List Move} (g : Setup) (w : World) (files : List FileContents) (count : ℕ)
     → Reaches g (in_call w count count) files moves → Stands w.submission [] count
-    → Reaches g (after_call w count) files (moves ++ move.Accept ∷ []) × Stands (after_call w count).submission [] 0
+    → Reaches g (after_call g w count) files (moves ++ move.Accept ∷ []) × Stands (after_call g w count).submission [] 0
 call_ends {moves} g w files count there s =
     let a : Answer = end_answer g (in_call w count count) in
     let w' : World = happens g (in_call w count count) step.End a in
     let loads : Answer = answer.Head (word_of g.start (taken w'.submission)) in
     let closed = call_closes g w count count 0 a loads s (omega arith) refl in
     let ended : Reaches g w' files (moves ++ move.Accept ∷ []) = subst (Reaches g w' files) (ends_accept (nat_lt count count) _ _ _ moves (le-ltb count count (omega arith))) (step_on g (in_call w count count) files step.End a there tt refl (ends_so _ _ _ _)) in
-    (as_well g (happens g w' step.LoadHead loads) (after_call w count) files closed.0 (step_on g w' files step.LoadHead loads ended tt refl (λ e. cc)), closed.1)
+    (as_well g (happens g w' step.LoadHead loads) (after_call g w count) files closed.0 (step_on g w' files step.LoadHead loads ended tt refl (λ e. cc)), closed.1)
 
 -- A whole call.
 
@@ -145,8 +145,8 @@ abbrev pub with_call_published : Setup → World → List Published → World
 with_call_published g w items = record w { submission = with_published g.sq (with_items w.submission 0 items) }
 
 pub record CallIsTaken (g : Setup) (w : World) (files : List FileContents) (moves : List Move) (items : List Published) : Type 0 where
-  pub reaches : Reaches g (after_call (with_call_published g w items) (length items)) files (moves ++ move.Accept ∷ [])
-  pub stands : Stands (after_call (with_call_published g w items) (length items)).submission [] 0
+  pub reaches : Reaches g (after_call g (with_call_published g w items) (length items)) files (moves ++ move.Accept ∷ [])
+  pub stands : Stands (after_call g (with_call_published g w items) (length items)).submission [] 0
   pub waits : Stands (with_call_published g w items).submission [] (length items)
 
 pub call_is_taken : {moves : List Move} (g : Setup) → g.stops ≡ false → (w : World) (files : List FileContents) (items : List Published)

@@ -1,4 +1,4 @@
--- A lawful history that refuses no memory makes moves: each event is a move, or changes nothing of a moment.
+-- A lawful history of the manual pages' rules that refuses no memory makes moves: each event is a move, or changes nothing of a moment.
 -- By cases on `Change`: the close of a call is an accepting, an issue and a finish that isn't refused are moves, and all else is silent.
 use Rattle.std.proofs.Common.{◌≡◌, ℕ, ◌+◌, ◌≤◌, ℤ, Bool, true, false, not, ◌&&◌, ◌||◌, nat_lt, List, [], ◌∷◌, ◌++◌, length, take, drop, map, Option, Some, None, if◌then◌else◌, refl, sym, subst, ap, ap₂, ◌∙◌, arith, append_assoc, append-nil}
 use Rattle.std.specs.Option.{option_and_then}
@@ -17,7 +17,7 @@ use Rattle.uring_files.specs.Operations.{after, result_of}
 use Rattle.uring_core.specs.World.{World, happens, taking_of, taking_entry_of, ending_of}
 use Rattle.uring_core.specs.CalledFor.{IsLawful, files_of}
 use Rattle.uring_core.specs.Core.{IsNoFinish}
-use Rattle.uring_core.specs.Histories.{History, world}
+use Rattle.uring_core.specs.Histories.{History, world, by_manual}
 use Rattle.uring_core.specs.declared.step.Step.{Step}
 use Rattle.uring_core.specs.declared.step.Step.TheVariants as step
 use Rattle.uring_core.specs.declared.answer.Answer.{Answer}
@@ -101,11 +101,11 @@ new_call w count = map item (places_from w.submission count)
 
 call_comes : {moves : List Move} {first : List (List Published)} (g : Setup) (w : World) (files : List FileContents) (call : Call)
     → taken w.submission + call.count ≤ length w.submission.published → (c : IsCome g w files moves first)
-    → IsCome g (ending_of w (Some call)) files (moves ++ move.Accept ∷ []) c.calls
+    → IsCome g (ending_of g w (Some call)) files (moves ++ move.Accept ∷ []) c.calls
 call_comes {moves} g w files call within c =
     let l : Submission = w.submission in
     let new : List Published = new_call w call.count in
-    let v : World = ending_of w (Some call) in
+    let v : World = ending_of g w (Some call) in
     let many : length new ≡ call.count = length-map (places_from l call.count) item ∙ length-take-le call.count (drop (taken l) l.published) (omega (arith, length-drop (taken l) l.published)) in
     let these : new ≡ take call.count (drop (taken l) (published_items l)) = sym (take-map item call.count (drop (taken l) l.published)) ∙ ap (take call.count) (sym (drop-map item (taken l) l.published)) in
     let entries : entries_in new ≡ entries_from l call.count = entries_back (places_from l call.count) in
@@ -158,26 +158,26 @@ if_not true x y e = absurd cc
 -- the moment of a request that ended as it was issued
 at_once : (g : Setup) (w : World) (n : ℕ) (res : ℤ) (files : List FileContents) (rest : List (List Sqe))
     → ended_at_once (moment_of w files rest) n res
-    ≡ moment_of (happens g w (step.Issue n) (answer.Ended res no_bytes)) files rest
+    ≡ moment_of (happens (by_manual g) w (step.Issue n) (answer.Ended res no_bytes)) files rest
 at_once g w n res files rest =
-    let v : World = happens g w (step.Issue n) (answer.Ended res no_bytes) in
+    let v : World = happens (by_manual g) w (step.Issue n) (answer.Ended res no_bytes) in
     ap (λ posted. record { requests = v.requests; posted = posted; files = files; left = rest }) (sym (posted_by_end g.cq w.completions (entry_of w.requests n) res no_bytes))
 
 -- the world after a finish that refuses no memory
-finish_comes : {moves : List Move} {first : List (List Published)} (g : Setup) (w : World) (n : ℕ) → is_running w.requests n ≡ true → IsSound g w
-    → (c : IsCome g w (files_of g w) moves first)
-    → IsCome g (happens g w (step.Finish n) (finish_answer (files_of g w) w.requests n)) (files_of g (happens g w (step.Finish n) (finish_answer (files_of g w) w.requests n))) (with_event (step.Finish n) (finish_answer (files_of g w) w.requests n) moves) c.calls
+finish_comes : {moves : List Move} {first : List (List Published)} (g : Setup) (w : World) (n : ℕ) → is_running w.requests n ≡ true → IsSound (by_manual g) w
+    → (c : IsCome (by_manual g) w (files_of (by_manual g) w) moves first)
+    → IsCome (by_manual g) (happens (by_manual g) w (step.Finish n) (finish_answer (files_of (by_manual g) w) w.requests n)) (files_of (by_manual g) (happens (by_manual g) w (step.Finish n) (finish_answer (files_of (by_manual g) w) w.requests n))) (with_event (step.Finish n) (finish_answer (files_of (by_manual g) w) w.requests n) moves) c.calls
 finish_comes {moves} g w n running sound c =
     let r : Requests = w.requests in
-    let o : Outcome = result_of (files_of g w) (operation_of (entry_of r n)) in
+    let o : Outcome = result_of (files_of (by_manual g) w) (operation_of (entry_of r n)) in
     let a : Answer = answer.Ended o.res o.bytes in
-    let v : World = happens g w (step.Finish n) a in
-    let files : List FileContents = after (files_of g w) (operation_of (entry_of r n)) o.res in
-    let left : files_of g v ≡ files = files_ended r n o.res o.bytes (empty_files g.files) in
+    let v : World = happens (by_manual g) w (step.Finish n) a in
+    let files : List FileContents = after (files_of (by_manual g) w) (operation_of (entry_of r n)) o.res in
+    let left : files_of (by_manual g) v ≡ files = files_ended r n o.res o.bytes (empty_files g.files) in
     let accepted : nat_lt n (length r.accepted) ≡ true = lt-ltb n (length r.accepted) (sound.requests.started_accepted n (and_parts _ _ running).0) in
-    let there : IsCome g v files (moves ++ move.Finish n ∷ []) c.calls = comes_on g w v (files_of g w) files (move.Finish n) c refl (λ rest. can_then (is_finishable r n) (finished (moment_of w (files_of g w) rest) n) (moment_of v files rest) (and_both accepted running)
+    let there : IsCome (by_manual g) v files (moves ++ move.Finish n ∷ []) c.calls = comes_on (by_manual g) w v (files_of (by_manual g) w) files (move.Finish n) c refl (λ rest. can_then (is_finishable r n) (finished (moment_of w (files_of (by_manual g) w) rest) n) (moment_of v files rest) (and_both accepted running)
     (ap (λ posted. record { requests = v.requests; posted = posted; files = files; left = rest }) (sym (posted_by_end g.cq w.completions (entry_of r n) o.res o.bytes)))) in
-    subst (λ x. IsCome g (happens g w (step.Finish n) x) (files_of g (happens g w (step.Finish n) x)) (with_event (step.Finish n) x moves) c.calls) (ap (λ b. if b then a else answer.NotRunning) (sym running)) (subst (λ fs. IsCome g v fs (moves ++ move.Finish n ∷ []) c.calls) (sym left) there) where
+    subst (λ x. IsCome (by_manual g) (happens (by_manual g) w (step.Finish n) x) (files_of (by_manual g) (happens (by_manual g) w (step.Finish n) x)) (with_event (step.Finish n) x moves) c.calls) (ap (λ b. if b then a else answer.NotRunning) (sym running)) (subst (λ fs. IsCome (by_manual g) v fs (moves ++ move.Finish n ∷ []) c.calls) (sym left) there) where
       and_both : {x y : Bool} → x ≡ true → y ≡ true → (x && y) ≡ true
       and_both {x} {y} e f = ap₂ (λ p q. p && q) e f
 
@@ -193,43 +193,43 @@ silent_makes_none (step.Finish n) (answer.Ended res bytes) moves q =
 silent_makes_none s a moves q = refl
 
 -- one event more
-comes : {moves : List Move} {first : List (List Published)} (g : Setup) (w : World) (s : Step) (a : Answer) → Change g w s a → IsSound g w
-    → IsUnrefused g w s a → (IsNoFinish s → files_of g (happens g w s a) ≡ files_of g w)
-    → (c : IsCome g w (files_of g w) moves first)
-    → IsCome g (happens g w s a) (files_of g (happens g w s a)) (with_event s a moves) c.calls
+comes : {moves : List Move} {first : List (List Published)} (g : Setup) (w : World) (s : Step) (a : Answer) → Change (by_manual g) w s a → IsSound (by_manual g) w
+    → IsUnrefused (by_manual g) w s a → (IsNoFinish s → files_of (by_manual g) (happens (by_manual g) w s a) ≡ files_of (by_manual g) w)
+    → (c : IsCome (by_manual g) w (files_of (by_manual g) w) moves first)
+    → IsCome (by_manual g) (happens (by_manual g) w s a) (files_of (by_manual g) (happens (by_manual g) w s a)) (with_event s a moves) c.calls
 comes {moves} g w s a (refuses _ _ same silent) sound unrefused kept c =
-    subst (λ ms. IsCome g (happens g w s a) (files_of g (happens g w s a)) ms c.calls) (sym (silent_makes_none s a moves silent)) (subst (λ v. IsCome g v (files_of g v) moves c.calls) (sym (same w)) (still g w w (files_of g w) refl refl refl refl c))
+    subst (λ ms. IsCome (by_manual g) (happens (by_manual g) w s a) (files_of (by_manual g) (happens (by_manual g) w s a)) ms c.calls) (sym (silent_makes_none s a moves silent)) (subst (λ v. IsCome (by_manual g) v (files_of (by_manual g) v) moves c.calls) (sym (same w)) (still (by_manual g) w w (files_of (by_manual g) w) refl refl refl refl c))
 comes g w s a (stores tail) sound unrefused kept c =
     let l : Submission = w.submission in
-    still g w (happens g w step.StoreTail (answer.Tail tail)) (files_of g w) refl refl refl
+    still (by_manual g) w (happens (by_manual g) w step.StoreTail (answer.Tail tail)) (files_of (by_manual g) w) refl refl refl
     (ap (take (taken l)) (map-append item l.published (map (place_of g.sq l.content) l.fresh)) ∙ take-append-le (taken l) (map item l.published) (map item (map (place_of g.sq l.content) l.fresh)) (omega (arith, sound.submission.call_published, length-map l.published item)))
     c
 comes {moves} g w s a (takes entry call place opened left at valid) sound unrefused kept c =
-    subst (λ o. IsCome g (taking_entry_of g w entry o) (files_of g (taking_entry_of g w entry o)) moves c.calls) (sym opened) (still g w (taking_entry_of g w entry (Some call)) (files_of g w) refl refl refl refl c)
+    subst (λ o. IsCome (by_manual g) (taking_entry_of (by_manual g) w entry o) (files_of (by_manual g) (taking_entry_of (by_manual g) w entry o)) moves c.calls) (sym opened) (still (by_manual g) w (taking_entry_of (by_manual g) w entry (Some call)) (files_of (by_manual g) w) refl refl refl refl c)
 comes {moves} g w s a (drops call place opened left at invalid) sound unrefused kept c =
-    subst (λ o. IsCome g (taking_of w o) (files_of g (taking_of w o)) moves c.calls) (sym opened) (still g w (taking_of w (Some call)) (files_of g w) refl refl refl refl c)
+    subst (λ o. IsCome (by_manual g) (taking_of w o) (files_of (by_manual g) (taking_of w o)) moves c.calls) (sym opened) (still (by_manual g) w (taking_of w (Some call)) (files_of (by_manual g) w) refl refl refl refl c)
 comes {moves} g w s a (closes accepted missed head call opened all counted) sound unrefused kept c =
     let within : taken w.submission + call.count ≤ length w.submission.published = omega (arith, sound.submission.call_published, ap open_count opened) in
-    let there : IsCome g (ending_of w w.submission.call) (files_of g w) (moves ++ move.Accept ∷ []) c.calls = subst (λ o. IsCome g (ending_of w o) (files_of g w) (moves ++ move.Accept ∷ []) c.calls) (sym opened) (call_comes g w (files_of g w) call within c) in
-    subst (λ fs. IsCome g (ending_of w w.submission.call) fs (moves ++ move.Accept ∷ []) c.calls) (sym (kept tt)) there
+    let there : IsCome (by_manual g) (ending_of (by_manual g) w w.submission.call) (files_of (by_manual g) w) (moves ++ move.Accept ∷ []) c.calls = subst (λ o. IsCome (by_manual g) (ending_of (by_manual g) w o) (files_of (by_manual g) w) (moves ++ move.Accept ∷ []) c.calls) (sym opened) (call_comes (by_manual g) w (files_of (by_manual g) w) call within c) in
+    subst (λ fs. IsCome (by_manual g) (ending_of (by_manual g) w w.submission.call) fs (moves ++ move.Accept ∷ []) c.calls) (sym (kept tt)) there
 comes {moves} g w s a (runs n outstanding idle spared ready no_cancel) sound unrefused kept c =
     let r : Requests = w.requests in
-    let v : World = happens g w (step.Issue n) answer.Run in
-    subst (λ fs. IsCome g v fs (moves ++ move.Issue n ∷ []) c.calls) (sym (kept tt)) (comes_on g w v (files_of g w) (files_of g w) (move.Issue n) c refl (λ rest. can_then (is_issuable r n) (issued (moment_of w (files_of g w) rest) n) (moment_of v (files_of g w) rest) (issuable_so (is_outstanding r n) (is_running r n) (is_doomed r n) (is_ready r n) outstanding idle (or_second (is_doomed r n) (is_ready r n) ready))
+    let v : World = happens (by_manual g) w (step.Issue n) answer.Run in
+    subst (λ fs. IsCome (by_manual g) v fs (moves ++ move.Issue n ∷ []) c.calls) (sym (kept tt)) (comes_on (by_manual g) w v (files_of (by_manual g) w) (files_of (by_manual g) w) (move.Issue n) c refl (λ rest. can_then (is_issuable r n) (issued (moment_of w (files_of (by_manual g) w) rest) n) (moment_of v (files_of (by_manual g) w) rest) (issuable_so (is_outstanding r n) (is_running r n) (is_doomed r n) (is_ready r n) outstanding idle (or_second (is_doomed r n) (is_ready r n) ready))
     (if_not (is_doomed r n) _ _ spared ∙ if_not (is_cancel (entry_of r n)) _ _ no_cancel)))
 comes {moves} g w s a (dooms n outstanding idle doomed) sound unrefused kept c =
     let r : Requests = w.requests in
-    let v : World = happens g w (step.Issue n) (answer.Ended (doomed_result r n) no_bytes) in
-    subst (λ fs. IsCome g v fs (moves ++ move.Issue n ∷ []) c.calls) (sym (kept tt)) (comes_on g w v (files_of g w) (files_of g w) (move.Issue n) c refl (λ rest. can_then (is_issuable r n) (issued (moment_of w (files_of g w) rest) n) (moment_of v (files_of g w) rest) (issuable_so (is_outstanding r n) (is_running r n) (is_doomed r n) (is_ready r n) outstanding idle (or_first (is_doomed r n) (is_ready r n) doomed))
-    (if_so (is_doomed r n) _ _ doomed ∙ at_once g w n (doomed_result r n) (files_of g w) rest)))
+    let v : World = happens (by_manual g) w (step.Issue n) (answer.Ended (doomed_result r n) no_bytes) in
+    subst (λ fs. IsCome (by_manual g) v fs (moves ++ move.Issue n ∷ []) c.calls) (sym (kept tt)) (comes_on (by_manual g) w v (files_of (by_manual g) w) (files_of (by_manual g) w) (move.Issue n) c refl (λ rest. can_then (is_issuable r n) (issued (moment_of w (files_of (by_manual g) w) rest) n) (moment_of v (files_of (by_manual g) w) rest) (issuable_so (is_outstanding r n) (is_running r n) (is_doomed r n) (is_ready r n) outstanding idle (or_first (is_doomed r n) (is_ready r n) doomed))
+    (if_so (is_doomed r n) _ _ doomed ∙ at_once g w n (doomed_result r n) (files_of (by_manual g) w) rest)))
 comes {moves} g w s a (cancels n outstanding idle spared ready cancel) sound unrefused kept c =
     let r : Requests = w.requests in
-    let v : World = happens g w (step.Issue n) (answer.Ended (cancel_result r n) no_bytes) in
-    subst (λ fs. IsCome g v fs (moves ++ move.Issue n ∷ []) c.calls) (sym (kept tt)) (comes_on g w v (files_of g w) (files_of g w) (move.Issue n) c refl (λ rest. can_then (is_issuable r n) (issued (moment_of w (files_of g w) rest) n) (moment_of v (files_of g w) rest) (issuable_so (is_outstanding r n) (is_running r n) (is_doomed r n) (is_ready r n) outstanding idle (or_second (is_doomed r n) (is_ready r n) ready))
-    (if_not (is_doomed r n) _ _ spared ∙ (if_so (is_cancel (entry_of r n)) _ _ cancel ∙ at_once g w n (cancel_result r n) (files_of g w) rest))))
+    let v : World = happens (by_manual g) w (step.Issue n) (answer.Ended (cancel_result r n) no_bytes) in
+    subst (λ fs. IsCome (by_manual g) v fs (moves ++ move.Issue n ∷ []) c.calls) (sym (kept tt)) (comes_on (by_manual g) w v (files_of (by_manual g) w) (files_of (by_manual g) w) (move.Issue n) c refl (λ rest. can_then (is_issuable r n) (issued (moment_of w (files_of (by_manual g) w) rest) n) (moment_of v (files_of (by_manual g) w) rest) (issuable_so (is_outstanding r n) (is_running r n) (is_doomed r n) (is_ready r n) outstanding idle (or_second (is_doomed r n) (is_ready r n) ready))
+    (if_not (is_doomed r n) _ _ spared ∙ (if_so (is_cancel (entry_of r n)) _ _ cancel ∙ at_once g w n (cancel_result r n) (files_of (by_manual g) w) rest))))
 comes {moves} g w s a (finishes n res bytes running) sound unrefused kept c =
-    subst (λ x. IsCome g (happens g w (step.Finish n) x) (files_of g (happens g w (step.Finish n) x)) (with_event (step.Finish n) x moves) c.calls) (sym unrefused) (finish_comes g w n running sound c)
-comes g w s a _ sound unrefused kept c = still g w _ (files_of g w) refl refl refl refl c
+    subst (λ x. IsCome (by_manual g) (happens (by_manual g) w (step.Finish n) x) (files_of (by_manual g) (happens (by_manual g) w (step.Finish n) x)) (with_event (step.Finish n) x moves) c.calls) (sym unrefused) (finish_comes g w n running sound c)
+comes g w s a _ sound unrefused kept c = still (by_manual g) w _ (files_of (by_manual g) w) refl refl refl refl c
 
 -- a world is come to by these moves, whatever calls were the first
 pub record HasCome (g : Setup) (h : History) : Type 0 where
@@ -251,17 +251,17 @@ come_at_first g = record {
 }
 
 -- one event more, in a history
-pub comes_behind : (g : Setup) (s : Step) (a : Answer) (before : History) → IsLawful g ((s, a) ∷ before)
-    → RefusesNone g ((s, a) ∷ before) → (c : HasCome g before)
-    → IsCome g (world g ((s, a) ∷ before)) (files_of g (world g ((s, a) ∷ before))) (moves_in ((s, a) ∷ before)) c.come.calls
+pub comes_behind : (g : Setup) (s : Step) (a : Answer) (before : History) → IsLawful (by_manual g) ((s, a) ∷ before)
+    → RefusesNone (by_manual g) ((s, a) ∷ before) → (c : HasCome (by_manual g) before)
+    → IsCome (by_manual g) (world (by_manual g) ((s, a) ∷ before)) (files_of (by_manual g) (world (by_manual g) ((s, a) ∷ before))) (moves_in ((s, a) ∷ before)) c.come.calls
 comes_behind g s a before lawful unrefused c =
-    let apart = lawful_apart g ((s, a) ∷ before) lawful in
-    comes g (world g before) s a (change_of g (world g before) s a apart.0) (sound_of g before apart.1) unrefused.0 (files_kept g s a before apart) c.come
+    let apart = lawful_apart (by_manual g) ((s, a) ∷ before) lawful in
+    comes g (world (by_manual g) before) s a (change_of (by_manual g) (world (by_manual g) before) s a apart.0) (sound_of (by_manual g) before apart.1) unrefused.0 (files_kept (by_manual g) s a before apart) c.come
 
 -- each lawful history that refuses no memory is come to by its moves
-pub history_comes : (g : Setup) (h : History) → IsLawful g h → RefusesNone g h
-    → HasCome g h
-history_comes g [] lawful unrefused = come_at_first g
+pub history_comes : (g : Setup) (h : History) → IsLawful (by_manual g) h → RefusesNone (by_manual g) h
+    → HasCome (by_manual g) h
+history_comes g [] lawful unrefused = come_at_first (by_manual g)
 history_comes g ((s, a) ∷ before) lawful unrefused =
-    let c : HasCome g before = history_comes g before lawful.1 unrefused.1 in
+    let c : HasCome (by_manual g) before = history_comes g before lawful.1 unrefused.1 in
     record { first = c.come.calls; come = comes_behind g s a before lawful unrefused c }

@@ -1,4 +1,4 @@
--- Each list of moves is made by some lawful history: from a world that shows the moment, move by move.
+-- Each list of moves is made by some lawful history of the manual pages' rules: from a world that shows the moment, move by move.
 use Rattle.std.proofs.Common.{◌≡◌, ℕ, ◌+◌, ◌-◌, ◌^◌, ◌≤◌, ℤ, Bool, true, false, not, ◌&&◌, ◌||◌, nat_lt, List, [], ◌∷◌, ◌++◌, length, map, Some, None, if◌then◌else◌, refl, sym, subst, ap, ◌∙◌, arith, append_assoc, append-nil}
 use Rattle.std.specs.Prelude.{All, unwrap_or}
 use Rattle.std.specs.Option.{option_and_then}
@@ -16,6 +16,7 @@ use Rattle.uring_entry.specs.declared.operation.Outcome.{Outcome}
 use Rattle.uring_files.specs.Contents.{FileContents}
 use Rattle.uring_files.specs.Operations.{after, result_of}
 use Rattle.uring_core.specs.World.{World, happens}
+use Rattle.uring_core.specs.Histories.{by_manual}
 use Rattle.uring_core.specs.StepAnswers.{issue_answer}
 use Rattle.uring_core.specs.declared.step.Step.TheVariants as step
 use Rattle.uring_core.specs.declared.answer.Answer.{Answer}
@@ -64,7 +65,7 @@ pub record Between (g : Setup) (w : World) (files : List FileContents) (done : L
 call_made : {moves : List Move} (g : Setup) → g.stops ≡ false → (w : World) (files : List FileContents) (done : List (List Published)) (call : List Published)
     → Between g w files done moves → GoesThrough g.sq call
     → length w.requests.accepted + length call ≤ 2 ^ 63 - 1
-    → Between g (after_call (with_call_published g w call) (length call)) files (done ++ call ∷ []) (moves ++ move.Accept ∷ [])
+    → Between g (after_call g (with_call_published g w call) (length call)) files (done ++ call ∷ []) (moves ++ move.Accept ∷ [])
     × (entries_from (with_call_published g w call).submission (length call) ≡ entries_in call)
 call_made g goes w files done call b goes_in room =
     let t = call_is_taken g goes w files call b.reaches b.stands b.is_open (le-ltb (2 ^ 63 - 1) (length w.requests.accepted + length call) room) goes_in.few in
@@ -131,9 +132,9 @@ record IssueMade (g : Setup) (w : World) (n : ℕ) (files : List FileContents) (
   aside : Aside w (happens g w (step.Issue n) a)
 
 ends_at_once : (g : Setup) (w : World) (n : ℕ) (files : List FileContents) (left : List (List Sqe)) (res : ℤ)
-    → IssueMade g w n files left (answer.Ended res no_bytes) (ended_at_once (moment_of w files left) n res)
+    → IssueMade (by_manual g) w n files left (answer.Ended res no_bytes) (ended_at_once (moment_of w files left) n res)
 ends_at_once g w n files left res =
-    let v : World = happens g w (step.Issue n) (answer.Ended res no_bytes) in
+    let v : World = happens (by_manual g) w (step.Issue n) (answer.Ended res no_bytes) in
     record {
       not_again = λ e. cc;
       moves = λ before. refl;
@@ -149,7 +150,7 @@ ends_at_once g w n files left res =
 
 issue_made : (g : Setup) (w : World) (n : ℕ) (files : List FileContents) (left : List (List Sqe)) (outstanding running doomed ready cancel : Bool)
     → (outstanding && not running && (doomed || ready)) ≡ true
-    → IssueMade g w n files left
+    → IssueMade (by_manual g) w n files left
     (if not outstanding then answer.Unknown else (if running then answer.Running else (if doomed then answer.Ended (doomed_result w.requests n) no_bytes else (if not ready then answer.NotReady else (if cancel then answer.Ended (cancel_result w.requests n) no_bytes else answer.Run)))))
     (if doomed then ended_at_once (moment_of w files left) n (doomed_result w.requests n) else (if cancel then ended_at_once (moment_of w files left) n (cancel_result w.requests n) else started (moment_of w files left) n))
 issue_made g w n files left true false true ready cancel can =
@@ -193,36 +194,36 @@ accept_made g goes calls last later next w files done (call ∷ rest) before spl
     let many : length (items_in (call ∷ rest)) ≡ length call + length (items_in rest) = length-append call (items_in rest) in
     let made = call_made g goes w files done call b (All-head (GoesThrough g.sq) call rest fit) (omega (arith, room, many)) in
     let w2 : World = with_call_published g w call in
-    let v : World = after_call w2 (length call) in
+    let v : World = after_call g w2 (length call) in
     let same : length (entries_from w2.submission (length call)) ≡ length (entries_in call) = ap length made.1 in
     let longer : length v.requests.accepted ≡ length w.requests.accepted + length (entries_from w2.submission (length call)) = length-append w.requests.accepted (entries_from w2.submission (length call)) in
     subst (Made g calls last) (append_assoc before (move.Accept ∷ []) later) (next v files (done ++ call ∷ []) rest (before ++ move.Accept ∷ []) (append_assoc done (call ∷ []) rest ∙ split) made.0 (All-tail (GoesThrough g.sq) call rest fit) (omega (arith, room, many, same, longer, few_entries call))
     (subst (λ es. after_moves (record { requests = with_call w.requests es; posted = w.completions.posted; files = files; left = map entries_in rest }) later ≡ Some last) (sym made.1) leads))
 
 issue_step : (g : Setup) (calls : List (List Published)) (last : Moment) (n : ℕ) (later : List Move)
-    → AreMade g calls last later → AreMade g calls last (move.Issue n ∷ later)
+    → AreMade (by_manual g) calls last later → AreMade (by_manual g) calls last (move.Issue n ∷ later)
 issue_step g calls last n later next w files done rest before split b fit room leads = by_test (is_issuable w.requests n) refl leads where
-  by_test : (can : Bool) → is_issuable w.requests n ≡ can → option_and_then (λ m. after_moves m later) (if can then Some (issued (moment_of w files (map entries_in rest)) n) else None) ≡ Some last → Made g calls last (before ++ move.Issue n ∷ later)
+  by_test : (can : Bool) → is_issuable w.requests n ≡ can → option_and_then (λ m. after_moves m later) (if can then Some (issued (moment_of w files (map entries_in rest)) n) else None) ≡ Some last → Made (by_manual g) calls last (before ++ move.Issue n ∷ later)
   by_test false is leads = absurd cc
   by_test true is leads =
       let r : Requests = w.requests in
-      let a : Answer = issue_answer w n in
-      let v : World = happens g w (step.Issue n) a in
+      let a : Answer = issue_answer (by_manual g) w n in
+      let v : World = happens (by_manual g) w (step.Issue n) a in
       let m = issue_made g w n files (map entries_in rest) (is_outstanding r n) (is_running r n) (is_doomed r n) (is_ready r n) (is_cancel (entry_of r n)) is in
-      let there : Reaches g v files (before ++ move.Issue n ∷ []) = subst (Reaches g v files) (m.moves before) (step_on g w files (step.Issue n) a b.reaches tt refl m.not_again) in
-      subst (Made g calls last) (append_assoc before (move.Issue n ∷ []) later) (next v files done rest (before ++ move.Issue n ∷ []) split (between_still g w v files files done b m.aside there) fit
+      let there : Reaches (by_manual g) v files (before ++ move.Issue n ∷ []) = subst (Reaches (by_manual g) v files) (m.moves before) (step_on (by_manual g) w files (step.Issue n) a b.reaches tt refl m.not_again) in
+      subst (Made (by_manual g) calls last) (append_assoc before (move.Issue n ∷ []) later) (next v files done rest (before ++ move.Issue n ∷ []) split (between_still (by_manual g) w v files files done b m.aside there) fit
       (subst (λ xs. length xs + length (items_in rest) ≤ 2 ^ 63 - 1) (sym m.aside.accepted) room)
       (subst (λ x. after_moves x later ≡ Some last) (sym m.shows) leads))
 
 finish_step : (g : Setup) (calls : List (List Published)) (last : Moment) (n : ℕ) (later : List Move)
-    → AreMade g calls last later → AreMade g calls last (move.Finish n ∷ later)
+    → AreMade (by_manual g) calls last later → AreMade (by_manual g) calls last (move.Finish n ∷ later)
 finish_step g calls last n later next w files done rest before split b fit room leads = by_test (is_finishable w.requests n) refl leads where
-  by_test : (can : Bool) → is_finishable w.requests n ≡ can → option_and_then (λ m. after_moves m later) (if can then Some (finished (moment_of w files (map entries_in rest)) n) else None) ≡ Some last → Made g calls last (before ++ move.Finish n ∷ later)
+  by_test : (can : Bool) → is_finishable w.requests n ≡ can → option_and_then (λ m. after_moves m later) (if can then Some (finished (moment_of w files (map entries_in rest)) n) else None) ≡ Some last → Made (by_manual g) calls last (before ++ move.Finish n ∷ later)
   by_test false is leads = absurd cc
   by_test true is leads =
       let running : is_running w.requests n ≡ true = (and_parts (nat_lt n (length w.requests.accepted)) (is_running w.requests n) is).1 in
       let o : Outcome = result_of files (operation_of (entry_of w.requests n)) in
-      let v : World = happens g w (step.Finish n) (ends_as_called files w n) in
+      let v : World = happens (by_manual g) w (step.Finish n) (ends_as_called files w n) in
       let files' : List FileContents = after files (operation_of (entry_of w.requests n)) o.res in
       let aside : Aside w v = record {
         submission = refl;
@@ -233,20 +234,20 @@ finish_step g calls last n later next w files done rest before split b fit room 
       } in
       let shows : moment_of v files' (map entries_in rest) ≡ finished (moment_of w files (map entries_in rest)) n =
       ap (λ posted. record { requests = v.requests; posted = posted; files = files'; left = map entries_in rest }) (posted_by_end g.cq w.completions (entry_of w.requests n) o.res o.bytes) in
-      subst (Made g calls last) (append_assoc before (move.Finish n ∷ []) later) (next v files' done rest (before ++ move.Finish n ∷ []) split (between_still g w v files files' done b aside (finish_on g w files n b.reaches running)) fit room
+      subst (Made (by_manual g) calls last) (append_assoc before (move.Finish n ∷ []) later) (next v files' done rest (before ++ move.Finish n ∷ []) split (between_still (by_manual g) w v files files' done b aside (finish_on (by_manual g) w files n b.reaches running)) fit room
       (subst (λ x. after_moves x later ≡ Some last) (sym shows) leads))
 
 pub moves_made : (g : Setup) → g.stops ≡ false → (calls : List (List Published)) (last : Moment) (moves : List Move)
-    → AreMade g calls last moves
+    → AreMade (by_manual g) calls last moves
 moves_made g goes calls last [] = λ w files done rest before split b fit room leads. record {
   there = w;
   files = files;
   done = done;
   rest = rest;
-  between = subst (Between g w files done) (sym (append-nil before)) b;
+  between = subst (Between (by_manual g) w files done) (sym (append-nil before)) b;
   shows = ap (λ o. unwrap_or o last) leads;
   split = split;
 }
-moves_made g goes calls last (move.Accept ∷ later) = accept_made g goes calls last later (moves_made g goes calls last later)
+moves_made g goes calls last (move.Accept ∷ later) = accept_made (by_manual g) goes calls last later (moves_made g goes calls last later)
 moves_made g goes calls last (move.Issue n ∷ later) = issue_step g calls last n later (moves_made g goes calls last later)
 moves_made g goes calls last (move.Finish n ∷ later) = finish_step g calls last n later (moves_made g goes calls last later)

@@ -1,5 +1,5 @@
 -- The laws of `laws.rt`: from `history_comes`, and from `moves_made` with all completions reaped behind it.
-use Rattle.std.proofs.Common.{◌≡◌, ℕ, ◌%◌, ◌^◌, ◌≤◌, List, [], ◌∷◌, ◌++◌, length, take, drop, map, sum, refl, sym, ap, ap₂, ◌∙◌, arith, append-nil}
+use Rattle.std.proofs.Common.{◌≡◌, false, ℕ, ◌%◌, ◌^◌, ◌≤◌, List, [], ◌∷◌, ◌++◌, length, take, drop, map, sum, refl, sym, ap, ap₂, ◌∙◌, arith, append-nil}
 use Rattle.std.proofs.Math.Seq.{take-length, take-append_seam, drop-append_seam}
 use Rattle.std.proofs.lemmas.List.{take-map}
 use Rattle.std.proofs.lemmas.Nat.{pow_pos}
@@ -10,7 +10,8 @@ use Rattle.uring_entry.specs.Requests.{outstanding_in}
 use Rattle.uring_files.specs.Contents.{FileContents, empty_files}
 use Rattle.uring_core.specs.World.{World, at_first}
 use Rattle.uring_core.specs.CalledFor.{files_of}
-use Rattle.uring_core.specs.Histories.{world}
+use Rattle.uring_core.specs.Histories.{world, by_manual}
+use Rattle.uring_core.proofs.ByRules.{of_manual}
 use Rattle.uring_moves.specs.Moments.{Moment, starting, after_moves}
 use Rattle.uring_moves.specs.Outcomes.{CallsOutcome, ComesTo, items_in, entries_in, bad_in}
 use Rattle.uring_moves.specs.Recorded.{moves_in}
@@ -52,11 +53,11 @@ dropped_so : (l : Submission) (calls : List (List Published)) → published_item
     → l.calls ≡ map length calls → dropped l ≡ bad_in (items_in calls) % 2 ^ 32
 dropped_so l calls published cut = ap (λ n. n % 2 ^ 32) (sym (dropped_back (take (taken l) l.published)) ∙ ap bad_in (sym (take-map item (taken l) l.published) ∙ all_taken l calls published cut))
 
-pub histories_are_moves : (g : Setup) → HistoriesAreMoves g
-histories_are_moves g calls o outcome =
-    let c : ComesTo g calls outcome.history o = outcome.comes in
-    let w : World = world g outcome.history in
-    let files : List FileContents = files_of g w in
+histories_by_manual : (g : Setup) → HistoriesAreMoves (by_manual g)
+histories_by_manual g calls o outcome =
+    let c : ComesTo (by_manual g) calls outcome.history o = outcome.comes in
+    let w : World = world (by_manual g) outcome.history in
+    let files : List FileContents = files_of (by_manual g) w in
     let m = (history_comes g outcome.history c.lawful c.refuses_none).come in
     let same : m.calls ≡ calls = same_cut m.calls calls (m.cut ∙ c.cut) (m.items ∙ all_taken w.submission calls c.published c.cut) in
     let begins : map entries_in m.calls ++ [] ≡ map entries_in calls = append-nil (map entries_in m.calls) ∙ ap (map entries_in) same in
@@ -64,13 +65,16 @@ histories_are_moves g calls o outcome =
       leads = record {
         moves = moves_in outcome.history;
         last = moment_of w files [];
-        leads = ap (λ xs. after_moves (starting g xs) (moves_in outcome.history)) (sym begins) ∙ m.leads [];
+        leads = ap (λ xs. after_moves (starting (by_manual g) xs) (moves_in outcome.history)) (sym begins) ∙ m.leads [];
         over = record { none_left = refl; none_outstanding = c.none_outstanding };
         posts = c.posted;
         leaves = c.files;
       };
       dropped_words = sym c.dropped_words ∙ dropped_so w.submission calls c.published c.cut;
     }
+
+pub histories_are_moves : (g : Setup) → g.linux ≡ false → HistoriesAreMoves g
+histories_are_moves = of_manual HistoriesAreMoves histories_by_manual
 
 -- From moves to histories.
 
@@ -118,18 +122,22 @@ comes_to g w files calls o v published cut none_outstanding posted leaves droppe
       reaped = ap (λ x. x.completions.reaped) makes ∙ (v.reaped ∙ posted);
     }
 
-pub moves_are_histories : (g : Setup) → MovesAreHistories g
-moves_are_histories g calls o whole to =
+moves_by_manual : (g : Setup) → MovesAreHistories (by_manual g)
+moves_by_manual g calls o whole to =
     let lead = to.leads in
-    let m = moves_made g whole.goes_on calls lead.last lead.moves at_first (empty_files g.files) [] calls [] refl (first_between g) whole.fit (omega (arith, whole.unspent)) lead.leads in
+    let m = moves_made g whole.goes_on calls lead.last lead.moves at_first (empty_files g.files) [] calls [] refl (first_between (by_manual g)) whole.fit (omega (arith, whole.unspent)) lead.leads in
     let b = m.between in
     let w : World = m.there in
     let rest : m.rest ≡ [] = none_left m.rest (ap (λ (x : Moment). x.left) m.shows ∙ lead.over.none_left) in
     let done : m.done ≡ calls = sym (append-nil m.done) ∙ ap (λ xs. m.done ++ xs) (sym rest) ∙ m.split in
     let some : 1 ≤ g.cq = omega (arith, whole.limits.cq_holds_sq, some_size g.sq whole.limits.sq_power) in
-    let v : AllReaped g w m.files lead.moves = all_reaped g w.completions.posted w m.files some b.reaches (b.none_stored ∙ ap length (sym b.none_reaped)) (ap (λ xs. xs ++ w.completions.posted) b.none_reaped) in
-    comes_to g w m.files calls o v (b.published ∙ ap items_in done) (b.cut ∙ ap (map length) done)
+    let v : AllReaped (by_manual g) w m.files lead.moves = all_reaped (by_manual g) w.completions.posted w m.files some b.reaches (b.none_stored ∙ ap length (sym b.none_reaped)) (ap (λ xs. xs ++ w.completions.posted) b.none_reaped) in
+    comes_to (by_manual g) w m.files calls o v (b.published ∙ ap items_in done) (b.cut ∙ ap (map length) done)
     (ap (λ (x : Moment). outstanding_in x.requests) m.shows ∙ lead.over.none_outstanding)
     (ap (λ (x : Moment). x.posted) m.shows ∙ lead.posts)
     (ap (λ (x : Moment). x.files) m.shows ∙ lead.leaves)
     to.dropped_words
+
+pub moves_are_histories : (g : Setup) → MovesAreHistories g
+moves_are_histories g calls o whole to =
+    of_manual MovesAreHistories moves_by_manual g whole.manual calls o whole to

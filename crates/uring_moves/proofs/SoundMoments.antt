@@ -6,7 +6,7 @@ use Rattle.std.specs.Prelude.{unwrap_or}
 use Rattle.std.proofs.lemmas.Bool.{and_from, and_parts, both_ways, eqb-true, false_from_ne_true}
 use Rattle.uring_entry.specs.Setup.{Setup}
 use Rattle.uring_entry.specs.Layout.{Sqe}
-use Rattle.uring_entry.specs.Preparation.{fault_of, is_faulty, is_cancel, operation_of}
+use Rattle.uring_entry.specs.Preparation.{fault_of, is_cancel, operation_of}
 use Rattle.uring_entry.specs.Requests.{Requests, no_request, entry_of, has_started, is_outstanding, is_running, is_doomed, is_ready, is_issuable, doomed_result, cancel_result, with_call, with_started}
 use Rattle.uring_entry.proofs.RequestLemmas.{is_doomed_own_fault}
 use Rattle.uring_files.specs.Operations.{IsForFiles, result_of}
@@ -14,20 +14,22 @@ use Rattle.uring_files.proofs.Prepared.{prepared}
 use Rattle.uring_core.proofs.Changes.{not_some}
 use Rattle.uring_core.proofs.ListCounts.{any_new}
 use Rattle.uring_core.proofs.Running.{entry_stays}
-use Rattle.uring_core.proofs.SoundRequests.{IsSoundRequests, first_requests, start_sound}
-use Rattle.uring_core.proofs.RequestEnds.{finish_sound, doom_sound, cancel_sound}
-use Rattle.uring_core.proofs.Groups.{call_sound}
+use Rattle.uring_core.proofs.SoundRequests.{IsSoundRequests, IsSoundManual, first_requests, first_manual, start_sound, start_manual, outstanding_tells}
+use Rattle.uring_core.proofs.RequestEnds.{finish_sound, finish_manual, issued_end_sound, doom_manual, cancel_manual}
+use Rattle.uring_core.proofs.Groups.{call_sound, call_manual}
 use Rattle.uring_moves.specs.Moments.{Moment, starting, started, ended_at_once, issued, finished, is_finishable, accepted, moved, after_moves}
 use Rattle.uring_moves.specs.declared.move_of_calls.Move.{Move}
 use Rattle.uring_moves.specs.declared.move_of_calls.Move.TheVariants as move
 
 pub record IsSoundMoment (r : Requests) : Type 0 where
   pub sound : IsSoundRequests r
+  pub manual : IsSoundManual r
   pub no_cancel : (n : ℕ) → has_started r n ≡ true → is_cancel (entry_of r n) ≡ false
 
 pub first_moment : IsSoundMoment no_request
 first_moment = record {
   sound = first_requests;
+  manual = first_manual;
   no_cancel = λ n e. absurd (let f : false ≡ true = e in cc);
 }
 
@@ -35,6 +37,7 @@ call_stays_sound : (r : Requests) (entries : List Sqe) → IsSoundMoment r
     → IsSoundMoment (with_call r entries)
 call_stays_sound r entries i = record {
   sound = call_sound r entries i.sound.cut_at_end i.sound;
+  manual = call_manual r entries i.sound.cut_at_end i.sound i.manual;
   no_cancel = λ n e. ap is_cancel (entry_stays r entries n (i.sound.started_accepted n e)) ∙ i.no_cancel n e;
 }
 
@@ -42,7 +45,8 @@ start_stays_sound : (r : Requests) (n : ℕ) → is_outstanding r n ≡ true →
     → is_doomed r n ≡ false → is_ready r n ≡ true → is_cancel (entry_of r n) ≡ false
     → IsSoundMoment r → IsSoundMoment (with_started r n)
 start_stays_sound r n outstanding idle spared ready other i = record {
-  sound = start_sound r n outstanding idle spared ready i.sound;
+  sound = start_sound r n outstanding idle (false_from_ne_true _ (λ faulty. both_ways _ spared (is_doomed_own_fault r n (outstanding_tells r n outstanding).0 faulty))) i.sound;
+  manual = start_manual r n spared ready i.manual;
   no_cancel = λ m e. elim (any_new (λ k. k == m) r.started n e) [ inl old ↦ i.no_cancel m old | inr new ↦ subst (λ k. is_cancel (entry_of r k) ≡ false) (eqb-true n m new) other ];
 }
 
@@ -53,9 +57,10 @@ issued_sound : (m : Moment) (n : ℕ) (running doomed ready cancel : Bool)
     → (not running && (doomed || ready)) ≡ true → IsSoundMoment m.requests
     → IsSoundMoment (if doomed then ended_at_once m n (doomed_result m.requests n) else (if cancel then ended_at_once m n (cancel_result m.requests n) else started m n)).requests
 issued_sound m n false true ready cancel outstanding idle doomed e f can i =
-    record { sound = doom_sound m.requests n outstanding i.sound; no_cancel = i.no_cancel }
+    record { sound = issued_end_sound false m.requests n (doomed_result m.requests n) outstanding i.sound; manual = doom_manual m.requests n outstanding i.manual; no_cancel = i.no_cancel }
 issued_sound m n false false true true outstanding idle spared ready f can i = record {
-  sound = cancel_sound m.requests n outstanding spared ready i.sound;
+  sound = issued_end_sound false m.requests n (cancel_result m.requests n) outstanding i.sound;
+  manual = cancel_manual m.requests n outstanding spared ready i.manual;
   no_cancel = i.no_cancel;
 }
 issued_sound m n false false true false outstanding idle spared ready other can i =
@@ -86,7 +91,7 @@ one_sound m (move.Finish n) next e i = by_test (is_finishable m.requests n) refl
       let running : is_running r n ≡ true = (and_parts (nat_lt n (length r.accepted)) (is_running r n) is).1 in
       let o = result_of m.files (operation_of (entry_of r n)) in
       subst (λ (x : Moment). IsSoundMoment x.requests) (ap (λ o. unwrap_or o next) e)
-      (record { sound = finish_sound r n o.res o.bytes running i.sound; no_cancel = i.no_cancel })
+      (record { sound = finish_sound r n o.res o.bytes running i.sound; manual = finish_manual r n o.res o.bytes running i.sound i.manual; no_cancel = i.no_cancel })
 
 sound_on : (moves : List Move) (m last : Moment) → after_moves m moves ≡ Some last
     → IsSoundMoment m.requests → IsSoundMoment last.requests
@@ -107,6 +112,4 @@ pub asks_files : (r : Requests) (n : ℕ) → IsSoundMoment r → is_running r n
     → IsForFiles (operation_of (entry_of r n))
 asks_files r n i running =
     let started : has_started r n ≡ true = (and_parts (has_started r n) _ running).0 in
-    let right : is_faulty (entry_of r n) ≡ false =
-    false_from_ne_true _ (λ faulty. both_ways _ (i.sound.started_free n started).spared (is_doomed_own_fault r n (i.sound.started_accepted n started) faulty)) in
-    prepared (entry_of r n) (not_some (fault_of (entry_of r n)) right) (i.no_cancel n started)
+    prepared (entry_of r n) (not_some (fault_of (entry_of r n)) (i.sound.started_right n started)) (i.no_cancel n started)

@@ -1,4 +1,4 @@
--- Lawful histories and moves give calls the same outcomes.
+-- Lawful histories and moves give calls the same outcomes, by the manual pages' rules.
 use Rattle.std.specs.Prelude.{◌≡◌, ◌-◌, ◌^◌, ◌≤◌, ℕ, false, List, length, All}
 use Rattle.uring_entry.specs.Setup.{Setup, IsWithinLimits}
 use Rattle.uring_entry.specs.Submission.{Published, IsItem}
@@ -15,10 +15,11 @@ pub record GoesThrough (size : ℕ) (call : List Published) : Type 0 where
   pub few : length call ≤ size
   pub are_items : All (IsItem size) call
 
--- calls that a ring takes in whole: it goes on after an entry with a fault, each call goes through it at once, and the numbers aren't spent
+-- calls that a ring takes in whole: it goes on after an entry with a fault, its rules are the manual pages', each call goes through it at once, and the numbers aren't spent
 pub record AreTakenWhole (g : Setup) (calls : List (List Published)) : Type 0 where
   pub limits : IsWithinLimits g
   pub goes_on : g.stops ≡ false
+  pub manual : g.linux ≡ false
   pub fit : All (GoesThrough g.sq) calls
   pub unspent : length (items_in calls) ≤ 2 ^ 63 - 1
 

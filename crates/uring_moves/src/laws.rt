@@ -1,16 +1,17 @@
 //! Lawful histories and moves give calls the same outcomes: laws of the definitions alone.
 
+ghost use Rattle.std.specs.Prelude.{◌≡◌, false};
 ghost use Rattle.uring_entry.specs.Setup.{Setup};
 ghost use Rattle.uring_moves.specs.Laws.{HistoriesAreMoves, MovesAreHistories};
 ghost use Rattle.uring_moves.specs.Prompt.{PromptMovesLead};
 ghost use Rattle.uring_moves.specs.Direct.{DirectMovesLead};
 
-/// Each outcome that a lawful history gives calls is one that moves give them: exactly the accepting of a call, and each issue and finish that isn't refused, is a move, and no other step changes anything of it.
+/// By the manual pages' rules each outcome that a lawful history gives calls is one that moves give them: exactly the accepting of a call, and each issue and finish that isn't refused, is a move, and no other step changes anything of it.
 pub fn histories_are_moves()
-    ensures { (g : Setup) → HistoriesAreMoves g }
+    ensures { (g : Setup) → g.linux ≡ false → HistoriesAreMoves g }
 {}
 
-/// Each outcome that moves give calls is that of a lawful history, in which all completions were reaped, if the ring takes each call in whole.
+/// Each outcome that moves give calls is that of a lawful history, in which all completions were reaped, if the ring takes each call in whole, and its rules are the manual pages'.
 pub fn moves_are_histories()
     ensures { (g : Setup) → MovesAreHistories g }
 {}

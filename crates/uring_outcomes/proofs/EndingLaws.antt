@@ -7,5 +7,5 @@ use Rattle.uring_outcomes.specs.Laws.{outcome_of, EndingsAreOutcomes}
 pub endings_are_outcomes : (g : Setup) → EndingsAreOutcomes g
 endings_are_outcomes g calls found whole all e = (
   λ there. (moves_are_histories g calls (outcome_of calls e) whole (record { leads = (all e).0 there; dropped_words = refl })).outcome,
-  λ comes. (all e).1 (histories_are_moves g calls (outcome_of calls e) comes).leads,
+  λ comes. (all e).1 (histories_are_moves g whole.manual calls (outcome_of calls e) comes).leads,
 )

@@ -33,7 +33,7 @@ pub struct Found {
     pub is_all: bool,
 }
 
-/// Everything that these calls may come to on empty files of this set-up: each ending that moves lead to is in the list, once, and nothing else is. Each call has the entries that it accepts.
+/// Everything that these calls may come to on empty files of this set-up, by the manual pages' rules: each ending that moves lead to is in the list, once, and nothing else is. Each call has the entries that it accepts.
 ///
 /// `Paths`: 2^64 - 1 paths were taken, and some are left.
 /// `Spent`: the calls have more than 2^63 - 1 entries.

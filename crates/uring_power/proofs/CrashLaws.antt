@@ -1,5 +1,5 @@
 -- The laws of `laws.rt`: from `told`, and from `moves_made` with all completions reaped behind it.
-use Rattle.std.proofs.Common.{◌≡◌, ℕ, ℤ, ◌≤◌, List, [], ◌∷◌, ◌++◌, length, take, drop, map, refl, sym, subst, ap, ap₂, ◌∙◌, arith, append_assoc}
+use Rattle.std.proofs.Common.{◌≡◌, false, ℕ, ℤ, ◌≤◌, List, [], ◌∷◌, ◌++◌, length, take, drop, map, refl, sym, subst, ap, ap₂, ◌∙◌, arith, append_assoc}
 use Rattle.std.specs.Prelude.{pos, slice_index_or}
 use Rattle.std.proofs.Math.Seq.{take-append_seam, drop-append_seam}
 use Rattle.std.proofs.lemmas.List.{map-append, take-append-drop}
@@ -9,7 +9,8 @@ use Rattle.uring_entry.specs.Submission.{Submission, taken, Published, published
 use Rattle.uring_files.specs.Contents.{FileContents, empty_files}
 use Rattle.uring_core.specs.World.{World, at_first}
 use Rattle.uring_core.specs.CalledFor.{files_of}
-use Rattle.uring_core.specs.Histories.{History, world}
+use Rattle.uring_core.specs.Histories.{History, world, by_manual}
+use Rattle.uring_core.proofs.ByRules.{of_manual}
 use Rattle.uring_volume.specs.Images.{IsImage}
 use Rattle.uring_epochs.specs.Logs.{Log, empty_log, log_of}
 use Rattle.uring_moves.specs.Moments.{Moment, starting, after_moves}
@@ -56,41 +57,44 @@ left_same unit files some others left same are = record {
   each = λ place below. subst (λ (l : Log). IsImage unit [] l.volume.history (slice_index_or left place [])) (same (pos place)) (are.each place below);
 }
 
-pub histories_show_moves : (unit : ℕ) (g : Setup) → HistoriesShowMoves unit g
-histories_show_moves unit g calls c shows =
+histories_by_manual : (unit : ℕ) (g : Setup) → HistoriesShowMoves unit (by_manual g)
+histories_by_manual unit g calls c shows =
     let h : History = shows.history in
-    let b : HasBegun g calls h = shows.begun in
-    let t : IsTold g h = told g h b.lawful b.refuses_none in
+    let b : HasBegun (by_manual g) calls h = shows.begun in
+    let t : IsTold (by_manual g) h = told g h b.lawful b.refuses_none in
     let m = t.has.come in
-    let w : World = world g h in
+    let w : World = world (by_manual g) h in
     let l : Submission = w.submission in
     let items : items_in m.calls ++ (drop (taken l) (published_items l) ++ b.unpublished) ≡ items_in calls = ap (λ xs. xs ++ (drop (taken l) (published_items l) ++ b.unpublished)) m.items ∙ sym (append_assoc (take (taken l) (published_items l)) (drop (taken l) (published_items l)) b.unpublished) ∙ ap (λ xs. xs ++ b.unpublished) (take-append-drop (taken l) (published_items l)) ∙ b.published in
     let r : Rest m.calls calls = first_of_cut m.calls calls b.later (drop (taken l) (published_items l) ++ b.unpublished) (ap (λ xs. xs ++ b.later) m.cut ∙ b.cut) items in
     let begins : map entries_in m.calls ++ map entries_in r.rest ≡ map entries_in calls = sym (map-append entries_in m.calls r.rest) ∙ ap (map entries_in) r.split in
     record {
       moves = moves_in h;
-      last = moment_of w (files_of g w) (map entries_in r.rest);
-      leads = ap (λ xs. after_moves (starting g xs) (moves_in h)) (sym begins) ∙ m.leads (map entries_in r.rest);
+      last = moment_of w (files_of (by_manual g) w) (map entries_in r.rest);
+      leads = ap (λ xs. after_moves (starting (by_manual g) xs) (moves_in h)) (sym begins) ∙ m.leads (map entries_in r.rest);
       posts = shows.posted;
-      left = left_same unit g.files (λ fd. log_of unit g fd h) (λ fd. log_along (moves_in h) (starting g (map entries_in calls)) (empty_log unit fd)) c.left (λ fd. sym (t.logs unit fd (map entries_in r.rest)) ∙ ap (λ xs. log_along (moves_in h) (starting g xs) (empty_log unit fd)) begins) shows.left;
+      left = left_same unit g.files (λ fd. log_of unit (by_manual g) fd h) (λ fd. log_along (moves_in h) (starting (by_manual g) (map entries_in calls)) (empty_log unit fd)) c.left (λ fd. sym (t.logs unit fd (map entries_in r.rest)) ∙ ap (λ xs. log_along (moves_in h) (starting (by_manual g) xs) (empty_log unit fd)) begins) shows.left;
     }
+
+pub histories_show_moves : (unit : ℕ) (g : Setup) → g.linux ≡ false → HistoriesShowMoves unit g
+histories_show_moves unit g is = of_manual (HistoriesShowMoves unit) (histories_by_manual unit) g is
 
 -- From moves to histories.
 
 -- what a history shows that has made this world by these moves, in which these calls were taken and those are left
-seen : (unit : ℕ) (g : Setup) (w : World) (files : List FileContents) (calls done rest : List (List Published)) (c : Crash) (can : CanShow unit g (map entries_in calls) c)
-    → AllReaped g w files can.moves → published_items w.submission ≡ items_in done
+seen : (unit : ℕ) (g : Setup) (w : World) (files : List FileContents) (calls done rest : List (List Published)) (c : Crash) (can : CanShow unit (by_manual g) (map entries_in calls) c)
+    → AllReaped (by_manual g) w files can.moves → published_items w.submission ≡ items_in done
     → w.submission.calls ≡ map length done → done ++ rest ≡ calls → w.completions.posted ≡ c.posted
-    → IsSeen unit g calls c
+    → IsSeen unit (by_manual g) calls c
 seen unit g w files calls done rest c can v published cut split posted =
     let h : History = v.reaches.history in
-    let makes : world g h ≡ v.there = v.reaches.makes in
-    let l : (world g h).submission ≡ w.submission = ap (λ x. x.submission) makes ∙ v.submission in
-    let t : IsTold g h = told g h v.reaches.lawful v.reaches.refuses_none in
+    let makes : world (by_manual g) h ≡ v.there = v.reaches.makes in
+    let l : (world (by_manual g) h).submission ≡ w.submission = ap (λ x. x.submission) makes ∙ v.submission in
+    let t : IsTold (by_manual g) h = told g h v.reaches.lawful v.reaches.refuses_none in
     let m = t.has.come in
-    let published_then : published_items (world g h).submission ≡ items_in done = ap published_items l ∙ published in
-    let cut_then : (world g h).submission.calls ≡ map length done = ap (λ (x : Submission). x.calls) l ∙ cut in
-    let taken_so : m.calls ≡ done = same_cut m.calls done (m.cut ∙ cut_then) (m.items ∙ all_taken (world g h).submission done published_then cut_then) in
+    let published_then : published_items (world (by_manual g) h).submission ≡ items_in done = ap published_items l ∙ published in
+    let cut_then : (world (by_manual g) h).submission.calls ≡ map length done = ap (λ (x : Submission). x.calls) l ∙ cut in
+    let taken_so : m.calls ≡ done = same_cut m.calls done (m.cut ∙ cut_then) (m.items ∙ all_taken (world (by_manual g) h).submission done published_then cut_then) in
     let begins : map entries_in m.calls ++ map entries_in rest ≡ map entries_in calls = ap (λ cs. map entries_in cs ++ map entries_in rest) taken_so ∙ sym (map-append entries_in done rest) ∙ ap (map entries_in) split in
     record {
       shows = record {
@@ -104,16 +108,20 @@ seen unit g w files calls done rest c can v published cut split posted =
           cut = ap (λ xs. xs ++ map length rest) cut_then ∙ sym (map-append length done rest) ∙ ap (map length) split;
         };
         posted = ap (λ x. x.completions.posted) makes ∙ (v.posted ∙ posted);
-        left = left_same unit g.files (λ fd. log_along can.moves (starting g (map entries_in calls)) (empty_log unit fd)) (λ fd. log_of unit g fd h) c.left (λ fd. ap₂ (λ ms xs. log_along ms (starting g xs) (empty_log unit fd)) (sym v.reaches.are) (sym begins) ∙ t.logs unit fd (map entries_in rest)) can.left;
+        left = left_same unit g.files (λ fd. log_along can.moves (starting (by_manual g) (map entries_in calls)) (empty_log unit fd)) (λ fd. log_of unit (by_manual g) fd h) c.left (λ fd. ap₂ (λ ms xs. log_along ms (starting (by_manual g) xs) (empty_log unit fd)) (sym v.reaches.are) (sym begins) ∙ t.logs unit fd (map entries_in rest)) can.left;
       };
       reaped = ap (λ x. x.completions.reaped) makes ∙ (v.reaped ∙ posted);
     }
 
-pub moves_show_histories : (unit : ℕ) (g : Setup) → MovesShowHistories unit g
-moves_show_histories unit g calls c whole can =
-    let m = moves_made g whole.goes_on calls can.last can.moves at_first (empty_files g.files) [] calls [] refl (first_between g) whole.fit (omega (arith, whole.unspent)) can.leads in
+moves_by_manual : (unit : ℕ) (g : Setup) → MovesShowHistories unit (by_manual g)
+moves_by_manual unit g calls c whole can =
+    let m = moves_made g whole.goes_on calls can.last can.moves at_first (empty_files g.files) [] calls [] refl (first_between (by_manual g)) whole.fit (omega (arith, whole.unspent)) can.leads in
     let b = m.between in
     let w : World = m.there in
     let some : 1 ≤ g.cq = omega (arith, whole.limits.cq_holds_sq, some_size g.sq whole.limits.sq_power) in
-    let v : AllReaped g w m.files can.moves = all_reaped g w.completions.posted w m.files some b.reaches (b.none_stored ∙ ap length (sym b.none_reaped)) (ap (λ xs. xs ++ w.completions.posted) b.none_reaped) in
+    let v : AllReaped (by_manual g) w m.files can.moves = all_reaped (by_manual g) w.completions.posted w m.files some b.reaches (b.none_stored ∙ ap length (sym b.none_reaped)) (ap (λ xs. xs ++ w.completions.posted) b.none_reaped) in
     seen unit g w m.files calls m.done m.rest c can v b.published b.cut m.split (ap (λ (x : Moment). x.posted) m.shows ∙ can.posts)
+
+pub moves_show_histories : (unit : ℕ) (g : Setup) → MovesShowHistories unit g
+moves_show_histories unit g calls c whole can =
+    of_manual (MovesShowHistories unit) (moves_by_manual unit) g whole.manual calls c whole can

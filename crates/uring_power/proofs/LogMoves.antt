@@ -1,4 +1,4 @@
--- What a history has made of the log of a file, its moves make of it.
+-- What a history of the manual pages' rules has made of the log of a file, its moves make of it.
 -- By cases on `Change`: a request that starts begins on the log by both, one that is finished ends there, and no other event changes anything.
 use Rattle.std.proofs.Common.{◌≡◌, ℕ, ℤ, Bool, true, false, not, ◌||◌, ◌==◌, List, [], ◌∷◌, ◌++◌, map, Option, Some, None, if◌then◌else◌, refl, sym, subst, ap, ap₂, ◌∙◌, append_assoc}
 use Rattle.std.specs.Prelude.{unwrap_or}
@@ -15,7 +15,7 @@ use Rattle.uring_entry.specs.declared.operation.Outcome.{Outcome}
 use Rattle.uring_files.specs.Operations.{result_of}
 use Rattle.uring_core.specs.World.{World, happens}
 use Rattle.uring_core.specs.CalledFor.{IsLawful, files_of}
-use Rattle.uring_core.specs.Histories.{History, world}
+use Rattle.uring_core.specs.Histories.{History, world, by_manual}
 use Rattle.uring_core.specs.declared.step.Step.{Step}
 use Rattle.uring_core.specs.declared.step.Step.TheVariants as step
 use Rattle.uring_core.specs.declared.answer.Answer.{Answer}
@@ -96,11 +96,11 @@ module _ (g : Setup) (w : World) (moves : List Move) (start : Moment) (rest : Li
   by_move x last leads =
       log_more moves start (moment_of w (files_of g w) rest) last x first before (sym (ap (option_and_then (λ z. moved z x)) before) ∙ sym (one_move_more moves start x) ∙ leads)
 
-  pub event_logs : (s : Step) (a : Answer) (last : Moment) → Change g w s a → IsUnrefused g w s a
+  pub event_logs : (s : Step) (a : Answer) (last : Moment) → Change (by_manual g) w s a → IsUnrefused (by_manual g) w s a
       → after_moves start (with_event s a moves) ≡ Some last
-      → log_along (with_event s a moves) start first ≡ logged w.requests (happens g w s a).requests s a (log_along moves start first)
+      → log_along (with_event s a moves) start first ≡ logged w.requests (happens (by_manual g) w s a).requests s a (log_along moves start first)
   event_logs s a last (refuses _ _ same silent) unrefused leads =
-      ap (λ ms. log_along ms start first) (silent_makes_none s a moves silent) ∙ sym (silent_logs_none w.requests (happens g w s a).requests s a (log_along moves start first) silent)
+      ap (λ ms. log_along ms start first) (silent_makes_none s a moves silent) ∙ sym (silent_logs_none w.requests (happens (by_manual g) w s a).requests s a (log_along moves start first) silent)
   event_logs s a last (closes accepted missed head call opened all counted) unrefused leads =
       by_move move.Accept last leads
   event_logs s a last (runs n outstanding idle spared ready no_cancel) unrefused leads =
@@ -135,21 +135,21 @@ pub record IsTold (g : Setup) (h : History) : Type 0 where
   pub logs : (unit : ℕ) (fd : ℤ) (rest : List (List Sqe))
       → log_along (moves_in h) (starting g (map entries_in has.come.calls ++ rest)) (empty_log unit fd) ≡ log_of unit g fd h
 
-pub told : (g : Setup) (h : History) → IsLawful g h → RefusesNone g h → IsTold g h
-told g [] lawful unrefused = record { has = come_at_first g; logs = λ unit fd rest. refl }
+pub told : (g : Setup) (h : History) → IsLawful (by_manual g) h → RefusesNone (by_manual g) h → IsTold (by_manual g) h
+told g [] lawful unrefused = record { has = come_at_first (by_manual g); logs = λ unit fd rest. refl }
 told g ((s, a) ∷ before) lawful unrefused =
-    let t : IsTold g before = told g before lawful.1 unrefused.1 in
+    let t : IsTold (by_manual g) before = told g before lawful.1 unrefused.1 in
     let c = comes_behind g s a before lawful unrefused t.has in
-    let w : World = world g before in
-    let change : Change g w s a = change_of g w s a (lawful_apart g ((s, a) ∷ before) lawful).0 in
+    let w : World = world (by_manual g) before in
+    let change : Change (by_manual g) w s a = change_of (by_manual g) w s a (lawful_apart (by_manual g) ((s, a) ∷ before) lawful).0 in
     record {
       has = record { first = t.has.come.calls; come = c };
       logs = λ unit fd rest.
           let behind : List (List Sqe) = map entries_in c.more ++ rest in
           let same : map entries_in c.calls ++ rest ≡ map entries_in t.has.come.calls ++ behind = ap (λ cs. map entries_in cs ++ rest) c.grows ∙ ap (λ xs. xs ++ rest) (map-append entries_in t.has.come.calls c.more) ∙ append_assoc (map entries_in t.has.come.calls) (map entries_in c.more) rest in
-          let start : Moment = starting g (map entries_in t.has.come.calls ++ behind) in
-          let leads : after_moves start (with_event s a (moves_in before)) ≡ Some (moment_of (world g ((s, a) ∷ before)) (files_of g (world g ((s, a) ∷ before))) rest) = subst (λ xs. after_moves (starting g xs) (with_event s a (moves_in before)) ≡ Some (moment_of (world g ((s, a) ∷ before)) (files_of g (world g ((s, a) ∷ before))) rest)) same (c.leads rest) in
-          ap (λ xs. log_along (with_event s a (moves_in before)) (starting g xs) (empty_log unit fd)) same
+          let start : Moment = starting (by_manual g) (map entries_in t.has.come.calls ++ behind) in
+          let leads : after_moves start (with_event s a (moves_in before)) ≡ Some (moment_of (world (by_manual g) ((s, a) ∷ before)) (files_of (by_manual g) (world (by_manual g) ((s, a) ∷ before))) rest) = subst (λ xs. after_moves (starting (by_manual g) xs) (with_event s a (moves_in before)) ≡ Some (moment_of (world (by_manual g) ((s, a) ∷ before)) (files_of (by_manual g) (world (by_manual g) ((s, a) ∷ before))) rest)) same (c.leads rest) in
+          ap (λ xs. log_along (with_event s a (moves_in before)) (starting (by_manual g) xs) (empty_log unit fd)) same
           ∙ event_logs g w (moves_in before) start behind (empty_log unit fd) (t.has.come.leads behind) s a _ change unrefused.0 leads
-          ∙ ap (logged w.requests (happens g w s a).requests s a) (t.logs unit fd behind);
+          ∙ ap (logged w.requests (happens (by_manual g) w s a).requests s a) (t.logs unit fd behind);
     }

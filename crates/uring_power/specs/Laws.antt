@@ -1,4 +1,4 @@
--- Behind lawful histories and behind moves, a power failure may show the same of calls.
+-- Behind lawful histories of the manual pages' rules and behind moves, a power failure may show the same of calls.
 use Rattle.std.specs.Prelude.{◌≡◌, ℕ, List, map}
 use Rattle.uring_entry.specs.Setup.{Setup}
 use Rattle.uring_entry.specs.Submission.{Published}

@@ -2,6 +2,7 @@ pub mod Tables
 pub mod TableLaws
 pub mod Registering
 pub mod Restricting
+pub mod Holding
 pub mod Issuing
 pub mod IssuingLaws
 pub mod Telling

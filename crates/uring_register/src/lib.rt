@@ -10,6 +10,7 @@ mod eventfd;
 mod group;
 mod group_laws;
 mod group_rows;
+mod holding;
 mod issuer;
 mod issuer_laws;
 mod registering;
@@ -35,6 +36,7 @@ pub use group_laws::{
     takes_no_more,
 };
 pub use group_rows::group_argument_fault;
+pub use holding::{Telling, behind_telling, holding_fault, telling_fault};
 pub use issuer::Issuer;
 pub use issuer_laws::{disabled_has_none, keeps_its_issuer, knows_its_issuer};
 pub use registering::{Row, buffer_row, file_row, updated};

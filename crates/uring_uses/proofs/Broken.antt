@@ -3,13 +3,11 @@ use Rattle.std.proofs.Common.{◌≡◌, ◌≢◌, ℕ, ◌+◌, ◌<◌, ◌�
 use Rattle.std.proofs.lemmas.Bool.{and_parts, and_left, and_right, and_from, or_right, cases_eq, cases_Bool, not-true}
 use Rattle.uring_entry.specs.Setup.{Setup}
 use Rattle.uring_entry.specs.Preparation.{is_cancel}
-use Rattle.uring_entry.specs.Requests as manual
 use Rattle.uring_entry.specs.Requests.{Requests, entry_of, has_ended, is_outstanding, is_running, is_last, is_joined, is_behind_failure, no_bytes, with_ended}
 use Rattle.uring_entry.proofs.BelowLemmas.{some_below_none}
 use Rattle.uring_entry.proofs.RequestLemmas.{is_joined_yes, is_joined_inside, is_doomed_behind, has_ended_same, has_ended_other, is_running_ended_other, has_failed_same, never_success}
 use Rattle.uring_entry.proofs.EventLemmas.{is_joined_ended, is_behind_failure_from}
-use Rattle.uring_linux.specs.LinuxRequests as kernel
-use Rattle.uring_linux.specs.LinuxRequests.{LinuxRequests, is_in_turn, keeps_back}
+use Rattle.uring_linux.specs.LinuxRequests.{is_in_turn, keeps_back}
 use Rattle.uring_rules.specs.Rules.{ends_doomed, may_start, doomed_result, cancel_result}
 use Rattle.uring_core.specs.World.{World, requests_of}
 use Rattle.uring_core.specs.Histories.{History, world, IsLawfulApart}

@@ -1,14 +1,13 @@
 -- What a commit adds to a log: its record is kept, and what was kept before is.
-use Rattle.std.proofs.Common.{◌≡◌, ◌==◌, ◌<◌, ◌≤◌, ◌+◌, ℕ, Bool, true, false, not, ◌&&◌, ◌||◌, cond, List, [], ◌∷◌, ◌++◌, ◌⊎◌, length, refl, sym, subst, ap, ◌∙◌, inl, inr, arith}
+use Rattle.std.proofs.Common.{◌≡◌, ◌==◌, ◌<◌, ◌≤◌, ◌+◌, ℕ, Bool, true, false, not, ◌&&◌, ◌||◌, cond, List, [], ◌∷◌, ◌++◌, length, refl, sym, subst, ap, ◌∙◌, inl, inr, arith}
 use Rattle.std.specs.List.{list_any}
 use Rattle.std.proofs.lemmas.List.Folds.{list_any-append}
-use Rattle.std.proofs.lemmas.Bool.{and_from, and_parts, and_left, and_right, or_from, or_left, or_right, or_parts, both_ways, false_from_ne_true, cond-true, leb-true, ltb-true, eq-eqb, not_from_false}
+use Rattle.std.proofs.lemmas.Bool.{and_from, and_parts, and_left, and_right, or_from, or_left, or_right, or_parts, false_from_ne_true, cond-true, leb-true, ltb-true, eq-eqb, not_from_false}
 use Rattle.uring_volume.specs.Writes.{Write}
-use Rattle.uring_volume.specs.declared.event.SyncRange.{SyncRange}
 use Rattle.uring_volume.specs.declared.event.SyncRange.TheVariants.{Whole}
 use Rattle.uring_volume.specs.declared.event.Event.TheVariants.{WriteIssued, WriteEnded, SyncIssued, SyncEnded, SyncFailed}
-use Rattle.uring_volume.specs.Events.{History, writes, has_ended, lies_in, meets, is_before, is_covered, is_reached, is_given_up, is_safe}
-use Rattle.uring_volume.specs.Images.{IsIn, is_under}
+use Rattle.uring_volume.specs.Events.{History, has_ended, meets, is_before, is_covered, is_reached, is_given_up, is_safe}
+use Rattle.uring_volume.specs.Images.{is_under}
 use Rattle.uring_volume.specs.Laws.{IsKept}
 use Rattle.uring_volume.specs.Volume.{Volume, IsSound, is_one_of, running_writes, running_syncs, with_event, with_write, with_sync}
 use Rattle.uring_uses.specs.Stores.{EndsBy}

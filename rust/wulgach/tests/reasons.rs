@@ -1,4 +1,4 @@
-//! Why requests stand as they do: each case, each doom, each reason to wait and each fault, of a core and of a machine. And which completion ring a set-up has.
+//! Why requests stand as they do: each case, each doom and each reason to wait that the manual pages' rules have, and each fault, of a core and of a machine. And which completion ring a set-up has.
 
 use wulgach::{flags, Answer, Core, Doom, Entry, Error, Fault, Machine, Setup, Since, Step, Why};
 

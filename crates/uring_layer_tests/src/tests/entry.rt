@@ -345,12 +345,13 @@ fn sizes_are_rounded_and_limits_kept(rt: HostRuntime) {
     check(&rt, first_wrong_set_up());
 }
 
-/// Whether a set-up of one slot is told as it was asked for, also once it is to stop.
-fn is_kept(set_up: &Setup) -> [bool; 3] {
+/// Whether a set-up of one slot is told as it was asked for, also once it is to stop or to keep Linux's rules.
+fn is_kept(set_up: &Setup) -> [bool; 4] {
     let stopping = set_up.stopping();
     [
         (set_up.files(), set_up.start()) == (64, u32::MAX),
         (set_up.stops(), stopping.stops()) == (false, true),
+        (set_up.is_linux(), stopping.linux().is_linux()) == (false, true),
         (
             stopping.sq(),
             stopping.cq(),
@@ -364,7 +365,7 @@ fn is_kept(set_up: &Setup) -> [bool; 3] {
 fn a_set_up_keeps_files_and_start(rt: HostRuntime) {
     let right = match Setup::new(1, None, 64, u32::MAX) {
         Ok(set_up) => is_kept(&set_up),
-        Err(_) => [false; 3],
+        Err(_) => [false; 4],
     };
     check(&rt, first_false(&right));
 }

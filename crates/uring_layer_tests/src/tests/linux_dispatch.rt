@@ -216,7 +216,9 @@ fn reasons_beside_a_drain(dispatch: &mut LinuxDispatch) -> Result<Option<usize>,
     let drain = waits_for(dispatch, 3, 2, Since::Deferred);
     let behind = waits_for(dispatch, 4, 2, Since::Deferred);
     let refused = is_doomed_by(dispatch, 5, Doom::RefusedDrain);
-    let free = ends(dispatch, 5, -95, true) && finish(dispatch, 2) && dispatch.why(3) == Why::MayStart;
+    let free = ends(dispatch, 5, -95, true)
+        && finish(dispatch, 2)
+        && dispatch.why(3) == Why::MayStart;
     let still = waits_for(dispatch, 4, 3, Since::Deferred);
     Ok(first_false(&[running, drain, behind, refused, free, still]))
 }

@@ -1,4 +1,4 @@
-use Rattle.uring_uses.proofs.Committing.{IsCommitted, committed, commit_keeps, commit_leaves, commit_ends}
+use Rattle.uring_uses.proofs.Committing.{committed, commit_keeps, commit_leaves, commit_ends}
 use Rattle.uring_uses.proofs.store.commit.Goals as goal
 
 pub returns-clause-safe : goal.returns-clause-safe

@@ -11,4 +11,4 @@ plain sq cq files start s h =
 
 pub returns-in-Ok-clause-refused : goal.returns-in-Ok-clause-refused
 returns-in-Ok-clause-refused c = λ refused.
-    refused (record c.in-Ok.field-0 { stops = c.args.self.now.stops; linux = c.args.self.now.linux }) (plain _ _ _ _ c.in-Ok.field-0 (rw (← c.asked_cq.ensures) c.in-Ok.ensures.ok), (refl, refl))
+    refused (record c.in-Ok.field-0 { stops = c.args.self.now.stops; linux = c.args.self.now.linux }) (plain _ _ _ _ c.in-Ok.field-0 (rw (← c.asked_cq.ensures) c.in-Ok.ensures.ok), refl, refl)

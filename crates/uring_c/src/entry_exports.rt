@@ -1,0 +1,92 @@
+//! What is read of the submission ring, what the core is given of it, and what some entries come to, for C: functions of `c/wulgach_form.h`.
+ghost use Rattle.std.specs.Prelude.{◌≡◌, ◌+◌, ◌<◌, ◌^◌, is_some, unwrap_or};
+ghost use Rattle.uring_enter.specs.CoreEntries as spec;
+ghost use Rattle.uring_enter.specs.Layouts as layouts;
+ghost use Rattle.uring_enter.specs.NoOps.{result_of};
+ghost use Rattle.uring_c.specs.RingForm.{form_of_word};
+
+use uring_enter::{
+    CoreEntry, Form, Layout, Member, Submission, call_flags, core_entry_of, is_drain, is_one_chain,
+    layout_of, no_op_result, slot_of,
+};
+
+/// Whether an index word names a slot of a table of so many entries: the one of that number.
+#[unsafe(no_mangle)]
+pub extern "C" fn wulgach_names_slot(word: u32, entries: u32) -> bool
+    ensures { result ≡ is_some (spec.slot_of word entries) }
+{
+    slot_of(word, entries).is_some()
+}
+
+/// Whether two requests of a call are of one chain.
+#[unsafe(no_mangle)]
+pub extern "C" fn wulgach_is_one_chain(one: &Member, other: &Member) -> bool
+    ensures { result ≡ spec.is_one_chain one.now other.now }
+{
+    is_one_chain(one, other)
+}
+
+/// Whether the flags of an entry are those of a drain.
+#[unsafe(no_mangle)]
+pub extern "C" fn wulgach_is_drain(flags: u8) -> bool
+    ensures { result ≡ spec.is_drain flags }
+{
+    is_drain(flags)
+}
+
+/// Writes what the core is given of an entry that is this to it.
+#[unsafe(no_mangle)]
+pub extern "C" fn wulgach_core_entry_of(entry: &Submission, form: u32, made: &mut CoreEntry)
+    ensures { made.new ≡ spec.core_entry_of entry.now (form_of_word form) }
+{
+    *made = core_entry_of(entry, form_by_word(form));
+}
+
+fn form_by_word(word: u32) -> Form
+    ensures { result ≡ form_of_word word }
+{
+    match word {
+        0 => Form::Token,
+        1 => Form::Cancel,
+        _ => Form::Refused(0),
+    }
+}
+
+/// What a no-op ends with that has found what it looks for.
+#[unsafe(no_mangle)]
+pub extern "C" fn wulgach_no_op_result(entry: &Submission) -> i32
+    ensures { result ≡ result_of entry.now }
+{
+    no_op_result(entry)
+}
+
+/// Writes where the parts of a message stand in a buffer of this size, and returns true. False: what stands in front has no room.
+#[unsafe(no_mangle)]
+pub extern "C" fn wulgach_layout_of(name: u32, control: u64, size: u64, layout: &mut Layout) -> bool
+    ensures has_room { result ≡ is_some (layouts.layout_of name control size) }
+    ensures layout { layout.new ≡ unwrap_or (layouts.layout_of name control size) layout.old }
+{
+    match layout_of(name, control, size) {
+        Some(found) => {
+            *layout = found;
+            true
+        }
+        None => false,
+    }
+}
+
+/// How much of the buffer has something behind a message of so many bytes.
+#[unsafe(no_mangle)]
+pub extern "C" fn wulgach_layout_filled(layout: &Layout, came: u32) -> u64
+    ensures { layout.now.bytes + layout.now.room < 2 ^ 64 → result ≡ layouts.filled layout.now came }
+{
+    layout.filled(came)
+}
+
+/// The flags with which the call of a message is made.
+#[unsafe(no_mangle)]
+pub extern "C" fn wulgach_call_flags(entry: &Submission) -> u32
+    ensures { result ≡ layouts.call_flags entry.now }
+{
+    call_flags(entry)
+}

@@ -1,0 +1,97 @@
+//! What a set-up does, what is mapped of a ring and when it is freed, for C: functions of `c/wulgach_register.h`.
+ghost use Rattle.std.specs.Prelude.{◌≡◌};
+ghost use Rattle.uring_enter.specs.Ringing as spec;
+ghost use Rattle.uring_register.specs.Holding as holding;
+ghost use Rattle.uring_c.specs.RingForm.{word_of_region, word_of_onto, stage_of, word_of_fate, known_if};
+
+use uring_enter::{Fate, Onto, Region, Stage, fate_of, mapping_fault, next_stage, region_of};
+use uring_register::{holding_fault, telling_fault};
+
+/// The part of a ring's memory at an offset, or 0.
+#[unsafe(no_mangle)]
+pub extern "C" fn wulgach_region_of(offset: u64) -> u32
+    ensures { result ≡ word_of_region (spec.region_of offset) }
+{
+    match region_of(offset) {
+        None => 0,
+        Some(Region::Rings) => 1,
+        Some(Region::Entries) => 2,
+    }
+}
+
+/// Why so many bytes aren't mapped from an offset on, or 0.
+#[unsafe(no_mangle)]
+pub extern "C" fn wulgach_mapping_fault(size: u64, offset: u64) -> i32
+    ensures { result ≡ spec.mapping_fault size offset }
+{
+    mapping_fault(size, offset)
+}
+
+/// Returns what a set-up does behind this, which came to `res`.
+#[unsafe(no_mangle)]
+pub extern "C" fn wulgach_set_up_next(last: u32, res: i32) -> u32
+    ensures { result ≡ word_of_onto (spec.next_of (stage_of last) res) }
+{
+    onto_word(next_stage(stage(last), res))
+}
+
+fn stage(word: u32) -> Option<Stage>
+    ensures { result ≡ stage_of word }
+{
+    match word {
+        0 => Some(Stage::Reads),
+        1 => Some(Stage::AsksKernel),
+        2 => Some(Stage::Makes),
+        3 => Some(Stage::Tells),
+        _ => None,
+    }
+}
+
+fn onto_word(onto: Onto) -> u32
+    ensures { result ≡ word_of_onto onto }
+{
+    match onto {
+        Onto::Does(Stage::Reads) => 0,
+        Onto::Does(Stage::AsksKernel) => 1,
+        Onto::Does(Stage::Makes) => 2,
+        Onto::Does(Stage::Tells) => 3,
+        Onto::Fails(_) => 4,
+        Onto::Drops(_) => 5,
+        Onto::IsDone => 6,
+    }
+}
+
+/// Returns what becomes of a ring with so many calls on it once one of its descriptors is closed or another ring is made.
+#[unsafe(no_mangle)]
+pub extern "C" fn wulgach_ring_fate(is_own: bool, calls: u32, knows: bool, is_open: bool) -> u32
+    ensures { result ≡ word_of_fate (spec.fate_of is_own calls (known_if knows is_open)) }
+{
+    let known = if knows { Some(is_open) } else { None };
+    fate_word(fate_of(is_own, calls, known))
+}
+
+fn fate_word(fate: Fate) -> u32
+    ensures { result ≡ word_of_fate fate }
+{
+    match fate {
+        Fate::Stays => 0,
+        Fate::Asks => 1,
+        Fate::Goes => 2,
+    }
+}
+
+/// The fault of a descriptor that a request is to close or to register, or 0.
+#[unsafe(no_mangle)]
+pub extern "C" fn wulgach_holding_fault(fd: i32, is_ring: bool) -> i32
+    ensures { result ≡ holding.holding_fault fd is_ring }
+{
+    holding_fault(fd, is_ring)
+}
+
+/// What the row of a file ends with whose slot could be told or not.
+#[unsafe(no_mangle)]
+pub extern "C" fn wulgach_telling_fault(is_told: bool) -> i32
+    ensures { result ≡ holding.telling_fault is_told }
+{
+    telling_fault(is_told)
+}

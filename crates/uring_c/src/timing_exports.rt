@@ -1,0 +1,88 @@
+//! What becomes of a timeout's time, of a message, of a poll that is updated, and which requests a cancel waits for, for C: functions of `c/wulgach_course.h` and `c/wulgach_form.h`.
+ghost use Rattle.std.specs.Prelude.{◌≡◌, List, ◌∷◌};
+ghost use Rattle.uring_enter.specs.declared.act.Fact.{Fact};
+ghost use Rattle.uring_enter.specs.declared.timing.Timing.{Timing};
+ghost use Rattle.uring_enter.specs.Courses.{KeepsCourse};
+ghost use Rattle.uring_enter.specs.Afresh as afresh;
+ghost use Rattle.uring_enter.specs.Timings.{Happened, Starts, IsFound, Ends, was_found, runs, runs_behind};
+ghost use Rattle.uring_enter.specs.Visits as visits;
+ghost use Rattle.uring_c.specs.RingForm.{word_of_timing, word_of_visit, word_of_awaited};
+
+use uring_enter::{Awaited, Course, Member, Receiver, Timing, Visit, visit_of};
+
+/// Returns what becomes of a timeout's time when a request starts.
+#[unsafe(no_mangle)]
+pub extern "C" fn wulgach_timing_behind_start(
+    timeout: &Member,
+    request: &Member,
+    is_found: bool,
+) -> u32
+    ensures { (t : Timing) × (result ≡ word_of_timing t)
+        × ((log : List Happened) → is_found ≡ was_found timeout.now log
+        → runs_behind t (runs timeout.now log) ≡ runs timeout.now (Starts request.now ∷ log)) }
+{
+    timing_word(timeout.behind_start(request, is_found))
+}
+
+/// The same when a cancel finds a request.
+#[unsafe(no_mangle)]
+pub extern "C" fn wulgach_timing_behind_finding(timeout: &Member, request: &Member) -> u32
+    ensures { (t : Timing) × (result ≡ word_of_timing t)
+        × ((log : List Happened)
+        → runs_behind t (runs timeout.now log) ≡ runs timeout.now (IsFound request.now ∷ log)) }
+{
+    timing_word(timeout.behind_finding(request))
+}
+
+/// The same when a request has ended.
+#[unsafe(no_mangle)]
+pub extern "C" fn wulgach_timing_behind_end(timeout: &Member, request: &Member) -> u32
+    ensures { (t : Timing) × (result ≡ word_of_timing t)
+        × ((log : List Happened)
+        → runs_behind t (runs timeout.now log) ≡ runs timeout.now (Ends request.now ∷ log)) }
+{
+    timing_word(timeout.behind_end(request))
+}
+
+fn timing_word(timing: Timing) -> u32
+    ensures { result ≡ word_of_timing timing }
+{
+    match timing {
+        Timing::Stays => 0,
+        Timing::Begins => 1,
+        Timing::Stops => 2,
+    }
+}
+
+/// Returns what the sender of a message to this ring does behind one that has come to this result.
+#[unsafe(no_mangle)]
+pub extern "C" fn wulgach_visit_of(to: &Receiver, res: i32) -> u32
+    ensures { result ≡ word_of_visit (visits.visit_of to.now res) }
+{
+    match visit_of(*to, res) {
+        Visit::Nothing => 0,
+        Visit::Posts => 1,
+        Visit::Visits => 2,
+    }
+}
+
+/// Whether the update of a poll begins it afresh.
+#[unsafe(no_mangle)]
+pub extern "C" fn wulgach_course_begins_afresh(course: &Course) -> bool
+    ensures { (log : List Fact) → KeepsCourse log course.now → result ≡ afresh.begins_afresh log }
+{
+    course.begins_afresh()
+}
+
+/// Returns whether a cancel by io_uring_register(2) waits for the request.
+#[unsafe(no_mangle)]
+pub extern "C" fn wulgach_course_awaited(course: &Course) -> u32
+    ensures { (log : List Fact) → KeepsCourse log course.now
+        → result ≡ word_of_awaited (afresh.awaited log) }
+{
+    match course.awaited() {
+        Awaited::NotAwaited => 0,
+        Awaited::Runs => 1,
+        Awaited::Waits => 2,
+    }
+}

@@ -1,0 +1,17 @@
+-- What becomes of a request that an update changes, or that a cancel waits for, by what has happened to it, the newest first.
+use Rattle.std.specs.Prelude.{Bool, not, ◌&&◌, List, if◌then◌else◌}
+use Rattle.uring_enter.specs.declared.act.Fact.{Fact}
+use Rattle.uring_enter.specs.declared.afresh.Awaited.{Awaited}
+use Rattle.uring_enter.specs.declared.afresh.Awaited.TheVariants.{NotAwaited, Runs, Waits}
+use Rattle.uring_enter.specs.Courses.{has_started, has_ended, is_cancelled}
+
+-- a poll that runs is begun afresh by its update: so what is there already is told, and of one that goes on told again. io_uring_enter(2), IORING_OP_POLL_REMOVE; what Linux 6.18 was seen to do
+abbrev pub begins_afresh : List Fact → Bool
+begins_afresh log = has_started log && not (has_ended log)
+
+-- a cancel by io_uring_register(2) waits for the requests that a cancel has found, and that haven't ended: IORING_REGISTER_SYNC_CANCEL. One that hasn't started starts first, and so ends too
+abbrev pub awaited : List Fact → Awaited
+awaited log =
+    if has_ended log then NotAwaited else
+    if not (is_cancelled log) then NotAwaited else
+    if has_started log then Runs else Waits

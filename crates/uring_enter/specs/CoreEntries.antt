@@ -1,0 +1,41 @@
+-- What is read of the submission ring, and what the core is given of it. io_uring(7), Submitting I/O requests; that the core is told no more of an entry is our own rule.
+use Rattle.std.specs.Prelude.{ℕ, Bool, ◌==◌, nat_lt, Option, Some, None, if◌then◌else◌}
+use Rattle.uring_enter.specs.declared.core_entry.CoreEntry.{CoreEntry}
+use Rattle.uring_enter.specs.declared.form.Form.{Form}
+use Rattle.uring_enter.specs.declared.form.Form.TheVariants.{Token, Cancel, Refused}
+use Rattle.uring_enter.specs.declared.member.Member.{Member}
+use Rattle.uring_enter.specs.declared.submission.Submission.{Submission}
+use Rattle.uring_enter.specs.Clocks.{has_some}
+use Rattle.uring_enter.specs.Forms.{core_flags}
+
+-- the slot that an index word names in a table of so many entries: one past its end names none, and is dropped. io_uring_setup(2), struct io_sqring_offsets
+abbrev pub slot_of : ℕ → ℕ → Option ℕ
+slot_of word entries = if nat_lt word entries then Some word else None
+
+-- two requests of a call are of one chain
+abbrev pub is_one_chain : Member → Member → Bool
+is_one_chain one other = one.chain == other.chain
+
+-- IOSQE_IO_DRAIN is 2
+abbrev pub is_drain : ℕ → Bool
+is_drain flags = has_some flags 2
+
+-- the operation that the core is told: a no-op (0) stands for whatever is carried out outside of it, a cancel (14) for a cancel of its own, and 255, which it doesn't serve, for an entry with a fault
+abbrev pub code_of : Form → ℕ
+code_of Token = 0
+code_of Cancel = 14
+code_of (Refused _) = 255
+
+-- whom a cancel of the core's looks for: the user data in the place of its address
+abbrev pub target_of : Form → Submission → ℕ
+target_of Cancel e = e.addr
+target_of _ e = 0
+
+-- the core's entry of an application's
+abbrev pub core_entry_of : Submission → Form → CoreEntry
+core_entry_of e form = record {
+  code = code_of form;
+  flags = core_flags e.flags;
+  user_data = e.user_data;
+  target = target_of form e;
+}

@@ -1,0 +1,43 @@
+//! What becomes of a poll that is updated, and which requests a cancel waits for. io_uring_enter(2), IORING_OP_POLL_REMOVE; io_uring_register(2), IORING_REGISTER_SYNC_CANCEL.
+
+ghost use Rattle.std.specs.Prelude.{◌≡◌, List};
+ghost use Rattle.uring_enter.specs.declared.act.Fact.{Fact};
+ghost use Rattle.uring_enter.specs.Courses.{KeepsCourse};
+ghost use Rattle.uring_enter.specs.Afresh as spec;
+
+use crate::course::Course;
+
+/// Whether a cancel by io_uring_register(2) waits for a request.
+#[derive(Clone, Copy, Drop)]
+pub enum Awaited {
+    /// It doesn't.
+    NotAwaited,
+
+    /// It does, and the request runs.
+    Runs,
+
+    /// It does, and the request hasn't started: it starts first.
+    Waits,
+}
+
+impl Course {
+    /// Whether the update of a poll begins it afresh: it runs.
+    pub fn begins_afresh(&self) -> bool
+        ensures { (log : List Fact) → KeepsCourse log self.now → result ≡ spec.begins_afresh log }
+    {
+        self.has_started && !self.has_ended
+    }
+
+    /// Whether a cancel by io_uring_register(2) waits for the request.
+    pub fn awaited(&self) -> Awaited
+        ensures { (log : List Fact) → KeepsCourse log self.now → result ≡ spec.awaited log }
+    {
+        if self.has_ended || !self.is_cancelled {
+            Awaited::NotAwaited
+        } else if self.has_started {
+            Awaited::Runs
+        } else {
+            Awaited::Waits
+        }
+    }
+}

@@ -1,0 +1,74 @@
+//! What is read of the submission ring, and what the core is given of it. io_uring(7), Submitting I/O requests.
+
+ghost use Rattle.std.specs.Prelude.{◌≡◌};
+ghost use Rattle.uring_enter.specs.CoreEntries as spec;
+
+use crate::form::{Form, core_flags};
+use crate::member::Member;
+use crate::submission::Submission;
+
+/// An entry of the core's.
+#[repr(C)]
+#[derive(Clone, Copy, Drop)]
+pub struct CoreEntry {
+    pub user_data: u64,
+
+    /// Of a cancel: the user data that it looks for.
+    pub target: u64,
+
+    pub code: u8,
+
+    pub flags: u8,
+}
+
+/// The slot that an index word names in a table of so many entries. `None`: it names none.
+pub fn slot_of(word: u32, entries: u32) -> Option<u32>
+    ensures { result ≡ spec.slot_of word entries }
+{
+    if word < entries { Some(word) } else { None }
+}
+
+/// Whether two requests of a call are of one chain.
+pub fn is_one_chain(one: &Member, other: &Member) -> bool
+    ensures { result ≡ spec.is_one_chain one.now other.now }
+{
+    one.chain == other.chain
+}
+
+/// Whether the flags of an entry are those of a drain.
+pub fn is_drain(flags: u8) -> bool
+    ensures { result ≡ spec.is_drain flags }
+{
+    flags & 2 != 0
+}
+
+/// What the core is given of an entry.
+pub fn core_entry_of(entry: &Submission, form: Form) -> CoreEntry
+    ensures { result ≡ spec.core_entry_of entry.now form }
+{
+    CoreEntry {
+        user_data: entry.user_data,
+        target: target_of(form, entry),
+        code: code_of(form),
+        flags: core_flags(entry.flags),
+    }
+}
+
+fn code_of(form: Form) -> u8
+    ensures { result ≡ spec.code_of form }
+{
+    match form {
+        Form::Token => 0,
+        Form::Cancel => 14,
+        Form::Refused(_) => 255,
+    }
+}
+
+fn target_of(form: Form, entry: &Submission) -> u64
+    ensures { result ≡ spec.target_of form entry.now }
+{
+    match form {
+        Form::Cancel => entry.addr,
+        _ => 0,
+    }
+}

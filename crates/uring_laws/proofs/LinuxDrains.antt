@@ -1,0 +1,387 @@
+-- By Linux's rules what isn't deferred waits for no drain: whoever may start has nobody before it that a drain puts there. By what has happened, one submission call, start or end after the other.
+use Rattle.std.proofs.Common.{◌≡◌, ℕ, suc, ◌+◌, ◌-◌, ◌<◌, ◌≤◌, ℤ, min, max, length, Bool, true, false, not, ◌&&◌, ◌||◌, List, [], ◌∷◌, refl, sym, ◌∙◌, ap, subst, arith, inl, inr, length-append}
+use Rattle.std.specs.Prelude.{if◌then◌else◌, nat_le, nat_lt}
+use Rattle.std.proofs.lemmas.Bool.{cases_lt, cases_Bool, both_ways, and_left, and_right, and_from, and_parts, or_left, or_cases, or_parts, or_from, not-true, not-false, le-leb, leb-true, ltb-true, ltb-false, false_from_ne_true}
+use Rattle.uring_entry.specs.Layout.{Sqe}
+use Rattle.uring_entry.specs.Requests as manual
+use Rattle.uring_entry.specs.Requests.{Requests, entry_of, is_linked, is_drain, is_last, is_joined, is_in_group, some_member, is_draining, has_started, has_ended, is_outstanding}
+use Rattle.uring_entry.proofs.BelowLemmas.{some_below_none, some_below_some, some_below_in, some_below_out}
+use Rattle.uring_entry.proofs.RequestLemmas.{is_joined_no, is_joined_yes, entry_of_accepted_at}
+use Rattle.uring_entry.proofs.GroupEvents.{is_last_cut, is_last_cut_last}
+use Rattle.uring_linux.specs.declared.deferred.Deferred.{Deferred}
+use Rattle.uring_linux.specs.Drains.{Drains, is_in_some, is_none, still_deferred, deferred_with, with_deferred, with_ring}
+use Rattle.uring_linux.specs.LinuxRequests.{LinuxRequests, has_fault, is_in_faulty_group, is_deferred, is_alone, is_faulty_from, after_going_on, with_group, with_last_entry, with_accepted, with_cut, with_ended}
+use Rattle.uring_linux.specs.Happenings.{Happening, Call, Start, End, with_entries, made_by, MayHaveHappened}
+use Rattle.uring_linux.proofs.WindowEvents.{last_accepted, last_kept}
+use Rattle.uring_linux.proofs.Deferring.{not_alone}
+use Rattle.uring_linux.proofs.Reaching.{IsSettled, accepted_settled, all_between}
+use Rattle.uring_laws.proofs.LinuxGroups.{IsTold, AreTold, told_higher, told_push, told_still, pushed_new, pushed_old, gone_calm, left_calm}
+use Rattle.uring_laws.proofs.LinuxKept.{HasDrain, Waits, KeepsGroups, accepted_keeps, cut_keeps, started_keeps, ended_keeps, WaitForNone, RingDrains, IsDrained, more_waits, more_ring, more_told}
+
+-- Whoever goes on waits for nobody that hasn't ended.
+
+still_off : (xs : List Deferred) → still_deferred false xs ≡ xs
+still_off [] = refl
+still_off (g ∷ rest) = refl
+
+-- what hasn't ended is among these groups, if all that is outstanding is
+alone_in : (r : Requests) (xs : List Deferred) (m : ℕ) → is_alone r xs ≡ true → m < length r.accepted
+    → has_ended r m ≡ false → is_in_some xs m ≡ true
+alone_in r xs m alone lt going = elim (cases_Bool (is_in_some xs m)) [
+  | inl there ↦ there
+  | inr out ↦ absurd (both_ways _ (not_alone r xs m lt going out) alone)
+]
+
+gone_ended : (r : Requests) (xs : List Deferred) (high n m : ℕ) (alone : Bool) → is_alone r xs ≡ alone
+    → AreTold r 0 xs high → m < length r.accepted → m < n → is_joined r m n ≡ false
+    → is_in_some xs n ≡ true → is_in_some (still_deferred alone xs) n ≡ false → Waits r n m
+    → has_ended r m ≡ true
+gone_ended r xs high n m false is told low lt apart here gone w =
+    absurd (both_ways (is_in_some xs n) (sym (ap (λ ys. is_in_some ys n) (still_off xs)) ∙ gone) here)
+gone_ended r xs high n m true is told low lt apart here gone w = elim (cases_Bool (has_ended r m)) [
+  | inl ended ↦ ended
+  | inr going ↦
+      let c = gone_calm r 0 xs high n m told here gone (alone_in r xs m is low going) lt apart in
+      absurd (elim w [
+        | inl drains ↦ both_ways _ c.0 drains
+        | inr other ↦ both_ways _ c.1 other.drains
+      ])
+]
+
+-- A group is accepted.
+
+record IsAmid (r : Requests) (d : Drains) : Type 0 where
+  some : d.from < length r.accepted
+  begins : (k : ℕ) → suc k ≡ d.from → is_last r k ≡ true
+  one : (k : ℕ) → d.from ≤ k → suc k < length r.accepted → is_last r k ≡ false
+  last : (k : ℕ) → suc k ≡ length r.accepted → is_last r k ≡ true
+  told : AreTold r 0 d.deferred d.from
+  waits : WaitForNone r d.from d.deferred
+  ring : RingDrains r d
+  group : d.group ≡ false → (k : ℕ) → d.from ≤ k → k < length r.accepted → has_fault r k ≡ false → is_drain (entry_of r k) ≡ false
+  on : d.ring ≡ false → d.group ≡ false
+
+module _ (r : Requests) (d : Drains) (i : IsAmid r d) where
+  joined_new : (m n : ℕ) → d.from ≤ m → n < length r.accepted → is_joined r m n ≡ true
+  joined_new m n low high = is_joined_yes r m n (λ k le lt. i.one k (omega (arith, low, le)) (omega (arith, lt, high)))
+
+  -- with a fault in the group, each member is in a group with a fault
+  faulty_new : (n : ℕ) → d.from ≤ n → n < length r.accepted → is_faulty_from r d.from ≡ true → is_in_faulty_group r n ≡ true
+  unfolding is_in_faulty_group is_faulty_from
+  faulty_new n low high e =
+      let found = some_below_in (λ m. nat_le d.from m && has_fault r m) (length r.accepted) e in
+      let m : ℕ = found.0 in
+      let parts = and_parts (nat_le d.from m) (has_fault r m) found.2 in
+      let under : d.from ≤ m = leb-true d.from m parts.0 in
+      some_below_some (λ j. is_in_group r j n && has_fault r j) (length r.accepted) m found.1
+      (and_from _ _ (joined_new (min m n) (max m n) (omega (arith, low, under)) (let within = found.1 in omega (arith, high, within))) parts.1)
+
+  right_new : (n k : ℕ) → d.from ≤ n → n < length r.accepted → d.from ≤ k → k < length r.accepted → is_in_faulty_group r n ≡ false → has_fault r k ≡ false
+  unfolding is_in_faulty_group
+  right_new n k low high under within right = elim (cases_Bool (has_fault r k)) [
+    | inl fault ↦ absurd (both_ways _ (some_below_out (λ m. is_in_group r m n && has_fault r m) (length r.accepted) right k within) (and_from _ _ (joined_new (min k n) (max k n) (omega (arith, low, under)) (omega (arith, high, within))) fault))
+    | inr none ↦ none
+  ]
+
+  -- in a group without a fault that isn't told to drain nobody drains
+  calm_new : (n : ℕ) → d.group ≡ false → d.from ≤ n → n < length r.accepted → is_in_faulty_group r n ≡ false → is_draining r n ≡ false
+  unfolding some_member
+  calm_new n still low high right =
+      some_below_none (λ m. is_in_group r m n && is_drain (entry_of r m)) (length r.accepted)
+      (λ m lt. elim (cases_lt m d.from) [
+        | inl before ↦ and_left _ _ (is_joined_no r (min m n) (max m n) (d.from - 1) (omega (arith, before, low)) (omega (arith, before, low)) (i.begins (d.from - 1) (omega (arith, before))))
+        | inr past ↦ and_right _ _ (i.group still m past lt (right_new n m low high past lt right))
+      ])
+
+  abbrev g : Deferred
+  g = record { from = d.from; end = length r.accepted; drains = d.group }
+
+  told_new : is_faulty_from r d.from ≡ false → IsTold r g
+  unfolding is_faulty_from
+  told_new right = record {
+    begins = i.begins;
+    ends = i.last;
+    one = i.one;
+    told = λ still k le lt. i.group still k le lt (elim (cases_Bool (has_fault r k)) [
+      | inl fault ↦ absurd (both_ways _ (some_below_out (λ m. nat_le d.from m && has_fault r m) (length r.accepted) right k lt) (and_from _ _ (le-leb d.from k le) fault))
+      | inr none ↦ none
+    ]);
+  }
+
+  abbrev all : List Deferred
+  all = deferred_with d (length r.accepted)
+
+  told_all : is_faulty_from r d.from ≡ false → AreTold r 0 all (length r.accepted)
+  told_all right = told_push r 0 d.deferred d.from g (omega arith) i.some (told_new right) i.told
+
+  some_waits : (b : Bool) → (not d.ring || is_faulty_from r d.from) ≡ true → WaitForNone r (length r.accepted) d.deferred
+  some_waits b e n m lt under apart out right w = elim (cases_lt n d.from) [
+    | inl before ↦ i.waits n m before under apart out right w
+    | inr past ↦ elim (or_cases (not d.ring) (is_faulty_from r d.from) e) [
+      | inl off ↦ elim w [
+        | inl drains ↦ absurd (both_ways _ (calm_new n (i.on (not-true _ off)) past lt right) drains)
+        | inr other ↦ elim (cases_lt m d.from) [
+          | inl low ↦ i.ring (not-true _ off) m low other
+          | inr high ↦ absurd (both_ways _ apart (joined_new m n high lt))
+        ]
+      ]
+      | inr faulty ↦ absurd (both_ways _ right (faulty_new n past lt faulty))
+    ]
+  ]
+
+  held_waits : is_faulty_from r d.from ≡ false → WaitForNone r (length r.accepted) (after_going_on r all)
+  held_waits fine n m lt under apart out right w = elim (cases_Bool (is_in_some all n)) [
+    | inl here ↦ gone_ended r all (length r.accepted) n m (is_alone r all) refl (told_all fine) (omega (arith, lt, under)) under apart here out w
+    | inr never ↦ elim (cases_lt n d.from) [
+      | inl before ↦ i.waits n m before under apart (false_from_ne_true (is_in_some d.deferred n) (λ old. both_ways (is_in_some all n) never (pushed_old d.deferred g n old))) right w
+      | inr past ↦ absurd (both_ways (is_in_some all n) never (pushed_new d.deferred g n past lt))
+    ]
+  ]
+
+  -- if none stays deferred behind a group that doesn't drain, what drains has ended
+  none_left : (alone : Bool) → is_alone r all ≡ alone → is_faulty_from r d.from ≡ false → d.group ≡ false → still_deferred alone all ≡ []
+      → (m : ℕ) → m < length r.accepted → HasDrain r m → has_ended r m ≡ true
+  none_left false is fine still none m lt other =
+      absurd (let f : false ≡ true = sym (ap (λ ys. is_in_some ys d.from) (sym (still_off all) ∙ none)) ∙ pushed_new d.deferred g d.from (omega arith) i.some in cc)
+  none_left true is fine still none m lt other = elim (cases_Bool (has_ended r m)) [
+    | inl ended ↦ ended
+    | inr going ↦ absurd (both_ways _ (left_calm r 0 d.deferred g (length r.accepted) m (told_all fine) still none (alone_in r all m is lt going)) other.drains)
+  ]
+
+  empty_is : (xs : List Deferred) → is_none xs ≡ true → xs ≡ []
+  empty_is [] e = refl
+  empty_is (x ∷ rest) e = absurd (let f : false ≡ true = e in cc)
+
+  ring_off : (ring drains : Bool) (xs : List Deferred) → ring ≡ true → (ring && (drains || not (is_none xs))) ≡ false → (drains ≡ false) × (xs ≡ [])
+  ring_off true drains xs is e = let p = or_parts drains (not (is_none xs)) e in (p.0, empty_is xs (not-false _ p.1))
+  ring_off false drains xs is e = absurd (let f : false ≡ true = is in cc)
+
+  some_ring : RingDrains r (with_deferred d (length r.accepted) d.deferred)
+  some_ring off m lt other = elim (cases_lt m d.from) [
+    | inl before ↦ i.ring off m before other
+    | inr past ↦ absurd (both_ways _ (calm_new m (i.on off) past lt other.right) other.drains)
+  ]
+
+  group_drained : IsDrained r (with_group r d)
+  group_drained = go (not d.ring || is_faulty_from r d.from) refl where
+    go : (b : Bool) → (not d.ring || is_faulty_from r d.from) ≡ b
+        → IsDrained r (if b then with_deferred d (length r.accepted) d.deferred else with_ring (with_deferred d (length r.accepted) (after_going_on r (deferred_with d (length r.accepted)))) d.group)
+    go true e = record {
+      low = omega arith;
+      begins = i.last;
+      amid = λ k le lt. absurd (omega (arith, le, lt));
+      told = let lt = i.some in told_higher r 0 d.deferred d.from (length r.accepted) (omega (arith, lt)) i.told;
+      waits = some_waits true e;
+      ring = some_ring;
+      group = λ still k le lt. absurd (omega (arith, le, lt));
+      on = λ off. refl;
+    }
+    go false e =
+        let p = or_parts (not d.ring) (is_faulty_from r d.from) e in
+        record {
+          low = omega arith;
+          begins = i.last;
+          amid = λ k le lt. absurd (omega (arith, le, lt));
+          told = told_still r (is_alone r all) 0 all (length r.accepted) (told_all p.1);
+          waits = held_waits p.1;
+          ring = λ off m lt other. let q = ring_off d.ring d.group (after_going_on r all) (not-false _ p.0) off in none_left (is_alone r all) refl p.1 q.0 q.1 m lt other;
+          group = λ still k le lt. absurd (omega (arith, le, lt));
+          on = λ off. refl;
+        }
+
+-- An entry is accepted.
+
+accepted_drained : (l : LinuxRequests) (e : Sqe) → IsSettled l → IsDrained l.requests l.drains
+    → IsDrained (with_accepted l e).requests (with_accepted l e).drains
+accepted_drained l e s i = go (is_linked e) refl where
+  r : Requests
+  r = manual.with_accepted l.requests e
+
+  last : ℕ
+  last = length l.requests.accepted
+
+  d : Drains
+  d = with_last_entry r last l.drains
+
+  more : length r.accepted ≡ length l.requests.accepted + 1
+  more = length-append l.requests.accepted (e ∷ [])
+
+  keeps : KeepsGroups l.requests r
+  keeps = accepted_keeps l.requests e
+
+  ring : RingDrains r d
+  ring off = more_ring l.requests r l.drains keeps i (or_parts l.drains.ring _ off).0
+
+  drain_if : (drain fault : Bool) → (drain && not fault) ≡ false → fault ≡ false → drain ≡ false
+  drain_if drain false e f = and_true drain e where
+    and_true : (b : Bool) → (b && true) ≡ false → b ≡ false
+    and_true true g = g
+    and_true false g = refl
+  drain_if drain true e f = absurd (let g : true ≡ false = f in cc)
+
+  group : d.group ≡ false → (k : ℕ) → d.from ≤ k → k < length r.accepted → has_fault r k ≡ false → is_drain (entry_of r k) ≡ false
+  group still k le lt fine =
+      let p = or_parts l.drains.group _ still in
+      let q = or_parts (is_drain (entry_of r last) && not (has_fault r last)) _ p.1 in
+      elim (cases_lt k last) [
+        | inl before ↦ keeps.drain k before ∙ i.group p.0 k le before (sym (keeps.fault k before) ∙ fine)
+        | inr past ↦
+            let same : last ≡ k = omega (arith, past, lt, more) in
+            subst (λ j. has_fault r j ≡ false → is_drain (entry_of r j) ≡ false) same (drain_if (is_drain (entry_of r last)) (has_fault r last) q.0) fine
+      ]
+
+  on_by : (a b x : Bool) → (a ≡ false → b ≡ false) → (a || x) ≡ false → (b || x) ≡ false
+  on_by a b x so off = let p = or_parts a x off in or_from _ _ (so p.0) p.1
+
+  on : d.ring ≡ false → d.group ≡ false
+  on off = on_by l.drains.ring l.drains.group _ i.on off
+
+  begins : (k : ℕ) → suc k ≡ d.from → is_last r k ≡ true
+  begins k is = let low = i.low in keeps.cut k (omega (arith, is, low)) (i.begins k is)
+
+  new_open : is_linked e ≡ true → is_last r last ≡ false
+  new_open linked = or_from _ _ (ap (λ x. not (is_linked x)) (entry_of_accepted_at l.requests e) ∙ ap not linked) (s.later last (omega arith)).cut
+
+  go : (b : Bool) → is_linked e ≡ b → IsDrained r (if b then d else with_group r d)
+  go true linked = record {
+    low = let low = i.low in omega (arith, low, more);
+    begins = begins;
+    amid = λ k le lt. elim (cases_lt k last) [
+      | inl before ↦ last_accepted l.requests e k before ∙ i.amid k le before
+      | inr past ↦ (let same : last ≡ k = omega (arith, past, lt, more) in subst (λ j. is_last r j ≡ false) same (new_open linked))
+    ];
+    told = more_told l.requests r l.drains keeps i;
+    waits = more_waits l.requests r l.drains keeps i;
+    ring = ring;
+    group = group;
+    on = on;
+  }
+  go false free = group_drained r d (record {
+    some = let low = i.low in omega (arith, low, more);
+    begins = begins;
+    one = λ k le lt. (let before : k < last = omega (arith, lt, more) in last_accepted l.requests e k before ∙ i.amid k le before);
+    last = λ k is. (let same : k ≡ last = omega (arith, is, more) in or_left _ _ (ap (λ n. not (is_linked (entry_of r n))) same ∙ ap (λ x. not (is_linked x)) (entry_of_accepted_at l.requests e) ∙ ap not free));
+    told = more_told l.requests r l.drains keeps i;
+    waits = more_waits l.requests r l.drains keeps i;
+    ring = ring;
+    group = group;
+    on = on;
+  })
+
+entries_drained : (l : LinuxRequests) (entries : List Sqe) → IsSettled l → IsDrained l.requests l.drains
+    → IsDrained (with_entries l entries).requests (with_entries l entries).drains
+entries_drained l [] s i = i
+entries_drained l (e ∷ rest) s i =
+    entries_drained (with_accepted l e) rest (accepted_settled l e s) (accepted_drained l e s i)
+
+-- A call closes.
+
+cut_drained : (l : LinuxRequests) → IsDrained l.requests l.drains
+    → IsDrained (with_cut l).requests (with_cut l).drains
+cut_drained l i = go (nat_lt l.drains.from (length l.requests.accepted)) refl where
+  r : Requests
+  r = manual.with_cut l.requests
+
+  keeps : KeepsGroups l.requests r
+  keeps = cut_keeps l.requests
+
+  begins : (k : ℕ) → suc k ≡ l.drains.from → is_last r k ≡ true
+  begins k is = last_kept l.requests k (i.begins k is)
+
+  go : (b : Bool) → nat_lt l.drains.from (length l.requests.accepted) ≡ b → IsDrained r (if b then with_group r l.drains else l.drains)
+  go true e = group_drained r l.drains (record {
+    some = ltb-true _ _ e;
+    begins = begins;
+    one = λ k le lt. is_last_cut l.requests k (λ f. absurd (omega (arith, f, lt))) ∙ i.amid k le (omega (arith, lt));
+    last = λ k is. is_last_cut_last l.requests k is;
+    told = more_told l.requests r l.drains keeps i;
+    waits = more_waits l.requests r l.drains keeps i;
+    ring = more_ring l.requests r l.drains keeps i;
+    group = i.group;
+    on = i.on;
+  })
+  go false e =
+      let past : length l.requests.accepted ≤ l.drains.from = ltb-false _ _ e in
+      record {
+        low = i.low;
+        begins = begins;
+        amid = λ k le lt. absurd (omega (arith, le, lt, past));
+        told = more_told l.requests r l.drains keeps i;
+        waits = more_waits l.requests r l.drains keeps i;
+        ring = more_ring l.requests r l.drains keeps i;
+        group = i.group;
+        on = i.on;
+      }
+
+-- A request starts or ends, between calls.
+
+start_drained : (l : LinuxRequests) (n : ℕ) → IsDrained l.requests l.drains
+    → IsDrained (manual.with_started l.requests n) l.drains
+start_drained l n i =
+    let q : Requests = manual.with_started l.requests n in
+    let keeps = started_keeps l.requests n in
+    record {
+      low = i.low;
+      begins = i.begins;
+      amid = i.amid;
+      told = more_told l.requests q l.drains keeps i;
+      waits = more_waits l.requests q l.drains keeps i;
+      ring = more_ring l.requests q l.drains keeps i;
+      group = i.group;
+      on = i.on;
+    }
+
+end_drained : (l : LinuxRequests) (n : ℕ) (res : ℤ) (bytes : List ℕ) → IsDrained l.requests l.drains
+    → IsDrained (with_ended l n res bytes).requests (with_ended l n res bytes).drains
+end_drained l n res bytes i =
+    let q : Requests = manual.with_ended l.requests n res bytes in
+    let xs : List Deferred = l.drains.deferred in
+    let keeps = ended_keeps l.requests n res bytes in
+    let told : AreTold q 0 xs l.drains.from = more_told l.requests q l.drains keeps i in
+    let waits : WaitForNone q l.drains.from xs = more_waits l.requests q l.drains keeps i in
+    record {
+      low = i.low;
+      begins = i.begins;
+      amid = i.amid;
+      told = told_still q (is_alone q xs) 0 xs l.drains.from told;
+      waits = λ k m lt under apart out right w. elim (cases_Bool (is_in_some xs k)) [
+        | inl here ↦ (let low = i.low in gone_ended q xs l.drains.from k m (is_alone q xs) refl told (omega (arith, lt, under, low)) under apart here out w)
+        | inr never ↦ waits k m lt under apart never right w
+      ];
+      ring = more_ring l.requests q l.drains keeps i;
+      group = i.group;
+      on = i.on;
+    }
+
+-- Whatever happened.
+
+nothing_drained : IsDrained manual.no_request (made_by []).drains
+nothing_drained = record {
+  low = omega arith;
+  begins = λ k e. absurd (omega (arith, e));
+  amid = λ k le lt. absurd (omega (arith, lt));
+  told = omega arith;
+  waits = λ n m lt. absurd (omega (arith, lt));
+  ring = λ off m lt. absurd (omega (arith, lt));
+  group = λ still k le lt. absurd (omega (arith, lt));
+  on = λ off. refl;
+}
+
+all_drained : (happened : List Happening) → MayHaveHappened happened
+    → IsDrained (made_by happened).requests (made_by happened).drains
+all_drained [] may = nothing_drained
+all_drained (Call entries ∷ earlier) may =
+    let s = (all_between earlier may.1).settled in
+    cut_drained (with_entries (made_by earlier) entries) (entries_drained (made_by earlier) entries s (all_drained earlier may.1))
+all_drained (Start n ∷ earlier) may = start_drained (made_by earlier) n (all_drained earlier may.1)
+all_drained (End n res bytes ∷ earlier) may = end_drained (made_by earlier) n res bytes (all_drained earlier may.1)
+
+-- what isn't deferred, of a group without a fault, waits for nobody that hasn't ended
+pub waits_for_none : (happened : List Happening) → MayHaveHappened happened → (n m : ℕ)
+    → n < length (made_by happened).requests.accepted → m < n
+    → is_joined (made_by happened).requests m n ≡ false → is_deferred (made_by happened) n ≡ false
+    → is_in_faulty_group (made_by happened).requests n ≡ false → Waits (made_by happened).requests n m
+    → has_ended (made_by happened).requests m ≡ true
+waits_for_none happened may n m lt under apart free right w =
+    let closed = (all_between happened may).closed in
+    (all_drained happened may).waits n m (omega (arith, lt, closed)) under apart free right w
