@@ -301,6 +301,17 @@ int32_t wulgach_core_step(struct wulgach_core *core, const struct wulgach_step *
  * -12 if memory for a copy of the entries was refused, which a single one doesn't need; then nothing has changed. */
 int32_t wulgach_core_submit(struct wulgach_core *core, const struct wulgach_entry *entries, size_t count, struct wulgach_answer *answer);
 
+/* What comes of a submission call, in few words. */
+struct wulgach_taken {
+    uint32_t kind;      /* enum wulgach_answer_kind */
+    uint32_t accepted;  /* TAKEN: how many entries were accepted, how many words were dropped so far, modulo 2^32, and the head; else 0 */
+    uint32_t dropped;
+    uint32_t head;
+};
+
+/* The same of a single entry, and writes what came of it. -9 (EBADF) exactly at an empty place; then nothing is written. */
+int32_t wulgach_core_submit_one(struct wulgach_core *core, const struct wulgach_entry *entry, struct wulgach_taken *taken);
+
 /* Reaps the completions that the ring shows now, into these places from the first on: LOAD_CQ_TAIL, a REAP for each, and
  * STORE_CQ_HEAD. Writes how many: as many as there are, or as there is room for. Those that wait in the overflow list come into the
  * ring by a FLUSH. -12 if memory for a copy of as many as there is room for was refused, which a single place doesn't need; then

@@ -97,6 +97,10 @@ struct wulgach_copied {
  * and is none itself. */
 int32_t wulgach_next_piece(const struct wulgach_submission *entry, const struct wulgach_copied *copied, struct wulgach_piece *piece);
 
+/* Whether an entry is one of READ, WRITE, READ_FIXED and WRITE_FIXED. True: whatever stands before it, the piece that is told first is its
+ * one buffer, and then, where that has no fault, nothing more, and 0. */
+bool wulgach_has_one_buffer(const struct wulgach_submission *entry);
+
 /* The fault of a time, -22 if it is negative; of a message with more than 1,024 vectors, -90 (EMSGSIZE), before these are copied; and of a
  * RECVMSG that goes on, -22 or -75 (EOVERFLOW) if what stands in front of the bytes is too long. Each is 0 if there is none. */
 int32_t wulgach_time_fault(int64_t seconds, int64_t nanoseconds);

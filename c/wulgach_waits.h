@@ -125,6 +125,101 @@ struct wulgach_patience {
  * until they are begun, which finds their faults. */
 bool wulgach_is_impatient(const struct wulgach_submission *entry, const struct wulgach_patience *patience);
 
+/* ---- what a ring looks out for ---- */
+
+/* Which of the requests that run are looked at again, whether what was written to pipes may be the ring's own, and whether threads that
+ * sleep on it are woken. It is the caller's memory, and its fields are the library's. */
+struct wulgach_lookout {
+    uint64_t count;             /* so many of the first requests that run, by number, are passed over: they are known to wait */
+    uint64_t moment;            /* how often a descriptor may have become ready */
+    bool have_to_wait;          /* one was carried out and would have waited, and isn't to be carried out again yet */
+    bool may_be_own;            /* what was written to a pipe since it was last heard may be the ring's own */
+    bool has_changed;           /* something has changed since the threads that sleep were last woken */
+};
+
+/* What the end of a request can change for others. */
+struct wulgach_end_of_one {
+    bool is_count_reached;      /* a count is reached for which a timeout waits */
+    bool has_drains;            /* requests that drain were outstanding, itself among them */
+};
+
+/* Begins a ring to which nothing has happened. */
+void wulgach_lookout_begin(struct wulgach_lookout *lookout);
+
+/* The first one that isn't passed over was looked at, and can't be finished. */
+void wulgach_lookout_passes(struct wulgach_lookout *lookout);
+
+/* One has started, and stands at this place, from 0; the one at this place runs no more; a cancel has found it, or an update has changed
+ * it. */
+void wulgach_lookout_starts(struct wulgach_lookout *lookout, uint64_t place);
+void wulgach_lookout_leaves(struct wulgach_lookout *lookout, uint64_t place);
+void wulgach_lookout_touches(struct wulgach_lookout *lookout, uint64_t place);
+
+/* One was carried out, and would have waited. */
+void wulgach_lookout_waits(struct wulgach_lookout *lookout);
+
+/* An operation was carried out that can make a descriptor ready; a poll was told of what its pipe had, and has no more. */
+void wulgach_lookout_moves(struct wulgach_lookout *lookout);
+void wulgach_lookout_tells(struct wulgach_lookout *lookout);
+
+/* A call begins, or sleeps no longer; or a request has ended. They return whether those that had to wait are to be carried out again. Behind
+ * an end that wasn't told to let others be finished, none can be that couldn't before. */
+bool wulgach_lookout_opens(struct wulgach_lookout *lookout);
+bool wulgach_lookout_ends(struct wulgach_lookout *lookout, const struct wulgach_end_of_one *end);
+
+/* Whether a descriptor that was looked at in this moment is to be looked at again: it may have become ready since. */
+bool wulgach_lookout_is_stale(const struct wulgach_lookout *lookout, uint64_t looked_at);
+
+/* What was written to pipes was heard, as a call began or slept no longer. Behind an operation that was carried out since, what is written
+ * may be the ring's own (`may_be_own`), and isn't told. */
+void wulgach_lookout_hears(struct wulgach_lookout *lookout);
+
+/* Something else has changed for which a thread may sleep: entries were taken, or completions have come into the ring. */
+void wulgach_lookout_changes(struct wulgach_lookout *lookout);
+
+/* Threads that sleep may be woken. Returns whether they are: something has changed since they last were. */
+bool wulgach_lookout_wakes(struct wulgach_lookout *lookout);
+
+/* A request that runs, as far as it says whether it is told of a write. */
+struct wulgach_pipe_poll {
+    uint32_t watch;             /* by what number writes to its pipe are told; 0: it has none */
+    uint32_t events;            /* what a poll waits for, as poll(2) has it */
+    bool is_poll;
+    bool is_of_pipe;            /* its descriptor is a pipe's */
+    bool is_cancelled;          /* a cancel has found it */
+};
+
+/* Whether a request is to be told of writes to its pipe: it is a poll for what that has to be read. */
+bool wulgach_awaits_writes(const struct wulgach_pipe_poll *poll);
+
+/* Whether it awaits the writes of this number; and whether it is told of one, where its pipe has something to be read or nothing: of what is
+ * gone. */
+bool wulgach_awaits_write(const struct wulgach_pipe_poll *poll, uint32_t watch);
+bool wulgach_is_told_of_write(const struct wulgach_pipe_poll *poll, uint32_t watch, bool is_there);
+
+/* ---- when a call sleeps, and what came of it ---- */
+
+enum wulgach_beginning {
+    WULGACH_SLEEP_FAILS = 0,    /* with the fault */
+    WULGACH_SLEEP_WAKES = 1,    /* it needn't: something may go on */
+    WULGACH_SLEEPS = 2
+};
+
+/* Returns whether a sleep begins (enum wulgach_beginning) whose arguments have this fault, or 0, and before which a poll was told, or none. */
+uint32_t wulgach_sleep_begins(int32_t fault, bool is_told);
+
+/* What is known behind a wait. */
+struct wulgach_waited {
+    int32_t result;             /* what the sleep came to: 0, or an error number's negative */
+    bool is_never;              /* there was nothing to wait for, and it didn't sleep */
+    bool has_messages;          /* another ring has left a message, */
+    bool may_post;              /* and a completion may be posted that belongs to no end of a request */
+    bool is_over;               /* the caller's time is over */
+};
+
+/* Returns what came of a wait, as the reply to a call that wants to sleep (enum wulgach_reply_kind). */
+uint32_t wulgach_waited(const struct wulgach_waited *waited);
+
 /* ---- what becomes of a transfer ---- */
 
 /* A transfer that is carried out. */

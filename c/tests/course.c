@@ -49,6 +49,17 @@ static void cancel_one(void)
     demand(wulgach_course_act(&course, &res) == WULGACH_ACT_END && res == -125, "one that was cancelled");
 }
 
+/* The time of a linked timeout runs while the request runs that it limits; that of another from its own start on. */
+static void time_two(void)
+{
+    struct wulgach_member read = {.number = 3, .chain = 3, .entry = {.links = true}}, linked = {.number = 4, .chain = 3, .is_linked = true, .entry = {.is_linked_timeout = true}}, plain = {.number = 9, .chain = 9};
+    demand(wulgach_timing_behind_start(&linked, &read, false) == WULGACH_TIMING_BEGINS && wulgach_timing_behind_start(&linked, &linked, false) == WULGACH_TIMING_STAYS, "a linked timeout");
+    demand(wulgach_timing_behind_start(&plain, &plain, false) == WULGACH_TIMING_BEGINS && wulgach_timing_behind_start(&plain, &plain, true) == WULGACH_TIMING_STAYS, "another, and one that a cancel has found");
+    demand(wulgach_timing_behind_end(&linked, &read) == WULGACH_TIMING_STOPS && wulgach_timing_behind_end(&linked, &linked) == WULGACH_TIMING_STOPS && wulgach_timing_behind_end(&linked, &plain) == WULGACH_TIMING_STAYS, "an end");
+    demand(wulgach_timing_behind_finding(&plain, &plain) == WULGACH_TIMING_STOPS && wulgach_timing_behind_finding(&linked, &linked) == WULGACH_TIMING_STAYS, "a cancel");
+    demand(wulgach_is_one_chain(&read, &linked) && !wulgach_is_one_chain(&read, &plain), "one chain");
+}
+
 /* The three that each request has. */
 static void go_plainly(void)
 {
@@ -127,6 +138,7 @@ static void link_requests(void)
 
 int main(void)
 {
+    time_two();
     cancel_one();
     go_plainly();
     notify();

@@ -132,6 +132,12 @@ static void copy_pieces(void)
     wulgach_core_entry_of(&cancel, WULGACH_FORM_REFUSED, &made);
     demand(made.code == 255 && made.flags == 94 && wulgach_is_drain(2) && !wulgach_is_drain(253), "an entry with a fault");
     demand(wulgach_names_slot(7, 8) && !wulgach_names_slot(8, 8), "a slot");
+    for (int code = 0; code < 256; code++) {
+        struct wulgach_submission entry = {.opcode = (uint8_t)code, .flags = 32, .addr = 8, .len = 3};
+        bool is_buffer = next(entry, 0, &piece) == 1 && piece.what == WULGACH_BUFFER, ends = next(entry, 1, &piece) == 0;
+        demand(!wulgach_has_one_buffer(&entry) || (is_buffer && ends), "one buffer is told, and then nothing");
+    }
+    demand(wulgach_has_one_buffer(&(struct wulgach_submission){.opcode = READ}) && !wulgach_has_one_buffer(&set), "a read has one buffer");
 }
 
 /* The fault of an entry behind its pieces, of which the last has one. */

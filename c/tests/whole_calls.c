@@ -108,6 +108,23 @@ static void reap(struct wulgach_core *whole, struct wulgach_core *stepped, size_
     flush(whole, stepped);
 }
 
+/* Submits at once: one entry by the call of that name, and others by the call for any number. */
+static struct wulgach_answer submit_whole(struct wulgach_core *core, const struct wulgach_entry *entries, uint32_t count)
+{
+    struct wulgach_answer answer = {0};
+    struct wulgach_taken taken;
+    if (count != 1) {
+        check(wulgach_core_submit(core, entries, count, &answer) == 0, "submit");
+        return answer;
+    }
+    check(wulgach_core_submit_one(core, entries, &taken) == 0, "submit_one");
+    answer.kind = taken.kind;
+    answer.word = taken.accepted;
+    answer.dropped = taken.dropped;
+    answer.head = taken.head;
+    return answer;
+}
+
 /* Calls of 0 to all entries, with a fault or none, on rings that go on or stop. */
 static void side_by_side(const struct wulgach_setup *setup)
 {
@@ -117,8 +134,8 @@ static void side_by_side(const struct wulgach_setup *setup)
         struct wulgach_entry entries[SIZE];
         uint32_t count = round % (SIZE + 1), faulty = round / 3 % (2 * SIZE);
         make_entries(entries, count, 100 * round + 1, faulty);
-        struct wulgach_answer answer, last;
-        check(wulgach_core_submit(&whole, entries, count, &answer) == 0 && answer.kind == WULGACH_TAKEN, "submit");
+        struct wulgach_answer answer = submit_whole(&whole, entries, count), last;
+        check(answer.kind == WULGACH_TAKEN, "all is taken");
         last = submit_by_steps(&stepped, entries, count);
         check(is_same_answer(&answer, &last), "the same answer");
         carry_out(&whole);
@@ -152,6 +169,8 @@ static void refusals(void)
     make_entries(entries, SIZE + 1, 1, SIZE + 1);
     check(wulgach_core_submit(&core, entries, 1, &answer) == -9 && answer.kind == 99, "submit at an empty place");
     check(wulgach_core_reap_all(&core, &place, 1, &count) == -9 && count == 99 && place.user_data == 99, "reap_all at an empty place");
+    struct wulgach_taken taken = {.kind = 99};
+    check(wulgach_core_submit_one(&core, entries, &taken) == -9 && taken.kind == 99, "submit_one at an empty place");
     uint32_t kind = 99, tail = 99;
     check(wulgach_core_cq_tail(&core, &kind, &tail) == -9 && kind == 99 && tail == 99, "cq_tail at an empty place");
     check(wulgach_core_flush(&core, &kind, &count) == -9 && kind == 99 && count == 99, "flush at an empty place");
@@ -163,8 +182,10 @@ static void refusals(void)
     check(wulgach_core_submit(&core, entries, 2, &answer) == 0 && answer.kind == WULGACH_AGAIN, "no memory for the call");
     served = -1;
     check(wulgach_core_submit(&core, entries, 1, &answer) == 0 && answer.kind == WULGACH_BUSY, "the entries wait");
+    check(wulgach_core_submit_one(&core, entries, &taken) == 0 && taken.kind == WULGACH_BUSY && taken.accepted == 0, "for one alone too");
     check(step(&core, WULGACH_BEGIN, SIZE, 0).word == 2, "another begin takes them");
     check(wulgach_core_submit(&core, entries, 1, &answer) == 0 && answer.kind == WULGACH_IN_CALL, "a call is open");
+    check(wulgach_core_submit_one(&core, entries, &taken) == 0 && taken.kind == WULGACH_IN_CALL, "for one alone too");
     while (step(&core, WULGACH_TAKE, 0, 0).kind != WULGACH_NO_MORE) {
     }
     check(step(&core, WULGACH_END, 0, 0).word == 2, "both are accepted");
@@ -174,6 +195,7 @@ static void refusals(void)
     served = -1;
     check(step(&core, WULGACH_CLOSE, 0, 0).kind == WULGACH_SHUT, "close");
     check(wulgach_core_submit(&core, entries, 1, &answer) == 0 && answer.kind == WULGACH_CLOSED, "a closed ring");
+    check(wulgach_core_submit_one(&core, entries, &taken) == 0 && taken.kind == WULGACH_CLOSED && taken.head == 0, "for one alone too");
     check(wulgach_core_counts(&core, &counts) == 0 && counts.accepted == 2, "nothing more was accepted");
     check(wulgach_core_free(&core) == 0, "free");
 }

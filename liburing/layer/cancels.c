@@ -20,7 +20,7 @@
 static void look_again_at(struct ring *ring, const struct request *request)
 {
     if (request->course.has_started)
-        look_again(ring, place_of(&ring->running, request->number));
+        wulgach_lookout_touches(&ring->lookout, place_of(&ring->running, request->number));
 }
 
 void cancel_request(struct ring *ring, struct request *request)

@@ -9,7 +9,7 @@
 #include <string.h>
 #include <time.h>
 
-static bool is_real;
+static bool is_real;        /* read when the process's first ring is set up */
 
 static void read_environment(void)
 {
@@ -18,10 +18,14 @@ static void read_environment(void)
     demand(is_real || !word || !*word || strcmp(word, "virtual") == 0, "WULGACH_TIME is virtual or real");
 }
 
-bool is_time_real(void)
+static void read_clock(void)
 {
     static pthread_once_t once = PTHREAD_ONCE_INIT;
     pthread_once(&once, read_environment);
+}
+
+bool is_time_real(void)
+{
     return is_real;
 }
 
@@ -34,6 +38,7 @@ uint64_t real_time(void)
 
 void start_clock(struct ring *ring)
 {
+    read_clock();
     wulgach_times_begin(&ring->times);
     ring->origin = is_time_real() ? real_time() : 0;
 }

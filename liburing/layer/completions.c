@@ -115,24 +115,30 @@ static void reap(struct ring *ring, uint32_t count)
     reap_oldest(ring, count);
     completions->first += count;
     wulgach_shown_reap(&completions->at, count);
-    ring->has_changed = true;
+    wulgach_lookout_changes(&ring->lookout);
 }
 
-bool hear(struct ring *ring, bool is_flushing)
+/* What was heard matters: so many were reaped, or what has overflowed is asked for. */
+__attribute__((noinline)) static void take_heard(struct ring *ring, uint32_t count, bool is_flushing)
 {
     struct wulgach_shown *at = &ring->completions.at;
-    uint32_t count;
-    if (wulgach_shown_heard(at, load_word(&ring->memory.cq->head), &count) != 0)
-        return false;
-    if (count == 0 && !is_flushing)
-        return true;
     show_ends(ring);
     if (count > 0)
         reap(ring, count);
     if (wulgach_shown_loads_head(at, count, is_flushing, ring->memory.cq_entries)) {
-        flush(ring);
-        show(ring);
+        /* (where nothing moves, the tail and the flags are as they were shown) */
+        if (flush(ring) > 0)
+            show(ring);
     }
+}
+
+bool hear(struct ring *ring, bool is_flushing)
+{
+    uint32_t count;
+    if (wulgach_shown_heard(&ring->completions.at, load_word(&ring->memory.cq->head), &count) != 0)
+        return false;
+    if (count > 0 || is_flushing)
+        take_heard(ring, count, is_flushing);
     return true;
 }
 

@@ -199,7 +199,7 @@ struct ring *lock_ring(int fd)
 
 /* A message that comes while the lock is held is posted by who holds it; one that comes between its last look and its
  * unlocking, by who looks again. What has to wait for a drain is posted behind that. */
-void visit_ring(struct ring *ring)
+__attribute__((noinline)) static void visit_with_messages(struct ring *ring)
 {
     bool is_left = false;
     while (!is_left && has_messages(ring) && pthread_mutex_trylock(&ring->lock) == 0) {
@@ -210,6 +210,12 @@ void visit_ring(struct ring *ring)
         wake_sleepers(ring);
         pthread_mutex_unlock(&ring->lock);
     }
+}
+
+void visit_ring(struct ring *ring)
+{
+    if (has_messages(ring))
+        visit_with_messages(ring);
 }
 
 void unlock_ring(struct ring *ring)

@@ -13,33 +13,30 @@
 void note_wait(struct ring *ring, struct request *request)
 {
     request->standing.has_to_wait = true;
-    ring->have_to_wait = true;
+    wulgach_lookout_waits(&ring->lookout);
 }
 
-/* A request has ended: who had to wait is carried out again. */
+/* Who had to wait is carried out again. */
 static void forget_waits(struct ring *ring)
 {
-    for (size_t i = 0; ring->have_to_wait && i < ring->running.count; i++)
+    for (size_t i = 0; i < ring->running.count; i++)
         ring->running.rows[i]->standing.has_to_wait = false;
-    ring->have_to_wait = false;
 }
 
-void look_again(struct ring *ring, size_t place)
+void look_afresh(struct ring *ring)
 {
-    if (ring->passed > place)
-        ring->passed = place;
+    if (wulgach_lookout_opens(&ring->lookout))
+        forget_waits(ring);
 }
 
-/* Where an end can change which other requests can be finished, all are looked at again. */
-static void look_again_behind(struct ring *ring)
+/* A request ends that had started or not: which others are looked at again. */
+static void look_behind(struct ring *ring, const struct request *ended)
 {
-    if (ring->is_count_reached || ring->drains.outstanding > 0 || ring->have_to_wait)
-        look_again(ring, 0);
-}
-
-static void stop_running(struct ring *ring, const struct request *ended)
-{
-    look_again(ring, take_request(&ring->running, ended));
+    struct wulgach_end_of_one end = {.is_count_reached = ring->is_count_reached, .has_drains = ring->drains.outstanding > 0};
+    if (wulgach_lookout_ends(&ring->lookout, &end))
+        forget_waits(ring);
+    if (ended->course.has_started)
+        wulgach_lookout_leaves(&ring->lookout, take_request(&ring->running, ended));
 }
 
 void end_of(struct ring *ring, struct request *request, int32_t res, int32_t told)
@@ -53,14 +50,10 @@ void end_of(struct ring *ring, struct request *request, int32_t res, int32_t tol
     note_counts(ring);
     if (request->file)
         unwatch(ring, request->file->fd);
-    ring->has_changed = true;
-    look_again_behind(ring);
-    if (request->course.has_started)
-        stop_running(ring, request);
+    look_behind(ring, request);
     if (request->is_draining)
         wulgach_drains_end(&ring->drains, true);
     end_request(&ring->requests, request);
-    forget_waits(ring);
     ring->completions.is_behind = true;
 }
 

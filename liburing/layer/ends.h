@@ -10,11 +10,11 @@
  * failure's number is what `uring trace` gives for an fsync of a descriptor that no file has. */
 enum { TOLD_SUCCESS = 0, TOLD_FAILURE = -EBADF };
 
-/* A running request isn't to be carried out again before another has ended, or its descriptor is slept for. */
+/* A running request isn't to be carried out again before another has ended, a call begins, or one has slept. */
 void note_wait(struct ring *ring, struct request *request);
 
-/* Of the running requests from a place on it isn't known any more that they can't be finished. */
-void look_again(struct ring *ring, size_t place);
+/* A call begins, or sleeps no longer: all that runs is looked at again. */
+void look_afresh(struct ring *ring);
 
 /* A request has ended: its completion is queued, and who had to wait needn't perhaps now. */
 void end_of(struct ring *ring, struct request *request, int32_t res, int32_t told);

@@ -5,6 +5,7 @@
 #include "enter.h"
 #include "copying.h"
 #include "descriptors.h"
+#include "ends.h"
 #include "enrolling.h"
 #include "fault.h"
 #include "outlook.h"
@@ -35,7 +36,7 @@ struct waiting {
     const sigset_t *signals;        /* the thread's mask, while the call sleeps, */
     uint64_t mask;                  /* unless the call gives one, at this address */
     size_t mask_size;
-    sigset_t given;
+    sigset_t *given;                /* room for that */
     uint32_t flags;
     int fault;                      /* of the last argument, read behind the submission; 0: none */
 };
@@ -64,9 +65,9 @@ static int read_mask(struct waiting *waiting)
 {
     if (!waiting->mask)
         return 0;
-    sigemptyset(&waiting->given);
-    waiting->signals = &waiting->given;
-    bool is_readable = waiting->mask_size == _NSIG / 8 && copy_in(&waiting->given, waiting->mask, _NSIG / 8) == 0;
+    sigemptyset(waiting->given);
+    waiting->signals = waiting->given;
+    bool is_readable = waiting->mask_size == _NSIG / 8 && copy_in(waiting->given, waiting->mask, _NSIG / 8) == 0;
     return wulgach_mask_fault(waiting->mask_size, is_readable);
 }
 
@@ -145,30 +146,23 @@ static enum wulgach_reply_kind go_on_fully(struct ring *ring)
 
 static enum wulgach_reply_kind sleep_on(struct ring *ring, struct waiting *waiting, struct wulgach_reply *reply)
 {
-    int fault = waiting->fault < 0 ? waiting->fault : read_mask(waiting);
-    if (fault < 0) {
+    int error, fault = waiting->fault < 0 ? waiting->fault : read_mask(waiting);
+    switch (wulgach_sleep_begins(fault, fault == 0 && watch_pipes(ring))) {
+    case WULGACH_SLEEP_FAILS:
         reply->number = (uint32_t)-fault;
         return WULGACH_FAILED;
-    }
-    if (watch_pipes(ring))
+    case WULGACH_SLEEP_WAKES:
         return WULGACH_WOKEN;
-    show_readiness(ring);
-    int result = wait_for_any(ring, &waiting->limit, waiting->signals);
-    hear_pipes(ring);
-    switch (result) {
-    case 0:
-        return WULGACH_WOKEN;
-    case -ETIME:
-        return WULGACH_TIMED_OUT;
-    case -EINTR:
-        return WULGACH_INTERRUPTED;
-    case -EDEADLK:
-        say_stuck(ring, waiting->min_complete);
-        return WULGACH_ENDLESS;
     default:
-        reply->number = (uint32_t)-result;
-        return WULGACH_FAILED;
+        break;
     }
+    show_readiness(ring);
+    enum wulgach_reply_kind kind = wait_for_any(ring, &waiting->limit, waiting->signals, &error);
+    hear_pipes(ring);
+    if (kind == WULGACH_ENDLESS)
+        say_stuck(ring, waiting->min_complete);
+    reply->number = (uint32_t)error;
+    return kind;
 }
 
 /* Does what a call wants, and says what became of it. */
@@ -238,7 +232,7 @@ static int enter_ring(struct ring *ring, uint32_t flags, struct waiting *waiting
     if (result < 0)
         return result;
     ring->call_number++;
-    ring->moment++;
+    look_afresh(ring);
     hear_pipes(ring);
     pass_real_time(ring);
     result = carry_call_out(ring, waiting, flags);
@@ -270,7 +264,7 @@ int enter(int fd, uint32_t to_submit, uint32_t min_complete, uint32_t flags, con
     if (!ring)
         return fcntl(fd, F_GETFD) < 0 ? -EBADF : -EOPNOTSUPP;
     ring->called_fd = fd;
-    sigset_t own;
+    sigset_t own, given;
     struct waiting waiting = {
         .to_submit = to_submit,
         .min_complete = min_complete,
@@ -278,6 +272,7 @@ int enter(int fd, uint32_t to_submit, uint32_t min_complete, uint32_t flags, con
         .signals = signals ? signals : &own,
         .mask = (uintptr_t)argument,
         .mask_size = size,
+        .given = &given,
         .flags = flags,
     };
     if (!signals)

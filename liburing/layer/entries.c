@@ -98,13 +98,12 @@ static int copy_piece(struct request *request, const struct wulgach_piece *piece
     }
 }
 
-int copy_behind(struct request *request, const struct request *before)
+/* Copies each piece that the library tells, and returns the fault of the entry, or 0, or -ENOMEM. */
+static int32_t copy_pieces(struct request *request, const struct request *before)
 {
     struct wulgach_copied copied = {.has_before = before};
     struct wulgach_piece piece;
     int32_t next;
-    if (request->mapping == CANCEL)
-        return 0;
     if (before && request->entry.opcode == IORING_OP_LINK_TIMEOUT)      /* it matters to no other */
         copied.before = link_of(&before->entry);
     while ((next = wulgach_next_piece(submission_of(&request->entry), &copied, &piece)) > 0) {
@@ -112,6 +111,15 @@ int copy_behind(struct request *request, const struct request *before)
         copied.vectors = request->vector_count;
         copied.count++;
     }
+    return next;
+}
+
+int copy_behind(struct request *request, const struct request *before)
+{
+    if (request->mapping == CANCEL)
+        return 0;
+    /* (nothing is copied of one buffer, and it has no fault) */
+    int32_t next = wulgach_has_one_buffer(submission_of(&request->entry)) ? make_vector(request) : copy_pieces(request, before);
     if (next == -ENOMEM)
         return next;
     if (request->entry.flags & IOSQE_BUFFER_SELECT)

@@ -45,7 +45,7 @@ void post_extra(struct ring *ring, uint64_t call, uint64_t user_data, int32_t re
     trace_note(ring, "request %llu: a completion of the layer's own", (unsigned long long)request->number);
     demand(issue(ring, request->number, &ended) == WULGACH_RUN, "the core doesn't start a no-op");
     demand(wulgach_course_start(&request->course), "a request starts twice");
-    insert_request(&ring->running, request);
+    wulgach_lookout_starts(&ring->lookout, insert_request(&ring->running, request));
     demand(wulgach_course_act(&request->course, &ended) == WULGACH_ACT_CARRY_OUT, "a no-op isn't carried out");
     demand(wulgach_course_done(&request->course, res), "an operation is done that wasn't begun");
     finish(ring, request->number, 0);
@@ -72,13 +72,20 @@ static struct message *take_message(struct inbox *inbox)
     return message;
 }
 
-void post_messages(struct ring *ring)
+/* (mostly there are none, which is found without a call) */
+__attribute__((noinline)) static void post_waiting(struct ring *ring)
 {
     struct message *message;
     while (has_messages(ring) && can_post_extra(ring) && (message = take_message(&ring->inbox))) {
         post_extra(ring, NO_CALL, message->user_data, message->res, message->flags);
         free(message);
     }
+}
+
+void post_messages(struct ring *ring)
+{
+    if (has_messages(ring))
+        post_waiting(ring);
 }
 
 struct message *make_message_of(uint64_t user_data, int32_t res)

@@ -211,13 +211,6 @@ static int32_t call_system(struct ring *ring, struct request *request)
 {
     const struct io_uring_sqe *entry = &request->entry;
     switch (entry->opcode) {
-    case IORING_OP_READ:
-    case IORING_OP_READV:
-    case IORING_OP_READ_FIXED:
-    case IORING_OP_WRITE:
-    case IORING_OP_WRITEV:
-    case IORING_OP_WRITE_FIXED:
-        return carry_transfer_out(request);
     case IORING_OP_FSYNC:
         return synchronize(request);
     case IORING_OP_SYNC_FILE_RANGE:
@@ -266,6 +259,8 @@ static int32_t call_system(struct ring *ring, struct request *request)
 /* Operations that may have to wait, and others. */
 static int32_t call_or_wait(struct ring *ring, struct request *request)
 {
+    if (is_transfer(request))
+        return carry_transfer_out(request);
     if (is_poll(request))
         return take_events(request);
     return is_of_sockets(request->entry.opcode) || is_splice(request) ? call_socket(ring, request) : call_system(ring, request);

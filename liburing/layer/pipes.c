@@ -31,15 +31,36 @@ void free_pipes(struct pipes *pipes)
     free(pipes->watches);
 }
 
+/* A request, as far as it says which writes it is told of. */
+static struct wulgach_pipe_poll seen_of(const struct request *request)
+{
+    return (struct wulgach_pipe_poll){
+        .watch = (uint32_t)request->watch,
+        .events = request->entry.poll32_events,
+        .is_poll = is_poll(request),
+        .is_of_pipe = request->is_of_pipe,
+        .is_cancelled = request->course.is_cancelled,
+    };
+}
+
 bool is_poll_of_pipe(const struct request *request)
 {
     struct stat status;
-    return request->entry.poll32_events & (POLLIN | POLLRDNORM) && fstat(request->fd, &status) == 0 && S_ISFIFO(status.st_mode);
+    struct wulgach_pipe_poll seen = seen_of(request);
+    seen.is_of_pipe = true;
+    return wulgach_awaits_writes(&seen) && fstat(request->fd, &status) == 0 && S_ISFIFO(status.st_mode);
 }
 
 static bool is_watching(const struct request *request)
 {
-    return is_poll(request) && request->is_of_pipe && !request->course.is_cancelled;
+    struct wulgach_pipe_poll seen = seen_of(request);
+    return wulgach_awaits_writes(&seen);
+}
+
+static bool is_watching_by(const struct request *request, int watch)
+{
+    struct wulgach_pipe_poll seen = seen_of(request);
+    return wulgach_awaits_write(&seen, (uint32_t)watch);
 }
 
 static int make_inotify(void)
@@ -97,7 +118,7 @@ static void add_watches(struct ring *ring)
 static bool is_watched_for(const struct ring *ring, int watch)
 {
     for (size_t i = 0; i < ring->running.count; i++)
-        if (is_watching(ring->running.rows[i]) && ring->running.rows[i]->watch == watch)
+        if (is_watching_by(ring->running.rows[i], watch))
             return true;
     return false;
 }
@@ -117,23 +138,27 @@ static void drop_watches(struct ring *ring)
     pipes->count = kept;
 }
 
-/* What was written while nobody looked: the first watcher says whether it is there still. Returns whether it is gone. */
+/* What was written while nobody looked: the first watcher says whether it is there still. Returns whether a poll was told. */
 static bool tell_of_write(struct ring *ring, int watch)
 {
-    bool is_known = false, is_gone = false;
+    bool is_known = false, is_there = false, is_told = false;
     for (size_t i = 0; i < ring->running.count; i++) {
         struct request *request = ring->running.rows[i];
         struct pollfd at = {.fd = request->fd, .events = POLLIN};
-        if (!is_watching(request) || request->watch != watch)
+        if (!is_watching_by(request, watch))
             continue;
         if (!is_known)
-            is_gone = poll(&at, 1, 0) == 0;
+            is_there = poll(&at, 1, 0) != 0;
         is_known = true;
-        request->is_told |= is_gone;
-        request->standing.has_to_wait &= !is_gone;
+        struct wulgach_pipe_poll seen = seen_of(request);
+        if (!wulgach_is_told_of_write(&seen, (uint32_t)watch, is_there))
+            continue;
+        request->is_told = is_told = true;
+        request->standing.has_to_wait = false;
     }
-    ring->moment += is_gone;
-    return is_gone;
+    if (is_told)
+        wulgach_lookout_tells(&ring->lookout);
+    return is_told;
 }
 
 /* Reads the writes that were told since they were last read, and passes them on, or drops them. Returns whether a poll was told. */
@@ -153,19 +178,19 @@ static bool read_writes(struct ring *ring, bool is_dropping)
     return is_told;
 }
 
-/* What the ring's own requests have written and read since isn't told: in which order they go on is the policy's choice. */
+/* What the ring's own requests may have written and read since isn't told: in which order they go on is the policy's choice. */
 bool watch_pipes(struct ring *ring)
 {
     add_watches(ring);
     if (ring->pipes.count == 0)
         return false;
     drop_watches(ring);
-    return read_writes(ring, ring->moment != ring->pipes.heard_at);
+    return read_writes(ring, ring->lookout.may_be_own);
 }
 
 void hear_pipes(struct ring *ring)
 {
     if (ring->pipes.count > 0)
         read_writes(ring, false);
-    ring->pipes.heard_at = ring->moment;
+    wulgach_lookout_hears(&ring->lookout);
 }

@@ -14,7 +14,6 @@ struct pipes {
     int inotify;        /* what tells of writes to them, or negative */
     int *watches;       /* its number of each, */
     size_t count, room; /* how many there are, and may be */
-    uint64_t heard_at;  /* the moment at which writes were last told */
 };
 
 void make_pipes(struct pipes *pipes);

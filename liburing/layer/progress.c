@@ -79,7 +79,7 @@ static bool try_operation(struct ring *ring, struct request *request, int32_t *r
     *res = carry_out(ring, request, injected(ring, request));
     log_carried(ring, request, *res);
     if (request->needs.can_make_ready)
-        ring->moment++;
+        wulgach_lookout_moves(&ring->lookout);
     if (*res == WOULD_WAIT) {
         note_fact(request, WULGACH_FACT_WAITS, 0);
         note_wait(ring, request);
@@ -132,7 +132,7 @@ static void start(struct ring *ring, struct request *request)
 {
     demand(wulgach_course_start(&request->course), "a request starts twice");
     request->begun = ++ring->begun;
-    look_again(ring, insert_request(&ring->running, request));
+    wulgach_lookout_starts(&ring->lookout, insert_request(&ring->running, request));
     if (!request->is_assigned)
         assign(ring, request);
     log_start(ring, request);
@@ -172,12 +172,9 @@ void go_on_with(struct ring *ring, struct request *request)
 /* The least running request that can be finished, or NULL. */
 static struct request *first_to_finish(struct ring *ring)
 {
-    if (ring->passed_at != ring->moment)
-        ring->passed = 0;
-    ring->passed_at = ring->moment;
-    for (; ring->passed < ring->running.count; ring->passed++)
-        if (can_finish(ring, ring->running.rows[ring->passed]))
-            return ring->running.rows[ring->passed];
+    for (; ring->lookout.count < ring->running.count; wulgach_lookout_passes(&ring->lookout))
+        if (can_finish(ring, ring->running.rows[ring->lookout.count]))
+            return ring->running.rows[ring->lookout.count];
     return NULL;
 }
 

@@ -47,11 +47,9 @@ struct wulgach_link link_of(const struct io_uring_sqe *entry)
     return (struct wulgach_link){.links = entry->flags & (IOSQE_IO_LINK | IOSQE_IO_HARDLINK), .is_linked_timeout = entry->opcode == IORING_OP_LINK_TIMEOUT};
 }
 
-bool reserve_requests(struct requests *requests, size_t more)
+__attribute__((noinline)) static bool make_room(struct requests *requests, size_t more)
 {
     size_t need = requests->count + more, gone = (size_t)(requests->rows - requests->at);
-    if (need <= requests->room)
-        return true;
     if (2 * need > requests->whole) {
         struct request **at = realloc(requests->at, 2 * need * sizeof *at);
         if (!at)
@@ -64,6 +62,11 @@ bool reserve_requests(struct requests *requests, size_t more)
     requests->rows = requests->at;
     requests->room = requests->whole;
     return true;
+}
+
+bool reserve_requests(struct requests *requests, size_t more)
+{
+    return requests->count + more <= requests->room || make_room(requests, more);
 }
 
 void add_request(struct requests *requests, struct request *request)
@@ -134,6 +137,10 @@ void drop_requests(struct requests *requests, size_t count)
     requests->rows += count;
     requests->count -= count;
     requests->room -= count;
+    if (requests->count == 0) {
+        requests->rows = requests->at;
+        requests->room = requests->whole;
+    }
 }
 
 static void free_parts(const struct request *request)
@@ -153,7 +160,7 @@ static void free_parts(const struct request *request)
 }
 
 /* The rows on the side that has fewer are moved: behind a few that wait, a long chain ends from its beginning on. */
-size_t take_request(struct requests *requests, const struct request *request)
+__attribute__((noinline)) static size_t take_from_between(struct requests *requests, const struct request *request)
 {
     size_t at = place_of(requests, request->number), behind = requests->count - at - 1;
     if (at <= behind) {
@@ -165,6 +172,14 @@ size_t take_request(struct requests *requests, const struct request *request)
         requests->count--;
     }
     return at;
+}
+
+size_t take_request(struct requests *requests, const struct request *request)
+{
+    if (requests->count == 0 || requests->rows[0] != request)
+        return take_from_between(requests, request);
+    drop_requests(requests, 1);
+    return 0;
 }
 
 void end_request(struct requests *requests, struct request *request)

@@ -46,18 +46,14 @@ struct ring {
     uint32_t calls;                     /* how many calls are on it: it lives as long. A call begins under the lock of all rings */
     pthread_mutex_t lock;               /* held during each call, but not while it sleeps */
     struct sleeper *sleepers;           /* the threads that sleep in a call on it */
-    bool has_changed;                   /* something has gone on since they were last woken */
     struct memory memory;
     struct wulgach_core core;
     struct requests requests;           /* accepted and not ended */
-    uint64_t moment;                    /* counts what can make a descriptor ready: within one, each is looked at once */
     struct requests running;            /* those of them that were started */
     struct wulgach_drains drains;       /* which of them drain, */
     bool may_count;                     /* a timeout with a count has started since none ran, */
     bool is_count_reached;              /* and one, maybe, has counted enough */
-    size_t passed;                      /* at moment `passed_at` none of so many first running ones can be finished */
-    uint64_t passed_at;
-    bool have_to_wait;                  /* one of them may be remembered as having to wait */
+    struct wulgach_lookout lookout;     /* which of the running ones are looked at again, what was written to pipes, and whether threads that sleep are woken */
     struct requests staged;             /* staged and not accepted; a word that names no slot has an empty place */
     struct wulgach_entry *entries;      /* what the core is given of each of them: as many as there are slots */
     uint32_t bad_word;                  /* the word of the last of them, if that names no slot */

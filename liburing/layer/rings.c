@@ -111,6 +111,7 @@ static int make_ring(struct ring **made, uint32_t entries, struct io_uring_param
     make_pipes(&ring->pipes);
     wulgach_shown_begin(&ring->completions.at);
     wulgach_drains_begin(&ring->drains);
+    wulgach_lookout_begin(&ring->lookout);
     ring->ready_fd = -1;
     wulgach_eventfd_begin(&ring->telling);
     ring->fd = fill_ring(ring, &sizes, params, is_polled);

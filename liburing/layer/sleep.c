@@ -6,6 +6,7 @@
 #include "sleep.h"
 #include "clock.h"
 #include "descriptors.h"
+#include "ends.h"
 #include "operations.h"
 
 #include <errno.h>
@@ -36,10 +37,8 @@ static nfds_t list_streams(const struct ring *ring, struct pollfd *streams)
     nfds_t count = 0;
     for (size_t i = 0; i < ring->running.count; i++) {
         struct request *request = ring->running.rows[i];
-        if (request->standing.is_stream) {
-            request->standing.has_to_wait = false;
+        if (request->standing.is_stream)
             streams[count++] = poll_of(request);
-        }
     }
     return count;
 }
@@ -88,7 +87,7 @@ int sleep_until(struct ring *ring, const struct wulgach_limit *until, const sigs
     leave(ring, &self);
     free(polled);
     add_slept(ring, start);
-    ring->moment++;
+    look_afresh(ring);
     if (result == 0 && end.is_set)
         wulgach_times_move_to(&ring->times, end.at);
     return result < 0 ? result : 0;
@@ -97,9 +96,8 @@ int sleep_until(struct ring *ring, const struct wulgach_limit *until, const sigs
 void wake_sleepers(struct ring *ring)
 {
     static const uint64_t one = 1;
-    if (!ring->has_changed)
+    if (!wulgach_lookout_wakes(&ring->lookout))
         return;
-    ring->has_changed = false;
     for (const struct sleeper *sleeper = ring->sleepers; sleeper; sleeper = sleeper->next)
         if (sleeper->wake >= 0 && write(sleeper->wake, &one, sizeof one) < 0)
             continue;

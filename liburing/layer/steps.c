@@ -120,7 +120,7 @@ struct wulgach_answer end_call(struct ring *ring)
     return answer;
 }
 
-void flush(struct ring *ring)
+uint64_t flush(struct ring *ring)
 {
     uint32_t kind;
     uint64_t moved;
@@ -128,6 +128,7 @@ void flush(struct ring *ring)
     if (is_traced(ring))
         trace_plain_step(ring, WULGACH_FLUSH, kind, 0, moved);
     note_rules(OVERFLOW_MOVES, moved);
+    return moved;
 }
 
 bool find_next(struct ring *ring, uint64_t *number)

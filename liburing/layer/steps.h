@@ -25,7 +25,7 @@ uint32_t store_cq_head(struct ring *ring);
 bool begin_call(struct ring *ring, uint32_t count);     /* false: memory was refused */
 bool take_position(struct ring *ring);                  /* false: the word names no slot */
 struct wulgach_answer end_call(struct ring *ring);
-void flush(struct ring *ring);
+uint64_t flush(struct ring *ring);      /* how many completions moved */
 bool find_next(struct ring *ring, uint64_t *number);    /* false: nothing can be issued */
 /* The kind of the answer, and the result if the request ended. */
 uint32_t issue(struct ring *ring, uint64_t number, int32_t *res);

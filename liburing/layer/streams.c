@@ -7,7 +7,7 @@
 
 static void note(const struct ring *ring, struct request *request, bool is_ready)
 {
-    request->looked_at = ring->moment;
+    request->looked_at = ring->lookout.moment;
     request->is_found_ready = is_ready;
 }
 
@@ -18,7 +18,7 @@ void look_at(const struct ring *ring, struct request *request)
 
 static bool is_to_be_looked_at(const struct ring *ring, const struct request *request)
 {
-    return request->standing.is_stream && request->looked_at != ring->moment;
+    return request->standing.is_stream && wulgach_lookout_is_stale(&ring->lookout, request->looked_at);
 }
 
 /* The row of the running request to look at from this one on. */
@@ -62,9 +62,11 @@ bool is_found_ready(struct ring *ring, struct request *request)
 {
     if (request->is_told)
         return true;
-    if (request->looked_at != ring->moment && ring->running.count > 1)
+    if (!wulgach_lookout_is_stale(&ring->lookout, request->looked_at))
+        return request->is_found_ready;
+    if (ring->running.count > 1)
         look_at_all(ring);
-    if (request->looked_at != ring->moment)
+    else
         look_at(ring, request);
     return request->is_found_ready;
 }

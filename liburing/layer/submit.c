@@ -123,26 +123,26 @@ static int take_staged(struct ring *ring, uint32_t given, uint32_t head)
 {
     uint32_t count = (uint32_t)ring->staged.count;
     uint64_t accepted = ring->accepted;
-    struct wulgach_answer answer;
-    if (!submit_staged(ring, given, &answer))
+    struct wulgach_taken taken;
+    if (!submit_staged(ring, given, &taken))
         return -EAGAIN;
     for (uint32_t i = 0; i < count; i++)
         accept_one(ring, ring->staged.rows[i], i > 0 ? ring->staged.rows[i - 1] : NULL);
     drop_requests(&ring->staged, count);
     note_chains(ring, ring->requests.count - (size_t)(ring->accepted - accepted));
-    ring->has_changed = true;
-    demand(answer.word == ring->accepted - accepted, "the core accepts another number of requests");
+    wulgach_lookout_changes(&ring->lookout);
+    demand(taken.accepted == ring->accepted - accepted, "the core accepts another number of requests");
     note_accepted(ring, accepted);
-    demand(answer.head - ring->own_positions == head, "the core stands at another position");
+    demand(taken.head - ring->own_positions == head, "the core stands at another position");
     ring->head = head;
-    store_word(&ring->memory.sq->dropped, answer.dropped);
+    store_word(&ring->memory.sq->dropped, taken.dropped);
     store_word(&ring->memory.sq->head, ring->head);
     trace_callers(ring);
-    for (size_t i = ring->requests.count - answer.word; i < ring->requests.count; i++) {
+    for (size_t i = ring->requests.count - taken.accepted; i < ring->requests.count; i++) {
         trace_request(ring, ring->requests.rows[i]);
         record_accepted(ring, ring->requests.rows[i]);
     }
-    return (int)answer.word;
+    return (int)taken.accepted;
 }
 
 bool reserve_all(struct ring *ring, uint32_t count)

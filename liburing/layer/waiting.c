@@ -8,8 +8,6 @@
 #include "sleep.h"
 #include "timeouts.h"
 
-#include <errno.h>
-
 bool has_expired(const struct ring *ring)
 {
     struct wulgach_timeout timeout;
@@ -45,34 +43,40 @@ static struct wulgach_wake_sources wake_sources(const struct ring *ring)
     };
 }
 
-/* Waits as the library says. Returns 0 or the negative of an error number. */
-static int wait_as(struct ring *ring, const struct wulgach_wait *wait, const sigset_t *signals)
+/* Waits as the library says, and notes what is known then. */
+static struct wulgach_waited wait_as(struct ring *ring, const struct wulgach_wait *wait, const sigset_t *signals)
 {
+    struct wulgach_waited waited = {.is_never = wait->kind == WULGACH_WAIT_NEVER};
     switch (wait->kind) {
     case WULGACH_WAIT_SLEEP:
-        return sleep_until(ring, &wait->until, signals);
+        waited.result = sleep_until(ring, &wait->until, signals);
+        break;
     case WULGACH_WAIT_MOVE:
         wulgach_times_move_to(&ring->times, wait->until.at);
-        return 0;
+        break;
     default:
         /* (a thread may have ended since, and left a message) */
-        return has_messages(ring) && can_post_extra(ring) ? 0 : -EDEADLK;
+        waited.has_messages = has_messages(ring);
+        waited.may_post = waited.has_messages && can_post_extra(ring);
     }
+    return waited;
 }
 
-int wait_for_any(struct ring *ring, const struct wulgach_limit *deadline, const sigset_t *signals)
+enum wulgach_reply_kind wait_for_any(struct ring *ring, const struct wulgach_limit *deadline, const sigset_t *signals, int *error)
 {
     struct wulgach_wake_sources sources = wake_sources(ring);
     struct wulgach_wait wait;
     wulgach_times_wait(&ring->times, ring->timeouts, ring->timeouts_room, &sources, deadline, &wait);
-    int result = wait_as(ring, &wait, signals);
-    if (result < 0 || wait.kind == WULGACH_WAIT_NEVER)
-        return result;
-    struct wulgach_woken woken;
-    wulgach_times_woken(&ring->times, ring->timeouts, ring->timeouts_room, deadline, &woken);
-    if (woken.kind == WULGACH_WOKEN_OVER)
-        fire(ring, &woken.timeout);
-    return woken.kind == WULGACH_WOKEN_TIMED_OUT ? -ETIME : 0;
+    struct wulgach_waited waited = wait_as(ring, &wait, signals);
+    if (waited.result == 0 && !waited.is_never) {
+        struct wulgach_woken woken;
+        wulgach_times_woken(&ring->times, ring->timeouts, ring->timeouts_room, deadline, &woken);
+        if (woken.kind == WULGACH_WOKEN_OVER)
+            fire(ring, &woken.timeout);
+        waited.is_over = woken.kind == WULGACH_WOKEN_TIMED_OUT;
+    }
+    *error = -waited.result;
+    return (enum wulgach_reply_kind)wulgach_waited(&waited);
 }
 
 /* The timeout that ends if time passes at once. */

@@ -8,9 +8,8 @@
 
 /* Waits until something may go on: a stream is ready, a timeout has ended, or another thread's call has changed
  * something. Time is virtual, but where a stream or a thread is waited for. `deadline` is in the ring's time;
- * `signals` the mask to sleep with. Returns 0; -ETIME at the deadline, -EINTR, or -EDEADLK if there is nothing to wait
- * for. */
-int wait_for_any(struct ring *ring, const struct wulgach_limit *deadline, const sigset_t *signals);
+ * `signals` the mask to sleep with. Returns what came of it, as the library says, and writes the error number of a sleep that failed, or 0. */
+enum wulgach_reply_kind wait_for_any(struct ring *ring, const struct wulgach_limit *deadline, const sigset_t *signals, int *error);
 
 /* Whether the time of a timeout is over that hasn't ended yet. */
 bool has_expired(const struct ring *ring);

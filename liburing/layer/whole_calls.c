@@ -50,8 +50,9 @@ static void trace_staged(struct ring *ring, uint32_t count)
     trace_made(ring, WULGACH_STORE_TAIL, 0, WULGACH_TAIL, head + count);
 }
 
-static void trace_taken(struct ring *ring, uint32_t count, const struct wulgach_answer *end)
+static void trace_taken(struct ring *ring, uint32_t count, const struct wulgach_taken *taken)
 {
+    const struct wulgach_answer end = {.kind = taken->kind, .word = taken->accepted, .dropped = taken->dropped, .head = taken->head};
     const struct wulgach_step take = {.kind = WULGACH_TAKE}, last = {.kind = WULGACH_END};
     trace_made(ring, WULGACH_BEGIN, count, WULGACH_CALL, count);
     for (uint32_t i = 0; i < count; i++) {
@@ -59,16 +60,16 @@ static void trace_taken(struct ring *ring, uint32_t count, const struct wulgach_
         memcpy(entry.entry, ring->entries[i].words, sizeof entry.entry);
         trace_step(ring, &take, &entry);
     }
-    trace_step(ring, &last, end);
+    trace_step(ring, &last, &end);
 }
 
-static void trace_submission(struct ring *ring, uint32_t count, const struct wulgach_answer *answer)
+static void trace_submission(struct ring *ring, uint32_t count, const struct wulgach_taken *taken)
 {
     trace_staged(ring, count);
-    if (answer->kind == WULGACH_TAKEN)
-        trace_taken(ring, count, answer);
+    if (taken->kind == WULGACH_TAKEN)
+        trace_taken(ring, count, taken);
     else
-        trace_made(ring, WULGACH_BEGIN, count, answer->kind, 0);
+        trace_made(ring, WULGACH_BEGIN, count, taken->kind, 0);
 }
 
 /* Whether the core has none of it, and each word names a slot: behind one that doesn't nothing more is staged. */
@@ -85,7 +86,12 @@ static void stage_position(struct ring *ring, uint32_t place)
     index_word(ring, has_slot ? place : ring->bad_word);
 }
 
-static bool submit_by_steps(struct ring *ring, uint32_t given, struct wulgach_answer *answer)
+static struct wulgach_taken taken_of(const struct wulgach_answer *answer)
+{
+    return (struct wulgach_taken){.kind = answer->kind, .accepted = answer->word, .dropped = answer->dropped, .head = answer->head};
+}
+
+static bool submit_by_steps(struct ring *ring, uint32_t given, struct wulgach_taken *taken)
 {
     uint32_t count = (uint32_t)ring->staged.count;
     load_head(ring);
@@ -96,20 +102,33 @@ static bool submit_by_steps(struct ring *ring, uint32_t given, struct wulgach_an
         return false;
     for (uint32_t i = 0; i < count; i++)
         demand(take_position(ring) == (ring->staged.rows[i] != NULL), "the core drops another word");
-    *answer = end_call(ring);
+    struct wulgach_answer answer = end_call(ring);
+    *taken = taken_of(&answer);
     return true;
 }
 
-bool submit_staged(struct ring *ring, uint32_t given, struct wulgach_answer *answer)
+/* A single entry is given, and told of, without a copy of an answer. */
+static int32_t submit_whole(struct ring *ring, uint32_t count, struct wulgach_taken *taken)
+{
+    if (count == 1)
+        return wulgach_core_submit_one(&ring->core, ring->entries, taken);
+    struct wulgach_answer answer;
+    int32_t error = wulgach_core_submit(&ring->core, ring->entries, count, &answer);
+    if (error == 0)
+        *taken = taken_of(&answer);
+    return error;
+}
+
+bool submit_staged(struct ring *ring, uint32_t given, struct wulgach_taken *taken)
 {
     uint32_t count = (uint32_t)ring->staged.count;
-    int32_t error = can_be_whole(ring, given) ? wulgach_core_submit(&ring->core, ring->entries, count, answer) : -ENOMEM;
+    int32_t error = can_be_whole(ring, given) ? submit_whole(ring, count, taken) : -ENOMEM;
     if (error == -ENOMEM)
-        return submit_by_steps(ring, given, answer);
-    demand(error == 0 && (answer->kind == WULGACH_TAKEN || answer->kind == WULGACH_AGAIN), "the core doesn't take what is staged");
+        return submit_by_steps(ring, given, taken);
+    demand(error == 0 && (taken->kind == WULGACH_TAKEN || taken->kind == WULGACH_AGAIN), "the core doesn't take what is staged");
     if (is_traced(ring))
-        trace_submission(ring, count, answer);
-    return answer->kind == WULGACH_TAKEN;
+        trace_submission(ring, count, taken);
+    return taken->kind == WULGACH_TAKEN;
 }
 
 /* ---- completions ---- */

@@ -16,7 +16,7 @@ void note_entry(struct ring *ring, const struct request *request);
 
 /* Has the core take what is staged, of which it has the first `given` already: those wait for a call. The answer is that of the
  * call's end. False if memory was refused: all of it waits in the core. */
-bool submit_staged(struct ring *ring, uint32_t given, struct wulgach_answer *answer);
+bool submit_staged(struct ring *ring, uint32_t given, struct wulgach_taken *taken);
 
 /* Has the core reap as many completions, of those that are shown the oldest. */
 void reap_oldest(struct ring *ring, uint32_t count);

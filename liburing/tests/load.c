@@ -1,6 +1,7 @@
 /* The layer under load, by hand: `make -C liburing out/ours/load`.
  *
  *   load nops BATCH COUNT    no-ops in batches on one ring, and what each took
+ *   load reads BATCH COUNT   reads of 4 KB of a file, at depth 64 as fio makes them: what is submitted was reaped just before
  *   load chain LENGTH        one chain of no-ops
  *   load rings COUNT         so many rings at once, each used in turn, and freed again
  *   load threads COUNT CALLS so many threads on one ring: each submits and reaps, and all completions are counted
@@ -49,6 +50,45 @@ static void run_nops(unsigned batch, uint64_t count)
         run_batch(&ring, batch, 0);
     printf("%" PRIu64 " no-ops in batches of %u: %.3f us each\n", count, batch, (processor_time() - start) / (double)count * 1e6);
     close_ring(&ring);
+}
+
+/* ---- reads ---- */
+
+enum { DEPTH = 64, READ_SIZE = 4096 };
+
+static void submit_reads(struct ring *ring, int file, void *bytes, unsigned batch)
+{
+    for (unsigned i = 0; i < batch; i++)
+        put_transfer(ring, IORING_OP_READ, i, 0, file, bytes, READ_SIZE, 0);
+    check(enter(ring, batch, 0, IORING_ENTER_GETEVENTS) == (long)batch);
+}
+
+/* A file of one read, that can be asked not to wait, as one in memory can't. */
+static int make_read_file(void)
+{
+    char bytes[READ_SIZE] = {1};
+    int file = open(".", O_TMPFILE | O_RDWR, 0600);
+    check(file >= 0 && pwrite(file, bytes, sizeof bytes, 0) == sizeof bytes);
+    return file;
+}
+
+static void run_reads(unsigned batch, uint64_t count)
+{
+    struct ring ring;
+    char bytes[READ_SIZE];
+    int file = make_read_file();
+    make_ring(&ring, DEPTH, 0, 0);
+    for (unsigned i = 0; i < DEPTH; i += batch)
+        submit_reads(&ring, file, bytes, batch);
+    double start = processor_time();
+    for (uint64_t done = 0; done < count; done += batch) {
+        for (unsigned i = 0; i < batch; i++)
+            check(reap(&ring).res == READ_SIZE);
+        submit_reads(&ring, file, bytes, batch);
+    }
+    printf("%" PRIu64 " reads in batches of %u: %.3f us each\n", count, batch, (processor_time() - start) / (double)count * 1e6);
+    close_ring(&ring);
+    close(file);
 }
 
 static void run_chain(unsigned length)
@@ -187,6 +227,8 @@ int main(int argc, char **argv)
     test = argc > 1 ? argv[1] : "";
     if (argc == 4 && strcmp(test, "nops") == 0)
         run_nops((unsigned)numbers[0], numbers[1]);
+    else if (argc == 4 && strcmp(test, "reads") == 0)
+        run_reads((unsigned)numbers[0], numbers[1]);
     else if (argc == 3 && strcmp(test, "chain") == 0)
         run_chain((unsigned)numbers[0]);
     else if (argc == 3 && strcmp(test, "rings") == 0)
@@ -196,6 +238,6 @@ int main(int argc, char **argv)
     else if (argc == 3 && strcmp(test, "long") == 0)
         run_long(numbers[0]);
     else
-        return fprintf(stderr, "load: nops BATCH COUNT, chain LENGTH, rings COUNT, threads COUNT CALLS, or long COUNT\n"), 2;
+        return fprintf(stderr, "load: nops BATCH COUNT, reads BATCH COUNT, chain LENGTH, rings COUNT, threads COUNT CALLS, or long COUNT\n"), 2;
     return 0;
 }

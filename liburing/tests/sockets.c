@@ -82,6 +82,31 @@ static void test_no_waiting(void)
     close_ring(&ring);
 }
 
+/* A receive that wants all of its bytes, and has got some, goes on in the next call in which the rest is there, also if that only looks, and
+ * nothing else ends. */
+static void test_all_by_looks(void)
+{
+    struct ring ring;
+    int ends[2];
+    char text[10];
+    make_pair(ends);
+    make_ring(&ring, 8, 0, 0);
+    put_transfer(&ring, IORING_OP_RECV, 7, 0, ends[0], text, 10, 0)->msg_flags = MSG_WAITALL;
+    check(enter(&ring, 1, 0, 0) == 1);
+    check(send(ends[1], "ten", 3, 0) == 3);
+    for (int i = 0; i < 10; i++)
+        check(enter(&ring, 0, 0, IORING_ENTER_GETEVENTS) == 0 && count_ready(&ring) == 0);
+    check(send(ends[1], "letters", 7, 0) == 7);
+    for (int i = 0; i < 100 && count_ready(&ring) == 0; i++)
+        check(enter(&ring, 0, 0, IORING_ENTER_GETEVENTS) == 0);
+    check(count_ready(&ring) == 1);
+    struct completion found = reap(&ring);
+    check(found.user_data == 7 && found.res == 10 && memcmp(text, "tenletters", 10) == 0);
+    close(ends[0]);
+    close(ends[1]);
+    close_ring(&ring);
+}
+
 /* The last completion of one that is cancelled has no buffer. */
 static void want_cancelled(struct ring *ring, const int *ends, void *memory)
 {
@@ -275,6 +300,7 @@ int main(int count, char **words)
     static const struct named tests[] = {
         {"sockets", test_sockets},
         {"no waiting", test_no_waiting},
+        {"all by looks", test_all_by_looks},
         {"multishot receive", test_multishot_receive},
         {"multishot accept", test_multishot_accept},
         {"cut receives", test_cut_receives},

@@ -25,3 +25,4 @@ pub mod WaitForm
 pub mod MessageForm
 pub mod RoundForm
 pub mod RingForm
+pub mod SleepForm

@@ -10,10 +10,11 @@ use Rattle.uring_core.specs.declared.answer.Answer.TheVariants as answer
 use Rattle.uring_core.specs.declared.step.Step.TheVariants as step
 use Rattle.uring_core.specs.declared.cores.submit.NotSubmitted.{NotSubmitted}
 use Rattle.uring_core.specs.declared.cores.submit.NotSubmitted.TheVariants as not_made_as
-use Rattle.uring_c.specs.AnswerForm.{words_of}
+use Rattle.uring_c.specs.AnswerForm.{words_of, kind_of, word_of, dropped_of, head_of}
 use Rattle.uring_c.specs.ReadingForms.{words_of_completion}
 use Rattle.uring_c.specs.declared.answer_words.AnswerWords.{AnswerWords}
 use Rattle.uring_c.specs.declared.completion_words.CompletionWords.{CompletionWords}
+use Rattle.uring_c.specs.declared.taken_words.TakenWords.{TakenWords}
 
 -- A core has made all steps of a call of these entries, or was refused so.
 pub record SubmittedApart (entries : List Sqe) (made : Result Answer NotSubmitted) (old new : Core) : Type 0 where
@@ -42,6 +43,17 @@ submit_told (Err (not_made_as.Begin refusal)) = refusal
 pub record TellsSubmit (entries : List Sqe) (old new : Option Core) (words : AnswerWords) : Type 0 where
   pub given : Result Answer NotSubmitted
   pub told : words ≡ words_of (submit_told given)
+  pub made : IsSomeAnd old (λ before. IsSomeAnd new (SubmittedApart entries given before))
+
+-- of an answer its kind, and what a call tells as it ends. Our own rule
+abbrev pub taken_words_of : Answer → TakenWords
+taken_words_of a =
+    record { kind = kind_of a; accepted = word_of a; dropped = dropped_of a; head = head_of a }
+
+-- The core of a place has made such a call, and these words tell of its answer.
+pub record TellsTaken (entries : List Sqe) (old new : Option Core) (words : TakenWords) : Type 0 where
+  pub given : Result Answer NotSubmitted
+  pub told : words ≡ taken_words_of (submit_told given)
   pub made : IsSomeAnd old (λ before. IsSomeAnd new (SubmittedApart entries given before))
 
 -- A core has reaped these completions, so many: all that its ring shows, or as many as there is room for.

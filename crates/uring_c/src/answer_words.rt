@@ -98,7 +98,7 @@ pub(crate) fn word(answer: &Answer) -> u32
 }
 
 /// How many words were dropped: 0 if the answer doesn't say.
-fn dropped(answer: &Answer) -> u32
+pub(crate) fn dropped(answer: &Answer) -> u32
     ensures { result ≡ spec.dropped_of answer.now }
 {
     match *answer {
@@ -108,7 +108,7 @@ fn dropped(answer: &Answer) -> u32
 }
 
 /// The head as a call ends, 0 in any other answer.
-fn head(answer: &Answer) -> u32
+pub(crate) fn head(answer: &Answer) -> u32
     ensures { result ≡ spec.head_of answer.now }
 {
     match *answer {

@@ -32,6 +32,7 @@ pub(crate) fn new_core<M: BoxMemory>(
 
 impl CorePlace {
     /// Makes one step, by this memory.
+    #[inline(always)]
     pub(crate) fn step_in<M: Memory>(&mut self, memory: &M, alloc: Global, step: Step) -> Answer
         requires full { IsSome (core_in self.old) }
         requires no_finish { IsNoFinish step }
@@ -50,6 +51,7 @@ impl CorePlace {
     }
 
     /// Ends a running request with an outcome from outside.
+    #[inline(always)]
     pub(crate) fn finish(&mut self, alloc: Global, number: u64, outcome: Outcome) -> Answer
         requires { IsSome (core_in self.old) }
         ensures { IsSomeAnd (core_in self.old)
@@ -79,6 +81,7 @@ impl CorePlace {
     }
 
     /// The completion at this place among those that wait.
+    #[inline(always)]
     pub(crate) fn rest(&mut self, alloc: Global, place: u64) -> Option<Cqe>
         requires { IsSome (core_in self.old) }
         ensures kept { core_in self.new ≡ core_in self.old }

@@ -21,6 +21,7 @@ impl CorePlace {
     ghost use Rattle.uring_c.specs.Boxes.{boxed};
 
     /// A place with nothing in it.
+    #[inline(always)]
     pub(crate) fn empty(alloc: Global) -> CorePlace
         ensures { core_in result ≡ None }
     {
@@ -31,6 +32,7 @@ impl CorePlace {
     }
 
     /// A place with this core.
+    #[inline(always)]
     pub(crate) fn full(core: Box<Core, Global>) -> CorePlace
         ensures { core_in result ≡ Some core.value }
     {
@@ -41,6 +43,7 @@ impl CorePlace {
     }
 
     /// The core of a place, if there is one.
+    #[inline(always)]
     pub(crate) fn into_core(self) -> Option<Box<Core, Global>>
         ensures { boxed result ≡ core_in self }
     {
@@ -53,6 +56,7 @@ impl CorePlace {
     }
 
     /// The core of a place, which is empty from then on.
+    #[inline(always)]
     pub(crate) fn take(&mut self, alloc: Global) -> Option<Box<Core, Global>>
         ensures taken { boxed result ≡ core_in self.old }
         ensures empty { core_in self.new ≡ None }
@@ -61,6 +65,7 @@ impl CorePlace {
     }
 
     /// Puts a core into a place. What was there is freed.
+    #[inline(always)]
     pub(crate) fn put(&mut self, core: Box<Core, Global>)
         ensures { core_in self.new ≡ Some core.value }
     {

@@ -63,6 +63,7 @@ pub extern "C" fn wulgach_core_end(
 }
 
 /// Ends the running request of this number with a result and no bytes.
+#[inline(always)]
 fn end_without_bytes(alloc: Global, place: &mut CorePlace, number: u64, told: i32) -> Answer
     requires { IsSome (core_in place.old) }
     ensures { IsSomeAnd (core_in place.old)
@@ -72,6 +73,7 @@ fn end_without_bytes(alloc: Global, place: &mut CorePlace, number: u64, told: i3
 }
 
 /// An outcome that gives no bytes.
+#[inline(always)]
 fn without_bytes(res: i32) -> Outcome
     ensures { result ≡ no_bytes res }
 {

@@ -1,14 +1,17 @@
 //! What is copied of an entry, and the faults of that, for C: functions of `c/wulgach_form.h`.
-ghost use Rattle.std.specs.Prelude.{◌≡◌};
+ghost use Rattle.std.specs.Prelude.{◌≡◌, pos, true, Option};
 ghost use Rattle.uring_enter.specs.Pieces as spec;
 ghost use Rattle.uring_enter.specs.Copies.{next_of};
+ghost use Rattle.uring_enter.specs.Pieces.{buffer_of};
+ghost use Rattle.uring_enter.specs.declared.copying.Copying.TheVariants.{Copies, Ends};
+ghost use Rattle.uring_enter.specs.declared.member.Entry.{Entry as Before};
 ghost use Rattle.uring_c.specs.TakingForm.{word_of_what, words_of_piece, word_of_copying, words_of_copying};
 ghost use Rattle.uring_c.specs.CourseForm.{entry_of};
 
 use crate::course_words::entry_if;
 use uring_enter::{
-    Copying, Entry, Piece, Submission, What, how_fault, message_fault, next_piece, open_fault,
-    room_fault, time_fault,
+    Copying, Entry, Piece, Submission, What, has_one_buffer, how_fault, message_fault, next_piece,
+    open_fault, room_fault, time_fault,
 };
 
 /// A piece that is copied: `struct wulgach_piece` of the header.
@@ -51,6 +54,17 @@ pub extern "C" fn wulgach_next_piece(
         }
         Copying::Ends(fault) => fault,
     }
+}
+
+/// Whether an entry names one buffer, of which nothing is copied, and has no fault then, wherever it stands.
+#[unsafe(no_mangle)]
+pub extern "C" fn wulgach_has_one_buffer(entry: &Submission) -> bool
+    ensures first { (before : Option Before) → result ≡ true
+        → next_of entry.now 0 (pos 0) 0 before ≡ Copies (buffer_of entry.now) }
+    ensures rest { (before : Option Before) → result ≡ true
+        → next_of entry.now 1 (pos 0) 1 before ≡ Ends (pos 0) }
+{
+    has_one_buffer(entry)
 }
 
 fn piece_words(piece: &Piece) -> PieceWords

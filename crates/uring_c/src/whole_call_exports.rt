@@ -1,14 +1,16 @@
 //! The whole calls of a core that C makes: `wulgach_core_submit` and `wulgach_core_reap_all` of the header.
-ghost use Rattle.std.specs.Prelude.{◌≡◌, ◌↔◌, pos, neg_ℤ, None, map};
+ghost use Rattle.std.specs.Prelude.{◌≡◌, ◌↔◌, pos, neg_ℤ, None, IsSome, map, [], ◌∷◌};
 ghost use Rattle.uring_entry.specs.declared.errno.TheConstants.{EBADF, ENOMEM};
 ghost use Rattle.uring_c.specs.Places.{core_in};
-ghost use Rattle.uring_c.specs.Whole.{TellsSubmit, TellsReaped};
+ghost use Rattle.uring_c.specs.Whole.{TellsSubmit, TellsTaken, TellsReaped};
 
 use crate::answer_words::AnswerWords;
 use crate::completion_words::CompletionWords;
 use crate::core_place::CorePlace;
+use crate::taken_words::{TakenWords, taken_words};
 use crate::whole_call_memory::{EntryWords, core_reap_all_in, core_submit_in};
 use std::alloc::Global;
+use uring_entry::{Sqe, errno};
 
 /// Makes all steps of a submission call of these entries, and writes the answer. -12 (ENOMEM) if memory for a copy of the entries is refused; then nothing changes.
 #[unsafe(no_mangle)]
@@ -27,6 +29,29 @@ pub extern "C" fn wulgach_core_submit(
         answer.new }
 {
     core_submit_in(&alloc, alloc, place, entries, answer)
+}
+
+/// Makes all steps of a submission call of one entry, and writes what came of it. -9 (EBADF) exactly at an empty place; then nothing is written.
+#[unsafe(no_mangle)]
+pub extern "C" fn wulgach_core_submit_one(
+    alloc: Global,
+    place: &mut CorePlace,
+    entry: &EntryWords,
+    taken: &mut TakenWords,
+) -> i32
+    ensures empty { (result ≡ neg_ℤ EBADF) ↔ (core_in place.old ≡ None) }
+    ensures kept { core_in place.old ≡ None
+        → (core_in place.new ≡ None) × (taken.new ≡ taken.old) }
+    ensures made { IsSome (core_in place.old)
+        → (result ≡ pos 0)
+        × TellsTaken (entry.now.words ∷ []) (core_in place.old) (core_in place.new) taken.new }
+{
+    if !place.is_full {
+        return -errno::EBADF;
+    }
+    let made = place.submit_in(&alloc, alloc, &[Sqe::from_words(entry.words)]);
+    *taken = taken_words(&made);
+    0
 }
 
 /// Reaps all completions that the ring shows into these places, as far as there are places, and writes how many. -12 (ENOMEM) if memory for them is refused; then nothing changes.

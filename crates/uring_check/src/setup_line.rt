@@ -2,7 +2,7 @@
 
 ghost use Rattle.std.specs.Prelude.{◌≡◌, ◌≤◌, ℕ, List, IfOk, IsOk, false, length, map};
 ghost use Rattle.uring_text.specs.KeptLine.{kept_of};
-ghost use Rattle.uring_check.specs.SetupLines.{IsSaid, IsSaidBy, IsSaidOf, named_number, sizes_of, sizes_said, stops_said};
+ghost use Rattle.uring_check.specs.SetupLines.{IsSaid, IsSaidBy, IsSaidOf, named_number, sizes_of, sizes_said, words_said, one_asked, both_asked};
 
 use std::alloc::{AllocError, Global};
 use uring_machine::Setup;
@@ -93,10 +93,7 @@ fn setup_of(sizes: Option<Sizes>) -> Said
         return Said::Misses;
     };
     match Setup::new(sizes.sq, Some(sizes.cq), sizes.files, sizes.start) {
-        Ok(setup) => Said::Says(linux_if(
-            stopping_if(setup, sizes.asked.stops),
-            sizes.asked.linux,
-        )),
+        Ok(setup) => Said::Says(linux_if(stopping_if(setup, sizes.asked.stops), sizes.asked.linux)),
         Err(_) => Said::Misses,
     }
 }

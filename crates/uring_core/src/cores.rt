@@ -107,6 +107,7 @@ impl Core {
     }
 
     /// As `step`, by this memory. If it grants as many elements as the step may need in one list, the answer is never `Again`.
+    #[inline(always)]
     pub fn step_in<M: Memory>(&mut self, memory: &M, step: Step) -> Answer
         requires { IsNoFinish step }
         ensures setup { self.new.setup ≡ self.old.setup }
@@ -138,6 +139,7 @@ impl Core {
     }
 
     /// Ends the running request of this number with an outcome from outside, any one, and posts its completion, unless it succeeded and is to be skipped; `NotRunning` if it isn't running, and then nothing changes.
+    #[inline(always)]
     pub fn finish(&mut self, number: u64, outcome: Outcome) -> Answer
         ensures setup { self.new.setup ≡ self.old.setup }
         ensures fits { (h : History) → FitsApart self.old h
@@ -230,6 +232,7 @@ impl Core {
     }
 
     /// The dispatcher copies the call's next position. A call that stops behind its entry takes no more.
+    #[inline(always)]
     fn take(&mut self) -> Answer
         ensures setup { self.new.setup ≡ self.old.setup }
         ensures fits { (h : History) → FitsApart self.old h
@@ -245,6 +248,7 @@ impl Core {
     }
 
     /// The dispatcher closes the call, and accepts its entries.
+    #[inline(always)]
     fn end(&mut self) -> Answer
         ensures setup { self.new.setup ≡ self.old.setup }
         ensures fits { (h : History) → FitsApart self.old h

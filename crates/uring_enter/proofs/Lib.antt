@@ -13,4 +13,5 @@ mod PostingRuns
 mod ChainRuns
 mod WayRuns
 mod DescriptorRuns
+mod LookoutRuns
 mod CallTryRuns

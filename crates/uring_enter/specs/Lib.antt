@@ -27,6 +27,9 @@ pub mod Pieces
 pub mod Needs
 pub mod Descriptors
 pub mod Readiness
+pub mod Lookouts
+pub mod PipePolls
+pub mod Sleeping
 pub mod Tries
 pub mod CallTries
 pub mod Copies

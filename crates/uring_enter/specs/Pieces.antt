@@ -14,6 +14,10 @@ stands what from size = Some (record { what = what; from = from; size = size })
 abbrev pub unless : Bool → What → ℕ → ℕ → Option Piece
 unless is_none what from size = if is_none then None else stands what from size
 
+-- the one buffer that an entry names itself
+abbrev pub buffer_of : Submission → Piece
+buffer_of e = record { what = Buffer; from = e.addr; size = e.len }
+
 -- the value of an attribute that is set
 abbrev pub value_of : Submission → Option Piece
 value_of e = unless (e.len == 0) Value e.off e.len

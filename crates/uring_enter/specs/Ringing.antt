@@ -22,11 +22,11 @@ region_of offset =
     if bits == 0 || bits == 134217728 then Some Rings else
     if bits == 268435456 then Some Entries else None
 
--- why nothing is mapped, or 0: -22 (EINVAL) of no bytes, mmap(2), and -12 (ENOMEM) of an offset that names no part. A mapping may be longer than its part; what Linux 6.18 was seen to do
 abbrev pub is_region : Option Region → Bool
 is_region (Some _) = true
 is_region None = false
 
+-- why nothing is mapped, or 0: -22 (EINVAL) of no bytes, mmap(2), and -12 (ENOMEM) of an offset that names no part. A mapping may be longer than its part; what Linux 6.18 was seen to do
 abbrev pub mapping_fault : ℕ → ℕ → ℤ
 mapping_fault size offset =
     if size == 0 then error 22 else

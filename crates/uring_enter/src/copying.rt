@@ -1,7 +1,10 @@
 //! What is copied next of what an entry points to, and which fault the whole of it has. io_uring_enter(2), CQE ERRORS.
 
-ghost use Rattle.std.specs.Prelude.{◌≡◌};
+ghost use Rattle.std.specs.Prelude.{◌≡◌, pos, true, Option};
 ghost use Rattle.uring_enter.specs.Copies as spec;
+ghost use Rattle.uring_enter.specs.declared.copying.Copying.TheVariants.{Copies, Ends};
+ghost use Rattle.uring_enter.specs.declared.member.Entry.{Entry as Before};
+ghost use Rattle.uring_enter.specs.Pieces.{buffer_of};
 
 use crate::member::{Entry, has_its_place};
 use crate::piece::{Piece, piece_of, selection_fault};
@@ -34,6 +37,16 @@ pub fn next_piece(
         Some(piece) => unless_too_long(piece),
         None => Copying::Ends(last_fault(entry, vectors, before)),
     }
+}
+
+/// Whether an entry is one of READ, WRITE, READ_FIXED and WRITE_FIXED: of these one buffer is told, wherever they stand, and then that nothing has a fault.
+pub fn has_one_buffer(entry: &Submission) -> bool
+    ensures first { (before : Option Before) → result ≡ true
+        → spec.next_of entry.now 0 (pos 0) 0 before ≡ Copies (buffer_of entry.now) }
+    ensures rest { (before : Option Before) → result ≡ true
+        → spec.next_of entry.now 1 (pos 0) 1 before ≡ Ends (pos 0) }
+{
+    matches!(entry.opcode, 4 | 5 | 22 | 23)
 }
 
 fn unless_too_long(piece: Piece) -> Copying

@@ -59,8 +59,15 @@ impl Course {
     fn due(&self) -> Act
         ensures { (log : List Fact) → KeepsCourse log self.now → result ≡ act log }
     {
-        let may_go_on = self.has_started && !self.has_ended && !self.is_tried;
-        act_by(may_go_on, end_by(self.result(), self.is_cancelled))
+        if !self.has_started || self.has_ended || self.is_tried {
+            Act::Nothing
+        } else if self.has_result {
+            Act::End(self.res)
+        } else if self.is_cancelled {
+            Act::End(-125)
+        } else {
+            Act::CarryOut
+        }
     }
 
     /// The result, if it is known.
@@ -163,16 +170,6 @@ fn end_by(known: Option<i32>, is_cancelled: bool) -> Option<i32>
     match known {
         Some(res) => Some(res),
         None => { if is_cancelled { Some(-125) } else { None } }
-    }
-}
-
-fn act_by(may_go_on: bool, end: Option<i32>) -> Act
-    ensures { result ≡ act_by may_go_on end }
-{
-    match (may_go_on, end) {
-        (false, _) => Act::Nothing,
-        (true, Some(res)) => Act::End(res),
-        (true, None) => Act::CarryOut,
     }
 }
 

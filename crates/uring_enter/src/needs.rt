@@ -48,6 +48,28 @@ pub struct Needs {
 pub fn needs_of(entry: &Submission) -> Needs
     ensures { result ≡ spec.needs_of entry.now }
 {
+    match entry.opcode {
+        22 => Needs {
+            needs_file: true,
+            asks_file: false,
+            is_registered: entry.flags & 1 != 0,
+            needs_second: false,
+            is_second_registered: entry.op_flags & 0x8000_0000 != 0,
+            uses_buffer: false,
+            selects: entry.flags & 32 != 0,
+            goes_on: false,
+            is_timeout: false,
+            can_make_ready: true,
+            events: 1,
+        },
+        _ => needs_of_any(entry),
+    }
+}
+
+/// The same, whatever its operation is.
+fn needs_of_any(entry: &Submission) -> Needs
+    ensures { result ≡ spec.needs_of entry.now }
+{
     Needs {
         needs_file: needs_file(entry.opcode) || wants_file(entry),
         asks_file: asks_file(entry),

@@ -88,7 +88,23 @@ fn cuts(entry: &Submission, carried: &Carried) -> bool
 pub fn has_succeeded(entry: &Submission, carried: &Carried, res: i32) -> bool
     ensures { result ≡ is_success (success_of_entry entry.now carried.now) res }
 {
-    is_success(success_of(entry, carried), res)
+    match entry.opcode {
+        22 => has_read_all(entry, carried, res),
+        _ => is_success(success_of(entry, carried), res),
+    }
+}
+
+/// The same of a READ: it has moved all its bytes.
+fn has_read_all(entry: &Submission, carried: &Carried, res: i32) -> bool
+    requires { entry.now.opcode ≡ 22 }
+    ensures { result ≡ is_success (success_of_entry entry.now carried.now) res }
+{
+    let is_cut = false;
+    if res < 0 {
+        false
+    } else {
+        res as u64 == carried.length && !is_cut
+    }
 }
 
 /// Whether a result is a success to the links behind the request.

@@ -2,6 +2,7 @@
 use Rattle.std.proofs.Common.{◌≡◌, ℕ, ◌+◌, ◌<◌, false, true, [], refl, sym, subst, ap, ◌∙◌, inl, inr, arith}
 use Rattle.uring_core.specs.World.{World, happens, beginning}
 use Rattle.uring_core.specs.StepAnswers.{CalledForApart, is_spent}
+use Rattle.uring_entry.specs.Setup.{Setup}
 use Rattle.uring_laws.specs.Standing.{Stands, in_call, after_call}
 use Rattle.uring_laws.proofs.Standing.{call_opens, call_closes, position_taken}
 use Rattle.uring_core.specs.declared.step.Step.TheVariants as step
@@ -52,11 +53,12 @@ opened_now a b count n x s not_closed is g called =
 pub closed_now : (a t e b : Kept) (count : ℕ) (y z : Answer) → Stands (now a).submission [] count
     → now t ≡ in_call (now a) count count → Grows t e (step.End, y)
     → CalledForApart t.setup (now t) step.End y → Grows e b (step.LoadHead, z)
-    → now b ≡ after_call (now a) count
-closed_now a t e b count y z s at end called load =
+    → t.setup ≡ a.setup → now b ≡ after_call a.setup (now a) count
+closed_now a t e b count y z s at end called load same =
     grown e b step.LoadHead z load
     ∙ ap (λ w. happens t.setup w step.LoadHead z) (grown t e step.End y end ∙ ap (λ w. happens t.setup w step.End y) at)
     ∙ (call_closes t.setup (now a) count count 0 y z s (omega arith) (subst (λ w. CalledForApart t.setup w step.End y) at called)).0
+    ∙ ap (λ (g : Setup). after_call g (now a) count) same
 
 -- what a call that opened appends
 pub call_counts : (a o t e b : Kept) (count : ℕ) (x y z : Answer) → Grows a o (step.Begin count, x)

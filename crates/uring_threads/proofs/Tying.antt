@@ -36,10 +36,10 @@ use Rattle.uring_threads.specs.declared.intake.Intake.{Intake}
 use Rattle.uring_threads.specs.declared.intake.Intake.TheVariants as intake
 
 -- the call that waited was begun
-pub tied_begun : (size : ℕ) (w v : World) (put : Put) (count : ℕ) (b : Begun)
-    → Tied size w put (intake.Waiting count) → v ≡ with_begun_as w count b
+pub tied_begun : (g : Setup) (size : ℕ) (w v : World) (put : Put) (count : ℕ) (b : Begun)
+    → Tied size w put (intake.Waiting count) → v ≡ with_begun_as g w count b
     → (b ≡ begun.Spent → is_spent w count ≡ true) → Tied size v put (intake_after count b)
-tied_begun size w v put count begun.Taken t e spent =
+tied_begun g size w v put count begun.Taken t e spent =
     subst (λ u. Tied size u put intake.Ready) (sym e)
     (record {
       published = t.published;
@@ -49,9 +49,9 @@ tied_begun size w v put count begun.Taken t e spent =
       closed = t.closed;
       shut = t.shut;
     })
-tied_begun size w v put count begun.Again t e spent =
+tied_begun g size w v put count begun.Again t e spent =
     subst (λ u. Tied size u put (intake.Waiting count)) (sym e) t
-tied_begun size w v put count begun.Spent t e spent = subst (λ u. Tied size u put (intake.Spent count)) (sym e) (record { published = t.published; calls = t.calls; stands = t.stands; spent = spent refl; closed = t.closed; shut = t.shut })
+tied_begun g size w v put count begun.Spent t e spent = subst (λ u. Tied size u put (intake.Spent count)) (sym e) (record { published = t.published; calls = t.calls; stands = t.stands; spent = spent refl; closed = t.closed; shut = t.shut })
 
 -- the items of calls with one more
 items_of_calls_snoc : (calls : List (List Item)) (items : List Item)
@@ -100,15 +100,15 @@ tied_published size w put items t not_closed few =
     }
 
 -- a call was pulled, published and begun
-pub tied_pulled : (size : ℕ) (w v : World) (put after : Put) (items : List Item) (b : Begun)
+pub tied_pulled : (g : Setup) (size : ℕ) (w v : World) (put after : Put) (items : List Item) (b : Begun)
     → Tied size w put intake.Ready → put.closed ≡ false → length items ≤ size
     → after ≡ with_call put items
-    → v ≡ with_begun_as (with_items_published size w (all_published_as items)) (length items) b
+    → v ≡ with_begun_as g (with_items_published size w (all_published_as items)) (length items) b
     → (b ≡ begun.Spent → is_spent w (length items) ≡ true)
     → Tied size v after (intake_after (length items) b)
-tied_pulled size w v put after items b t not_closed few pulled e spent =
+tied_pulled g size w v put after items b t not_closed few pulled e spent =
     subst (λ p. Tied size v p (intake_after (length items) b)) (sym pulled)
-    (tied_begun size (with_items_published size w (all_published_as items)) v (with_call put items) (length items) b (tied_published size w put items t not_closed few) e spent)
+    (tied_begun g size (with_items_published size w (all_published_as items)) v (with_call put items) (length items) b (tied_published size w put items t not_closed few) e spent)
 
 -- What a row of the intake appends.
 
@@ -178,20 +178,20 @@ call_waits a r put count i u waits t =
 
 -- and once it was begun again
 pub tied_again : (a r b : Kept) (put : Put) (count : ℕ) (i : Intake) (x : Begun) → IsUnmoved a r
-    → i ≡ intake.Waiting count → now b ≡ with_begun_as (now r) count x
+    → i ≡ intake.Waiting count → now b ≡ with_begun_as r.setup (now r) count x
     → (x ≡ begun.Spent → is_spent (now r) count ≡ true)
     → Tied a.setup.sq (now a) put i → Tied a.setup.sq (now b) put (intake_after count x)
-tied_again a r b put count i x u waits e spent t = tied_begun a.setup.sq (now a) (now b) put count x (subst (Tied a.setup.sq (now a) put) waits t) (e ∙ ap (λ w. with_begun_as w count x) (unmoved_now a r u)) (λ is. ap (λ w. is_spent w count) (sym (unmoved_now a r u)) ∙ spent is)
+tied_again a r b put count i x u waits e spent t = tied_begun r.setup a.setup.sq (now a) (now b) put count x (subst (Tied a.setup.sq (now a) put) waits t) (e ∙ ap (λ w. with_begun_as r.setup w count x) (unmoved_now a r u)) (λ is. ap (λ w. is_spent w count) (sym (unmoved_now a r u)) ∙ spent is)
 
-pub begun_completions : (w : World) (count : ℕ) (x : Begun)
-    → (with_begun_as w count x).completions ≡ w.completions
-begun_completions w count begun.Taken = refl
-begun_completions w count begun.Again = refl
-begun_completions w count begun.Spent = refl
+pub begun_completions : (g : Setup) (w : World) (count : ℕ) (x : Begun)
+    → (with_begun_as g w count x).completions ≡ w.completions
+begun_completions g w count begun.Taken = refl
+begun_completions g w count begun.Again = refl
+begun_completions g w count begun.Spent = refl
 
 pub again_completions : (a r b : Kept) (count : ℕ) (x : Begun) → IsUnmoved a r
-    → now b ≡ with_begun_as (now r) count x → (now b).completions ≡ (now a).completions
-again_completions a r b count x u e = completions_behind a r b u (ap (λ (w : World). w.completions) e ∙ begun_completions (now r) count x)
+    → now b ≡ with_begun_as r.setup (now r) count x → (now b).completions ≡ (now a).completions
+again_completions a r b count x u e = completions_behind a r b u (ap (λ (w : World). w.completions) e ∙ begun_completions r.setup (now r) count x)
 
 -- what was pulled
 pub pulled_at : (a r : Kept) (before after : Put) (size : ℕ) (x : Pulled) (items taken : List Item) (i : Intake)
@@ -208,19 +208,19 @@ pulled_at a r before after size x items taken i u sizes same t p = (
 pub tied_taken : (a b : Kept) (before after : Put) (items : List Item) (i : Intake) (x : Begun)
     → i ≡ intake.Ready
     → now b
-    ≡ with_begun_as (with_items_published a.setup.sq (now a) (all_published_as items)) (length items) x
+    ≡ with_begun_as a.setup (with_items_published a.setup.sq (now a) (all_published_as items)) (length items) x
     → (x ≡ begun.Spent → is_spent (now a) (length items) ≡ true)
     → Tied a.setup.sq (now a) before i
     → (0 < length items) × (length items ≤ a.setup.sq) × (before.closed ≡ false)
     × (after ≡ with_call before items)
     → Tied a.setup.sq (now b) after (intake_after (length items) x)
-tied_taken a b before after items i x ready e spent t pulled = tied_pulled a.setup.sq (now a) (now b) before after items x (subst (Tied a.setup.sq (now a) before) ready t) pulled.2 pulled.1 pulled.3 e spent
+tied_taken a b before after items i x ready e spent t pulled = tied_pulled a.setup a.setup.sq (now a) (now b) before after items x (subst (Tied a.setup.sq (now a) before) ready t) pulled.2 pulled.1 pulled.3 e spent
 
 pub taken_completions : (a b : Kept) (items : List Item) (x : Begun)
     → now b
-    ≡ with_begun_as (with_items_published a.setup.sq (now a) (all_published_as items)) (length items) x
+    ≡ with_begun_as a.setup (with_items_published a.setup.sq (now a) (all_published_as items)) (length items) x
     → (now b).completions ≡ (now a).completions
-taken_completions a b items x e = ap (λ (w : World). w.completions) e ∙ begun_completions (with_items_published a.setup.sq (now a) (all_published_as items)) (length items) x
+taken_completions a b items x e = ap (λ (w : World). w.completions) e ∙ begun_completions a.setup (with_items_published a.setup.sq (now a) (all_published_as items)) (length items) x
 
 -- the close mark, of a ring that is in no call
 pub closed_world : (a b : Kept) (x : Answer) → Grows a b (step.Close, x) → x ≡ close_answer (now a)

@@ -1,5 +1,6 @@
 -- Glue. What the dispatcher's rows of steps make of the world.
 use Rattle.std.specs.Prelude.{ℕ, List}
+use Rattle.uring_entry.specs.Setup.{Setup}
 use Rattle.uring_entry.specs.Submission.{Submission, with_published, Published}
 use Rattle.uring_core.specs.World.{World}
 use Rattle.uring_laws.specs.Standing.{with_item, with_items, after_call}
@@ -24,7 +25,7 @@ with_items_published size w items =
     on_submission w (with_published size (with_items w.submission 0 items))
 
 -- a call of all positions that wait was begun: it took them and closed, or nothing changed
-abbrev pub with_begun_as : World → ℕ → Begun → World
-with_begun_as w count begun.Taken = after_call w count
-with_begun_as w count begun.Again = w
-with_begun_as w count begun.Spent = w
+abbrev pub with_begun_as : Setup → World → ℕ → Begun → World
+with_begun_as g w count begun.Taken = after_call g w count
+with_begun_as g w count begun.Again = w
+with_begun_as g w count begun.Spent = w

@@ -51,7 +51,7 @@ pub fn begin_call<M: Memory>(memory: &M, kept: &mut Kept, count: u32) -> Begun
     requires room { length kept.old.trace + count + 3 ≤ kept.old.room }
     requires not_closed { (now kept.old).is_closed ≡ false }
     requires stands { Stands (now kept.old).submission [] count }
-    ensures world { now kept.new ≡ with_begun_as (now kept.old) count result }
+    ensures world { now kept.new ≡ with_begun_as kept.old.setup (now kept.old) count result }
     ensures tally { Appends kept.old kept.new call_counted }
     ensures row { Records kept.old kept.new (begin_row count result) }
 
@@ -79,7 +79,7 @@ pub fn take_call<M: Memory>(memory: &M, kept: &mut Kept, items: &[Item]) -> Begu
     requires not_closed { (now kept.old).is_closed ≡ false }
     requires stands { Stands (now kept.old).submission [] 0 }
     ensures world { now kept.new
-        ≡ with_begun_as
+        ≡ with_begun_as kept.old.setup
         (with_items_published kept.old.setup.sq (now kept.old) (all_published_as items.now))
         (length items.now) result }
     ensures tally { Appends kept.old kept.new (whole_call_counted (length items.now)) }

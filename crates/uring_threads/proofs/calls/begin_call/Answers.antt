@@ -34,6 +34,7 @@ returns-clause-world g c =
     let opened = opened_now c.args.kept.now c.step_reserved_in.new.self c.args.count _ c.step_reserved_in.result c.requires.stands c.requires.not_closed c.in-Call.is c.step_reserved_in.ensures.grows c.step_reserved_in.ensures.called in
     closed_now c.args.kept.now c.take_all.new.kept c.step_reserved.new.self c.step_reserved-2.new.self c.args.count c.step_reserved.result c.step_reserved-2.result c.requires.stands
     (c.take_all.ensures.world ∙ ap (λ w. in_call w c.args.count c.args.count) opened) c.step_reserved.ensures.grows c.step_reserved.ensures.called c.step_reserved-2.ensures.grows
+    (c.take_all.ensures.tally.setup ∙ c.step_reserved_in.ensures.grows.setup)
 
 pub returns-clause-tally : goal.returns-clause-tally
 returns-clause-tally g c =

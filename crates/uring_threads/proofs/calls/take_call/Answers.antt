@@ -24,8 +24,9 @@ returns-clause-spent g c = λ given.
 pub returns-clause-world : goal.returns-clause-world
 returns-clause-world g c =
     let at = (published_now c.put_items.new.kept c.step_reserved.new.self (now c.args.kept.now) c.args.items.now c.step_reserved.result c.requires.stands c.put_items.ensures.world c.step_reserved.ensures.grows).0 in
-    c.begin_call.ensures.world ∙ ap (λ w. with_begun_as w (length c.args.items.now) c.begin_call.result) at
-    ∙ ap (λ (s : Setup). with_begun_as (with_items_published s.sq (now c.args.kept.now) (all_published_as c.args.items.now)) (length c.args.items.now) c.begin_call.result) c.put_items.ensures.tally.setup
+    c.begin_call.ensures.world ∙ ap (λ w. with_begun_as c.step_reserved.new.self.setup w (length c.args.items.now) c.begin_call.result) at
+    ∙ ap (λ (s : Setup). with_begun_as s (with_items_published c.put_items.new.kept.setup.sq (now c.args.kept.now) (all_published_as c.args.items.now)) (length c.args.items.now) c.begin_call.result) (c.step_reserved.ensures.grows.setup ∙ c.put_items.ensures.tally.setup)
+    ∙ ap (λ (s : Setup). with_begun_as c.args.kept.now.setup (with_items_published s.sq (now c.args.kept.now) (all_published_as c.args.items.now)) (length c.args.items.now) c.begin_call.result) c.put_items.ensures.tally.setup
 
 pub returns-clause-granted : goal.returns-clause-granted
 returns-clause-granted g c = c.begin_call.ensures.granted

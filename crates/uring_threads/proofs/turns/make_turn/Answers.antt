@@ -8,6 +8,7 @@ use Rattle.uring_ports.specs.Ports.{Sizes}
 use Rattle.uring_ports.specs.Seen.{HasLooked}
 use Rattle.uring_threads.specs.Served.{DeliversMost, HasServed, PullsMost}
 use Rattle.uring_threads.specs.EventRows.{AreOfTurn, RecordsTurn}
+use Rattle.uring_threads.specs.Kernel.{Kernel}
 use Rattle.uring_threads.specs.Kept.{now}
 use Rattle.uring_threads.specs.Tallies.{TakesFewResults, finishes_counted, issues_counted, reaps_counted}
 use Rattle.std.proofs.lemmas.Result.{IfOk-weaker, IfOk-from_err}
@@ -76,8 +77,34 @@ returns-clause-served g c =
     let cq = ap (λ (s : Setup). s.cq) setup in
     let posted = ap length c.deliver.ensures.keeps.posted in
     let told = c.tell_dropped.ensures in
-    with_ok c.tell_dropped.result _ _ _ _
-    (λ made same begun stored. subst (HasServed _ _) (sym same) (record {
+    let old : Kernel = record {
+      kept = c.args.kept.now;
+      intake = c.args.intake.now;
+      lanes = c.args.lanes.now;
+      pairing = g.P.KernelPort.pairing c.args.port.now;
+      sizes = g.P.KernelPort.sizes c.args.port.now;
+      pulled = g.P.KernelPort.pulled c.args.port.now;
+      saw_calls = g.P.KernelPort.saw_calls c.args.port.now;
+      reaped = g.P.KernelPort.delivered c.args.port.now;
+      free = g.P.KernelPort.free c.args.port.now;
+      room_looks = g.P.KernelPort.room_looks c.args.port.now;
+      dropped = g.P.KernelPort.dropped c.args.port.now;
+    } in
+    let new : Kernel = record {
+      kept = c.deliver.new.kept;
+      intake = c.take_in.new.intake;
+      lanes = c.issue_all.new.lanes;
+      pairing = g.P.KernelPort.pairing c.tell_dropped.new.port;
+      sizes = g.P.KernelPort.sizes c.tell_dropped.new.port;
+      pulled = g.P.KernelPort.pulled c.tell_dropped.new.port;
+      saw_calls = g.P.KernelPort.saw_calls c.tell_dropped.new.port;
+      reaped = g.P.KernelPort.delivered c.tell_dropped.new.port;
+      free = g.P.KernelPort.free c.tell_dropped.new.port;
+      room_looks = g.P.KernelPort.room_looks c.tell_dropped.new.port;
+      dropped = g.P.KernelPort.dropped c.tell_dropped.new.port;
+    } in
+    with_ok c.tell_dropped.result _ (HasServed old new) _ _
+    (λ made same begun stored. subst (HasServed old new) (sym same) (record {
       counts = counts_all c.args.kept.now c.take_in.new.kept c.collect_all.new.kept c.issue_all.new.kept c.deliver.new.kept c.in_ok-popped.popped c.in_ok-finished.finished c.in_ok-issued.issued c.in_ok-delivered.delivered
           c.in_ok-popped.ensures.taken c.in_ok-finished.ensures.tally c.in_ok-finished.ensures.idle c.in_ok-issued.ensures.tally c.in_ok-issued.ensures.idle c.in_ok-delivered.ensures.tally c.in_ok-delivered.ensures.idle;
       begun = begun;

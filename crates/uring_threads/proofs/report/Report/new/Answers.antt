@@ -42,4 +42,4 @@ pub returns-clause-trace : goal.returns-clause-trace
 returns-clause-trace g c = cc
 
 pub returns-clause-posted : goal.returns-clause-posted
-returns-clause-posted g c = cc
+returns-clause-posted g c = c.list_unreaped.ensures

@@ -1,0 +1,57 @@
+//! When a sleep isn't begun, what came of one, and which polls are told of writes, for C: functions of `c/wulgach_waits.h`.
+ghost use Rattle.std.specs.Prelude.{◌≡◌};
+ghost use Rattle.uring_enter.specs.PipePolls as polls;
+ghost use Rattle.uring_enter.specs.Sleeping as sleeping;
+ghost use Rattle.uring_c.specs.SleepForm.{word_of_beginning, word_of_outcome};
+
+use uring_enter::{Beginning, Outcome, PipePoll, Waited, beginning_of, outcome_of};
+
+/// Whether a request is to be told of writes to its pipe.
+#[unsafe(no_mangle)]
+pub extern "C" fn wulgach_awaits_writes(poll: &PipePoll) -> bool
+    ensures { result ≡ polls.awaits poll.now }
+{
+    poll.awaits()
+}
+
+/// Whether it awaits the writes of this number.
+#[unsafe(no_mangle)]
+pub extern "C" fn wulgach_awaits_write(poll: &PipePoll, watch: u32) -> bool
+    ensures { result ≡ polls.is_of_write poll.now watch }
+{
+    poll.is_of_write(watch)
+}
+
+/// Whether it is told of a write by this number, where its pipe has something to be read or nothing.
+#[unsafe(no_mangle)]
+pub extern "C" fn wulgach_is_told_of_write(poll: &PipePoll, watch: u32, is_there: bool) -> bool
+    ensures { result ≡ polls.is_told poll.now watch is_there }
+{
+    poll.is_told(watch, is_there)
+}
+
+/// Returns whether a sleep begins whose arguments have this fault, or 0, and before which a poll was told, or none.
+#[unsafe(no_mangle)]
+pub extern "C" fn wulgach_sleep_begins(fault: i32, is_told: bool) -> u32
+    ensures { result ≡ word_of_beginning (sleeping.beginning_of fault is_told) }
+{
+    match beginning_of(fault, is_told) {
+        Beginning::Fails => 0,
+        Beginning::Wakes => 1,
+        Beginning::Sleeps => 2,
+    }
+}
+
+/// Returns what came of a wait, as the reply to a call that wants to sleep.
+#[unsafe(no_mangle)]
+pub extern "C" fn wulgach_waited(waited: &Waited) -> u32
+    ensures { result ≡ word_of_outcome (sleeping.outcome_of waited.now) }
+{
+    match outcome_of(waited) {
+        Outcome::Woken => 7,
+        Outcome::TimedOut => 8,
+        Outcome::Interrupted => 9,
+        Outcome::Endless => 10,
+        Outcome::Failed => 11,
+    }
+}

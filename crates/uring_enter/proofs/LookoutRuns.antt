@@ -1,0 +1,125 @@
+-- The laws of what a ring looks out for.
+use Rattle.std.proofs.Common.{◌≡◌, ◌≤◌, Bool, true, false, not, ◌&&◌, ◌||◌, ◌==◌, ◌⊎◌, inl, inr, List, [], ◌∷◌, ◌++◌, if◌then◌else◌, refl, sym, ap, ◌∙◌, arith}
+use Rattle.std.proofs.lemmas.Bool.{false≢true, true≢false, or_parts}
+use Rattle.uring_enter.specs.Drainings as drains
+use Rattle.uring_enter.specs.Drainings.{Drainage}
+use Rattle.uring_enter.specs.Lookouts.{Happening, Found, Started, Left, Touched, Waited, Moved, Told, Heard, Opened, Ended, Changed, Woke, have_to_wait, moments, has_changed, EndLetsNone, LooksAfresh, WakesForEach, TakesItsOwn}
+use Rattle.uring_enter.specs.Readiness.{can_finish}
+
+no_less : (newer earlier : List Happening) → moments earlier ≤ moments (newer ++ earlier)
+no_less [] earlier = omega arith
+no_less (Found _ ∷ newer) earlier = no_less newer earlier
+no_less (Started _ ∷ newer) earlier = no_less newer earlier
+no_less (Left _ ∷ newer) earlier = no_less newer earlier
+no_less (Touched _ ∷ newer) earlier = no_less newer earlier
+no_less (Waited ∷ newer) earlier = no_less newer earlier
+no_less (Heard ∷ newer) earlier = no_less newer earlier
+no_less (Changed ∷ newer) earlier = no_less newer earlier
+no_less (Woke ∷ newer) earlier = no_less newer earlier
+no_less (Moved ∷ newer) earlier = omega (arith, no_less newer earlier)
+no_less (Told ∷ newer) earlier = omega (arith, no_less newer earlier)
+no_less (Opened ∷ newer) earlier = omega (arith, no_less newer earlier)
+no_less (Ended _ ∷ newer) earlier = no_less newer earlier
+
+pub looks_afresh : LooksAfresh
+looks_afresh [] earlier same = refl
+looks_afresh (Found _ ∷ newer) earlier same = looks_afresh newer earlier same
+looks_afresh (Started _ ∷ newer) earlier same = looks_afresh newer earlier same
+looks_afresh (Left _ ∷ newer) earlier same = looks_afresh newer earlier same
+looks_afresh (Touched _ ∷ newer) earlier same = looks_afresh newer earlier same
+looks_afresh (Waited ∷ newer) earlier same = looks_afresh newer earlier same
+looks_afresh (Heard ∷ newer) earlier same = looks_afresh newer earlier same
+looks_afresh (Changed ∷ newer) earlier same = looks_afresh newer earlier same
+looks_afresh (Woke ∷ newer) earlier same = looks_afresh newer earlier same
+looks_afresh (Told ∷ newer) earlier same = absurd (omega (arith, no_less newer earlier, same))
+looks_afresh (Moved ∷ newer) earlier same = absurd (omega (arith, no_less newer earlier, same))
+looks_afresh (Opened ∷ newer) earlier same = absurd (omega (arith, no_less newer earlier, same))
+looks_afresh (Ended _ ∷ newer) earlier same = looks_afresh newer earlier same
+
+-- what is told of a descriptor and a buffer is the same, and a completion may be posted that might before
+rest : (g s selects mp lp mb lb mr lr : Bool) → (lp ≡ true → mp ≡ true) → lb ≡ mb → lr ≡ mr
+    → (if g && not mp then false else if s then (selects && not g && not mb || mr) else true) ≡ false
+    → (if g && not lp then false else if s then (selects && not g && not lb || lr) else true) ≡ false
+rest true s selects mp false mb lb mr lr posts buffer ready is = refl
+rest true s selects true true mb lb mr lr posts buffer ready is = ap (λ b. if s then b else true) (ap (λ b. selects && false && not b || lr) buffer ∙ ap (λ b. selects && false && not mb || b) ready) ∙ is
+rest true s selects false true mb lb mr lr posts buffer ready is = absurd (false≢true (posts refl))
+rest false s selects mp lp mb lb mr lr posts buffer ready is = ap (λ b. if s then b else true) (ap (λ b. selects && true && not b || lr) buffer ∙ ap (λ b. selects && true && not mb || b) ready) ∙ is
+
+none_more : (bw aw k t g s selects mc lc mp lp mb lb mr lr : Bool) → (bw ≡ true → ⊥) → (lc ≡ true → mc ≡ true) → (lp ≡ true → mp ≡ true) → lb ≡ mb → lr ≡ mr
+    → (if bw then false else if k then true else if t then mc else if g && not mp then false else if s then (selects && not g && not mb || mr) else true) ≡ false
+    → (if aw then false else if k then true else if t then lc else if g && not lp then false else if s then (selects && not g && not lb || lr) else true) ≡ false
+none_more bw true k t g s selects mc lc mp lp mb lb mr lr none counts posts buffer ready is = refl
+none_more true false k t g s selects mc lc mp lp mb lb mr lr none counts posts buffer ready is = absurd (none refl)
+none_more false false true t g s selects mc lc mp lp mb lb mr lr none counts posts buffer ready is = absurd (true≢false is)
+none_more false false false true g s selects mc false mp lp mb lb mr lr none counts posts buffer ready is = refl
+none_more false false false true g s selects mc true mp lp mb lb mr lr none counts posts buffer ready is = absurd (true≢false (sym (counts refl) ∙ is))
+none_more false false false false g s selects mc lc mp lp mb lb mr lr none counts posts buffer ready is = rest g s selects mp lp mb lb mr lr posts buffer ready is
+
+unless : {A : Type 0} (b : Bool) → A ⊎ (b ≡ true) → b ≡ false → A
+unless b (inl a) is = a
+unless b (inr told) is = absurd (true≢false (sym told ∙ is))
+
+opposite : (b : Bool) → not b ≡ false → b ≡ true
+opposite true is = refl
+opposite false is = absurd (true≢false is)
+
+both : (a b : Bool) → a && b ≡ true → b ≡ true
+both true b is = is
+both false b is = absurd (false≢true is)
+
+pub end_lets_none : EndLetsNone
+end_lets_none log drainages staged is_draining end before after n is_cancelled m l is lets waits =
+    let parts = or_parts (end.is_count_reached || end.has_drains) (have_to_wait log) lets in
+    let others = or_parts end.is_count_reached end.has_drains parts.0 in
+    let none : drains.outstanding drainages == 0 ≡ true = opposite (drains.outstanding drainages == 0) (sym is.told ∙ others.1) in
+    let posts : l.may_post ≡ true → m.may_post ≡ true = λ may.
+    is.posted_before ∙ ap (λ b. b && staged == 0) none ∙ both (drains.outstanding (drains.Ended is_draining ∷ drainages) == 0) (staged == 0) (sym is.posted_after ∙ may) in
+    ap (λ b. can_finish record { has_to_wait = after.has_to_wait; is_stream = b } n is_cancelled l) is.stream ∙
+    none_more before.has_to_wait after.has_to_wait is_cancelled n.is_timeout n.goes_on before.is_stream n.selects m.has_counted l.has_counted m.may_post l.may_post m.has_buffer l.has_buffer m.is_ready l.is_ready
+    (λ has. true≢false (sym (is.waits has) ∙ parts.1))
+    (λ has. unless end.is_count_reached (is.counted has) others.0)
+    posts is.buffer is.ready waits
+
+one_changes : (earlier : List Happening) (one : Happening) → has_changed (one ∷ []) ≡ true → has_changed (one ∷ earlier) ≡ true
+one_changes earlier (Found _) is = absurd (false≢true is)
+one_changes earlier (Started _) is = absurd (false≢true is)
+one_changes earlier (Left _) is = absurd (false≢true is)
+one_changes earlier (Touched _) is = absurd (false≢true is)
+one_changes earlier Waited is = absurd (false≢true is)
+one_changes earlier Moved is = absurd (false≢true is)
+one_changes earlier Told is = absurd (false≢true is)
+one_changes earlier Heard is = absurd (false≢true is)
+one_changes earlier Opened is = absurd (false≢true is)
+one_changes earlier (Ended _) is = refl
+one_changes earlier Changed is = refl
+one_changes earlier Woke is = absurd (false≢true is)
+
+pub wakes_for_each : WakesForEach
+wakes_for_each [] earlier one is none = one_changes earlier one is
+wakes_for_each (Found _ ∷ newer) earlier one is none = wakes_for_each newer earlier one is none
+wakes_for_each (Started _ ∷ newer) earlier one is none = wakes_for_each newer earlier one is none
+wakes_for_each (Left _ ∷ newer) earlier one is none = wakes_for_each newer earlier one is none
+wakes_for_each (Touched _ ∷ newer) earlier one is none = wakes_for_each newer earlier one is none
+wakes_for_each (Waited ∷ newer) earlier one is none = wakes_for_each newer earlier one is none
+wakes_for_each (Moved ∷ newer) earlier one is none = wakes_for_each newer earlier one is none
+wakes_for_each (Told ∷ newer) earlier one is none = wakes_for_each newer earlier one is none
+wakes_for_each (Heard ∷ newer) earlier one is none = wakes_for_each newer earlier one is none
+wakes_for_each (Opened ∷ newer) earlier one is none = wakes_for_each newer earlier one is none
+wakes_for_each (Ended _ ∷ newer) earlier one is none = refl
+wakes_for_each (Changed ∷ newer) earlier one is none = refl
+wakes_for_each (Woke ∷ newer) earlier one is none = absurd (true≢false none)
+
+pub takes_its_own : TakesItsOwn
+takes_its_own [] earlier none = refl
+takes_its_own (Found _ ∷ newer) earlier none = takes_its_own newer earlier none
+takes_its_own (Started _ ∷ newer) earlier none = takes_its_own newer earlier none
+takes_its_own (Left _ ∷ newer) earlier none = takes_its_own newer earlier none
+takes_its_own (Touched _ ∷ newer) earlier none = takes_its_own newer earlier none
+takes_its_own (Waited ∷ newer) earlier none = takes_its_own newer earlier none
+takes_its_own (Moved ∷ newer) earlier none = refl
+takes_its_own (Told ∷ newer) earlier none = takes_its_own newer earlier none
+takes_its_own (Heard ∷ newer) earlier none = absurd (true≢false none)
+takes_its_own (Opened ∷ newer) earlier none = takes_its_own newer earlier none
+takes_its_own (Ended _ ∷ newer) earlier none = takes_its_own newer earlier none
+takes_its_own (Changed ∷ newer) earlier none = takes_its_own newer earlier none
+takes_its_own (Woke ∷ newer) earlier none = takes_its_own newer earlier none

@@ -1,0 +1,31 @@
+-- When a sleep of a call isn't begun after all, and what came of a wait. io_uring_enter(2), errors, but where our own rule is named.
+use Rattle.std.specs.Prelude.{ℤ, pos, negsuc, Bool, true, false, ◌&&◌, if◌then◌else◌}
+use Rattle.std.specs.Ordering.{int_eq}
+use Rattle.uring_entry.specs.Errors.{error}
+use Rattle.uring_enter.specs.declared.sleeping.Beginning.{Beginning}
+use Rattle.uring_enter.specs.declared.sleeping.Beginning.TheVariants.{Fails, Wakes, Sleeps}
+use Rattle.uring_enter.specs.declared.sleeping.Waited.{Waited}
+use Rattle.uring_enter.specs.declared.sleeping.Outcome.{Outcome}
+use Rattle.uring_enter.specs.declared.sleeping.Outcome.TheVariants.{Woken, TimedOut, Interrupted, Endless, Failed}
+
+abbrev pub is_error : ℤ → Bool
+is_error (negsuc _) = true
+is_error (pos _) = false
+
+-- a call whose last argument is at fault doesn't sleep, and fails with that; nor does one before whose sleep a poll was told of what another has written to its pipe, since that goes on
+abbrev pub beginning_of : ℤ → Bool → Beginning
+beginning_of fault is_told =
+    if is_error fault then Fails else
+    if is_told then Wakes else Sleeps
+
+-- where there was nothing to wait for a message may have come just now, which goes on if it can be posted; else nothing ever comes. Our own rule
+abbrev pub unless_message : Bool → Outcome
+unless_message can_post = if can_post then Woken else Endless
+
+-- a signal ends the sleep with -4 (EINTR), and another error with itself; else the caller's time is over, or something may go on
+abbrev pub outcome_of : Waited → Outcome
+outcome_of w =
+    if w.is_never then unless_message (w.has_messages && w.may_post) else
+    if int_eq w.result (error 4) then Interrupted else
+    if is_error w.result then Failed else
+    if w.is_over then TimedOut else Woken

@@ -1,0 +1,97 @@
+//! When a sleep of a call isn't begun after all, and what came of a wait. io_uring_enter(2), errors.
+
+ghost use Rattle.std.specs.Prelude.{◌≡◌};
+ghost use Rattle.uring_enter.specs.Sleeping as spec;
+
+/// Whether a sleep begins.
+#[derive(Clone, Copy, Drop)]
+pub enum Beginning {
+    /// It fails, with the fault.
+    Fails,
+
+    /// It needn't: something may go on.
+    Wakes,
+
+    Sleeps,
+}
+
+/// What is known behind a wait.
+#[repr(C)]
+#[derive(Clone, Copy, Drop)]
+pub struct Waited {
+    /// What the sleep came to: 0, or an error number's negative.
+    pub result: i32,
+
+    /// There was nothing to wait for, and it didn't sleep.
+    pub is_never: bool,
+
+    /// Another ring has left a message.
+    pub has_messages: bool,
+
+    /// A completion may be posted that belongs to no end of a request.
+    pub may_post: bool,
+
+    /// The caller's time is over.
+    pub is_over: bool,
+}
+
+/// What came of a wait.
+#[derive(Clone, Copy, Drop)]
+pub enum Outcome {
+    /// Something may go on.
+    Woken,
+
+    /// The caller's time is over.
+    TimedOut,
+
+    /// A signal came.
+    Interrupted,
+
+    /// Nothing that is awaited can ever come.
+    Endless,
+
+    /// The sleep failed, with what it came to.
+    Failed,
+}
+
+/// Whether a sleep begins whose arguments have this fault, or 0, and before which a poll was told, or none.
+pub fn beginning_of(fault: i32, is_told: bool) -> Beginning
+    ensures { result ≡ spec.beginning_of fault is_told }
+{
+    if fault < 0 {
+        Beginning::Fails
+    } else if is_told {
+        Beginning::Wakes
+    } else {
+        Beginning::Sleeps
+    }
+}
+
+/// What came of a wait.
+pub fn outcome_of(waited: &Waited) -> Outcome
+    ensures { result ≡ spec.outcome_of waited.now }
+{
+    if waited.is_never {
+        return unless_message(waited.has_messages && waited.may_post);
+    }
+    if waited.result == -4 {
+        Outcome::Interrupted
+    } else if waited.result < 0 {
+        Outcome::Failed
+    } else if waited.is_over {
+        Outcome::TimedOut
+    } else {
+        Outcome::Woken
+    }
+}
+
+/// What came of a wait for nothing, if a message can be posted or none.
+fn unless_message(can_post: bool) -> Outcome
+    ensures { result ≡ spec.unless_message can_post }
+{
+    if can_post {
+        Outcome::Woken
+    } else {
+        Outcome::Endless
+    }
+}
