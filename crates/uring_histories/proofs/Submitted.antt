@@ -3,12 +3,12 @@
 use Rattle.std.proofs.Common.{◌≡◌, ◌⊎◌, ◌+◌, ◌≤◌, ℕ, zero, suc, ℤ, Bool, true, false, List, [], ◌∷◌, ◌++◌, length, if◌then◌else◌, refl, sym, subst, ap, ◌∙◌, arith, inl, inr}
 use Rattle.std.proofs.lemmas.List.{length_push, map-append}
 use Rattle.uring_entry.specs.Setup.{Setup}
-use Rattle.uring_entry.specs.Layout.{Sqe, Cqe}
-use Rattle.uring_entry.specs.Success.{posts_completion}
+use Rattle.uring_entry.specs.Layout.{Cqe}
 use Rattle.uring_entry.specs.Submission.{Submission, with_staged, with_filled, with_published, Published, with_entry, bad_word, published_items}
 use Rattle.uring_entry.specs.Requests.{entry_of, no_bytes}
-use Rattle.uring_entry.specs.Completions.{Completions, with_end, with_posted, completion_for}
-use Rattle.uring_core.specs.World.{World, happens, filling, staging, beginning, taking}
+use Rattle.uring_entry.specs.Completions.{with_posted, completion_for}
+use Rattle.uring_core.specs.World.{World, with_end_of, happens, filling, staging, beginning, taking}
+use Rattle.uring_rules.specs.Rules.{posts}
 use Rattle.uring_core.specs.StepAnswers.{CalledForApart, OrAgain}
 use Rattle.uring_core.specs.Histories.{History, world}
 use Rattle.uring_core.specs.declared.step.Step.{Step}
@@ -115,8 +115,8 @@ with_call_published g w items = record w { submission = with_published g.sq (wit
 
 after_it : (g : Setup) (w : World) (calls : List (List Published)) (call : List Published) → Between w calls
     → GoesThrough g.sq call
-    → Stands (after_call (with_call_published g w call) (length call)).submission [] 0
-    → Between (after_call (with_call_published g w call) (length call)) (calls ++ call ∷ [])
+    → Stands (after_call g (with_call_published g w call) (length call)).submission [] 0
+    → Between (after_call g (with_call_published g w call) (length call)) (calls ++ call ∷ [])
 after_it g w calls call b goes_in stands =
     let w2 : World = with_call_published g w call in
     let now : published_items w2.submission ≡ items_in calls ++ call = items_published w.submission g.sq call b.stands.fresh goes_in.few goes_in.are_items ∙ ap (λ xs. xs ++ call) b.published in
@@ -155,15 +155,15 @@ call_made g goes h after calls call b goes_in made =
     let a5 : Answer = s4.2.0 in
     let a6 : Answer = s4.2.3.0 in
     let closed = call_closes g w2 n n 0 a5 a6 waits (omega arith) (subst (λ v. CalledForApart g v step.End a5) took s4.2.1) in
-    let at6 : world g after ≡ after_call w2 n = ap (world g) s4.2.3.3 ∙ (ap (λ v. happens g (happens g v step.End a5) step.LoadHead a6) took ∙ closed.0) in
+    let at6 : world g after ≡ after_call g w2 n = ap (world g) s4.2.3.3 ∙ (ap (λ v. happens g (happens g v step.End a5) step.LoadHead a6) took ∙ closed.0) in
     subst (λ v. Between v (calls ++ call ∷ [])) (sym at6) (after_it g w calls call b goes_in closed.1)
 
 -- An issue and a finish.
 
-end_reaps_none : (size : ℕ) (l : Completions) (entry : Sqe) (res : ℤ) (bytes : List ℕ)
-    → (with_end size l entry res bytes).reaped ≡ l.reaped
-end_reaps_none size l entry res bytes = by_test (posts_completion entry res) where
-  by_test : (posts : Bool) → (if posts then with_posted size l (completion_for entry res bytes) else l).reaped ≡ l.reaped
+end_reaps_none : (g : Setup) (w : World) (n : ℕ) (res : ℤ) (bytes : List ℕ)
+    → (with_end_of g w n res bytes).reaped ≡ w.completions.reaped
+end_reaps_none g w n res bytes = by_test (posts g.linux w.requests n res) where
+  by_test : (post : Bool) → (if post then with_posted g.cq w.completions (completion_for (entry_of w.requests n) res bytes) else w.completions).reaped ≡ w.completions.reaped
   by_test true = refl
   by_test false = refl
 
@@ -181,7 +181,7 @@ issue_between g w n (answer.Ended res bytes) calls b = record {
   is_open = b.is_open;
   published = b.published;
   cut = b.cut;
-  none_reaped = end_reaps_none g.cq w.completions (entry_of w.requests n) res no_bytes ∙ b.none_reaped;
+  none_reaped = end_reaps_none g w n res no_bytes ∙ b.none_reaped;
 }
 issue_between g w n _ calls b = b
 
@@ -192,7 +192,7 @@ finish_between g w n (answer.Ended res bytes) calls b = record {
   is_open = b.is_open;
   published = b.published;
   cut = b.cut;
-  none_reaped = end_reaps_none g.cq w.completions (entry_of w.requests n) res bytes ∙ b.none_reaped;
+  none_reaped = end_reaps_none g w n res bytes ∙ b.none_reaped;
 }
 finish_between g w n _ calls b = b
 

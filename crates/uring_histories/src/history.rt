@@ -32,7 +32,7 @@ const WHOLE: Form = Form {
     has_files: true,
 };
 
-/// Writes a history of these calls that comes to this outcome, as `uring check` reads it: the set-up, the outcome, and each step with its answer. `input` has the calls, in the language of plays. Returns whether it was written: not, if the search finds no moves that come to the outcome, or a line of them is longer than a check reads, and then nothing is.
+/// Writes a history of these calls that comes to this outcome, as `uring check` reads it: the set-up, the outcome, and each step with its answer. `input` has the calls, in the language of plays. Returns whether it was written: not, if the search finds no moves that come to the outcome, or a line of them is longer than a check reads, and then nothing is. Moves are of the manual pages' rules: for a ring of Linux's none is written.
 ///
 /// - `Line`, `Long`: as of `read_calls`. Nothing is written.
 /// - `Write`: a write failed or took no byte, or 2^64 - 1 writes were made. What is written is cut short.
@@ -48,7 +48,11 @@ pub fn write_history<W: Write>(
         → WritesHistory setup.now input.now ending.now (W.contents writer.old) (W.contents writer.new)) }
     ensures kept { IfOk result (λ is_written. is_written ≡ false
         → W.contents writer.new ≡ W.contents writer.old) }
+    ensures manual { IfOk result (λ is_written. is_written ≡ true → setup.now.linux ≡ false) }
 {
+    if setup.is_linux() {
+        return Ok(false);
+    }
     let Some(text) = history_of(alloc, setup, input, ending)? else {
         return Ok(false);
     };
