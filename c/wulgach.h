@@ -228,7 +228,7 @@ enum wulgach_since {
     WULGACH_SAME_GROUP = 1, /* both are members of one group */
     WULGACH_IT_DRAINS = 2,  /* the earlier one's group drains */
     WULGACH_OWN_DRAINS = 3, /* the later one's group drains */
-    WULGACH_DEFERRED = 4    /* the later one's group is deferred, by Linux's rules: until nothing else is outstanding */
+    WULGACH_DEFERRED = 4    /* the later one's group is deferred, by Linux's rules: until all that isn't deferred has ended */
 };
 
 /* The fault of an entry: the first of these that it has. */

@@ -53,7 +53,7 @@ pub enum Since {
     /// The later one's group drains.
     OwnDrains,
 
-    /// The later one's group is deferred, by Linux's rules: until nothing else is outstanding.
+    /// The later one's group is deferred, by Linux's rules: until all that isn't deferred has ended.
     Deferred,
 }
 
