@@ -1,5 +1,7 @@
 //! The dispatcher by the rules of a set-up: each call once by both, in a history of which the two tell otherwise. The answers were written by hand from docs/PROTOCOL.md.
 
+ghost use Rattle.std.specs.Prelude.{IsTrue};
+
 use super::{check_done, first_false};
 use std::alloc::Global;
 use std::test::Fail;
@@ -8,43 +10,97 @@ use uring_rules::{Found, Issued, Posts, Rules};
 
 const LINK: u8 = 4;
 
+/// Whether the issue of this request starts it.
+fn starts(rules: &mut Rules, n: u64) -> bool
+    requires { IsTrue rules.old.is_between_calls }
+    ensures { IsTrue rules.new.is_between_calls }
+{
+    matches!(rules.issue(n), Issued::Run(_))
+}
+
+/// Whether the issue of this request ends it with this result, and posts a completion.
+fn ends(rules: &mut Rules, n: u64, res: i32) -> bool
+    requires { IsTrue rules.old.is_between_calls }
+    ensures { IsTrue rules.new.is_between_calls }
+{
+    match rules.issue(n) {
+        Issued::Ended(given, Posts::Completion(_)) => given == res,
+        _ => false,
+    }
+}
+
+/// Whether a running no-op can be ended.
+fn finish(rules: &mut Rules, n: u64) -> bool
+    requires { IsTrue rules.old.is_between_calls }
+    ensures { IsTrue rules.new.is_between_calls }
+{
+    rules.end_running(n, 0).is_some()
+}
+
+/// Whether of three requests one runs, and of the others the last alone can be issued.
+fn are_counted(rules: &Rules) -> bool
+    requires { IsTrue rules.now.is_between_calls }
+{
+    let counts = (rules.accepted(), rules.outstanding(), rules.running());
+    let listed = (rules.least(), rules.next(), rules.next_issuable(1));
+    let issuable = (
+        rules.issuable(),
+        rules.nth_issuable(0),
+        rules.nth_issuable(1),
+    );
+    counts == (3, 3, 1) && listed == (Some(0), Some(2), Some(2)) && issuable == (1, Some(2), None)
+}
+
+/// Whether the cancel would find its member, which is held back: by Linux's rules it finds nobody.
+fn is_found(rules: &Rules, is_linux: bool) -> bool
+    requires { IsTrue rules.now.is_between_calls }
+{
+    let found = if is_linux {
+        Found::Nobody
+    } else {
+        Found::Chosen(1)
+    };
+    rules.would_find(2) == Some(found)
+}
+
+/// Whether the member stands as it should once the cancel was carried out: doomed, and by Linux's rules behind the member before it.
+fn is_told(rules: &Rules, is_linux: bool) -> bool
+    requires { IsTrue rules.now.is_between_calls }
+{
+    match rules.why(1) {
+        Why::IsDoomed(_) => !is_linux,
+        Why::Waits { least, since } => is_linux && least == 0 && since == Since::SameGroup,
+        _ => false,
+    }
+}
+
+/// Whether the member runs, and the cancel has ended.
+fn is_running(rules: &Rules) -> bool
+    requires { IsTrue rules.now.is_between_calls }
+{
+    rules.running_op(0) == Some(Op::Nop) && rules.entry(2).is_none()
+}
+
 /// A chain of two no-ops, of which the first runs, and a cancel of the second: by the manual pages' rules it dooms it, and by Linux's it finds nobody.
 fn cancelled_chain(alloc: Global, is_linux: bool) -> Result<Option<usize>, Fail> {
     let mut rules = Rules::new(alloc, is_linux);
     rules.reserve(3)?;
     rules.accept_call(&[Sqe::nop(1, LINK), Sqe::nop(2, 0), Sqe::cancel(9, 0, 2)]);
-    let started = matches!(rules.issue(0), Issued::Run(Op::Nop));
-    let (found, res) = if is_linux {
-        (Found::Nobody, -2)
+    let started = starts(&mut rules, 0);
+    let counted = are_counted(&rules);
+    let found = is_found(&rules, is_linux);
+    let cancels = ends(&mut rules, 2, if is_linux { -2 } else { 0 });
+    let told = is_told(&rules, is_linux);
+    let runs = is_running(&rules);
+    let ended = finish(&mut rules, 0);
+    let last = if is_linux {
+        starts(&mut rules, 1)
     } else {
-        (Found::Chosen(1), 0)
-    };
-    let told = rules.would_find(2) == Some(found);
-    let counts = (rules.accepted(), rules.outstanding(), rules.running()) == (3, 3, 1);
-    let listed = (rules.least(), rules.next(), rules.next_issuable(1))
-        == (Some(0), Some(2), Some(2));
-    let counted = (
-        rules.issuable(),
-        rules.nth_issuable(0),
-        rules.nth_issuable(1),
-    ) == (1, Some(2), None);
-    let cancels = rules.issue(2) == Issued::Ended(res, Posts::Completion(9));
-    let why = rules.why(1);
-    let waits = Why::Waits {
-        least: 0,
-        since: Since::SameGroup,
-    };
-    let reason = matches!(why, Why::IsDoomed(_)) != is_linux && (why == waits) == is_linux;
-    let runs = rules.running_op(0) == Some(Op::Nop) && rules.entry(2) == None;
-    let ended = rules.end_running(0, 0) == Some(Posts::Completion(1));
-    let last = match rules.issue(1) {
-        Issued::Run(_) => is_linux,
-        Issued::Ended(res, _) => !is_linux && res == -125,
-        _ => false,
+        ends(&mut rules, 1, -125)
     };
     let kind = rules.is_linux() == is_linux;
     Ok(first_false(&[
-        started, told, counts, listed, counted, cancels, reason, runs, ended, last, kind,
+        started, counted, found, cancels, told, runs, ended, last, kind,
     ]))
 }
 
