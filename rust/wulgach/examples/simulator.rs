@@ -195,6 +195,7 @@ fn play(run: u64, is_planted: bool, found: &mut Findings) -> Result<(), Error> {
         files: 1,
         start: 0,
         stops: false,
+        linux: false,
     })?;
     let bad = rng.below(2 * COMMITS as u32).into();
     let most = rng.below(REQUESTS as u32 + 1);

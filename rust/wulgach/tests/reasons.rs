@@ -8,6 +8,7 @@ const SETUP: Setup = Setup {
     files: 1,
     start: 0,
     stops: false,
+    linux: false,
 };
 
 /// A core and a machine that make the same steps.
