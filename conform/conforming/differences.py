@@ -1,4 +1,4 @@
-"""Where Linux is known to differ from the profile: a name for each, and the sentence of docs/PROTOCOL.md that tells it, word for word."""
+"""Where Linux is known to differ from the profile, or from its own rules as this project has them: a name for each, and the sentence of docs/PROTOCOL.md that tells it, word for word."""
 
 DIFFERENCES = {
     "linked fault stops nothing": "There Linux 6.18 ends a call after the first faulty entry that has no link flag; after one that has, it goes on, also past the end of its chain.",
@@ -12,6 +12,8 @@ DIFFERENCES = {
     "file position is served": "a read or write at offset 2^64 - 1, which means the file position in the pages.",
     "files have another limit": "The kernel writes up to the limit,",
     "drain beside skipped success": "The kernel refuses a drain with -95 (EOPNOTSUPP) once a ring has used skipped success.",
+    "a cancel takes back": "The kernel cancels a read that waits, as one of a pipe.",
+    "a cancel finds itself": "Such a cancel may also find itself, and end with -114.",
 }
 
 

@@ -5,6 +5,8 @@ Of the first, what is known to differ is left out, and told by the scenarios tha
 
 import random
 
+from conforming.requests import FAULTS, OPERATIONS
+
 
 class Maker:
     def __init__(self, seed):
@@ -116,7 +118,7 @@ class FreeMaker:
         user_data = self.name()
         flags = "".join(it for it in self.flags if rng.random() < {"L": 0.35, "H": 0.15}.get(it, 0.2)) or "-"
         if self.has_faults and rng.random() < 0.2:
-            return f"op {rng.choice([200, 255])} {user_data} {flags}"
+            return f"{self.fault()} {user_data} {flags}"
         if self.has_cancels and rng.random() < 0.3:
             named = rng.choice(self.held + [user_data - 1, user_data + 1, 999])
             return f"{rng.choice(['cancel', 'cancelall'])} {user_data} {flags} {max(named, 0)}"
@@ -130,6 +132,11 @@ class FreeMaker:
         if kind == "read":
             return f"read {user_data} {flags} {file} {rng.randrange(8)} {rng.randrange(5)}"
         return f"fsync {user_data} {flags} {file}" if kind == "fsync" else f"nop {user_data} {flags}"
+
+    def fault(self):
+        """What an entry with a fault begins with: an operation that nobody serves, or a fault of one that is served."""
+        rng = self.rng
+        return f"op {rng.choice([200, 255])}" if rng.random() < 0.3 else f"fault {rng.choice([*FAULTS])} {rng.choice([*OPERATIONS])}"
 
     def scenario(self):
         rng = self.rng
