@@ -188,7 +188,7 @@ module _ (r : Requests) (entries : List Sqe) (cut : (length r.accepted ≡ 0) �
 
   result_kept : (n : ℕ) → n < length r.accepted → doomed_result (with_call r entries) n ≡ doomed_result r n
   result_kept n below =
-      ap₂ (λ e refused. if is_faulty e then neg_ℤ EINVAL else if refused then neg_ℤ EOPNOTSUPP else neg_ℤ ECANCELED) (entry_kept r entries cut n below) (refused_kept n below)
+      ap₂ (λ e refused. if refused then neg_ℤ EOPNOTSUPP else if is_faulty e then neg_ℤ EINVAL else neg_ℤ ECANCELED) (entry_kept r entries cut n below) (refused_kept n below)
 
   first_called : (n : ℕ) → n < length r.accepted → IsFirst r n → IsFirst (with_call r entries) n
   first_called n below first k lt joined = first k lt (sym (join_kept r entries cut k n below) ∙ joined)

@@ -13,7 +13,7 @@ ghost use Rattle.uring_linux.specs.LinuxRequests as spec_of;
 
 use crate::answers::Issued;
 use crate::drains::Drains;
-use crate::request::{Request, Test, operation};
+use crate::request::{Request, Test, is_past, operation};
 use crate::window::Window;
 use std::alloc::Global;
 use std::marker::Model;
@@ -28,7 +28,7 @@ use uring_memory::Memory;
 pub struct LinuxDispatch {
     pub(crate) window: Window,
     pub(crate) drains: Drains,
-    // Whether an entry without a fault has asked for skipped success.
+    // Whether an entry whose operation and flags aren't refused has asked for skipped success.
     has_skipped: bool,
     // How many requests haven't ended.
     outstanding: u64,
@@ -323,8 +323,8 @@ fn has_skipped(before: bool, entry: &Sqe) -> bool
     ensures { result ≡ (before || is_skipping entry.now) }
 {
     let skips = entry.has(SqeFlags::CQE_SKIP_SUCCESS);
-    let is_faulty = is_faulty(entry);
-    before || skips && !is_faulty
+    let is_past = is_past(entry);
+    before || skips && is_past
 }
 
 /// Whether an entry is faulty by itself.
@@ -341,12 +341,12 @@ fn is_faulty(entry: &Sqe) -> bool
 fn new_request(entry: Sqe, has_skipped: bool) -> Request
     ensures { result ≡ spec.new_request entry has_skipped }
 {
-    let is_drain = entry.is_drain();
+    let asks_to_drain = entry.is_drain() && is_past(&entry);
     let is_linked = entry.is_linked();
     Request {
         entry,
         is_faulty: is_faulty(&entry),
-        is_refused: is_drain && has_skipped,
+        is_refused: asks_to_drain && has_skipped,
         is_last: !is_linked,
         is_running: false,
         has_ended: false,
