@@ -7,7 +7,7 @@ use Rattle.uring_entry.specs.Below.{some_below}
 use Rattle.uring_linux.specs.declared.request.Request.{Request}
 use Rattle.uring_linux.specs.Drains.{Drains, no_drains, with_entry}
 use Rattle.uring_linux.specs.KeptDrains.{KeptDrains, accepted_drains, cut_drains, with_request}
-use Rattle.uring_linux.specs.LinuxRequests.{LinuxRequests, is_past, is_skipping, is_let_in, no_request, with_last_entry, with_accepted, with_cut}
+use Rattle.uring_linux.specs.LinuxRequests.{LinuxRequests, is_past, asks_to_skip, is_let_in, no_request, with_last_entry, with_accepted, with_cut}
 use Rattle.uring_linux.specs.Window.{Window, new_request, end_of, Tells, Shows}
 use Rattle.uring_linux.specs.LinuxDispatch.{dispatch_of, ShowsRequests}
 use Rattle.uring_linux.proofs.WindowCounts.{unended_shown, running_shown}
@@ -31,7 +31,7 @@ taken q d e first second r n t same is at =
     ∙ ap (λ x. with_entry e (e.from == n) (is_let_in r n) (is_drain x && is_let_in r n)) t.entry
 
 pub dispatch_accepted : (s t : Window) (d k : KeptDrains) (b c : Bool) (room left : ℕ) (between amid : Bool) (e : Sqe) (q : Request) (l : LinuxRequests) (first : Bool)
-    → ShowsRequests (dispatch_of s d b room between) l → c ≡ (b || is_skipping e) → q ≡ new_request e c
+    → ShowsRequests (dispatch_of s d b room between) l → c ≡ (b || asks_to_skip e) → q ≡ new_request e c
     → t.first ≡ s.first → t.items ≡ s.items ++ q ∷ [] → first ≡ (d.drains.from == end_of s)
     → ((r : Requests) → Shows t r → k.drains ≡ accepted_drains r (is_linked q.entry) (with_request d.drains first q))
     → ShowsRequests (dispatch_of t k c left amid) (with_accepted l e)
@@ -54,7 +54,7 @@ dispatch_accepted s t d k b c room left between amid e q l first h ec eq ef ei i
             ∙ ap (accepted_drains (manual.with_accepted r e) (is_linked e))
             (taken q d.drains l.drains first (d.drains.from == end_of s) (manual.with_accepted r e) n tells h.held.drains is
             (ap (λ (x : Drains). x.from == end_of s) h.held.drains ∙ ap (λ x. l.drains.from == x) h.held.window.count));
-        skipped = skip ∙ ap (some_below (λ m. is_skipping (entry_of (manual.with_accepted r e) m))) more;
+        skipped = skip ∙ ap (some_below (λ m. asks_to_skip (entry_of (manual.with_accepted r e) m))) more;
       };
     }
 

@@ -15,7 +15,7 @@ use Rattle.std.proofs.Math.Bool.{or-false}
 use Rattle.uring_entry.proofs.RequestLemmas.{get_or_push_other, entry_of_accepted_at, entry_of_accepted_other, has_failed_unended, has_failed_accepted, has_ended_other, has_ended_same, has_failed_other, has_failed_same, is_running_started_same, is_running_started_other, is_running_ended_same, is_running_ended_other, added_other}
 use Rattle.uring_entry.proofs.GroupEvents.{entry_same, is_last_cut, is_last_cut_last}
 use Rattle.uring_linux.specs.declared.request.Request.{Request}
-use Rattle.uring_linux.specs.LinuxRequests.{asks_to_drain, is_skipping, has_skipped, is_refused_drain}
+use Rattle.uring_linux.specs.LinuxRequests.{asks_to_drain, asks_to_skip, has_skipped, is_refused_drain}
 use Rattle.uring_linux.specs.Window.{Window, new_request, at, end_of, Tells, Shows, IsWithin, IsNew}
 use Rattle.uring_linux.proofs.WindowLemmas.{at_low, at_high}
 
@@ -100,8 +100,8 @@ pub refused_accepted : (r : Requests) (e : Sqe) (k : ℕ) → k < length r.accep
 refused_accepted r e k lt =
     ap (λ b. b && has_skipped (with_accepted r e) k) (entry_same r e asks_to_drain k lt)
     ∙ ap (λ b. asks_to_drain (entry_of r k) && b)
-    (some_below_same (λ m. is_skipping (entry_of (with_accepted r e) m)) (λ m. is_skipping (entry_of r m)) (k + 1)
-    (λ m low. entry_same r e is_skipping m (omega arith)))
+    (some_below_same (λ m. asks_to_skip (entry_of (with_accepted r e) m)) (λ m. asks_to_skip (entry_of r m)) (k + 1)
+    (λ m low. entry_same r e asks_to_skip m (omega arith)))
 
 pub last_accepted : (r : Requests) (e : Sqe) (k : ℕ) → k < length r.accepted
     → is_last (with_accepted r e) k ≡ is_last r k
@@ -342,16 +342,16 @@ pushed_shows s t q r e first items h tells =
 
 -- whether skipped success was asked for, behind one more entry
 pub skipped_accepted : (r : Requests) (e : Sqe) (b : Bool)
-    → b ≡ some_below (λ m. is_skipping (entry_of r m)) (length r.accepted)
-    → (b || is_skipping e) ≡ some_below (λ m. is_skipping (entry_of (with_accepted r e) m)) (length r.accepted + 1)
+    → b ≡ some_below (λ m. asks_to_skip (entry_of r m)) (length r.accepted)
+    → (b || asks_to_skip e) ≡ some_below (λ m. asks_to_skip (entry_of (with_accepted r e) m)) (length r.accepted + 1)
 skipped_accepted r e b is =
     let more : suc (length r.accepted) ≡ length r.accepted + 1 = omega arith in
-    ap (λ c. c || is_skipping e) is
-    ∙ ap (λ c. c || is_skipping e)
-    (some_below_same (λ m. is_skipping (entry_of r m)) (λ m. is_skipping (entry_of (with_accepted r e) m)) (length r.accepted)
-    (λ m low. sym (entry_same r e is_skipping m low)))
-    ∙ ap (λ x. some_below (λ m. is_skipping (entry_of (with_accepted r e) m)) (length r.accepted) || is_skipping x) (sym (entry_of_accepted_at r e))
-    ∙ ap (some_below (λ m. is_skipping (entry_of (with_accepted r e) m))) more
+    ap (λ c. c || asks_to_skip e) is
+    ∙ ap (λ c. c || asks_to_skip e)
+    (some_below_same (λ m. asks_to_skip (entry_of r m)) (λ m. asks_to_skip (entry_of (with_accepted r e) m)) (length r.accepted)
+    (λ m low. sym (entry_same r e asks_to_skip m low)))
+    ∙ ap (λ x. some_below (λ m. asks_to_skip (entry_of (with_accepted r e) m)) (length r.accepted) || asks_to_skip x) (sym (entry_of_accepted_at r e))
+    ∙ ap (some_below (λ m. asks_to_skip (entry_of (with_accepted r e) m))) more
 
 pub tells_new : (r : Requests) (e : Sqe) (b : Bool) → IsNew r (length r.accepted)
     → b ≡ has_skipped (with_accepted r e) (length r.accepted)

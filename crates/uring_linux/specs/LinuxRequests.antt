@@ -41,8 +41,8 @@ abbrev pub is_past : Sqe → Bool
 is_past e = comes_past (fault_of e)
 
 -- whether an entry asks for skipped success, and comes past the first look
-abbrev pub is_skipping : Sqe → Bool
-is_skipping e = has skip_success e && is_past e
+abbrev pub asks_to_skip : Sqe → Bool
+asks_to_skip e = has skip_success e && is_past e
 
 -- whether an entry asks to drain, and comes past the first look
 abbrev pub asks_to_drain : Sqe → Bool
@@ -50,7 +50,7 @@ asks_to_drain e = is_drain e && is_past e
 
 -- whether an entry that was accepted up to n, n itself included, asks for skipped success
 abbrev pub has_skipped : Requests → ℕ → Bool
-has_skipped r n = some_below (λ m. is_skipping (entry_of r m)) (n + 1)
+has_skipped r n = some_below (λ m. asks_to_skip (entry_of r m)) (n + 1)
 
 -- whether n asks to drain in a ring that has used skipped success. docs/PROTOCOL.md, Drains
 abbrev pub is_refused_drain : Requests → ℕ → Bool

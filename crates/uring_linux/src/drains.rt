@@ -9,7 +9,8 @@ ghost use Rattle.uring_linux.specs.Window.{Shows, end_of};
 ghost use Rattle.uring_linux.specs.KeptDrains.{accepted_drains, cut_drains, with_request};
 
 use crate::deferred::Deferred;
-use crate::request::{Request, Test, is_past};
+use crate::entries::is_past;
+use crate::request::{Request, Test};
 use crate::window::Window;
 use std::alloc::{AllocError, Global};
 use std::collections::VecDeque;

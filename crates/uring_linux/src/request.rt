@@ -2,9 +2,8 @@
 
 ghost use Rattle.std.specs.Prelude.{◌≡◌};
 ghost use Rattle.uring_entry.specs.Preparation.{operation_of};
-ghost use Rattle.uring_linux.specs.LinuxRequests as linux;
 
-use uring_entry::{Fault, Op, Sqe, opcode, prepare};
+use uring_entry::{Op, Sqe, opcode};
 
 /// What is kept of one request.
 #[derive(Clone, Copy, Debug, PartialEq, Eq)]
@@ -36,18 +35,6 @@ pub(crate) enum Test {
 
     /// It runs, and has this user data.
     Runs(u64),
-}
-
-/// Whether an entry comes past Linux's first look: its operation and its flags aren't refused.
-pub(crate) fn is_past(entry: &Sqe) -> bool
-    ensures { result ≡ linux.is_past entry.now }
-{
-    match prepare(entry) {
-        Ok(_) => true,
-        Err(Fault::Flags) => false,
-        Err(Fault::Opcode) => false,
-        Err(_) => true,
-    }
 }
 
 /// What an entry asks for that has no fault.
