@@ -235,7 +235,7 @@ linux_kept g w s a (refuses _ _ same silent) i sound =
 linux_kept g w s a (takes entry call place opened left at valid) i sound =
     subst (λ o. IsSoundLinux (taking_entry_of (by_linux g) w entry o).requests) (sym opened) sound
 linux_kept g w s a (drops call place opened left at invalid) i sound =
-    subst (λ o. IsSoundLinux (taking_of w o).requests) (sym opened) sound
+    subst (λ o. IsSoundLinux (taking_of (by_linux g) w o).requests) (sym opened) sound
 linux_kept g w s a (closes accepted missed head call opened all told) i sound =
     subst (λ o. IsSoundLinux (ending_of (by_linux g) w o).requests) (sym opened) (call_linux w.requests (entries_of (places_from w.submission call.count)) i.cut_at_end i sound)
 linux_kept g w s a (runs n outstanding idle spared ready no_cancel) i sound =
