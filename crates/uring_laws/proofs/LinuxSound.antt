@@ -15,7 +15,7 @@ use Rattle.uring_entry.specs.Requests.{Requests, Ending, no_request, entry_of, h
 use Rattle.uring_entry.proofs.BelowLemmas.{some_below_same, some_below_between, some_below_out}
 use Rattle.uring_entry.proofs.RequestLemmas.{is_joined_no, list_any_push}
 use Rattle.uring_entry.proofs.EventLemmas.{is_joined_started, is_joined_ended, is_behind_failure_tells, is_behind_failure_from}
-use Rattle.uring_linux.specs.LinuxRequests.{LinuxRequests, asks_to_skip, has_skipped, is_refused_drain, has_fault, is_in_faulty_group, is_doomed, doomed_result, is_in_turn, keeps_back, is_deferred}
+use Rattle.uring_linux.specs.LinuxRequests.{LinuxRequests, asks_to_drain, asks_to_skip, has_skipped, is_refused_drain, has_fault, is_in_faulty_group, is_doomed, doomed_result, is_in_turn, keeps_back, is_deferred}
 use Rattle.uring_core.specs.World.{World, requests_of, happens, taking_of, taking_entry_of, ending_of}
 use Rattle.uring_core.specs.Histories.{History, world, IsLawfulApart}
 use Rattle.uring_core.specs.declared.step.Step.{Step}
@@ -161,7 +161,7 @@ module _ (r : Requests) (entries : List Sqe) (cut : (length r.accepted ≡ 0) �
       (λ k lt. ap asks_to_skip (entry_kept r entries cut k (omega (arith, lt, below))))
 
   refused_kept : (n : ℕ) → n < length r.accepted → is_refused_drain (with_call r entries) n ≡ is_refused_drain r n
-  refused_kept n below = ap₂ (λ e b. is_drain e && b) (entry_kept r entries cut n below) (skipped_kept n below)
+  refused_kept n below = ap₂ (λ e b. asks_to_drain e && b) (entry_kept r entries cut n below) (skipped_kept n below)
 
   fault_kept : (n : ℕ) → n < length r.accepted → has_fault (with_call r entries) n ≡ has_fault r n
   fault_kept n below = ap₂ (λ e b. is_faulty e || b) (entry_kept r entries cut n below) (refused_kept n below)
