@@ -207,11 +207,11 @@ taken_rings : (g : Setup) (v : World) (entry : Sqe) (o : Option Call) (s c : Lis
 taken_rings g v entry None s c e d a = by_rings v s c e d a
 taken_rings g v entry (Some call) s c e d a = by_rings (taking_entry_of (by_manual g) v entry (Some call)) s c e d a
 
-dropped_rings : (v : World) (o : Option Call) (s c : List ℕ) (e : List Ending) (d : Drains)
+dropped_rings : (g : Setup) (v : World) (o : Option Call) (s c : List ℕ) (e : List Ending) (d : Drains)
     → AreSame v.requests s c e
-    → HaveSameRings (taking_of v o) (taking_of (with_lists v s c e d) o)
-dropped_rings v None s c e d a = by_rings v s c e d a
-dropped_rings v (Some call) s c e d a = by_rings (taking_of v (Some call)) s c e d a
+    → HaveSameRings (taking_of g v o) (taking_of g (with_lists v s c e d) o)
+dropped_rings g v None s c e d a = by_rings v s c e d a
+dropped_rings g v (Some call) s c e d a = by_rings (taking_of g v (Some call)) s c e d a
 
 closed_rings : (g : Setup) (v : World) (o : Option Call) (s c : List ℕ) (e : List Ending) (d : Drains)
     → AreSame v.requests s c e
@@ -249,7 +249,7 @@ rings_then g v x b (refuses _ _ same silent) s c e d a =
 rings_then g v x b (takes entry call place opened left at valid) s c e d a =
     taken_rings (by_manual g) v entry v.submission.call s c e d a
 rings_then g v x b (drops call place opened left at invalid) s c e d a =
-    dropped_rings v v.submission.call s c e d a
+    dropped_rings (by_manual g) v v.submission.call s c e d a
 rings_then g v x b (closes accepted missed head call opened all told) s c e d a =
     closed_rings (by_manual g) v v.submission.call s c e d a
 rings_then g v x b (runs n outstanding idle spared ready no_cancel) s c e d a = record {

@@ -15,7 +15,7 @@ use Rattle.uring_entry.specs.Requests.{Requests, Ending, no_request, entry_of, h
 use Rattle.uring_entry.proofs.BelowLemmas.{some_below_same, some_below_between, some_below_out}
 use Rattle.uring_entry.proofs.RequestLemmas.{is_joined_no, list_any_push}
 use Rattle.uring_entry.proofs.EventLemmas.{is_joined_started, is_joined_ended, is_behind_failure_tells, is_behind_failure_from}
-use Rattle.uring_linux.specs.LinuxRequests.{LinuxRequests, is_skipping, has_skipped, is_refused_drain, has_fault, is_in_faulty_group, is_doomed, doomed_result, is_in_turn, keeps_back, is_deferred}
+use Rattle.uring_linux.specs.LinuxRequests.{LinuxRequests, asks_to_drain, asks_to_skip, has_skipped, is_refused_drain, has_fault, is_in_faulty_group, is_doomed, doomed_result, is_in_turn, keeps_back, is_deferred}
 use Rattle.uring_core.specs.World.{World, requests_of, happens, taking_of, taking_entry_of, ending_of}
 use Rattle.uring_core.specs.Histories.{History, world, IsLawfulApart}
 use Rattle.uring_core.specs.declared.step.Step.{Step}
@@ -157,11 +157,11 @@ module _ (r : Requests) (entries : List Sqe) (cut : (length r.accepted ≡ 0) �
 
   skipped_kept : (n : ℕ) → n < length r.accepted → has_skipped (with_call r entries) n ≡ has_skipped r n
   skipped_kept n below =
-      some_below_same (λ m. is_skipping (entry_of (with_call r entries) m)) (λ m. is_skipping (entry_of r m)) (n + 1)
-      (λ k lt. ap is_skipping (entry_kept r entries cut k (omega (arith, lt, below))))
+      some_below_same (λ m. asks_to_skip (entry_of (with_call r entries) m)) (λ m. asks_to_skip (entry_of r m)) (n + 1)
+      (λ k lt. ap asks_to_skip (entry_kept r entries cut k (omega (arith, lt, below))))
 
   refused_kept : (n : ℕ) → n < length r.accepted → is_refused_drain (with_call r entries) n ≡ is_refused_drain r n
-  refused_kept n below = ap₂ (λ e b. is_drain e && b) (entry_kept r entries cut n below) (skipped_kept n below)
+  refused_kept n below = ap₂ (λ e b. asks_to_drain e && b) (entry_kept r entries cut n below) (skipped_kept n below)
 
   fault_kept : (n : ℕ) → n < length r.accepted → has_fault (with_call r entries) n ≡ has_fault r n
   fault_kept n below = ap₂ (λ e b. is_faulty e || b) (entry_kept r entries cut n below) (refused_kept n below)
@@ -188,7 +188,7 @@ module _ (r : Requests) (entries : List Sqe) (cut : (length r.accepted ≡ 0) �
 
   result_kept : (n : ℕ) → n < length r.accepted → doomed_result (with_call r entries) n ≡ doomed_result r n
   result_kept n below =
-      ap₂ (λ e refused. if is_faulty e then neg_ℤ EINVAL else if refused then neg_ℤ EOPNOTSUPP else neg_ℤ ECANCELED) (entry_kept r entries cut n below) (refused_kept n below)
+      ap₂ (λ e refused. if refused then neg_ℤ EOPNOTSUPP else if is_faulty e then neg_ℤ EINVAL else neg_ℤ ECANCELED) (entry_kept r entries cut n below) (refused_kept n below)
 
   first_called : (n : ℕ) → n < length r.accepted → IsFirst r n → IsFirst (with_call r entries) n
   first_called n below first k lt joined = first k lt (sym (join_kept r entries cut k n below) ∙ joined)
@@ -235,7 +235,7 @@ linux_kept g w s a (refuses _ _ same silent) i sound =
 linux_kept g w s a (takes entry call place opened left at valid) i sound =
     subst (λ o. IsSoundLinux (taking_entry_of (by_linux g) w entry o).requests) (sym opened) sound
 linux_kept g w s a (drops call place opened left at invalid) i sound =
-    subst (λ o. IsSoundLinux (taking_of w o).requests) (sym opened) sound
+    subst (λ o. IsSoundLinux (taking_of (by_linux g) w o).requests) (sym opened) sound
 linux_kept g w s a (closes accepted missed head call opened all told) i sound =
     subst (λ o. IsSoundLinux (ending_of (by_linux g) w o).requests) (sym opened) (call_linux w.requests (entries_of (places_from w.submission call.count)) i.cut_at_end i sound)
 linux_kept g w s a (runs n outstanding idle spared ready no_cancel) i sound =

@@ -49,10 +49,10 @@ taken_either : (g : Setup) (w : World) (n : ℕ) (entry : Sqe) (o : Option Call)
 taken_either g w n entry None = refl
 taken_either g w n entry (Some call) = refl
 
-dropped_either : (w : World) (n : ℕ) (o : Option Call)
-    → taking_of (begun w n) o ≡ begun (taking_of w o) n
-dropped_either w n None = refl
-dropped_either w n (Some call) = refl
+dropped_either : (g : Setup) (w : World) (n : ℕ) (o : Option Call)
+    → taking_of g (begun w n) o ≡ begun (taking_of g w o) n
+dropped_either g w n None = refl
+dropped_either g w n (Some call) = refl
 
 closed_either : (g : Setup) (w : World) (n : ℕ) (o : Option Call)
     → ending_of (by_manual g) (begun w n) o ≡ begun (ending_of (by_manual g) w o) n
@@ -66,7 +66,7 @@ made_either g w n s a (refuses _ _ same silent) on =
 made_either g w n s a (takes entry call place opened left at valid) on =
     taken_either (by_manual g) w n entry w.submission.call
 made_either g w n s a (drops call place opened left at invalid) on =
-    dropped_either w n w.submission.call
+    dropped_either (by_manual g) w n w.submission.call
 made_either g w n s a (closes accepted missed head call opened all told) on =
     closed_either g w n w.submission.call
 made_either g w n s a (runs m outstanding idle spared ready no_cancel) on = absurd on
