@@ -1,10 +1,24 @@
 """What a recorder saw, as `uring fill` reads it: a recorded trace without the steps that can't be seen from outside.
 
-By the profile's rules a call is written with the positions that it consumed. By Linux's it is written as several, one for each group, so that steps may stand between them: with the positions that Linux's rules let it consume, which conforming/linux.py says. So what it consumed beyond them, or left of them, no history shows.
+By the profile's rules a call is written with the positions that it consumed. By Linux's it is written as several, one for each group, so that steps may stand between them: with the positions that Linux's rules let it consume, which conforming/linux.py says. So what it consumed beyond them, or left of them, no history shows. In a ring that stops the last one asks for all that is left, so that the rules say of it too where it stops.
 """
 
 from conforming.linux import Rules, groups_of
 from conforming.seen import Call, Look, Staged, Stored
+
+
+class Submissions:
+    """A call as it is written: the groups of the positions that it is to consume, and the lines of each, with those of the ring's words before the first and behind the last."""
+
+    def __init__(self, event, groups, lines):
+        self.event, self.groups, self.lines = event, groups, lines
+
+    def may_be(self):
+        """Whether the call consumed these positions, and returned their number."""
+        return self.event.items == sum(self.groups, []) and self.event.returned == len(self.event.entries())
+
+    def entries(self, number):
+        return [it for it in self.groups[number] if not isinstance(it, int)] if self.groups else []
 
 
 class Written:
@@ -18,7 +32,7 @@ class Written:
         if isinstance(event, Staged):
             return self.staged(event)
         if isinstance(event, Call):
-            return self.call(event)
+            return sum(self.call(event).lines, [])
         if isinstance(event, Look):
             return [f"cqtail = tail {event.tail}", *(f"reap = cqe {user_data} {result} -" for user_data, result in event.completions)]
         return [f"cqhead = head {event.head}"] if isinstance(event, Stored) else []
@@ -32,9 +46,11 @@ class Written:
 
     def call(self, event):
         groups = self.groups(event)
-        lines = self.submissions(event, groups) if groups or event.items or self.is_linux and event.returned else []
+        lines = self.submissions(event, groups) if groups or event.items or self.is_linux and event.returned else [[]]
+        lines[0].insert(0, f"tail = tail {self.tail}")
+        lines[-1].append(f"head = head {event.head}")
         self.head, self.dropped = event.head, event.dropped
-        return [f"tail = tail {self.tail}", *lines, f"head = head {event.head}"]
+        return Submissions(event, groups, lines)
 
     def groups(self, event):
         """The positions that are written as one call each."""
@@ -44,18 +60,19 @@ class Written:
         return groups
 
     def submissions(self, event, groups):
-        """A call's lines but those of its words. What it returned, the head and the dropped words stand at the end of the last."""
-        taken, returned, dropped, lines = 0, 0, self.dropped, []
-        for number, group in enumerate(groups, 1):
-            items = event.items[taken : taken + len(group)] if number < len(groups) else event.items[taken:]
+        """The lines of each group. What the call returned, the head and the dropped words stand at the end of the last; only there words are dropped."""
+        lines, taken = [], 0
+        for group in groups[:-1]:
+            items = event.items[taken : taken + len(group)]
             taken += len(items)
-            dropped += sum(isinstance(it, int) for it in items)
-            count = sum(not isinstance(it, int) for it in items)
-            lines += [f"begin {len(group)} = call {len(group)}", *map(taken_as, items)]
-            if number < len(groups):
-                lines.append(f"end = taken {count} dropped {dropped} head {self.head + taken}")
-                returned += count
-        return [*lines, f"end = taken {event.returned - returned} dropped {event.dropped} head {event.head}"]
+            lines.append([*opened(len(group), items), f"end = taken {len(items)} dropped {self.dropped} head {self.head + taken}"])
+        asked = len(event.offered) - taken if self.is_linux and self.setup.is_stop else sum(map(len, groups[-1:]))
+        return [*lines, [*opened(asked, event.items[taken:]), f"end = taken {event.returned - taken} dropped {event.dropped} head {event.head}"]]
+
+
+def opened(asked, items):
+    """A call that is asked for so many positions, and takes these."""
+    return [f"begin {asked} = call {asked}", *map(taken_as, items)]
 
 
 def taken_as(item):

@@ -1,4 +1,4 @@
-"""A ring by Linux's rules, for `--linux`: a quick search by them, beside the proved one of `uring fill --linux`, and what the kernel does beyond them. Nothing here is proved.
+"""Requests as Linux keeps them, for `--linux`, and what the kernel does beyond its rules. Nothing here is proved; conforming/linux_fill.py searches by it, beside the proved search of `uring fill --linux`.
 
 The rules, each as docs/PROTOCOL.md tells it:
 
@@ -18,9 +18,7 @@ Beyond them, the kernel's cancels do what BEYOND names:
 - A cancel that a worker carries out may find itself.
 """
 
-from conforming.fill import MOST_STATES, Fill, GaveUp, Ring
 from conforming.requests import ALREADY, CANCELED, INVALID, NO_ENTRY, RUNS, WAITS
-from conforming.seen import Call
 
 UNSUPPORTED, INTERRUPTED = -95, -4
 
@@ -90,13 +88,13 @@ class LinuxRequests:
 
     # accepting
 
-    def accepted(self, group, rules, is_cut=False):
-        """Behind the acceptance of a group: its entries with their faults, and whether it drains."""
-        entries, faults, drains = group
-        at, is_workers = len(self.groups), is_cut or rules.drains
+    def accepted(self, entries):
+        """Behind the acceptance of a group of these entries."""
+        taken, rules = all_taken(entries, self.rules)
+        drains, at, is_workers = taken.drains, len(self.groups), rules.drains or entries[-1].is_linked()
         behind = self.changed(
-            entries=self.entries + tuple(entries),
-            groups=self.groups + (Group(len(self.entries), tuple(faults), drains, is_workers),),
+            entries=self.entries + taken.entries,
+            groups=self.groups + (Group(len(self.entries), taken.faults, drains, is_workers),),
             standing=self.standing + (WAITS,) * len(entries),
             rules=rules,
         )
@@ -227,158 +225,45 @@ class LinuxRequests:
                 yield result, self.ended(number, result)
 
 
-class Taking:
-    """What a call has taken of its items: where it is, the group that it is amid, and the rules as they stand for the next entry. A value."""
+class Taken:
+    """The entries of a group that a call has taken, with their faults, and whether it drains so far. A value."""
 
-    def __init__(self, at=0, group=((), (), False)):
-        self.at, self.group = at, group
-
-    def key(self):
-        return self.at, len(self.group[0])
+    def __init__(self, entries=(), faults=(), drains=False):
+        self.entries, self.faults, self.drains = entries, faults, drains
 
 
-def taken(taking, rules, entry):
+def taken(group, rules, entry):
     """Behind one entry that a call takes: the group that it is amid, the rules, and whether its fault stops a ring that stops."""
-    entries, faults, drains = taking.group
     skips = rules.skips or entry.is_skipping() and not entry.is_refused
     asks_to_drain = "D" in entry.flags and not entry.is_refused
     fault = UNSUPPORTED if asks_to_drain and skips else INVALID if entry.is_faulty else None
     is_let_in, is_drain = not entry.is_refused and fault != UNSUPPORTED, asks_to_drain and not skips
-    takes_owed = rules.next_drains and not entries and is_let_in
-    owes = is_drain and bool(entries)
-    drains = drains or is_drain or takes_owed
-    rules = Rules(rules.drains or is_drain or takes_owed, rules.next_drains and not takes_owed or owes, skips)
-    return Taking(taking.at + 1, (entries + (entry,), faults + (fault,), drains)), rules, fault is not None and not entry.is_linked()
+    takes_owed = rules.next_drains and not group.entries and is_let_in
+    drains = is_drain or takes_owed
+    owes = is_drain if group.entries else rules.next_drains and not is_let_in
+    rules = Rules(rules.drains or drains, owes or rules.next_drains and bool(group.entries), skips)
+    return Taken(group.entries + (entry,), group.faults + (fault,), group.drains or drains), rules, fault is not None and not entry.is_linked()
+
+
+def all_taken(entries, rules):
+    """Behind all entries of a group."""
+    group = Taken()
+    for entry in entries:
+        group, rules, _ = taken(group, rules, entry)
+    return group, rules
 
 
 def groups_of(call, rules, is_stop):
     """The positions that a call is to consume of those that it was asked for, cut behind each group, and the rules behind it."""
-    groups, taking = [[]], Taking()
+    groups, group = [[]], Taken()
     for item in call.offered:
         groups[-1].append(item)
         if isinstance(item, int):
             break
-        taking, rules, stops = taken(taking, rules, item)
+        group, rules, stops = taken(group, rules, item)
         if stops and is_stop:
             break
         if not item.is_linked():
             groups.append([])
-            taking = Taking()
+            group = Taken()
     return [it for it in groups if it], rules
-
-
-class LinuxFill(Fill):
-    """The search of `Fill`, by the rules of Linux, and what cancels do beyond them. The steps that it gives are words of its own: no checker takes them."""
-
-    def __init__(self, setup, events, beyond=()):
-        super().__init__(setup, events)
-        self.beyond = beyond
-
-    def trace(self):
-        steps = self.search((0, None), 0, LinuxRequests(beyond=self.beyond), Ring(self.size), 0, None)
-        return steps if steps is None else [line for part in steps for line in part]
-
-    def search(self, at, posted, requests, ring, dropped, path):
-        event, taking = at
-        key = event, taking and taking.key(), posted, requests.key(), ring.key()
-        if key in self.been:
-            return None
-        self.been.add(key)
-        if len(self.been) > MOST_STATES:
-            raise GaveUp
-        if (posted, event) > self.furthest:
-            self.furthest, self.reached = (posted, event), path
-        if event == len(self.events):
-            is_over = not any(requests.is_outstanding(it) for it in range(len(requests.entries)))
-            if is_over and posted == len(self.completions):
-                return [[]]
-            return None if is_over else self.hidden(at, posted, requests, ring, dropped, path)
-        for steps, now, behind, moved, lost in self.goings_on(at, requests, ring, dropped):
-            found = self.search(now, posted, behind, moved, lost, (path, steps))
-            if found is not None:
-                return [steps, *found]
-        return self.hidden(at, posted, requests, ring, dropped, path)
-
-    def goings_on(self, at, requests, ring, dropped):
-        """The next part of an event: of a call one item, or its end."""
-        event, taking = at
-        it = self.events[event]
-        if not isinstance(it, Call):
-            gone = self.passed(it, requests, ring, dropped)
-            if gone:
-                steps, behind, now, lost = gone
-                yield steps, (event + 1, None), behind, now, lost
-            return
-        taking = taking or Taking()
-        if taking.at < len(it.items):
-            yield from self.takes(event, it, taking, requests, ring, dropped)
-        elif it.returned == len(it.entries()) and (it.items or not it.offered):
-            behind = self.cut(taking, requests)
-            yield [f"call {it.returned}, head {it.head}"], (event + 1, None), behind, ring, it.dropped
-
-    @staticmethod
-    def cut(taking, requests):
-        """The group that a call is amid at its end is accepted."""
-        return requests.accepted(taking.group, requests.rules, True) if taking.group[0] else requests
-
-    def takes(self, event, call, taking, requests, ring, dropped):
-        item, is_last = call.items[taking.at], taking.at + 1 == len(call.items)
-        if isinstance(item, int):
-            if is_last:
-                yield [f"bad word {item}"], (event, Taking(taking.at + 1, taking.group)), requests, ring, dropped
-            return
-        if requests.has_cancel_to_carry_out():
-            return
-        now, rules, stops = taken(taking, requests.rules, item)
-        if stops and self.is_stop and not is_last or is_last and not self.may_end(call, item, stops):
-            return
-        behind = requests.changed(rules=rules)
-        if not item.is_linked():
-            behind, now = behind.accepted(now.group, rules), Taking(now.at)
-        yield [f"take {item.text}"], (event, now), behind, ring, dropped
-
-    def may_end(self, call, item, stops):
-        """Whether a call may end behind its last item: it was asked for no more, or stopped there."""
-        return len(call.items) >= len(call.offered) or stops and self.is_stop
-
-    def may_post(self, at, ring):
-        return super().may_post(at[0], ring)
-
-    def hidden(self, at, posted, requests, ring, dropped, path):
-        for steps, more, behind, now in self.moves(at, posted, requests, ring):
-            found = self.search(at, posted + more, behind, now, dropped, (path, steps))
-            if found is not None:
-                return [steps, *found]
-        return None
-
-    def moves(self, at, posted, requests, ring):
-        if posted < len(self.completions) and self.may_post(at, ring):
-            user_data, result = self.completions[posted]
-            for number, entry in enumerate(requests.entries):
-                if entry.user_data == user_data and requests.is_outstanding(number):
-                    yield from self.ends(requests, number, result, ring)
-        for number, entry in enumerate(requests.entries):
-            if requests.is_outstanding(number):
-                yield from self.silent_ends(requests, number, ring)
-        for number, entry in enumerate(requests.entries):
-            if not requests.may_start(number) or requests.doom_of(number) is not None:
-                continue
-            if entry.user_data in self.named:
-                yield [f"{number} runs"], 0, requests.stands(number, RUNS), ring
-            if requests.takes_back() and entry.is_cancel and (requests.found(number) or not requests.is_workers(number)):
-                for result, behind in requests.cancels(number):
-                    yield [f"{number} cancels"], 0, behind.stands(number, CarriedOut((result,))), ring
-
-    def ends(self, requests, number, result, ring):
-        entry = requests.entries[number]
-        for given, behind in requests.ends_of(number):
-            if not (given == result or given is None and entry.may_end_with(result)) or not requests.posts(number, result):
-                continue
-            before, now = ring.posted()
-            yield [*before, f"{number} ends with {result}"], 1, behind.ended(number, result) if given is None else behind, now
-
-    def silent_ends(self, requests, number, ring):
-        for given, behind in requests.ends_of(number):
-            result = requests.entries[number].length if given is None else given
-            if not requests.posts(number, result):
-                yield [f"{number} ends with {result} in silence"], 0, behind.ended(number, result) if given is None else behind, ring

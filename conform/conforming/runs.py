@@ -5,7 +5,8 @@ import subprocess
 
 from conforming import gaps
 from conforming.fill import Fill, GaveUp
-from conforming.linux import BEYOND, LinuxFill
+from conforming.linux import BEYOND
+from conforming.linux_fill import LinuxFill
 from conforming.seen import Look, events_of
 from conforming.setup import Setup
 
@@ -52,9 +53,9 @@ class Verdict:
         self.kind, self.trace, self.why, self.first = kind, trace, why, first
 
 
-def quick(setup, fill):
+def quick(setup, fill, is_linux):
     """The verdict of a quick search, which isn't proved."""
-    head = setup.line() + "\n"
+    head = setup.line(is_linux) + "\n"
     try:
         steps = fill.trace()
     except GaveUp:
@@ -75,13 +76,13 @@ def filled(uring, setup, events, is_linux):
 
 
 def by_the_rules(uring, setup, events, is_linux):
-    """The verdict by the rules of the profile or of Linux: that of the proved program, if these are the words that run one. What no history explains is told by the quick search, which comes furthest by completions. Where the proved one gives up, the other's history stands if it can be checked, which it can't by Linux's rules."""
-    found = quick(setup, (LinuxFill if is_linux else Fill)(setup, events))
+    """The verdict by the rules of the profile or of Linux: that of the proved program, if these are the words that run one. What no history explains is told by the quick search, which comes furthest by completions. Where the proved one gives up, the other's history stands."""
+    found = quick(setup, (LinuxFill if is_linux else Fill)(setup, events), is_linux)
     if uring is None:
         return found
     proved = filled(uring, setup, events, is_linux)
     if "gave up" in (found.kind, proved.kind):
-        return found if found.kind == "lawful" and not is_linux else proved
+        return found if found.kind == "lawful" else proved
     if found.kind != proved.kind:
         return Verdict("differ", proved.trace, f"{proved.kind} by the proved search, {found.kind} by the quick one")
     return proved if proved.kind == "lawful" else found
@@ -89,7 +90,7 @@ def by_the_rules(uring, setup, events, is_linux):
 
 def told_of(setup, events):
     """The name of what cancels of the kernel do beyond Linux's rules, if the quick search finds a history with it, and else nothing. It differs from the search by the rules in nothing else."""
-    return next((names[-1] for names in BEYOND if quick(setup, LinuxFill(setup, events, names)).kind == "lawful"), "")
+    return next((names[-1] for names in BEYOND if quick(setup, LinuxFill(setup, events, names), True).kind == "lawful"), "")
 
 
 def explain(scenario, recorded, uring=None, is_linux=False):

@@ -16,5 +16,5 @@ class Setup:
         self.files = int(value.get("--files", 2))
 
     def line(self, is_linux=False):
-        """The first line of a recorded trace. By Linux's rules each call is written with as many positions as it consumes, so that nothing is left to a ring that stops."""
-        return f"# setup --sq {self.sq} --cq {self.cq} --files {self.files} --start 0" + (" --linux" if is_linux else " --stop" if self.is_stop else "")
+        """The first line of a recorded trace."""
+        return f"# setup --sq {self.sq} --cq {self.cq} --files {self.files} --start 0" + (" --stop" if self.is_stop else "") + (" --linux" if is_linux else "")
