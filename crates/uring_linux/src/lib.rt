@@ -10,6 +10,7 @@ mod found;
 mod issuable;
 pub mod laws;
 mod members;
+mod posting;
 mod request;
 mod why;
 mod window;
