@@ -9,7 +9,7 @@ use uring_dispatch::Dispatch;
 use uring_entry::{posts_completion, succeeded};
 
 /// Whether the end of request `n`, any number, with this result would post a completion, by the manual pages' rules: `Some` exactly if it is outstanding.
-pub(crate) fn would_post(dispatch: &Dispatch, n: u64, res: i32) -> Option<bool>
+pub(crate) fn would_post_manual(dispatch: &Dispatch, n: u64, res: i32) -> Option<bool>
     requires { IsTrue dispatch.now.is_between_calls }
     ensures { (r : Requests) → ShowsRequests dispatch.now r → result ≡ spec.would_post false r n res }
 {

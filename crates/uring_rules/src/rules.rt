@@ -11,7 +11,7 @@ ghost use Rattle.uring_rules.specs.RulesIssues.{issued, after_issue, posted_by, 
 use crate::answers::Issued;
 use crate::issues::{issue_linux, issue_manual};
 use crate::kind::Kind;
-use crate::posting::would_post;
+use crate::posting::would_post_manual;
 use std::alloc::Global;
 use std::marker::Model;
 use uring_dispatch::{Dispatch, Found, Posts, ReserveError};
@@ -299,7 +299,7 @@ impl Rules {
             → result ≡ would_post self.now.linux l.requests n res }
     {
         match &self.kind {
-            Kind::Manual(dispatch) => would_post(dispatch, n, res),
+            Kind::Manual(dispatch) => would_post_manual(dispatch, n, res),
             Kind::Linux(dispatch) => dispatch.would_post(n, res),
         }
     }
