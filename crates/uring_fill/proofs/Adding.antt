@@ -1,6 +1,6 @@
 -- Events that are added to those that may come next.
 use Rattle.std.proofs.Common.{◌≡◌, ℕ, zero, suc, ◌+◌, ◌-◌, ◌<◌, ◌≤◌, ℤ, pos, Bool, true, false, not, if◌then◌else◌, slice_get, nat_lt, None, List, [], ◌∷◌, ◌++◌, length, drop, Option, Some, refl, sym, ap, subst, ◌∙◌, ◌⊎◌, inl, inr, arith}
-use Rattle.std.specs.Prelude.{Contains}
+use Rattle.std.specs.Prelude.{Contains, neg_ℤ}
 use Rattle.std.proofs.lemmas.Bool.{cases_lt, and_parts, lt-ltb}
 use Rattle.std.proofs.lemmas.Option.{same_Some, none-some}
 use Rattle.std.proofs.lemmas.List.Elements.{Contains-append_left, Contains-push, Contains-push_cases}
@@ -8,20 +8,22 @@ use Rattle.uring_entry.specs.Setup.{Setup}
 use Rattle.uring_entry.specs.Layout.{Cqe, Sqe}
 use Rattle.uring_entry.specs.Success.{posts_completion}
 use Rattle.uring_entry.specs.Completions.{put_by_flush, completion_for}
-use Rattle.uring_rules.specs.Rules.{is_issuable}
+use Rattle.uring_entry.specs.declared.errno.TheConstants.{EINVAL, EOPNOTSUPP, ECANCELED}
+use Rattle.uring_rules.specs.Rules.{is_issuable, posts}
+use Rattle.uring_rules.specs.RulesLaws.{IsDoomedResult}
 use Rattle.uring_core.specs.World.{requests_of}
 use Rattle.uring_entry.specs.Requests.{Requests, is_outstanding, is_running, has_started, has_ended, entry_of, entry_outstanding, no_bytes, count_result}
 use Rattle.uring_entry.specs.Preparation.{is_cancel_all}
 use Rattle.uring_core.specs.Core.{Core}
-use Rattle.uring_core.specs.StepAnswers.{CalledForApart, FinishesApart}
+use Rattle.uring_core.specs.StepAnswers.{CalledForApart}
 use Rattle.uring_core.specs.Histories.{Event, History, world, IsLawfulApart}
 use Rattle.uring_core.specs.declared.step.Step.TheVariants as step
 use Rattle.uring_core.specs.declared.answer.Answer.{Answer}
 use Rattle.uring_core.specs.declared.answer.Answer.TheVariants as answer
 use Rattle.uring_fill.specs.Filling.{is_hidden, seen_in, IsPart}
-use Rattle.uring_fill.specs.Parts.{is_asked, is_stale, StandsAt, Adds, HasEndsOf, IsIdle, AreNext, AreAllNext, FinishFits, TellsNext}
+use Rattle.uring_fill.specs.Parts.{is_asked, is_stale, StandsAt, Adds, HasEndsOf, IsIdle, AreNext, AreAllNext, FinishFits, TellsNext, QuietResult, with_none, with_count, with_error}
 use Rattle.uring_results.specs.Results.{may_end}
-use Rattle.uring_fill.proofs.Events.{HiddenEvent, idle_one, start, issue_end, finish_end, flush, hidden_event, flush_idle, few_moved, issued_end, part_issue, part_finish, EndsIssued, QuietEnd, with_none, with_count, quiet_end, seen_part, part_seen}
+use Rattle.uring_fill.proofs.Events.{HiddenEvent, idle_one, start, issue_end, finish_end, flush, hidden_event, flush_idle, few_moved, issued_end, part_issue, part_finish, finish_runs, quiet_end, seen_part, part_seen}
 use Rattle.uring_fill.proofs.Issuing.{both_so, outstanding_accepted}
 use Rattle.uring_core.proofs.Sound.{sound_of}
 
@@ -131,81 +133,115 @@ fits_quiet e wanted res bytes may quiet none = record {
 
 -- Ends of a request as it is issued.
 
-quiet_tells : (e : Sqe) (wanted : Option Cqe) (res : ℤ) (bytes : List ℕ)
-    → posts_completion e res ≡ false → TellsNext e wanted res bytes
-quiet_tells e wanted res bytes quiet told = absurd (let f : true ≡ false = sym told ∙ quiet in cc)
+-- the end of n as it is issued with this result and no bytes
+abbrev pub issued_as : ℕ → ℤ → Event
+issued_as n res = (step.Issue n, answer.Ended res no_bytes)
 
-pub counts_next : (e : Sqe) (wanted : Option Cqe) (n : ℕ) (old new : List Event) (below : ℕ) (res : ℤ)
+-- what ends as it is issued is outstanding
+pub issued_outstanding : (g : Setup) (h : History) (n : ℕ) (res : ℤ) (bytes : List ℕ)
+    → IsLawfulApart g ((step.Issue n, answer.Ended res bytes) ∷ h)
+    → is_outstanding (world g h).requests n ≡ true
+issued_outstanding g h n res bytes lawful = (issued_end g (world g h) n res bytes lawful.0).outstanding
+
+-- and can be issued
+pub issued_issuable : (g : Setup) (h : History) (n : ℕ) (res : ℤ) (bytes : List ℕ)
+    → IsLawfulApart g ((step.Issue n, answer.Ended res bytes) ∷ h)
+    → is_issuable g.linux (requests_of (world g h)) n ≡ true
+issued_issuable g h n res bytes lawful = (issued_end g (world g h) n res bytes lawful.0).issuable
+
+pub quiet_tells : (told : Bool) (e : Sqe) (wanted : Option Cqe) (res : ℤ) (bytes : List ℕ)
+    → told ≡ false → TellsNext told e wanted res bytes
+quiet_tells told e wanted res bytes quiet posts = absurd (let f : true ≡ false = sym posts ∙ quiet in cc)
+
+-- the ends with numbers, of which P is so
+pub counts_next : (P : ℤ → Type 0) (n : ℕ) (old new : List Event) (below : ℕ) (res : ℤ)
     → res ≡ count_result (below + 1) → ((x : Event) → Contains old x → Contains new x)
-    → ((j : ℕ) → j < below → TellsNext e wanted (count_result (j + 1)) no_bytes → Contains old (step.Issue n, answer.Ended (count_result (j + 1)) no_bytes))
-    → (TellsNext e wanted res no_bytes → Contains new (step.Issue n, answer.Ended res no_bytes))
-    → (j : ℕ) → j < below + 1 → TellsNext e wanted (count_result (j + 1)) no_bytes
-    → Contains new (step.Issue n, answer.Ended (count_result (j + 1)) no_bytes)
-counts_next e wanted n old new below res is kept before here j low tells =
+    → ((j : ℕ) → j < below → P (count_result (j + 1)) → Contains old (issued_as n (count_result (j + 1))))
+    → (P res → Contains new (issued_as n res))
+    → (j : ℕ) → j < below + 1 → P (count_result (j + 1))
+    → Contains new (issued_as n (count_result (j + 1)))
+counts_next P n old new below res is kept before here j low so =
     elim (cases_lt j below) [
-      | inl less ↦ kept (step.Issue n, answer.Ended (count_result (j + 1)) no_bytes) (before j less tells)
+      | inl less ↦ kept (issued_as n (count_result (j + 1))) (before j less so)
       | inr past ↦
           let same : below ≡ j = omega (arith, past, low) in
           let result : res ≡ count_result (j + 1) = is ∙ ap (λ k. count_result (k + 1)) same in
-          subst (λ r. Contains new (step.Issue n, answer.Ended r no_bytes)) result (here (subst (λ r. TellsNext e wanted r no_bytes) (sym result) tells))
+          subst (λ r. Contains new (issued_as n r)) result (here (subst P (sym result) so))
     ]
 
-pub counts_all : (e : Sqe) (wanted : Option Cqe) (n : ℕ) (old new : List Event) (accepted : ℕ)
+pub counts_all : (P : ℤ → Type 0) (n : ℕ) (old new : List Event) (accepted : ℕ)
     → ((x : Event) → Contains old x → Contains new x)
-    → ((j : ℕ) → j < accepted → TellsNext e wanted (count_result (j + 1)) no_bytes → Contains old (step.Issue n, answer.Ended (count_result (j + 1)) no_bytes))
-    → (TellsNext e wanted (pos 0) no_bytes → Contains new (step.Issue n, answer.Ended (pos 0) no_bytes))
-    → (count : ℕ) → count ≤ accepted → posts_completion e (count_result count) ≡ false
-    → Contains new (step.Issue n, answer.Ended (count_result count) no_bytes)
-counts_all e wanted n old new accepted kept some none zero few quiet = none (quiet_tells e wanted (pos 0) no_bytes quiet)
-counts_all e wanted n old new accepted kept some none (suc k) few quiet =
+    → ((j : ℕ) → j < accepted → P (count_result (j + 1)) → Contains old (issued_as n (count_result (j + 1))))
+    → (P (pos 0) → Contains new (issued_as n (pos 0)))
+    → (count : ℕ) → count ≤ accepted → P (count_result count)
+    → Contains new (issued_as n (count_result count))
+counts_all P n old new accepted kept some none zero few so = none so
+counts_all P n old new accepted kept some none (suc k) few so =
     let same : k + 1 ≡ suc k = omega arith in
-    subst (λ j. Contains new (step.Issue n, answer.Ended (count_result j) no_bytes)) same
-    (kept (step.Issue n, answer.Ended (count_result (k + 1)) no_bytes) (some k (omega arith) (quiet_tells e wanted (count_result (k + 1)) no_bytes (subst (λ j. posts_completion e (count_result j) ≡ false) (sym same) quiet))))
+    subst (λ j. Contains new (issued_as n (count_result j))) same
+    (kept (issued_as n (count_result (k + 1))) (some k (omega arith) (subst (λ j. P (count_result j)) (sym same) so)))
+
+-- each end that posts nothing is there
+pub quiet_there : (linux : Bool) (e : Sqe) (accepted n : ℕ) (Q : ℤ → Type 0) (errors new : List Event)
+    → ((x : Event) → Contains errors x → Contains new x)
+    → ((res : ℤ) → Q res → linux ≡ true → IsDoomedResult res → Contains errors (issued_as n res))
+    → (posts_completion e (pos 0) ≡ false → Q (pos 0) → Contains new (issued_as n (pos 0)))
+    → (linux ≡ false → is_cancel_all e ≡ true → (count : ℕ) → count ≤ accepted → posts_completion e (count_result count) ≡ false → Q (count_result count) → Contains new (issued_as n (count_result count)))
+    → (res : ℤ) → Q res → QuietResult linux e accepted res → Contains new (issued_as n res)
+quiet_there linux e accepted n Q errors new kept failed none some _ so (with_none quiet) = none quiet so
+quiet_there linux e accepted n Q errors new kept failed none some _ so (with_count count manual all few quiet) =
+    some manual all count few quiet so
+quiet_there linux e accepted n Q errors new kept failed none some _ so (with_error res is error) =
+    kept (issued_as n res) (failed res so is error)
+
+-- each of the three errors is there
+pub errors_there : (n : ℕ) (Q : ℤ → Type 0) (first second new : List Event)
+    → ((x : Event) → Contains first x → Contains second x)
+    → ((x : Event) → Contains second x → Contains new x)
+    → (Q (neg_ℤ EINVAL) → Contains first (issued_as n (neg_ℤ EINVAL)))
+    → (Q (neg_ℤ EOPNOTSUPP) → Contains second (issued_as n (neg_ℤ EOPNOTSUPP)))
+    → (Q (neg_ℤ ECANCELED) → Contains new (issued_as n (neg_ℤ ECANCELED)))
+    → (res : ℤ) → Q res → IsDoomedResult res → Contains new (issued_as n res)
+errors_there n Q first second new on further a b c res so (inl is) =
+    subst (λ r. Contains new (issued_as n r)) (sym is)
+    (further (issued_as n (neg_ℤ EINVAL)) (on (issued_as n (neg_ℤ EINVAL)) (a (subst Q is so))))
+errors_there n Q first second new on further a b c res so (inr (inl is)) =
+    subst (λ r. Contains new (issued_as n r)) (sym is)
+    (further (issued_as n (neg_ℤ EOPNOTSUPP)) (b (subst Q is so)))
+errors_there n Q first second new on further a b c res so (inr (inr is)) =
+    subst (λ r. Contains new (issued_as n r)) (sym is) (c (subst Q is so))
 
 -- each end of a request of this entry as it is issued that goes on from the part is there
-quiet_there : (n : ℕ) (e : Sqe) (accepted : ℕ) (res : ℤ) (quiet : List Event)
-    → (posts_completion e (pos 0) ≡ false → Contains quiet (step.Issue n, answer.Ended (pos 0) no_bytes))
-    → (is_cancel_all e ≡ true → (count : ℕ) → count ≤ accepted → posts_completion e (count_result count) ≡ false → Contains quiet (step.Issue n, answer.Ended (count_result count) no_bytes))
-    → posts_completion e res ≡ false → QuietEnd e accepted res
-    → Contains quiet (step.Issue n, answer.Ended res no_bytes)
-quiet_there n e accepted res quiet none some silent (with_none is) =
-    subst (λ r. Contains quiet (step.Issue n, answer.Ended r no_bytes)) (sym is) (none (subst (λ r. posts_completion e r ≡ false) is silent))
-quiet_there n e accepted res quiet none some silent (with_count count all few is) =
-    subst (λ r. Contains quiet (step.Issue n, answer.Ended r no_bytes)) (sym is) (some all count few (subst (λ r. posts_completion e r ≡ false) is silent))
-
 issued_here : (core : Core) (seen : List Event) (wanted : Option Cqe) (h : History) (n : ℕ) (res : ℤ) (bytes : List ℕ) (quiet new : List Event)
     → StandsAt core seen wanted h → ((x : Event) → Contains quiet x → Contains new x)
-    → (posts_completion (entry_of (world core.setup h).requests n) (pos 0) ≡ false → Contains quiet (step.Issue n, answer.Ended (pos 0) no_bytes))
-    → (is_cancel_all (entry_of (world core.setup h).requests n) ≡ true → (count : ℕ) → count ≤ length (world core.setup h).requests.accepted → posts_completion (entry_of (world core.setup h).requests n) (count_result count) ≡ false → Contains quiet (step.Issue n, answer.Ended (count_result count) no_bytes))
-    → ((r : ℤ) → posts_completion (entry_of (world core.setup h).requests n) r ≡ true → TellsNext (entry_of (world core.setup h).requests n) wanted r no_bytes → Contains new (step.Issue n, answer.Ended r no_bytes))
+    → ((r : ℤ) → posts core.setup.linux (world core.setup h).requests n r ≡ false → QuietResult core.setup.linux (entry_of (world core.setup h).requests n) (length (world core.setup h).requests.accepted) r → Contains quiet (issued_as n r))
+    → ((r : ℤ) → posts core.setup.linux (world core.setup h).requests n r ≡ true → wanted ≡ Some (completion_for (entry_of (world core.setup h).requests n) r no_bytes) → Contains new (issued_as n r))
     → IsPart core.setup seen ((step.Issue n, answer.Ended res bytes) ∷ h)
-    → (told : Bool) → posts_completion (entry_of (world core.setup h).requests n) res ≡ told
-    → Contains new (step.Issue n, answer.Ended res no_bytes)
-issued_here core seen wanted h n res bytes quiet new at kept none some told p true posts =
-    told res posts (part_issue core seen wanted h n res bytes at p)
-issued_here core seen wanted h n res bytes quiet new at kept none some told p false posts =
-    kept (step.Issue n, answer.Ended res no_bytes)
-    (quiet_there n (entry_of (world core.setup h).requests n) (length (world core.setup h).requests.accepted) res quiet none some posts
-    (quiet_end (world core.setup h).requests n res bytes (subst (λ linux. EndsIssued linux (world core.setup h).requests n res bytes) at.manual (issued_end core.setup (world core.setup h) n res bytes p.lawful.0)) posts))
+    → (told : Bool) → posts core.setup.linux (world core.setup h).requests n res ≡ told
+    → Contains new (issued_as n res)
+issued_here core seen wanted h n res bytes quiet new at kept silent loud p true told =
+    loud res told (part_issue core seen wanted h n res bytes at p told)
+issued_here core seen wanted h n res bytes quiet new at kept silent loud p false told =
+    kept (issued_as n res)
+    (silent res told (quiet_end core.setup.linux (requests_of (world core.setup h)) n res bytes (issued_end core.setup (world core.setup h) n res bytes p.lawful.0) told))
 
 pub issued_there : (core : Core) (seen : List Event) (wanted : Option Cqe) (h : History) (n : ℕ) (res : ℤ) (bytes : List ℕ) (e : Sqe) (accepted : ℕ) (quiet new : List Event)
     → StandsAt core seen wanted h → e ≡ entry_of (world core.setup h).requests n
     → accepted ≡ length (world core.setup h).requests.accepted
     → ((x : Event) → Contains quiet x → Contains new x)
-    → (posts_completion e (pos 0) ≡ false → Contains quiet (step.Issue n, answer.Ended (pos 0) no_bytes))
-    → (is_cancel_all e ≡ true → (count : ℕ) → count ≤ accepted → posts_completion e (count_result count) ≡ false → Contains quiet (step.Issue n, answer.Ended (count_result count) no_bytes))
-    → ((r : ℤ) → posts_completion e r ≡ true → TellsNext e wanted r no_bytes → Contains new (step.Issue n, answer.Ended r no_bytes))
+    → ((r : ℤ) → posts core.setup.linux (world core.setup h).requests n r ≡ false → QuietResult core.setup.linux e accepted r → Contains quiet (issued_as n r))
+    → ((r : ℤ) → posts core.setup.linux (world core.setup h).requests n r ≡ true → wanted ≡ Some (completion_for e r no_bytes) → Contains new (issued_as n r))
     → IsPart core.setup seen ((step.Issue n, answer.Ended res bytes) ∷ h)
     → Contains new (step.Issue n, answer.Ended res bytes)
-issued_there core seen wanted h n res bytes e accepted quiet new at is many kept none some told p =
-    let o = entry_of (world core.setup h).requests n in
+issued_there core seen wanted h n res bytes e accepted quiet new at is many kept silent loud p =
+    let r = (world core.setup h).requests in
+    let linux = core.setup.linux in
     let ended = issued_end core.setup (world core.setup h) n res bytes p.lawful.0 in
     subst (λ b. Contains new (step.Issue n, answer.Ended res b)) (sym ended.none)
     (issued_here core seen wanted h n res bytes quiet new at kept
-    (subst (λ f. posts_completion f (pos 0) ≡ false → Contains quiet (step.Issue n, answer.Ended (pos 0) no_bytes)) is none)
-    (λ all count few. subst (λ f. is_cancel_all f ≡ true → (c : ℕ) → c ≤ accepted → posts_completion f (count_result c) ≡ false → Contains quiet (step.Issue n, answer.Ended (count_result c) no_bytes)) is some all count (subst (λ m. count ≤ m) (sym many) few))
-    (subst (λ f. (r : ℤ) → posts_completion f r ≡ true → TellsNext f wanted r no_bytes → Contains new (step.Issue n, answer.Ended r no_bytes)) is told)
-    p (posts_completion o res) refl)
+    (subst (λ m. (x : ℤ) → posts linux r n x ≡ false → QuietResult linux (entry_of r n) m x → Contains quiet (issued_as n x)) many (subst (λ f. (x : ℤ) → posts linux r n x ≡ false → QuietResult linux f accepted x → Contains quiet (issued_as n x)) is silent))
+    (subst (λ f. (x : ℤ) → posts linux r n x ≡ true → wanted ≡ Some (completion_for f x no_bytes) → Contains new (issued_as n x)) is loud)
+    p (posts linux r n res) refl)
 
 -- Ends of running requests.
 
@@ -246,11 +282,6 @@ running_ends core seen wanted h n e next at running is there = record {
   issued = λ res bytes p. absurd (let f : true ≡ false = sym running ∙ (issued_end core.setup (world core.setup h) n res bytes p.lawful.0).idle in cc);
   finished = λ res bytes p. there res bytes (subst (λ f. FinishFits f wanted res bytes) (sym is) (part_finish core seen wanted h n res bytes at p));
 }
-
-finish_runs : (running : Bool) (res : ℤ) (bytes : List ℕ) → FinishesApart running (answer.Ended res bytes)
-    → running ≡ true
-finish_runs true res bytes called = refl
-finish_runs false res bytes called = absurd (let e : answer.Ended res bytes ≡ answer.NotRunning = called in cc)
 
 pub idle_ends : (core : Core) (seen : List Event) (wanted : Option Cqe) (h : History) (n : ℕ) (next : List Event)
     → StandsAt core seen wanted h → is_running (world core.setup h).requests n ≡ false

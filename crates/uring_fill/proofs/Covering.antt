@@ -126,12 +126,6 @@ at_first g seen = record {
   reach = record { part = empty_part g seen; shows = refl };
 }
 
--- where nothing has happened, nothing is shown yet
-pub reach_nowhere : (g : Setup) (seen events : List Event) (place : ℕ) → events ≡ [] → place ≡ 0
-    → IsReach g seen events place
-reach_nowhere g seen events place none nowhere =
-    subst (IsReach g seen events) (sym nowhere) (subst (λ es. IsReach g seen es 0) (sym none) (at_first g seen).reach)
-
 -- what a whole history goes on from is the empty one
 from_nothing : (g : Setup) (seen : List Event) (whole : Bool) (h : History) → IsPart g seen h
     → (whole ≡ true → IsWhole g seen h) → GoesOn g seen whole (length (seen_in h)) []

@@ -1,7 +1,7 @@
 -- Which events go on from a part, and what is so of those that do.
 use Rattle.std.proofs.Common.{◌≡◌, ℕ, ◌+◌, ◌-◌, ◌≤◌, ℤ, pos, Bool, true, false, not, ◌&&◌, ◌||◌, cond, List, [], ◌∷◌, ◌++◌, length, Option, Some, None, if◌then◌else◌, refl, sym, ap, ap₂, subst, ◌∙◌, inl, inr, arith}
-use Rattle.std.specs.Prelude.{slice_get, drop}
-use Rattle.std.proofs.lemmas.Bool.{cases_lt}
+use Rattle.std.specs.Prelude.{slice_get, drop, is_some, neg_ℤ}
+use Rattle.std.proofs.lemmas.Bool.{cases_lt, and_parts, or_parts, or_left, or_right}
 use Rattle.std.proofs.lemmas.Bool.Decides.{Decides-int_eq}
 use Rattle.std.proofs.lemmas.List.{length-drop}
 use Rattle.uring_entry.specs.Setup.{Setup}
@@ -9,31 +9,37 @@ use Rattle.uring_entry.specs.Layout.{Sqe, Cqe, has}
 use Rattle.uring_entry.specs.Flags.{skip_success}
 use Rattle.uring_entry.specs.Preparation.{is_cancel, is_cancel_all}
 use Rattle.uring_entry.specs.Success.{is_success, posts_completion}
-use Rattle.uring_linux.specs.LinuxRequests.{LinuxRequests, is_in_turn, is_deferred}
+use Rattle.uring_entry.specs.declared.errno.TheConstants.{ENOENT, EALREADY}
+use Rattle.uring_entry.specs.Why.{failed_member_of, is_failure_before}
+use Rattle.uring_entry.proofs.BelowLemmas.{is_some_least_below}
+use Rattle.uring_linux.specs.LinuxRequests.{LinuxRequests}
 use Rattle.uring_linux.specs.LinuxRequests as kernel
-use Rattle.uring_rules.specs.Rules.{posts, may_start, is_issuable, doomed_result, cancel_result}
-use Rattle.uring_entry.specs.Requests as manual
-use Rattle.uring_entry.specs.Requests.{Requests, Ending, entry_of, is_outstanding, is_running, count_result, result_for, target_of, targets_of, is_target, no_bytes}
+use Rattle.uring_rules.specs.Rules.{posts, ends_doomed, may_start, is_issuable, doomed_result, cancel_result}
+use Rattle.uring_rules.specs.RulesLaws.{IsDoomedResult}
+use Rattle.uring_rules.proofs.RulesLemmas.{issuable_is}
+use Rattle.uring_rules.proofs.RulesLemmas.{doomed_fails as doomed_errors}
+use Rattle.uring_entry.specs.Requests.{Requests, Ending, entry_of, has_started, has_ended, is_behind_failure, is_outstanding, is_running, count_result, result_for, target_of, targets_of, is_target, no_bytes}
 use Rattle.uring_entry.specs.Completions.{Completions, with_posted, with_flushed, put_by_flush, completion_for}
 use Rattle.uring_entry.proofs.RequestLemmas.{one_success}
 use Rattle.uring_entry.specs.Below.{count_below}
 use Rattle.uring_dispatch.proofs.Counting.{length_all_below, count_below_within}
 use Rattle.uring_core.specs.Core.{Core}
 use Rattle.uring_core.specs.World.{World, requests_of}
-use Rattle.uring_core.specs.StepAnswers.{CalledForApart}
+use Rattle.uring_core.specs.StepAnswers.{CalledForApart, FinishesApart}
 use Rattle.uring_core.specs.Events.{started_by, end_told_by, is_flush, is_store_cq_head}
 use Rattle.uring_core.specs.Histories.{Event, History, world, IsLawfulApart}
 use Rattle.uring_core.specs.declared.step.Step.{Step}
 use Rattle.uring_core.specs.declared.step.Step.TheVariants as step
 use Rattle.uring_core.specs.declared.answer.Answer.{Answer}
 use Rattle.uring_core.specs.declared.answer.Answer.TheVariants as answer
-use Rattle.uring_core.proofs.Changes.{Change, refuses, runs, dooms, cancels, finishes, change_of}
+use Rattle.uring_core.proofs.Changes.{Change, refuses, runs, dooms, cancels, finishes, change_of, not_some}
 use Rattle.uring_core.proofs.CompletionMoves.{CompletionMove, stays, ends, flushes, sees_tail, reaps, stores_head, completion_move}
 use Rattle.uring_core.proofs.RequestEnds.{doomed_fails}
 use Rattle.uring_core.proofs.Sound.{sound_of}
 use Rattle.uring_core.proofs.SoundRings.{IsSoundCompletions}
 use Rattle.uring_fill.specs.Filling.{is_hidden, seen_in, completions_in, GivesAllowed, Begins, IsPart}
-use Rattle.uring_fill.specs.Parts.{is_stale, StandsAt, TellsNext, FinishFits, IsIdle}
+use Rattle.uring_laws.proofs.LinuxSound.{IsSoundLinux, linux_sound, of_linux, starts_so}
+use Rattle.uring_fill.specs.Parts.{is_stale, StandsAt, TellsNext, FinishFits, QuietResult, with_none, with_count, with_error, IsIdle}
 use Rattle.uring_fill.proofs.Begun.{begins_next, behind_begun}
 
 -- What an end posts.
@@ -50,10 +56,48 @@ posts_next : (told : Bool) (size : ℕ) (l : Completions) (c : Cqe) (all : List 
 posts_next true size l c all b e = behind_begun l.posted c all b
 posts_next false size l c all b e = absurd cc
 
--- by the manual pages' rules an end posts as its own entry says
-by_entry : (linux : Bool) (r : Requests) (n : ℕ) (res : ℤ) → linux ≡ false
-    → posts linux r n res ≡ posts_completion (entry_of r n) res
-by_entry linux r n res is = ap (λ b. posts b r n res) is
+-- Who posts as its own entry says.
+
+no_breaker : (r : Requests) (n : ℕ) → kernel.is_doomed r n ≡ false → kernel.breaker_of r n ≡ None
+unfolding is_behind_failure
+no_breaker r n spared =
+    let p = or_parts (kernel.is_in_faulty_group r n) (is_behind_failure r n) spared in
+    ap (λ b. if b then kernel.first_of r n else failed_member_of r n) p.0
+    ∙ not_some (failed_member_of r n) (is_some_least_below (is_failure_before r n) n ∙ p.1)
+
+-- by Linux's rules whoever isn't doomed
+spared_posts : (r : Requests) (n : ℕ) (res : ℤ) → kernel.is_doomed r n ≡ false
+    → posts true r n res ≡ posts_completion (entry_of r n) res
+spared_posts r n res spared = ap (λ o. kernel.posts_behind r o n res) (no_breaker r n spared)
+
+sound_linux : (g : Setup) (h : History) → g.linux ≡ true → IsLawfulApart g h → IsSoundLinux (world g h).requests
+sound_linux g h is =
+    of_linux (λ s. IsLawfulApart s h → IsSoundLinux (world s h).requests) (λ s. linux_sound s h) g is
+
+-- by either's whoever runs
+running_posts : (g : Setup) (h : History) (n : ℕ) (res : ℤ) → IsLawfulApart g h
+    → is_running (world g h).requests n ≡ true
+    → posts g.linux (world g h).requests n res ≡ posts_completion (entry_of (world g h).requests n) res
+running_posts g h n res lawful running = by_rules g.linux refl where
+  by_rules : (linux : Bool) → g.linux ≡ linux
+      → posts g.linux (world g h).requests n res ≡ posts_completion (entry_of (world g h).requests n) res
+  by_rules false is = ap (λ b. posts b (world g h).requests n res) is
+  by_rules true is =
+      let r = (world g h).requests in
+      let started = (and_parts (has_started r n) (not (has_ended r n)) running).0 in
+      ap (λ b. posts b r n res) is ∙ spared_posts r n res ((sound_linux g h is lawful).started_spared n started)
+
+pub finish_runs : (running : Bool) (res : ℤ) (bytes : List ℕ) → FinishesApart running (answer.Ended res bytes)
+    → running ≡ true
+finish_runs true res bytes called = refl
+finish_runs false res bytes called = absurd (let e : answer.Ended res bytes ≡ answer.NotRunning = called in cc)
+
+-- so does whoever finishes
+finish_posts : (g : Setup) (h : History) (n : ℕ) (res : ℤ) (bytes : List ℕ)
+    → IsLawfulApart g ((step.Finish n, answer.Ended res bytes) ∷ h)
+    → posts g.linux (world g h).requests n res ≡ posts_completion (entry_of (world g h).requests n) res
+finish_posts g h n res bytes lawful =
+    running_posts g h n res lawful.1 (finish_runs (is_running (world g h).requests n) res bytes lawful.0)
 
 -- Starts and flushes.
 
@@ -86,11 +130,12 @@ pub finish_part : (core : Core) (seen : List Event) (wanted : Option Cqe) (h : H
 finish_part core seen wanted h n res bytes at fits lawful =
     let r = (world core.setup h).requests in
     let e = entry_of r n in
+    let same = finish_posts core.setup h n res bytes lawful in
     record {
       lawful = lawful;
-      results = (record { result = fits.may.result; untold = λ quiet. fits.may.untold (sym (by_entry core.setup.linux r n res at.manual) ∙ quiet) }, at.part.results);
+      results = (record { result = fits.may.result; untold = λ quiet. fits.may.untold (sym same ∙ quiet) }, at.part.results);
       shows = at.part.shows;
-      posts = posts_on (posts core.setup.linux r n res) core.setup.cq (world core.setup h).completions (completion_for e res bytes) (completions_in seen) at.part.posts (λ told. sym at.is_next ∙ fits.tells (sym (by_entry core.setup.linux r n res at.manual) ∙ told));
+      posts = posts_on (posts core.setup.linux r n res) core.setup.cq (world core.setup h).completions (completion_for e res bytes) (completions_in seen) at.part.posts (λ told. sym at.is_next ∙ fits.tells (sym same ∙ told));
     }
 
 pub part_finish : (core : Core) (seen : List Event) (wanted : Option Cqe) (h : History) (n : ℕ) (res : ℤ) (bytes : List ℕ)
@@ -100,16 +145,17 @@ pub part_finish : (core : Core) (seen : List Event) (wanted : Option Cqe) (h : H
 part_finish core seen wanted h n res bytes at p =
     let r = (world core.setup h).requests in
     let e = entry_of r n in
+    let same = finish_posts core.setup h n res bytes p.lawful in
     record {
-      may = record { result = p.results.0.result; untold = λ quiet. p.results.0.untold (by_entry core.setup.linux r n res at.manual ∙ quiet) };
-      tells = λ told. at.is_next ∙ posts_next (posts core.setup.linux r n res) core.setup.cq (world core.setup h).completions (completion_for e res bytes) (completions_in seen) p.posts (by_entry core.setup.linux r n res at.manual ∙ told);
+      may = record { result = p.results.0.result; untold = λ quiet. p.results.0.untold (same ∙ quiet) };
+      tells = λ told. at.is_next ∙ posts_next (posts core.setup.linux r n res) core.setup.cq (world core.setup h).completions (completion_for e res bytes) (completions_in seen) p.posts (same ∙ told);
     }
 
 -- Ends of requests as they are issued.
 
 pub issue_part : (core : Core) (seen : List Event) (wanted : Option Cqe) (h : History) (n : ℕ) (res : ℤ)
     → StandsAt core seen wanted h
-    → TellsNext (entry_of (world core.setup h).requests n) wanted res no_bytes
+    → TellsNext (posts core.setup.linux (world core.setup h).requests n res) (entry_of (world core.setup h).requests n) wanted res no_bytes
     → IsLawfulApart core.setup ((step.Issue n, answer.Ended res no_bytes) ∷ h)
     → IsPart core.setup seen ((step.Issue n, answer.Ended res no_bytes) ∷ h)
 issue_part core seen wanted h n res at tells lawful =
@@ -119,28 +165,48 @@ issue_part core seen wanted h n res at tells lawful =
       lawful = lawful;
       results = (tt, at.part.results);
       shows = at.part.shows;
-      posts = posts_on (posts core.setup.linux r n res) core.setup.cq (world core.setup h).completions (completion_for e res no_bytes) (completions_in seen) at.part.posts (λ told. sym at.is_next ∙ tells (sym (by_entry core.setup.linux r n res at.manual) ∙ told));
+      posts = posts_on (posts core.setup.linux r n res) core.setup.cq (world core.setup h).completions (completion_for e res no_bytes) (completions_in seen) at.part.posts (λ told. sym at.is_next ∙ tells told);
     }
 
 pub part_issue : (core : Core) (seen : List Event) (wanted : Option Cqe) (h : History) (n : ℕ) (res : ℤ) (bytes : List ℕ)
     → StandsAt core seen wanted h
     → IsPart core.setup seen ((step.Issue n, answer.Ended res bytes) ∷ h)
-    → TellsNext (entry_of (world core.setup h).requests n) wanted res no_bytes
+    → TellsNext (posts core.setup.linux (world core.setup h).requests n res) (entry_of (world core.setup h).requests n) wanted res no_bytes
 part_issue core seen wanted h n res bytes at p =
     let r = (world core.setup h).requests in
     let e = entry_of r n in
-    λ told. at.is_next ∙ posts_next (posts core.setup.linux r n res) core.setup.cq (world core.setup h).completions (completion_for e res no_bytes) (completions_in seen) p.posts (by_entry core.setup.linux r n res at.manual ∙ told)
+    λ told. at.is_next ∙ posts_next (posts core.setup.linux r n res) core.setup.cq (world core.setup h).completions (completion_for e res no_bytes) (completions_in seen) p.posts told
 
 -- how a request ends as it is issued, by these rules: as a doomed one, or as a cancel that is carried out, and with no bytes
 pub data IssueEnd (linux : Bool) (r : Requests) (n : ℕ) (res : ℤ) : Type 0 where
   doomed_end : res ≡ doomed_result linux r n → IssueEnd linux r n res
-  cancel_end : res ≡ cancel_result linux r n → is_cancel (entry_of r n) ≡ true → IssueEnd linux r n res
+  cancel_end : res ≡ cancel_result linux r n → is_cancel (entry_of r n) ≡ true → (linux ≡ true → kernel.is_doomed r n ≡ false) → IssueEnd linux r n res
 
-pub record EndsIssued (linux : Bool) (r : Requests) (n : ℕ) (res : ℤ) (bytes : List ℕ) : Type 0 where
-  pub outstanding : is_outstanding r n ≡ true
-  pub idle : is_running r n ≡ false
+pub record EndsIssued (linux : Bool) (l : LinuxRequests) (n : ℕ) (res : ℤ) (bytes : List ℕ) : Type 0 where
+  pub outstanding : is_outstanding l.requests n ≡ true
+  pub idle : is_running l.requests n ≡ false
+  pub issuable : is_issuable linux l n ≡ true
   pub none : bytes ≡ no_bytes
-  pub by : IssueEnd linux r n res
+  pub by : IssueEnd linux l.requests n res
+
+goes_by : (outstanding running doomed ready : Bool) → outstanding ≡ true → running ≡ false
+    → (doomed || ready) ≡ true → (outstanding && not running && (doomed || ready)) ≡ true
+goes_by true false doomed ready o r goes = goes
+goes_by false running doomed ready o r goes = absurd cc
+goes_by true true doomed ready o r goes = absurd cc
+
+-- what is to end as doomed, or may start, can be issued
+issuable_by : (linux : Bool) (l : LinuxRequests) (n : ℕ) → is_outstanding l.requests n ≡ true
+    → is_running l.requests n ≡ false
+    → (ends_doomed linux l.requests n || may_start linux l n) ≡ true → is_issuable linux l n ≡ true
+issuable_by linux l n outstanding idle goes =
+    issuable_is linux l n
+    ∙ goes_by (is_outstanding l.requests n) (is_running l.requests n) (ends_doomed linux l.requests n) (may_start linux l n) outstanding idle goes
+
+spared_by : (linux : Bool) (l : LinuxRequests) (n : ℕ) → ends_doomed linux l.requests n ≡ false
+    → may_start linux l n ≡ true → linux ≡ true → kernel.is_doomed l.requests n ≡ false
+spared_by true l n spared ready is = (starts_so l n spared ready).spared
+spared_by false l n spared ready is = absurd (let f : false ≡ true = is in cc)
 
 both : (s : Step) (a : Answer) (n : ℕ) (res : ℤ) (bytes : List ℕ) → s ≡ step.Issue n
     → a ≡ answer.Ended res bytes
@@ -148,7 +214,7 @@ both : (s : Step) (a : Answer) (n : ℕ) (res : ℤ) (bytes : List ℕ) → s �
 both s a n res bytes is told = ap₂ (λ (x : Step) (y : Answer). (x, y)) is told
 
 ends_by : (g : Setup) (w : World) (n : ℕ) (res : ℤ) (bytes : List ℕ) (s : Step) (a : Answer) → Change g w s a
-    → s ≡ step.Issue n → a ≡ answer.Ended res bytes → EndsIssued g.linux w.requests n res bytes
+    → s ≡ step.Issue n → a ≡ answer.Ended res bytes → EndsIssued g.linux (requests_of w) n res bytes
 ends_by g w n res bytes s a (dooms m outstanding idle doomed) is told =
     let same : m ≡ n = cc in
     let result : doomed_result g.linux w.requests m ≡ res = cc in
@@ -156,6 +222,7 @@ ends_by g w n res bytes s a (dooms m outstanding idle doomed) is told =
     record {
       outstanding = subst (λ k. is_outstanding w.requests k ≡ true) same outstanding;
       idle = subst (λ k. is_running w.requests k ≡ false) same idle;
+      issuable = subst (λ k. is_issuable g.linux (requests_of w) k ≡ true) same (issuable_by g.linux (requests_of w) m outstanding idle (or_left _ _ doomed));
       none = sym none;
       by = doomed_end (sym result ∙ ap (doomed_result g.linux w.requests) same);
     }
@@ -166,8 +233,9 @@ ends_by g w n res bytes s a (cancels m outstanding idle spared ready cancel) is 
     record {
       outstanding = subst (λ k. is_outstanding w.requests k ≡ true) same outstanding;
       idle = subst (λ k. is_running w.requests k ≡ false) same idle;
+      issuable = subst (λ k. is_issuable g.linux (requests_of w) k ≡ true) same (issuable_by g.linux (requests_of w) m outstanding idle (or_right _ _ ready));
       none = sym none;
-      by = cancel_end (sym result ∙ ap (cancel_result g.linux w.requests) same) (subst (λ k. is_cancel (entry_of w.requests k) ≡ true) same cancel);
+      by = cancel_end (sym result ∙ ap (cancel_result g.linux w.requests) same) (subst (λ k. is_cancel (entry_of w.requests k) ≡ true) same cancel) (λ l. subst (λ k. kernel.is_doomed w.requests k ≡ false) same (spared_by g.linux (requests_of w) m spared ready l));
     }
 ends_by g w n res bytes s a (runs m outstanding idle spared ready cancel) is told = absurd cc
 ends_by g w n res bytes s a (finishes m got given running) is told = absurd cc
@@ -177,20 +245,20 @@ ends_by g w n res bytes s a (refuses _ _ same silent) is told =
 ends_by g w n res bytes s a _ is told = absurd cc
 
 pub issued_end : (g : Setup) (w : World) (n : ℕ) (res : ℤ) (bytes : List ℕ)
-    → CalledForApart g w (step.Issue n) (answer.Ended res bytes) → EndsIssued g.linux w.requests n res bytes
+    → CalledForApart g w (step.Issue n) (answer.Ended res bytes)
+    → EndsIssued g.linux (requests_of w) n res bytes
 issued_end g w n res bytes called =
     ends_by g w n res bytes (step.Issue n) (answer.Ended res bytes) (change_of g w (step.Issue n) (answer.Ended res bytes) called) refl refl
 
--- what is issued and ends without a completion was a cancel with 0, or one of all
-
-pub data QuietEnd (e : Sqe) (accepted : ℕ) (res : ℤ) : Type 0 where
-  with_none : res ≡ pos 0 → QuietEnd e accepted res
-  with_count : (count : ℕ) → is_cancel_all e ≡ true → count ≤ accepted → res ≡ count_result count → QuietEnd e accepted res
+-- What is issued and ends without a completion.
 
 quiet_success : (skips success : Bool) → not (skips && success) ≡ false → success ≡ true
 quiet_success true true e = refl
 quiet_success true false e = absurd cc
 quiet_success false success e = absurd cc
+
+succeeds : (e : Sqe) (res : ℤ) → posts_completion e res ≡ false → is_success e res ≡ true
+succeeds e res quiet = quiet_success (has skip_success e) (is_success e res) quiet
 
 few_targets : (r : Requests) (n : ℕ) → length (targets_of r n) ≤ length r.accepted
 unfolding targets_of
@@ -199,27 +267,51 @@ few_targets r n =
     let few = count_below_within (is_target r n) (length r.accepted) in
     omega (arith, same, few)
 
-quiet_cancel : (r : Requests) (n : ℕ) (res : ℤ) (all : Bool) → is_cancel (entry_of r n) ≡ true
-    → is_cancel_all (entry_of r n) ≡ all → is_success (entry_of r n) res ≡ true
-    → res ≡ manual.cancel_result r n → QuietEnd (entry_of r n) (length r.accepted) res
-quiet_cancel r n res true cancel is success same =
-    with_count (length (targets_of r n)) is (few_targets r n)
-    (same ∙ ap (λ b. if b then count_result (length (targets_of r n)) else result_for r (target_of r n)) is)
-quiet_cancel r n res false cancel is success same =
-    with_none ((Decides-int_eq res (pos 0)).0 (sym (one_success (entry_of r n) res cancel is) ∙ success))
+quiet_none : (linux : Bool) (e : Sqe) (accepted : ℕ) (res : ℤ) → res ≡ pos 0
+    → posts_completion e res ≡ false → QuietResult linux e accepted res
+quiet_none linux e accepted res is quiet =
+    subst (QuietResult linux e accepted) (sym is) (with_none (subst (λ r. posts_completion e r ≡ false) is quiet))
 
-quiet_by : (r : Requests) (n : ℕ) (res : ℤ) → is_success (entry_of r n) res ≡ true → IssueEnd false r n res
-    → QuietEnd (entry_of r n) (length r.accepted) res
-quiet_by r n res success (doomed_end same) =
-    absurd (let f : true ≡ false = sym success ∙ (ap (is_success (entry_of r n)) same ∙ doomed_fails r n) in cc)
-quiet_by r n res success (cancel_end same cancel) =
-    quiet_cancel r n res (is_cancel_all (entry_of r n)) cancel refl success same
+-- a cancel of one
+quiet_one : (linux : Bool) (e : Sqe) (accepted : ℕ) (res : ℤ) → is_cancel e ≡ true
+    → is_cancel_all e ≡ false → posts_completion e res ≡ false → QuietResult linux e accepted res
+quiet_one linux e accepted res cancel one quiet =
+    quiet_none linux e accepted res ((Decides-int_eq res (pos 0)).0 (sym (one_success e res cancel one) ∙ succeeds e res quiet)) quiet
 
-pub quiet_end : (r : Requests) (n : ℕ) (res : ℤ) (bytes : List ℕ) → EndsIssued false r n res bytes
-    → posts_completion (entry_of r n) res ≡ false
-    → QuietEnd (entry_of r n) (length r.accepted) res
-quiet_end r n res bytes ended quiet =
-    quiet_by r n res (quiet_success (has skip_success (entry_of r n)) (is_success (entry_of r n) res) quiet) ended.by
+-- one of all
+quiet_all : (linux : Bool) (r : Requests) (n : ℕ) (res : ℤ) → is_cancel_all (entry_of r n) ≡ true
+    → posts_completion (entry_of r n) res ≡ false → res ≡ cancel_result linux r n
+    → QuietResult linux (entry_of r n) (length r.accepted) res
+quiet_all true r n res all quiet same =
+    quiet_none true (entry_of r n) (length r.accepted) res (same ∙ ap (λ b. if b then pos 0 else (if is_some (kernel.found_by r n) then neg_ℤ EALREADY else neg_ℤ ENOENT)) all) quiet
+quiet_all false r n res all quiet same =
+    let is : res ≡ count_result (length (targets_of r n)) =
+    same ∙ ap (λ b. if b then count_result (length (targets_of r n)) else result_for r (target_of r n)) all in
+    subst (QuietResult false (entry_of r n) (length r.accepted)) (sym is)
+    (with_count (length (targets_of r n)) refl all (few_targets r n) (subst (λ x. posts_completion (entry_of r n) x ≡ false) is quiet))
+
+quiet_cancel : (linux : Bool) (r : Requests) (n : ℕ) (res : ℤ) (all : Bool) → is_cancel (entry_of r n) ≡ true
+    → is_cancel_all (entry_of r n) ≡ all → posts_completion (entry_of r n) res ≡ false
+    → res ≡ cancel_result linux r n → QuietResult linux (entry_of r n) (length r.accepted) res
+quiet_cancel linux r n res true cancel is quiet same = quiet_all linux r n res is quiet same
+quiet_cancel linux r n res false cancel is quiet same =
+    quiet_one linux (entry_of r n) (length r.accepted) res cancel is quiet
+
+quiet_by : (linux : Bool) (r : Requests) (n : ℕ) (res : ℤ) → posts linux r n res ≡ false → IssueEnd linux r n res
+    → QuietResult linux (entry_of r n) (length r.accepted) res
+quiet_by true r n res quiet (doomed_end same) =
+    with_error res refl (subst IsDoomedResult (sym same) (doomed_errors true r n))
+quiet_by true r n res quiet (cancel_end same cancel spared) =
+    quiet_cancel true r n res (is_cancel_all (entry_of r n)) cancel refl (sym (spared_posts r n res (spared refl)) ∙ quiet) same
+quiet_by false r n res quiet (doomed_end same) =
+    absurd (let f : true ≡ false = sym (succeeds (entry_of r n) res quiet) ∙ (ap (is_success (entry_of r n)) same ∙ doomed_fails r n) in cc)
+quiet_by false r n res quiet (cancel_end same cancel spared) =
+    quiet_cancel false r n res (is_cancel_all (entry_of r n)) cancel refl quiet same
+
+pub quiet_end : (linux : Bool) (l : LinuxRequests) (n : ℕ) (res : ℤ) (bytes : List ℕ)
+    → EndsIssued linux l n res bytes → posts linux l.requests n res ≡ false
+    → QuietResult linux (entry_of l.requests n) (length l.requests.accepted) res
+quiet_end linux l n res bytes ended quiet = quiet_by linux l.requests n res quiet ended.by
 
 -- A flush that changes nothing.
 
@@ -296,30 +388,6 @@ pub data HiddenEvent (g : Setup) (h : History) : Event → Type 0 where
   finish_end : (n : ℕ) (res : ℤ) (bytes : List ℕ) → HiddenEvent g h (step.Finish n, answer.Ended res bytes)
   flush : (a : Answer) → HiddenEvent g h (step.Flush, a)
 
-ready_goes : (outstanding running doomed ready : Bool) → outstanding ≡ true → running ≡ false → ready ≡ true
-    → (outstanding && not running && (doomed || ready)) ≡ true
-ready_goes true false true true o r y = refl
-ready_goes true false false true o r y = refl
-ready_goes outstanding running doomed false o r y = absurd cc
-ready_goes false running doomed ready o r y = absurd cc
-ready_goes true true doomed ready o r y = absurd cc
-
-free_goes : (outstanding running turn doomed deferred : Bool) → outstanding ≡ true → running ≡ false
-    → (turn && not deferred) ≡ true
-    → (outstanding && (not running && (turn && (doomed || not deferred)))) ≡ true
-free_goes true false true true deferred o r y = refl
-free_goes true false true false deferred o r y = y
-free_goes true false false doomed deferred o r y = y
-free_goes true true turn doomed deferred o r y = absurd cc
-free_goes false running turn doomed deferred o r y = absurd cc
-
-issuable_by : (linux : Bool) (l : LinuxRequests) (n : ℕ) → is_outstanding l.requests n ≡ true
-    → is_running l.requests n ≡ false → may_start linux l n ≡ true → is_issuable linux l n ≡ true
-issuable_by true l n outstanding idle free =
-    free_goes (is_outstanding l.requests n) (is_running l.requests n) (is_in_turn l.requests n) (kernel.is_doomed l.requests n) (is_deferred l n) outstanding idle free
-issuable_by false l n outstanding idle ready =
-    ready_goes (is_outstanding l.requests n) (is_running l.requests n) (manual.is_doomed l.requests n) (manual.is_ready l.requests n) outstanding idle ready
-
 both_run : (s : Step) (a : Answer) (n : ℕ) → s ≡ step.Issue n → a ≡ answer.Run
     → ◌≡◌ {A = Event} (s, a) (step.Issue n, answer.Run)
 both_run s a n is told = ap₂ (λ (x : Step) (y : Answer). (x, y)) is told
@@ -328,7 +396,7 @@ starts_by : (g : Setup) (w : World) (n : ℕ) (s : Step) (a : Answer) → Change
     → a ≡ answer.Run → is_issuable g.linux (requests_of w) n ≡ true
 starts_by g w n s a (runs m outstanding idle spared ready cancel) is told =
     let same : m ≡ n = cc in
-    subst (λ k. is_issuable g.linux (requests_of w) k ≡ true) same (issuable_by g.linux (requests_of w) m outstanding idle ready)
+    subst (λ k. is_issuable g.linux (requests_of w) k ≡ true) same (issuable_by g.linux (requests_of w) m outstanding idle (or_right _ _ ready))
 starts_by g w n s a (refuses _ _ same silent) is told =
     let e : Some n ≡ None = sym (ap (λ (x : Event). started_by x) (both_run s a n is told)) ∙ silent.starts in
     absurd cc

@@ -1,13 +1,15 @@
 -- Glue. A search for a history that shows what was seen: the parts that are still to be gone on from, and the one that came furthest.
-use Rattle.std.specs.Prelude.{◌≡◌, ℕ, ◌≤◌, Bool, true, false, List, [], ◌∷◌, ◌++◌, ◌==◌, ℤ, length, map, ◌⊎◌, Option, Some, Contains, slice_get}
+use Rattle.std.specs.Prelude.{◌≡◌, ℕ, ◌≤◌, Bool, true, false, List, [], ◌∷◌, ◌++◌, ◌==◌, ℤ, pos, length, map, ◌⊎◌, Option, Some, Contains, slice_get}
 use Rattle.std.specs.declared.vec.Vec.{Vec}
 use Rattle.std.specs.declared.alloc.Global.{Global}
 use Rattle.uring_entry.specs.Setup.{Setup}
 use Rattle.uring_entry.specs.Layout.{Cqe, Sqe, user_data_of}
 use Rattle.uring_entry.specs.Success.{posts_completion}
-use Rattle.uring_entry.specs.Requests.{outstanding_in, no_bytes}
+use Rattle.uring_entry.specs.Preparation.{is_cancel_all}
+use Rattle.uring_entry.specs.Requests.{outstanding_in, no_bytes, count_result}
 use Rattle.uring_results.specs.Results.{may_end}
 use Rattle.uring_entry.specs.Completions.{completion_for}
+use Rattle.uring_rules.specs.RulesLaws.{IsDoomedResult}
 use Rattle.uring_core.specs.Core.{Core, FitsApart}
 use Rattle.uring_core.specs.Histories.{Event, History, world, history_of, IsLawfulApart}
 use Rattle.uring_core.specs.declared.step.Step.{Step}
@@ -74,9 +76,8 @@ pub record IsSearch (g : Setup) (seen : List Event) (todo : List (List Event)) (
   pub parts : AreParts g seen todo
   pub reach : IsReach g seen events place
 
--- The core, which goes by the manual pages' rules, shows this part, and this is the completion that is to be posted next.
+-- The core shows this part, and this is the completion that is to be posted next.
 pub record StandsAt (core : Core) (seen : List Event) (wanted : Option Cqe) (h : History) : Type 0 where
-  pub manual : core.setup.linux ≡ false
   pub fits : FitsApart core h
   pub part : IsPart core.setup seen h
   pub is_next : wanted ≡ slice_get (completions_in seen) (length (world core.setup h).completions.posted)
@@ -86,12 +87,11 @@ abbrev pub AreNext : Setup → List Event → History → List Event → Type 0
 AreNext g seen h next = (x : Event) → Contains next x → IsLawfulApart g (x ∷ h)
     → IsPart g seen (x ∷ h)
 
--- the end of a request of this entry posts the completion that is to be posted next, or nothing
-abbrev pub TellsNext : Sqe → Option Cqe → ℤ → List ℕ → Type 0
-TellsNext e wanted res bytes =
-    posts_completion e res ≡ true → wanted ≡ Some (completion_for e res bytes)
+-- the end of a request of this entry, which posts or not as told, posts the completion that is to be posted next, or nothing
+abbrev pub TellsNext : (told : Bool) → Sqe → Option Cqe → ℤ → List ℕ → Type 0
+TellsNext told e wanted res bytes = told ≡ true → wanted ≡ Some (completion_for e res bytes)
 
--- a running request of this entry may end so, by the manual pages' rules
+-- a running request of this entry may end so: by either's rules it posts as its own entry says
 pub record MayEndBy (e : Sqe) (res : ℤ) (bytes : List ℕ) : Type 0 where
   pub result : may_end e res ≡ true
   pub untold : posts_completion e res ≡ false → bytes ≡ no_bytes
@@ -99,7 +99,13 @@ pub record MayEndBy (e : Sqe) (res : ℤ) (bytes : List ℕ) : Type 0 where
 -- so may a running request of this entry end here
 pub record FinishFits (e : Sqe) (wanted : Option Cqe) (res : ℤ) (bytes : List ℕ) : Type 0 where
   pub may : MayEndBy e res bytes
-  pub tells : TellsNext e wanted res bytes
+  pub tells : TellsNext (posts_completion e res) e wanted res bytes
+
+-- The results with which a request of this entry may end as it is issued and post nothing: a cancel with 0, and by the manual pages' rules one of all with each number of requests; by Linux's rules a doomed request with one of three errors.
+pub data QuietResult (is_linux : Bool) (e : Sqe) (accepted : ℕ) : ℤ → Type 0 where
+  with_none : posts_completion e (pos 0) ≡ false → QuietResult is_linux e accepted (pos 0)
+  with_count : (count : ℕ) → is_linux ≡ false → is_cancel_all e ≡ true → count ≤ accepted → posts_completion e (count_result count) ≡ false → QuietResult is_linux e accepted (count_result count)
+  with_error : (res : ℤ) → is_linux ≡ true → IsDoomedResult res → QuietResult is_linux e accepted res
 
 -- whether a request that isn't there, or of this entry, has the user data of the completion that is to be posted next
 abbrev pub is_asked : Option Sqe → Option Cqe → Bool

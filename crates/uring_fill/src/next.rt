@@ -26,7 +26,6 @@ pub(crate) fn next_events(
     told: &[Cqe],
     events: &[(Step, Answer)],
 ) -> Result<Vec<(Step, Answer)>, AllocError>
-    requires manual { core.now.setup.linux ≡ false }
     requires told { told.now ≡ completions_in seen.now }
     requires fits { FitsApart core.now (history_of events.now) }
     requires part { IsPart core.now.setup seen.now (history_of events.now) }
@@ -53,7 +52,6 @@ fn add_next(
     events: &[(Step, Answer)],
     next: &mut Vec<(Step, Answer)>,
 ) -> Result<(), AllocError>
-    requires manual { core.now.setup.linux ≡ false }
     requires told { told.now ≡ completions_in seen.now }
     requires fits { FitsApart core.now (history_of events.now) }
     requires part { IsPart core.now.setup seen.now (history_of events.now) }

@@ -50,8 +50,6 @@ enum Fate {
 ///
 /// Such a history is lawful apart from what operations give, each operation gives what it may give (`may_end`), each request has ended at the end, and each completion that was posted has been reaped. There is none if some of these steps is a hidden one.
 ///
-/// In rings by Linux's rules it gives up at once: there other requests have a part in whether an end posts a completion, which this search doesn't know.
-///
 /// `AllocError`: memory was refused.
 pub fn fill(
     alloc: Global,
@@ -61,9 +59,6 @@ pub fn fill(
 ) -> Result<Filled, AllocError>
     ensures { IfOk result (λ filled. IsFound setup.now seen.now filled) }
 {
-    if setup.is_linux() {
-        return Ok(Filled::GaveUp(nowhere(alloc)));
-    }
     let told = completions(alloc, seen)?;
     let found = fill_told(alloc, setup, seen, told.as_slice(), most);
     drop(told);
@@ -89,7 +84,6 @@ fn fill_told(
     told: &[Cqe],
     most: u64,
 ) -> Result<Filled, AllocError>
-    requires manual { setup.now.linux ≡ false }
     requires told { told.now ≡ completions_in seen.now }
     ensures { IfOk result (λ filled. IsFound setup.now seen.now filled) }
 {
@@ -126,7 +120,6 @@ fn search(
     most: u64,
     reach: &mut Reach,
 ) -> Result<Fate, AllocError>
-    requires manual { setup.now.linux ≡ false }
     requires told { told.now ≡ completions_in seen.now }
     requires none { reach.old.events.items ≡ [] }
     requires nowhere { reach.old.place ≡ 0 }
@@ -148,7 +141,6 @@ fn search_all(
     todo: &mut Vec<Vec<(Step, Answer)>>,
     reach: &mut Reach,
 ) -> Result<Fate, AllocError>
-    requires manual { setup.now.linux ≡ false }
     requires told { told.now ≡ completions_in seen.now }
     requires no_path { todo.old.items ≡ [] }
     requires none { reach.old.events.items ≡ [] }
@@ -184,7 +176,6 @@ fn search_one(
     todo: &mut Vec<Vec<(Step, Answer)>>,
     reach: &mut Reach,
 ) -> Result<Fate, AllocError>
-    requires manual { setup.now.linux ≡ false }
     requires told { told.now ≡ completions_in seen.now }
     requires stands { IsSearch setup.now seen.now (paths_of todo.old.items) reach.old.events.items reach.old.place }
     ensures { IfOk result
@@ -212,7 +203,6 @@ fn follow(
     todo: &mut Vec<Vec<(Step, Answer)>>,
     reach: &mut Reach,
 ) -> Result<bool, AllocError>
-    requires manual { setup.now.linux ≡ false }
     requires told { told.now ≡ completions_in seen.now }
     requires stands { IsSearch setup.now seen.now (paths_of todo.old.items ++ path.now ∷ []) reach.old.events.items reach.old.place }
     ensures found { IfOk result
@@ -236,7 +226,6 @@ fn visit(
     todo: &mut Vec<Vec<(Step, Answer)>>,
     reach: &mut Reach,
 ) -> Result<bool, AllocError>
-    requires manual { core.old.setup.linux ≡ false }
     requires fits { FitsApart core.old [] }
     requires told { told.now ≡ completions_in seen.now }
     requires stands { IsSearch core.old.setup seen.now (paths_of todo.old.items ++ path.now ∷ []) reach.old.events.items reach.old.place }
@@ -319,7 +308,6 @@ fn add_longer(
     path: &[(Step, Answer)],
     todo: &mut Vec<Vec<(Step, Answer)>>,
 ) -> Result<(), AllocError>
-    requires manual { core.now.setup.linux ≡ false }
     requires told { told.now ≡ completions_in seen.now }
     requires fits { FitsApart core.now (history_of path.now) }
     requires part { IsPart core.now.setup seen.now (history_of path.now) }

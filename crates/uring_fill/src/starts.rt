@@ -73,7 +73,7 @@ fn is_asked(entry: &Option<Sqe>, wanted: &Option<Cqe>) -> bool
 }
 
 /// Whether a request can be issued.
-fn can_issue(core: &Core, number: u64) -> bool
+pub(crate) fn can_issue(core: &Core, number: u64) -> bool
     ensures { (h : History) → FitsApart core.now h
         → is_issuable core.now.setup.linux (requests_of (world core.now.setup h)) number ≡ true → result ≡ true }
 {

@@ -29,12 +29,13 @@ use Rattle.uring_laws.proofs.WholeLaws.{lawful_apart}
 
 two_rings : (g : Setup) (w : World) (m n : ℕ) (x y : Outcome)
     → (posts_completion (entry_of w.requests m) x.res ≡ false) ⊎ (posts_completion (entry_of w.requests n) y.res ≡ false)
-    → HaveSameRings (ended (by_manual g) (ended (by_manual g) w m x.res x.bytes) n y.res y.bytes) (ended (by_manual g) (ended (by_manual g) w n y.res y.bytes) m x.res x.bytes)
+    → HaveSameRings (by_manual g) (ended (by_manual g) (ended (by_manual g) w m x.res x.bytes) n y.res y.bytes) (ended (by_manual g) (ended (by_manual g) w n y.res y.bytes) m x.res x.bytes)
 two_rings g w m n x y posts = record {
   submission = refl;
   requests = record { accepted = refl; cuts = refl; started = λ p. refl; cancelled = λ p. refl; ended = λ p. two_pushed p w.requests.ended (record { number = m; res = x.res; bytes = x.bytes }) (record { number = n; res = y.res; bytes = y.bytes }) };
   completions = posted_alike g.cq w.completions (entry_of w.requests m) (entry_of w.requests n) x y posts;
   is_closed = refl;
+  drains = λ is. absurd (let f : false ≡ true = is in cc);
 }
 
 both_ends : (g : Setup) (h : History) (m n : ℕ) (s t : Step) (a b : Answer) (x y : Outcome)
@@ -47,7 +48,7 @@ both_ends g h m n s t a b x y one two two_first one_then posts files lawful =
     let w : World = world (by_manual g) h in
     let left : world (by_manual g) ((t, b) ∷ (s, a) ∷ h) ≡ ended (by_manual g) (ended (by_manual g) w m x.res x.bytes) n y.res y.bytes = two.makes ∙ ap (λ (u : World). ended (by_manual g) u n y.res y.bytes) one.makes in
     let right : world (by_manual g) ((s, a) ∷ (t, b) ∷ h) ≡ ended (by_manual g) (ended (by_manual g) w n y.res y.bytes) m x.res x.bytes = one_then.makes ∙ ap (λ (u : World). ended (by_manual g) u m x.res x.bytes) two_first.makes in
-    let rings : HaveSameRings (world (by_manual g) ((t, b) ∷ (s, a) ∷ h)) (world (by_manual g) ((s, a) ∷ (t, b) ∷ h)) = subst (λ u. HaveSameRings u (world (by_manual g) ((s, a) ∷ (t, b) ∷ h))) (sym left) (subst (HaveSameRings (ended (by_manual g) (ended (by_manual g) w m x.res x.bytes) n y.res y.bytes)) (sym right) (two_rings (by_manual g) w m n x y posts)) in
+    let rings : HaveSameRings (by_manual g) (world (by_manual g) ((t, b) ∷ (s, a) ∷ h)) (world (by_manual g) ((s, a) ∷ (t, b) ∷ h)) = subst (λ u. HaveSameRings (by_manual g) u (world (by_manual g) ((s, a) ∷ (t, b) ∷ h))) (sym left) (subst (HaveSameRings (by_manual g) (ended (by_manual g) (ended (by_manual g) w m x.res x.bytes) n y.res y.bytes)) (sym right) (two_rings (by_manual g) w m n x y posts)) in
     record {
       lawful = (one_then.called, (two_first.called, lawful));
       alike = record { submission = rings.submission; requests = rings.requests; completions = rings.completions; is_closed = rings.is_closed; drains = λ is. absurd (let f : false ≡ true = is in cc); files = files };

@@ -28,6 +28,9 @@ pub mod WholeLaws
 pub mod FilesApart
 pub mod FileLaws
 -- Events that change places:
+pub mod AlikeRequests
+pub mod AlikeLinux
+pub mod AlikeRules
 pub mod Alike
 pub mod Swapping
 pub mod Apart

@@ -1,4 +1,4 @@
--- Which two events that come one behind the other may change places, by the manual pages' rules, and what they leave then: worlds that are alike, which no later answer tells apart. Exploring of one order of each class rests on it.
+-- Which two events that come one behind the other may change places, and what they leave then: worlds that are alike, which no later answer tells apart. Exploring of one order of each class rests on it.
 use Rattle.std.specs.Prelude.{◌≡◌, ◌≢◌, ◌⊎◌, ◌<◌, ℕ, ◌+◌, Bool, true, false, not, ◌||◌, nat_le, List, ◌∷◌, ◌++◌, length}
 use Rattle.std.specs.List.{list_any}
 use Rattle.std.specs.Ordering.{int_eq}

@@ -1,13 +1,13 @@
-//! Which adjacent events may change places, and what no later answer tells apart: laws of the definitions alone, of set-ups of the manual pages' rules. Only what lies on the two sides of a core changes places by either's.
+//! Which adjacent events may change places, and what no later answer tells apart: laws of the definitions alone. Worlds that are alike stay so by either's rules, and what lies on the two sides of a core changes places by either's; the other laws are of set-ups of the manual pages' rules.
 ghost use Rattle.std.specs.Prelude.{◌≡◌, false};
 ghost use Rattle.uring_entry.specs.Setup.{Setup};
 ghost use Rattle.uring_laws.specs.Swaps.{AlikeAnswerAlike, AlikeGoOnAlike, ChangeAnywhere, StartsChange, StartThenEnd, EndThenStart, FinishesChange, DoomedEndsChange, ApartDontMeet, StartThenRings, RingsThenStart, SubmissionThenRest, RestThenSubmission, ReorderedAlike};
 
-/// Worlds that differ only in the order in which requests started, were doomed by cancels and ended call for the same answers, and stay so by whatever comes. So events that change places do so in the midst of a history.
+/// Worlds that differ only in the order in which requests started, were doomed by cancels and ended call for the same answers, and stay so by whatever comes, by either's rules. So events that change places do so in the midst of a history.
 pub fn alike_go_on_alike()
-    ensures answers { (g : Setup) → g.linux ≡ false → AlikeAnswerAlike g }
-    ensures go_on { (g : Setup) → g.linux ≡ false → AlikeGoOnAlike g }
-    ensures anywhere { (g : Setup) → g.linux ≡ false → ChangeAnywhere g }
+    ensures answers { (g : Setup) → AlikeAnswerAlike g }
+    ensures go_on { (g : Setup) → AlikeGoOnAlike g }
+    ensures anywhere { (g : Setup) → ChangeAnywhere g }
 {}
 
 /// Two starts, one behind the other, change places.
@@ -48,7 +48,7 @@ pub fn sides_pass_one_another()
     ensures earlier { (g : Setup) → RestThenSubmission g }
 {}
 
-/// However many events of a lawful history change places, one pair after the other, it stays lawful, and leaves a world that is alike: so one run of each class is enough.
+/// However many events of a lawful history change places, one pair after the other, by either's rules it stays lawful, and leaves a world that is alike: so one run of each class is enough.
 pub fn reordered_leave_alike()
-    ensures { (g : Setup) → g.linux ≡ false → ReorderedAlike g }
+    ensures { (g : Setup) → ReorderedAlike g }
 {}

@@ -10,4 +10,5 @@ pub mod KeptDrains
 pub mod LinuxDispatch
 pub mod LinuxWhy
 pub mod LinuxCancels
+pub mod Posting
 pub mod Counts

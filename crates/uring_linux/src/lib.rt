@@ -11,6 +11,7 @@ mod found;
 mod issuable;
 pub mod laws;
 mod members;
+mod posting;
 mod request;
 mod why;
 mod window;

@@ -3,3 +3,4 @@ pub mod RulesCalls
 pub mod RulesIssues
 pub mod RulesDispatch
 pub mod RulesLaws
+pub mod Posting

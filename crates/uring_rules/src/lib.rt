@@ -5,6 +5,7 @@ mod answers;
 mod issues;
 mod kind;
 pub mod laws;
+mod posting;
 mod rules;
 
 pub use answers::Issued;

@@ -4,12 +4,14 @@ ghost use Rattle.std.specs.Prelude.{◌≡◌, ℕ, List, ◌+◌, ◌-◌, ◌^
 ghost use Rattle.uring_entry.specs.Requests.{least_of, operation_running, entry_outstanding, outstanding_in, running_in};
 ghost use Rattle.uring_linux.specs.LinuxRequests.{LinuxRequests, no_request};
 ghost use Rattle.uring_rules.specs.Rules.{next_of, issuables_of, issuable_from, why_of, found_by};
+ghost use Rattle.uring_rules.specs.Posting.{would_post};
 ghost use Rattle.uring_rules.specs.RulesCalls.{accepted_by, cut_by, called_by};
 ghost use Rattle.uring_rules.specs.RulesIssues.{issued, after_issue, posted_by, after_end};
 
 use crate::answers::Issued;
 use crate::issues::{issue_linux, issue_manual};
 use crate::kind::Kind;
+use crate::posting::would_post_manual;
 use std::alloc::Global;
 use std::marker::Model;
 use uring_dispatch::{Dispatch, Found, Posts, ReserveError};
@@ -287,6 +289,18 @@ impl Rules {
         match &self.kind {
             Kind::Manual(dispatch) => dispatch.would_find(n),
             Kind::Linux(dispatch) => dispatch.would_find(n),
+        }
+    }
+
+    /// Whether the end of request `n`, any number, with this result would post a completion: `Some` exactly if it is outstanding. io_uring_enter(2), IOSQE_CQE_SKIP_SUCCESS; by Linux's rules others of its group have a part in it.
+    pub fn would_post(&self, n: u64, res: i32) -> Option<bool>
+        requires { IsTrue self.now.is_between_calls }
+        ensures { (l : LinuxRequests) → ShowsRequests self.now l
+            → result ≡ would_post self.now.linux l.requests n res }
+    {
+        match &self.kind {
+            Kind::Manual(dispatch) => would_post_manual(dispatch, n, res),
+            Kind::Linux(dispatch) => dispatch.would_post(n, res),
         }
     }
 

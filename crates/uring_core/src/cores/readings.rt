@@ -6,6 +6,7 @@ ghost use Rattle.uring_entry.specs.Submission.{dropped};
 ghost use Rattle.uring_entry.specs.Completions.{unreaped};
 ghost use Rattle.uring_entry.specs.Requests.{entry_outstanding, least_of, operation_running};
 ghost use Rattle.uring_rules.specs.Rules.{next_of, issuables_of, issuable_from, why_of, found_by};
+ghost use Rattle.uring_rules.specs.Posting.{would_post};
 ghost use Rattle.uring_core.specs.World.{requests_of};
 ghost use Rattle.uring_files.specs.Operations.{IsForFiles};
 ghost use Rattle.uring_core.specs.Core.{FitsApart, IsCounts};
@@ -107,6 +108,14 @@ impl Core {
             → result ≡ found_by self.now.setup.linux (world self.now.setup h).requests number }
     {
         self.dispatch.would_find(number)
+    }
+
+    /// Whether the end of the request of this number, any number, with this result would post a completion: `Some` exactly if it is outstanding. It is no step, and so not part of a history.
+    pub fn would_post(&self, number: u64, res: i32) -> Option<bool>
+        ensures { (h : History) → FitsApart self.now h
+            → result ≡ would_post self.now.setup.linux (world self.now.setup h).requests number res }
+    {
+        self.dispatch.would_post(number, res)
     }
 
     /// The set-up of the rings.

@@ -12,7 +12,6 @@ pub returns-clause-right : goal.returns-clause-right
 returns-clause-right c =
     let h = history_of c.args.events.now in
     let at : StandsAt c.args.core.now c.args.seen.now c.next_told-wanted.result h = record {
-      manual = c.requires.manual;
       fits = c.requires.fits;
       part = c.requires.part;
       is_next = c.next_told-wanted.ensures h c.requires.fits ∙ ap (λ xs. slice_get xs (length (world c.args.core.now.setup h).completions.posted)) c.requires.told;
@@ -29,7 +28,6 @@ returns-clause-all c =
     let h = history_of c.args.events.now in
     let r = (world c.args.core.now.setup h).requests in
     let at : StandsAt c.args.core.now c.args.seen.now c.next_told-wanted.result h = record {
-      manual = c.requires.manual;
       fits = c.requires.fits;
       part = c.requires.part;
       is_next = c.next_told-wanted.ensures h c.requires.fits ∙ ap (λ xs. slice_get xs (length (world c.args.core.now.setup h).completions.posted)) c.requires.told;

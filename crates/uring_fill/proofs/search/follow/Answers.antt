@@ -1,6 +1,5 @@
-use Rattle.std.proofs.Common.{sym, ap, subst, ◌∙◌, ◌∷◌, ◌++◌, []}
+use Rattle.std.proofs.Common.{sym, subst, ◌∷◌, ◌++◌, []}
 use Rattle.std.proofs.lemmas.Result.{IfOk-weaker}
-use Rattle.uring_entry.specs.Setup.{Setup}
 use Rattle.uring_core.specs.Histories.{history_of}
 use Rattle.uring_fill.specs.Filling.{IsFilling}
 use Rattle.uring_fill.specs.Parts.{paths_of, IsSearch}
@@ -8,7 +7,6 @@ use Rattle.uring_fill.proofs.search.follow.Goals as goal
 
 pub visit-found-requires : goal.visit-found-requires
 visit-found-requires c = record {
-  manual = ap (λ (s : Setup). s.linux) c.in_ok-core.ensures.setup ∙ c.requires.manual;
   fits = c.in_ok-core.ensures.fits;
   told = c.requires.told;
   stands = subst (λ s. IsSearch s c.args.seen.now (paths_of c.args.todo.now.items ++ c.args.path.now ∷ []) c.args.reach.now.events.items c.args.reach.now.place) (sym c.in_ok-core.ensures.setup) c.requires.stands;

@@ -1,6 +1,5 @@
-use Rattle.std.proofs.Common.{◌≡◌, true, false, ap, ◌∙◌, rules}
+use Rattle.std.proofs.Common.{◌≡◌, true, false, rules}
 use Rattle.std.proofs.lemmas.Bool.{not-true, not-false}
-use Rattle.uring_entry.specs.Setup.{Setup}
 use Rattle.uring_core.specs.Histories.{history_of}
 use Rattle.uring_fill.specs.Filling.{IsPart}
 use Rattle.uring_fill.specs.Parts.{paths_of}
@@ -25,7 +24,6 @@ add_longer-requires c =
     let fits = c.in_ok-replay.ensures.all made in
     let part : IsPart c.replay.new.core.setup c.args.seen.now (history_of c.args.path.now) = visited_part c.args.core.now.setup c.replay.new.core.setup c.args.seen.now c.args.path.now (paths_of c.args.todo.now.items) c.args.reach.now.events.items c.args.reach.now.place c.in_ok-replay.ensures.setup c.requires.stands fits.lawful in
     record {
-      manual = ap (λ (s : Setup). s.linux) c.in_ok-replay.ensures.setup ∙ c.requires.manual;
       told = c.requires.told;
       fits = fits;
       part = part;
