@@ -13,7 +13,7 @@ from conforming.setup import Setup
 TOP = os.path.dirname(os.path.dirname(os.path.dirname(os.path.abspath(__file__))))
 RECORDER = f"{TOP}/conform/out/record"
 NO_RING = 77
-MOST_HISTORIES = 200_000
+MOST_HISTORIES = 500_000
 KINDS = {0: "lawful", 1: "unexplained", 3: "gave up"}
 
 
