@@ -297,7 +297,7 @@ silent : (g : Setup) (w : World) (n : ℕ) (res : ℤ) (bytes : List ℕ) → po
 silent g w n res bytes none =
     ap (λ b. if b then with_posted g.cq w.completions (completion_for (entry_of w.requests n) res bytes) else w.completions) none
 
--- what n posts behind the end of another, of which its own posting doesn't depend
+-- what n posts behind the end of another, on which whether it posts doesn't depend
 posted_behind : (g : Setup) (w : World) (m n : ℕ) (x y : Outcome)
     → posts g.linux (with_ended w.requests m x.res x.bytes) n y.res ≡ posts g.linux w.requests n y.res
     → with_end_of g (ended g w m x.res x.bytes) n y.res y.bytes
