@@ -4,7 +4,7 @@ The rules, each as docs/PROTOCOL.md tells it:
 
 - A call takes entries until it has as many as it was asked for, up to a word that names no slot, or up to a faulty entry without a link flag in a ring that stops. Groups are accepted one by one, each behind its last member; requests go on between them.
 - A group with a fault ends at once, from its first member on, and nobody waits for it.
-- An entry is let in if its operation and its flags are known, and it is no drain that is refused. A drain and a skip count only on such an entry, whatever else is wrong with it.
+- A drain and a skip count on an entry whose operation and flags are known, whatever else is wrong with it. Such an entry is let in, if it is no drain that is refused.
 - A ring drains from the first entry on that asks for it, and until a group without a fault is accepted that doesn't, while nothing else is outstanding but what is deferred. Each group accepted meanwhile is deferred, in order. The first of those deferred goes on once all that isn't deferred has ended, and with it those behind it up to the next that drains.
 - A group drains if a member does; if that isn't its first one, a drain is owed to the next group whose first entry is let in.
 - A drain fails with -95 once an entry has asked for skipped success, whatever else is wrong with it.
@@ -240,8 +240,8 @@ def taken(group, rules, entry):
     is_let_in, is_drain = not entry.is_refused and fault != UNSUPPORTED, asks_to_drain and not skips
     takes_owed = rules.next_drains and not group.entries and is_let_in
     drains = is_drain or takes_owed
-    owes = is_drain if group.entries else rules.next_drains and not is_let_in
-    rules = Rules(rules.drains or drains, owes or rules.next_drains and bool(group.entries), skips)
+    is_owed = rules.next_drains or is_drain if group.entries else rules.next_drains and not is_let_in
+    rules = Rules(rules.drains or drains, is_owed, skips)
     return Taken(group.entries + (entry,), group.faults + (fault,), group.drains or drains), rules, fault is not None and not entry.is_linked()
 
 

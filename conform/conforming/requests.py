@@ -4,7 +4,7 @@ CANCELED, NO_ENTRY, ALREADY, INVALID = -125, -2, -114, -22
 LEAST_ERROR = -4095
 OPERATIONS = {"nop": 0, "fsync": 3, "cancel": 14}
 FLAGS = {"D": 2, "L": 4, "H": 8, "A": 16, "S": 64}
-# Of each kind of fault, the byte of the entry that has it, and what stands there. The kernel refuses each of these with -22 too.
+# Of each kind of fault, the byte of the entry that has it, and what stands there. The kernel refuses each of these with -22 too, and takes a length above 64.
 FAULTS = {"flag": (1, 128), "priority": (2, 1), "operation": (31, 128), "byte": (42, 1)}
 WAITS, RUNS = "waits", "runs"
 

@@ -75,30 +75,29 @@ def filled(uring, setup, events, is_linux):
     return Verdict(kind, ran.stdout, "" if kind == "lawful" else ran.stdout.splitlines()[-1].removeprefix("# "))
 
 
-def by_the_rules(uring, setup, events, is_linux):
-    """The verdict by the rules of the profile or of Linux: that of the proved program, if these are the words that run one. What no history explains is told by the quick search, which comes furthest by completions. Where the proved one gives up, the other's history stands."""
-    found = quick(setup, (LinuxFill if is_linux else Fill)(setup, events), is_linux)
-    if uring is None:
-        return found
-    proved = filled(uring, setup, events, is_linux)
-    if "gave up" in (found.kind, proved.kind):
-        return found if found.kind == "lawful" else proved
-    if found.kind != proved.kind:
-        return Verdict("differ", proved.trace, f"{proved.kind} by the proved search, {found.kind} by the quick one")
-    return proved if proved.kind == "lawful" else found
-
-
 def told_of(setup, events):
     """The name of what cancels of the kernel do beyond Linux's rules, if the quick search finds a history with it, and else nothing. It differs from the search by the rules in nothing else."""
     return next((names[-1] for names in BEYOND if quick(setup, LinuxFill(setup, events, names), True).kind == "lawful"), "")
 
 
-def explain(scenario, recorded, uring=None, is_linux=False):
-    """The verdict on what was recorded."""
-    setup, events = Setup(scenario), events_of(scenario, recorded)
-    found = by_the_rules(uring, setup, events, is_linux)
-    told = told_of(setup, events) if is_linux and found.kind == "unexplained" else ""
+def agreed(found, proved, told):
+    """The verdict of the quick search and the proved one, and of what the kernel does beyond the rules. What no history explains is told by the quick search, which comes furthest by completions; where one gives up, the other decides, but for what differs as told."""
+    if proved.kind == "gave up":
+        return Verdict("gave up", why=f"{proved.why}; by the quick search {told}") if told else found
+    if found.kind not in ("gave up", proved.kind):
+        return Verdict("differ", proved.trace, f"{proved.kind} by the proved search, {found.kind} by the quick one")
+    if proved.kind == "lawful" or found.kind == "gave up" and not told:
+        return proved
     return Verdict("told", why=told) if told else found
+
+
+def explain(scenario, recorded, uring=None, is_linux=False):
+    """The verdict on what was recorded, by the rules of the profile or of Linux: that of both searches, if these are the words that run the proved program, and else that of the quick one."""
+    setup, events = Setup(scenario), events_of(scenario, recorded)
+    found = quick(setup, (LinuxFill if is_linux else Fill)(setup, events), is_linux)
+    proved = filled(uring, setup, events, is_linux) if uring else found
+    told = told_of(setup, events) if is_linux and "unexplained" in (found.kind, proved.kind) else ""
+    return agreed(found, proved, told)
 
 
 def judged(uring, trace):
