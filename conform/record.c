@@ -3,6 +3,7 @@
  * The scenario comes on standard input, a line each:
  *
  *   an item of the play language     stages it: nop, fsync, read, write, cancel, cancelall, op (of a code from 100 on), bad
+ *   fault KIND OPERATION UD FLAGS    stages an operation with a fault: flag (the highest bit), priority, operation (its flag 2^31) or byte (42)
  *   hold UD FLAGS                    stages a read of an empty pipe, so that it waits until it is released
  *   (an empty line)                  a call that submits what is staged
  *   call N                           a call that submits N of it
@@ -266,9 +267,48 @@ static void stage(struct io_uring_sqe *entry, unsigned word)
     ring.staged++;
 }
 
+/* The operation of this name that is served, or -1. */
+static int operation_of(const char *name)
+{
+    static const struct { const char *name; int code; } served[] = { { "nop", IORING_OP_NOP }, { "fsync", IORING_OP_FSYNC }, { "cancel", IORING_OP_ASYNC_CANCEL } };
+    for (unsigned at = 0; at < sizeof served / sizeof *served; at++)
+        if (!strcmp(served[at].name, name))
+            return served[at].code;
+    return -1;
+}
+
+/* Gives an entry a fault of this kind. Returns whether there is such a kind. */
+static bool spoil(struct io_uring_sqe *entry, const char *kind)
+{
+    if (!strcmp(kind, "flag"))
+        entry->flags |= 128;
+    else if (!strcmp(kind, "priority"))
+        entry->ioprio = 1;
+    else if (!strcmp(kind, "operation"))
+        entry->rw_flags = (__kernel_rwf_t)(1u << 31);
+    else if (!strcmp(kind, "byte"))
+        ((unsigned char *)entry)[42] = 1;
+    else
+        return false;
+    return true;
+}
+
+/* Stages an operation with a fault, or says that these words are none. */
+static bool faulty_item(char **words)
+{
+    int operation = operation_of(words[2]);
+    struct io_uring_sqe it = { .opcode = (unsigned char)operation, .user_data = strtoull(words[3], NULL, 10), .flags = flags_of(words[4]) };
+    if (operation < 0 || !spoil(&it, words[1]))
+        return false;
+    stage(&it, 0);
+    return true;
+}
+
 /* Stages the item that these words are, or says that they are none. */
 static bool item(int count, char **words)
 {
+    if (count == 5 && !strcmp(words[0], "fault"))
+        return faulty_item(words);
     if (count == 2 && !strcmp(words[0], "bad"))
         return stage(NULL, (unsigned)strtoul(words[1], NULL, 10)), true;
     if (count < 3)

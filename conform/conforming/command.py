@@ -37,7 +37,7 @@ def program():
 
 
 class Outcome:
-    """What became of one run of a scenario: the kind, why, what was seen, the trace that explains it or comes furthest, and the place of the first completion that no history reaches."""
+    """What became of one run of a scenario: the kind, why (of one that differs as told the name of the difference), what was seen, the trace that explains it or comes furthest, and the place of the first completion that no history reaches."""
 
     def __init__(self, scenario, kind, why="", seen="", trace="", first=None):
         self.scenario, self.kind, self.why, self.seen, self.trace, self.first = scenario, kind, why, seen, trace, first
@@ -74,7 +74,7 @@ class Report:
     def tell(self, outcome):
         self.counts[outcome.kind] += 1
         if outcome.kind == DIFFERS:
-            self.rules[outcome.scenario.differs] += 1
+            self.rules[outcome.why] += 1
         if outcome.is_bad():
             self.bad.append(outcome)
         elif self.words.page or self.words.json:
@@ -119,16 +119,19 @@ def outcome_of(scenario, checker, is_linux=False):
         return Outcome(scenario, GAVE_UP, found.why, seen)
     if found.kind == "differ":
         return Outcome(scenario, APART, found.why, seen, found.trace)
+    foreseen = "" if is_linux else scenario.differs
+    if found.kind == "told" or found.kind == "unexplained" and foreseen:
+        return Outcome(scenario, DIFFERS, foreseen or found.why, seen, found.trace, found.first)
     if found.kind == "unexplained":
-        return Outcome(scenario, DIFFERS if scenario.differs and not is_linux else UNEXPLAINED, found.why, seen, found.trace, found.first)
+        return Outcome(scenario, UNEXPLAINED, found.why, seen, found.trace, found.first)
     wrong = judged(checker, found.trace) if checker else ""
     if wrong:
         return Outcome(scenario, REFUSED, wrong.strip(), seen, found.trace)
-    return Outcome(scenario, UNFORESEEN if scenario.differs and not is_linux else AS_FORESEEN, "", seen, found.trace)
+    return Outcome(scenario, UNFORESEEN if foreseen else AS_FORESEEN, "", seen, found.trace)
 
 
 def run_all(them, words, report):
-    checker = None if words.no_check or words.linux else program()
+    checker = None if words.no_check else program()
     for at, scenario in enumerate(them, 1):
         for _ in range(words.repeat):
             try:
@@ -141,7 +144,7 @@ def run_all(them, words, report):
 def is_unexplained(text, is_linux):
     """Whether a scenario's run is unexplained, of three tries at least once."""
     try:
-        return any(explain(text, record(text), None if is_linux else program(), is_linux).kind == "unexplained" for _ in range(3))
+        return any(explain(text, record(text), program(), is_linux).kind == "unexplained" for _ in range(3))
     except NoTrace:
         return False
 
@@ -150,7 +153,7 @@ def shorter(outcome, is_linux):
     """An unexplained outcome of as short a scenario as is unexplained too. The same one, if it isn't again, which is said."""
     short = Scenario(outcome.scenario.name, shortened(outcome.scenario.text, lambda text: is_unexplained(text, is_linux)))
     for _ in range(MOST_TRIES):
-        found = outcome_of(short, None if is_linux else program(), is_linux)
+        found = outcome_of(short, program(), is_linux)
         if found.kind == UNEXPLAINED:
             return found
     outcome.why += f" (and it wasn't seen again in {MOST_TRIES} runs)"
@@ -205,16 +208,14 @@ def conform(words):
     try:
         features()
         if words.planted:
-            return planted.find(report, scenarios(), None if words.no_check or words.linux else program(), words.linux)
+            return planted.find(report, scenarios(), None if words.no_check else program(), words.linux)
         if words.litmus:
             return litmus.run(words, report, program())
         them = chosen(words)
         if not them:
             print(f"conform: no scenario has {words.scenario} in its name", file=sys.stderr)
             return 2
-        if words.linux:
-            print("conform: by Linux's own rules what is explained is so by the quick search alone", file=sys.stderr)
-        elif not program() and not words.no_check:
+        if not program() and not words.no_check:
             print("conform: the proved program isn't built, so all is judged by the quick search alone: ./uring prove", file=sys.stderr)
         run_all(them, words, report)
         return report.end()

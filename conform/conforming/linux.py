@@ -1,22 +1,30 @@
-"""A ring as Linux 6.18 keeps it, for `--linux`: the rules in which it differs from the profile, and a search by them. Nothing here is proved, and no proved checker knows these rules: what the search explains is as good as it.
+"""Requests as Linux keeps them, for `--linux`, and what the kernel does beyond its rules. Nothing here is proved; conforming/linux_fill.py searches by it, beside the proved search of `uring fill --linux`.
 
 The rules, each as docs/PROTOCOL.md tells it:
 
 - A call takes entries until it has as many as it was asked for, up to a word that names no slot, or up to a faulty entry without a link flag in a ring that stops. Groups are accepted one by one, each behind its last member; requests go on between them.
 - A group with a fault ends at once, from its first member on, and nobody waits for it.
-- A ring drains from the first entry on that asks for it, and until a group is accepted that doesn't, while nothing else is outstanding but what is deferred. Each group accepted meanwhile is deferred, in order. The first of those deferred goes on once all that isn't deferred has ended, and with it those behind it up to the next that drains.
-- A group drains if its first member does, or a later one that has no fault; then the next group drains too.
-- A drain fails with -95 once an entry has asked for skipped success.
-- A cancel finds what has started and hasn't ended, chosen or not. It ends with 0, and what it chose ends with -125 or -4; or with -114, and that goes on, if a worker has it. One that no worker carries out chooses before its call takes more. One that a worker carries out may find itself.
-- A cancel of all counts those that wait for a pipe, and of what workers have any number.
+- A drain and a skip count on an entry whose operation and flags are known, whatever else is wrong with it. Such an entry is let in, if it is no drain that is refused.
+- A ring drains from the first entry on that asks for it, and until a group without a fault is accepted that doesn't, while nothing else is outstanding but what is deferred. Each group accepted meanwhile is deferred, in order. The first of those deferred goes on once all that isn't deferred has ended, and with it those behind it up to the next that drains.
+- A group drains if a member does; if that isn't its first one, a drain is owed to the next group whose first entry is let in.
+- A drain fails with -95 once an entry has asked for skipped success, whatever else is wrong with it.
+- A cancel finds what has started and hasn't ended, and ends with -114, or else with -2. One of all ends with 0. Nobody is cancelled.
 - Who is cancelled behind a failure posts nothing if the member that failed has the skip flag, and else posts, whatever its own flags. Of a group with a fault the first member is the one that failed.
+
+Beyond them, the kernel's cancels do what BEYOND names:
+
+- A cancel finds what has started and hasn't ended, chosen or not. It ends with 0, and what it chose ends with -125 or -4; or with -114, and that goes on, if a worker has it. One that no worker carries out chooses before its call takes more.
+- A cancel of all counts those that wait for a pipe, and of what workers have any number.
+- A cancel that a worker carries out may find itself.
 """
 
-from conforming.fill import MOST_STATES, Fill, GaveUp, Ring
 from conforming.requests import ALREADY, CANCELED, INVALID, NO_ENTRY, RUNS, WAITS
-from conforming.seen import Call
 
 UNSUPPORTED, INTERRUPTED = -95, -4
+
+# What cancels of the kernel do beyond the rules, by the names of conforming/differences.py: each row beside those before it.
+TAKES_BACK, FINDS_ITSELF = "a cancel takes back", "a cancel finds itself"
+BEYOND = [(TAKES_BACK,), (TAKES_BACK, FINDS_ITSELF)]
 
 
 class CarriedOut(tuple):
@@ -49,12 +57,12 @@ class Group:
 class LinuxRequests:
     """The requests that were accepted. A value: each change gives a new one.
 
-    `standing` has for each request WAITS, RUNS or its result; `deferred` the groups that a drain defers, in order; `chosen` whom a cancel chose, and `doomed` those of them that it certainly ends.
+    `standing` has for each request WAITS, RUNS or its result; `deferred` the groups that a drain defers, in order; `chosen` whom a cancel chose, and `doomed` those of them that it certainly ends. `beyond` says what cancels do beyond the rules.
     """
 
-    def __init__(self, entries=(), groups=(), standing=(), chosen=frozenset(), doomed=frozenset(), deferred=(), rules=Rules()):
+    def __init__(self, entries=(), groups=(), standing=(), chosen=frozenset(), doomed=frozenset(), deferred=(), rules=Rules(), beyond=()):
         self.entries, self.groups, self.standing, self.deferred, self.rules = entries, groups, standing, deferred, rules
-        self.chosen, self.doomed = chosen, doomed
+        self.chosen, self.doomed, self.beyond = chosen, doomed, beyond
 
     def key(self):
         return self.standing, self.chosen, self.doomed, self.deferred, self.rules.key()
@@ -80,13 +88,13 @@ class LinuxRequests:
 
     # accepting
 
-    def accepted(self, group, rules, is_cut=False):
-        """Behind the acceptance of a group: its entries with their faults, and whether it drains."""
-        entries, faults, drains = group
-        at, is_workers = len(self.groups), is_cut or rules.drains
+    def accepted(self, entries):
+        """Behind the acceptance of a group of these entries."""
+        taken, rules = all_taken(entries, self.rules)
+        drains, at, is_workers = taken.drains, len(self.groups), rules.drains or entries[-1].is_linked()
         behind = self.changed(
-            entries=self.entries + tuple(entries),
-            groups=self.groups + (Group(len(self.entries), tuple(faults), drains, is_workers),),
+            entries=self.entries + taken.entries,
+            groups=self.groups + (Group(len(self.entries), taken.faults, drains, is_workers),),
             standing=self.standing + (WAITS,) * len(entries),
             rules=rules,
         )
@@ -149,12 +157,15 @@ class LinuxRequests:
             return not self.entries[breaker].is_skipping()
         return not (self.entries[number].is_skipping() and self.entries[number].is_success(result))
 
-    def has_cancel_to_carry_out(self):
-        """Whether a cancel is still to choose that no worker carries out: it does so before its call takes more."""
-        return any(entry.is_cancel and self.may_start(number) and self.doom_of(number) is None and not self.is_workers(number) for number, entry in enumerate(self.entries))
+    def takes_back(self):
+        return TAKES_BACK in self.beyond
 
-    def names_itself(self, number):
-        return self.entries[number].target == self.entries[number].user_data
+    def has_cancel_to_carry_out(self):
+        """Whether a cancel is still to choose that no worker carries out: the kernel's does so before its call takes more."""
+        return self.takes_back() and any(entry.is_cancel and self.may_start(number) and self.doom_of(number) is None and not self.is_workers(number) for number, entry in enumerate(self.entries))
+
+    def finds_itself(self, number):
+        return FINDS_ITSELF in self.beyond and self.is_workers(number) and self.entries[number].target == self.entries[number].user_data
 
     def found(self, number):
         """Whom a cancel may choose."""
@@ -171,8 +182,16 @@ class LinuxRequests:
         return self.entries[number].is_hold and not self.is_workers(number)
 
     def cancels(self, number):
-        """What a cancel may end with, each with how the requests stand then. One that was chosen before may be found again, or not; of those that workers have any number may be counted; and a cancel that a worker carries out may find itself."""
-        found, finds_itself = self.found(number), self.is_workers(number) and self.names_itself(number)
+        """What a cancel may end with, each with how the requests stand then."""
+        if self.takes_back():
+            yield from self.cancels_beyond(number)
+            return
+        result = 0 if self.entries[number].name == "cancelall" else ALREADY if self.found(number) else NO_ENTRY
+        yield result, self.ended(number, result)
+
+    def cancels_beyond(self, number):
+        """The same of the kernel's. One that was chosen before may be found again, or not; of those that workers have any number may be counted; and a cancel that a worker carries out may find itself."""
+        found, finds_itself = self.found(number), self.finds_itself(number)
         certain = [it for it in found if it not in self.chosen]
         if self.entries[number].name == "cancelall":
             polled = sum(self.is_polled(it) for it in certain)
@@ -206,140 +225,45 @@ class LinuxRequests:
                 yield result, self.ended(number, result)
 
 
-class Taking:
-    """What a call has taken of its items: where it is, the group that it is amid, and the rules as they stand for the next entry. A value."""
+class Taken:
+    """The entries of a group that a call has taken, with their faults, and whether it drains so far. A value."""
 
-    def __init__(self, at=0, group=((), (), False)):
-        self.at, self.group = at, group
-
-    def key(self):
-        return self.at, len(self.group[0])
+    def __init__(self, entries=(), faults=(), drains=False):
+        self.entries, self.faults, self.drains = entries, faults, drains
 
 
-def taken(taking, rules, entry):
+def taken(group, rules, entry):
     """Behind one entry that a call takes: the group that it is amid, the rules, and whether its fault stops a ring that stops."""
-    entries, faults, drains = taking.group
-    fault = INVALID if entry.is_faulty else None
-    if fault is None:
-        skips = rules.skips or entry.is_skipping()
-        is_drain = "D" in entry.flags and not skips
-        if "D" in entry.flags and skips:
-            fault = UNSUPPORTED
-        rules = Rules(rules.drains or is_drain, rules.next_drains or is_drain and bool(entries), skips)
-        drains = drains or is_drain
-        if fault is None and rules.next_drains and not entries:
-            rules, drains = Rules(True, False, rules.skips), True
-    return Taking(taking.at + 1, (entries + (entry,), faults + (fault,), drains)), rules, fault is not None and not entry.is_linked()
+    skips = rules.skips or entry.is_skipping() and not entry.is_refused
+    asks_to_drain = "D" in entry.flags and not entry.is_refused
+    fault = UNSUPPORTED if asks_to_drain and skips else INVALID if entry.is_faulty else None
+    is_let_in, is_drain = not entry.is_refused and fault != UNSUPPORTED, asks_to_drain and not skips
+    takes_owed = rules.next_drains and not group.entries and is_let_in
+    drains = is_drain or takes_owed
+    is_owed = rules.next_drains or is_drain if group.entries else rules.next_drains and not is_let_in
+    rules = Rules(rules.drains or drains, is_owed, skips)
+    return Taken(group.entries + (entry,), group.faults + (fault,), group.drains or drains), rules, fault is not None and not entry.is_linked()
 
 
-class LinuxFill(Fill):
-    """The search of `Fill`, by the rules of Linux. The steps that it gives are words of its own: no checker takes them."""
+def all_taken(entries, rules):
+    """Behind all entries of a group."""
+    group = Taken()
+    for entry in entries:
+        group, rules, _ = taken(group, rules, entry)
+    return group, rules
 
-    def trace(self):
-        steps = self.search((0, None), 0, LinuxRequests(), Ring(self.size), 0, None)
-        return steps if steps is None else [line for part in steps for line in part]
 
-    def search(self, at, posted, requests, ring, dropped, path):
-        event, taking = at
-        key = event, taking and taking.key(), posted, requests.key(), ring.key()
-        if key in self.been:
-            return None
-        self.been.add(key)
-        if len(self.been) > MOST_STATES:
-            raise GaveUp
-        if (posted, event) > self.furthest:
-            self.furthest, self.reached = (posted, event), path
-        if event == len(self.events):
-            is_over = not any(requests.is_outstanding(it) for it in range(len(requests.entries)))
-            if is_over and posted == len(self.completions):
-                return [[]]
-            return None if is_over else self.hidden(at, posted, requests, ring, dropped, path)
-        for steps, now, behind, moved, lost in self.goings_on(at, requests, ring, dropped):
-            found = self.search(now, posted, behind, moved, lost, (path, steps))
-            if found is not None:
-                return [steps, *found]
-        return self.hidden(at, posted, requests, ring, dropped, path)
-
-    def goings_on(self, at, requests, ring, dropped):
-        """The next part of an event: of a call one item, or its end."""
-        event, taking = at
-        it = self.events[event]
-        if not isinstance(it, Call):
-            gone = self.passed(it, requests, ring, dropped)
-            if gone:
-                steps, behind, now, lost = gone
-                yield steps, (event + 1, None), behind, now, lost
-            return
-        taking = taking or Taking()
-        if taking.at < len(it.items):
-            yield from self.takes(event, it, taking, requests, ring, dropped)
-        elif it.returned == len(it.entries()) or not it.items:
-            behind = self.cut(taking, requests)
-            yield [f"call {it.returned}, head {it.head}"], (event + 1, None), behind, ring, it.dropped
-
-    @staticmethod
-    def cut(taking, requests):
-        """The group that a call is amid at its end is accepted."""
-        return requests.accepted(taking.group, requests.rules, True) if taking.group[0] else requests
-
-    def takes(self, event, call, taking, requests, ring, dropped):
-        item, is_last = call.items[taking.at], taking.at + 1 == len(call.items)
+def groups_of(call, rules, is_stop):
+    """The positions that a call is to consume of those that it was asked for, cut behind each group, and the rules behind it."""
+    groups, group = [[]], Taken()
+    for item in call.offered:
+        groups[-1].append(item)
         if isinstance(item, int):
-            if is_last:
-                yield [f"bad word {item}"], (event, Taking(taking.at + 1, taking.group)), requests, ring, dropped
-            return
-        if requests.has_cancel_to_carry_out():
-            return
-        now, rules, stops = taken(taking, requests.rules, item)
-        if stops and self.is_stop and not is_last or is_last and not self.may_end(call, item, stops):
-            return
-        behind = requests.changed(rules=rules)
+            break
+        group, rules, stops = taken(group, rules, item)
+        if stops and is_stop:
+            break
         if not item.is_linked():
-            behind, now = behind.accepted(now.group, rules), Taking(now.at)
-        yield [f"take {item.text}"], (event, now), behind, ring, dropped
-
-    def may_end(self, call, item, stops):
-        """Whether a call may end behind its last item: it was asked for no more, or stopped there."""
-        return len(call.items) >= call.asked or stops and self.is_stop
-
-    def may_post(self, at, ring):
-        return super().may_post(at[0], ring)
-
-    def hidden(self, at, posted, requests, ring, dropped, path):
-        for steps, more, behind, now in self.moves(at, posted, requests, ring):
-            found = self.search(at, posted + more, behind, now, dropped, (path, steps))
-            if found is not None:
-                return [steps, *found]
-        return None
-
-    def moves(self, at, posted, requests, ring):
-        if posted < len(self.completions) and self.may_post(at, ring):
-            user_data, result = self.completions[posted]
-            for number, entry in enumerate(requests.entries):
-                if entry.user_data == user_data and requests.is_outstanding(number):
-                    yield from self.ends(requests, number, result, ring)
-        for number, entry in enumerate(requests.entries):
-            if requests.is_outstanding(number):
-                yield from self.silent_ends(requests, number, ring)
-        for number, entry in enumerate(requests.entries):
-            if not requests.may_start(number) or requests.doom_of(number) is not None:
-                continue
-            if entry.user_data in self.named:
-                yield [f"{number} runs"], 0, requests.stands(number, RUNS), ring
-            if entry.is_cancel and (requests.found(number) or not requests.is_workers(number)):
-                for result, behind in requests.cancels(number):
-                    yield [f"{number} cancels"], 0, behind.stands(number, CarriedOut((result,))), ring
-
-    def ends(self, requests, number, result, ring):
-        entry = requests.entries[number]
-        for given, behind in requests.ends_of(number):
-            if not (given == result or given is None and entry.may_end_with(result)) or not requests.posts(number, result):
-                continue
-            before, now = ring.posted()
-            yield [*before, f"{number} ends with {result}"], 1, behind.ended(number, result) if given is None else behind, now
-
-    def silent_ends(self, requests, number, ring):
-        for given, behind in requests.ends_of(number):
-            result = requests.entries[number].length if given is None else given
-            if not requests.posts(number, result):
-                yield [f"{number} ends with {result} in silence"], 0, behind.ended(number, result) if given is None else behind, ring
+            groups.append([])
+            group = Taken()
+    return [it for it in groups if it], rules

@@ -5,6 +5,8 @@ Of the first, what is known to differ is left out, and told by the scenarios tha
 
 import random
 
+from conforming.requests import FAULTS, OPERATIONS
+
 
 class Maker:
     def __init__(self, seed):
@@ -101,6 +103,17 @@ class FreeMaker:
         self.sq = self.rng.choice([2, 4, 4, 8])
         self.flags = [it for it in "DSLHA" if self.rng.random() < 0.6]
         self.has_faults, self.has_bad_words, self.has_cancels = (self.rng.random() < 0.5 for _ in range(3))
+        # (how often an entry drains, skips or has a fault)
+        self.share = 0.2
+        self.kinds = ["nop", "nop", "write", "read", "fsync", "hold"]
+        if self.rng.random() < 0.3:
+            self.look_at_faults()
+
+    def look_at_faults(self):
+        """Makes many entries with a fault among drains, skips, links and holds, and few others."""
+        self.flags = ["D", "L"] + [it for it in "SHA" if self.rng.random() < 0.3]
+        self.has_faults, self.has_cancels, self.share = True, False, 0.4
+        self.kinds = ["nop", "nop", "hold"]
 
     def name(self):
         """A user data: mostly a new one, at times that of a hold before."""
@@ -114,13 +127,13 @@ class FreeMaker:
         if self.has_bad_words and rng.random() < 0.1:
             return f"bad {rng.choice([self.sq, 4096, 4294967295])}"
         user_data = self.name()
-        flags = "".join(it for it in self.flags if rng.random() < {"L": 0.35, "H": 0.15}.get(it, 0.2)) or "-"
-        if self.has_faults and rng.random() < 0.2:
-            return f"op {rng.choice([200, 255])} {user_data} {flags}"
+        flags = "".join(it for it in self.flags if rng.random() < {"L": 0.35, "H": 0.15, "A": 0.2}.get(it, self.share)) or "-"
+        if self.has_faults and rng.random() < self.share:
+            return f"{self.fault()} {user_data} {flags}"
         if self.has_cancels and rng.random() < 0.3:
             named = rng.choice(self.held + [user_data - 1, user_data + 1, 999])
             return f"{rng.choice(['cancel', 'cancelall'])} {user_data} {flags} {max(named, 0)}"
-        kind = rng.choice(["nop", "nop", "write", "read", "fsync", "hold"])
+        kind = rng.choice(self.kinds)
         if kind == "hold":
             self.held.append(user_data)
             return f"hold {user_data} {flags}"
@@ -130,6 +143,11 @@ class FreeMaker:
         if kind == "read":
             return f"read {user_data} {flags} {file} {rng.randrange(8)} {rng.randrange(5)}"
         return f"fsync {user_data} {flags} {file}" if kind == "fsync" else f"nop {user_data} {flags}"
+
+    def fault(self):
+        """What an entry with a fault begins with: an operation that nobody serves, or a fault of one that is served."""
+        rng = self.rng
+        return f"op {rng.choice([200, 255])}" if rng.random() < 0.3 else f"fault {rng.choice([*FAULTS])} {rng.choice([*OPERATIONS])}"
 
     def scenario(self):
         rng = self.rng

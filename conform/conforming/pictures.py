@@ -32,6 +32,10 @@ def data_of(uring, outcomes, kernel="a kernel"):
     return {"form": 2, "title": f"What {kernel} did", "told": "each scenario as it was seen, beside a history that the rules allow", "runs": runs}
 
 
+def faulty_fields(kind, operation):
+    return {"operation": operation, "told": f"{operation}, with a fault: {kind}"}
+
+
 class Seen:
     """What the recorder wrote, as the data of a run: a request is hidden from the call that took it until its completion is seen."""
 
@@ -71,7 +75,7 @@ class Seen:
         groups = Requests().accepted([it for _, it in entries]).groups
         chains = {first + number: first + group[0] for group in groups for number in group}
         for number, (text, entry) in enumerate(entries, first):
-            fields = {"operation": "hold", "told": HOLD} if entry.is_hold else fields_of(text.split())
+            fields = {"operation": "hold", "told": HOLD} if entry.is_hold else faulty_fields(*text.split()[1:3]) if entry.name == "fault" else fields_of(text.split())
             self.requests.append({"request": number, "user_data": str(entry.user_data), **fields, "flags": entry.flags, "call": self.calls, "chain": chains[number]})
             self.waiting.setdefault(entry.user_data, []).append(number)
         self.calls += 1

@@ -139,7 +139,7 @@ def find(report, scenarios, uring, is_linux):
     for name, scenario, change in mistakes:
         seen = record(texts[scenario])
         wrong = changed(seen, change)
-        found = wrong is not None and explain(texts[scenario], seen, uring, is_linux).kind == "lawful" and explain(texts[scenario], wrong, uring, is_linux).kind == "unexplained"
+        found = wrong is not None and explain(texts[scenario], seen, uring, is_linux).kind in ("lawful", "told") and explain(texts[scenario], wrong, uring, is_linux).kind == "unexplained"
         missed += not found
         report.say(f"{'found' if found else 'NOT FOUND'}: {name} ({scenario})")
     report.say(f"{len(mistakes) - missed} of {len(mistakes)} mistakes were found")

@@ -2,6 +2,10 @@
 
 CANCELED, NO_ENTRY, ALREADY, INVALID = -125, -2, -114, -22
 LEAST_ERROR = -4095
+OPERATIONS = {"nop": 0, "fsync": 3, "cancel": 14}
+FLAGS = {"D": 2, "L": 4, "H": 8, "A": 16, "S": 64}
+# Of each kind of fault, the byte of the entry that has it, and what stands there. The kernel refuses each of these with -22 too, and takes a length above 64.
+FAULTS = {"flag": (1, 128), "priority": (2, 1), "operation": (31, 128), "byte": (42, 1)}
 WAITS, RUNS = "waits", "runs"
 
 
@@ -10,15 +14,25 @@ class Entry:
 
     def __init__(self, words):
         self.name = words[0]
-        is_op = self.name == "op"
-        self.user_data = int(words[2 if is_op else 1])
-        self.flags = words[3 if is_op else 2].replace("-", "")
-        self.is_faulty = is_op
+        name_at = {"op": 2, "fault": 3}.get(self.name, 1)
+        self.user_data = int(words[name_at])
+        self.flags = words[name_at + 1].replace("-", "")
+        self.is_faulty = self.name in ("op", "fault")
+        # (the kernel looks at these two first, and if it refuses one, at no flag)
+        self.is_refused = self.name == "op" or words[:2] == ["fault", "flag"]
         self.is_hold = self.name == "hold"
         self.is_cancel = self.name in ("cancel", "cancelall")
         self.target = int(words[3]) if self.is_cancel else None
-        self.text = f"read {words[1]} {words[2]} 0 0 1" if self.is_hold else " ".join(words)
+        self.text = f"read {words[1]} {words[2]} 0 0 1" if self.is_hold else self.raw(words) if self.name == "fault" else " ".join(words)
         self.length = 1 if self.is_hold else int(words[5]) if self.name == "read" else len(words[5].replace("-", "")) // 2 if self.name == "write" else 0
+
+    def raw(self, words):
+        """An entry with a fault, as its bytes."""
+        entry = bytearray(128)
+        entry[0], entry[1], entry[32:40] = OPERATIONS[words[2]], sum(FLAGS[it] for it in self.flags), self.user_data.to_bytes(8, "little")
+        at, fault = FAULTS[words[1]]
+        entry[at] |= fault
+        return f"raw {entry.hex()}"
 
     def is_skipping(self):
         return "S" in self.flags

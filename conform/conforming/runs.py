@@ -1,18 +1,19 @@
-"""Runs a scenario on this machine's ring, and judges what was seen: by the quick search of fill.py, and where the proved program is built by `uring fill`."""
+"""Runs a scenario on this machine's ring, and judges what was seen: where the proved program is built by `uring fill`, and by a quick search, that of fill.py or by Linux's rules that of linux.py."""
 
 import os
 import subprocess
 
 from conforming import gaps
 from conforming.fill import Fill, GaveUp
-from conforming.linux import LinuxFill
+from conforming.linux import BEYOND
+from conforming.linux_fill import LinuxFill
 from conforming.seen import Look, events_of
 from conforming.setup import Setup
 
 TOP = os.path.dirname(os.path.dirname(os.path.dirname(os.path.abspath(__file__))))
 RECORDER = f"{TOP}/conform/out/record"
 NO_RING = 77
-MOST_HISTORIES = 200_000
+MOST_HISTORIES = 500_000
 KINDS = {0: "lawful", 1: "unexplained", 3: "gave up"}
 
 
@@ -46,16 +47,15 @@ def features():
 
 
 class Verdict:
-    """What became of a run: `lawful` with a trace, `unexplained` with the trace that comes furthest and the first completion that no history reaches (its place, or None if it is none of them), `gave up`, or `differ` if the two searches don't agree."""
+    """What became of a run: `lawful` with a trace, `unexplained` with the trace that comes furthest and the first completion that no history reaches (its place, or None if it is none of them), `told` with the name of what the kernel does beyond Linux's rules, `gave up`, or `differ` if the two searches don't agree."""
 
     def __init__(self, kind, trace="", why="", first=None):
         self.kind, self.trace, self.why, self.first = kind, trace, why, first
 
 
-def quick(setup, events, is_linux):
-    """The verdict of the quick search, which isn't proved: by the rules of the profile, or by those of Linux."""
-    fill = (LinuxFill if is_linux else Fill)(setup, events)
-    head = setup.line() + "\n"
+def quick(setup, fill, is_linux):
+    """The verdict of a quick search, which isn't proved."""
+    head = setup.line(is_linux) + "\n"
     try:
         steps = fill.trace()
     except GaveUp:
@@ -66,27 +66,38 @@ def quick(setup, events, is_linux):
     return Verdict("lawful", head + "\n".join(steps) + "\n")
 
 
-def filled(uring, setup, events):
+def filled(uring, setup, events, is_linux):
     """The verdict of the proved search."""
-    ran = subprocess.run([*uring, "fill", "--most", str(MOST_HISTORIES)], input=gaps.text_of(setup, events), capture_output=True, text=True)
+    ran = subprocess.run([*uring, "fill", "--most", str(MOST_HISTORIES)], input=gaps.text_of(setup, events, is_linux), capture_output=True, text=True)
     if ran.returncode not in KINDS or ran.stderr:
         raise NoTrace(ran.stderr.strip() or f"uring fill ended with status {ran.returncode}")
     kind = KINDS[ran.returncode]
     return Verdict(kind, ran.stdout, "" if kind == "lawful" else ran.stdout.splitlines()[-1].removeprefix("# "))
 
 
-def explain(scenario, recorded, uring=None, is_linux=False):
-    """The verdict on what was recorded: that of the proved program, if these are the words that run one. What no history explains is told by the quick search, which comes furthest by completions. Linux's own rules are the quick search's alone."""
-    setup, events = Setup(scenario), events_of(scenario, recorded)
-    found = quick(setup, events, is_linux)
-    if uring is None:
-        return found
-    proved = filled(uring, setup, events)
-    if "gave up" in (found.kind, proved.kind):
-        return found if found.kind == "lawful" else proved
-    if found.kind != proved.kind:
+def told_of(setup, events):
+    """The name of what cancels of the kernel do beyond Linux's rules, if the quick search finds a history with it, and else nothing. It differs from the search by the rules in nothing else."""
+    return next((names[-1] for names in BEYOND if quick(setup, LinuxFill(setup, events, names), True).kind == "lawful"), "")
+
+
+def agreed(found, proved, told):
+    """The verdict of the quick search and the proved one, and of what the kernel does beyond the rules. What no history explains is told by the quick search, which comes furthest by completions; where one gives up, the other decides, but for what differs as told."""
+    if proved.kind == "gave up":
+        return Verdict("gave up", why=f"{proved.why}; by the quick search {told}") if told else found
+    if found.kind not in ("gave up", proved.kind):
         return Verdict("differ", proved.trace, f"{proved.kind} by the proved search, {found.kind} by the quick one")
-    return proved if proved.kind == "lawful" else found
+    if proved.kind == "lawful" or found.kind == "gave up" and not told:
+        return proved
+    return Verdict("told", why=told) if told else found
+
+
+def explain(scenario, recorded, uring=None, is_linux=False):
+    """The verdict on what was recorded, by the rules of the profile or of Linux: that of both searches, if these are the words that run the proved program, and else that of the quick one."""
+    setup, events = Setup(scenario), events_of(scenario, recorded)
+    found = quick(setup, (LinuxFill if is_linux else Fill)(setup, events), is_linux)
+    proved = filled(uring, setup, events, is_linux) if uring else found
+    told = told_of(setup, events) if is_linux and "unexplained" in (found.kind, proved.kind) else ""
+    return agreed(found, proved, told)
 
 
 def judged(uring, trace):

@@ -4,10 +4,10 @@ from conforming.requests import Entry
 
 
 class Call:
-    """A call that was asked for so many positions and consumed these items: entries, or words that name no slot."""
+    """A call that was asked for these items, entries or words that name no slot, and that consumed those."""
 
-    def __init__(self, items, asked, returned, head, dropped):
-        self.items, self.asked, self.returned, self.head, self.dropped = items, asked, returned, head, dropped
+    def __init__(self, offered, items, returned, head, dropped):
+        self.offered, self.items, self.returned, self.head, self.dropped = offered, items, returned, head, dropped
 
     def entries(self):
         return [it for it in self.items if isinstance(it, Entry)]
@@ -39,7 +39,7 @@ class Staged:
 
 
 def is_item(words):
-    return words[0] in ("nop", "fsync", "read", "write", "cancel", "cancelall", "op", "hold", "bad")
+    return words[0] in ("nop", "fsync", "read", "write", "cancel", "cancelall", "op", "fault", "hold", "bad")
 
 
 def item_of(words):
@@ -78,7 +78,8 @@ def events_of(scenario, recorded):
                 taken += 1
             asked, returned, now, dropped = map(int, words[1:])
             if now != head or returned >= 0:
-                events.append(Call([it for _, it in staged[head:now]], min(asked, taken - head), returned, now, dropped))
+                offered, items = ([it for _, it in staged[head:end]] for end in (min(head + asked, taken), now))
+                events.append(Call(offered, items, returned, now, dropped))
             head = now
         elif words[0] == "tail":
             events.append(Look(int(words[1])))

@@ -15,6 +15,6 @@ class Setup:
         self.cq = power(int(value["--cq"])) if "--cq" in value else 2 * self.sq
         self.files = int(value.get("--files", 2))
 
-    def line(self):
+    def line(self, is_linux=False):
         """The first line of a recorded trace."""
-        return f"# setup --sq {self.sq} --cq {self.cq} --files {self.files} --start 0" + (" --stop" if self.is_stop else "")
+        return f"# setup --sq {self.sq} --cq {self.cq} --files {self.files} --start 0" + (" --stop" if self.is_stop else "") + (" --linux" if is_linux else "")

@@ -71,7 +71,7 @@ completion_by g w s a (event_refuses _ _ same i) =
 completion_by g w s a (event_takes entry call place opened left at valid) =
     subst (λ o. CompletionMove g w step.Take (answer.Entry entry) (taking_entry_of g w entry o)) (sym opened) (stays _ _ _ (requests_of w) _ (search rules) refl (same_ends w.requests))
 completion_by g w s a (event_drops call place opened left at invalid) =
-    subst (λ o. CompletionMove g w step.Take answer.Dropped (taking_of w o)) (sym opened) (stays _ _ _ (requests_of w) _ (search rules) refl (same_ends w.requests))
+    subst (λ o. CompletionMove g w step.Take answer.Dropped (taking_of g w o)) (sym opened) (stays _ _ _ (requests_of w) _ (search rules) refl (same_ends w.requests))
 completion_by g w s a (event_closes accepted missed head call opened all counted) =
     subst (λ o. CompletionMove g w step.End (answer.Taken accepted missed head) (ending_of g w o)) (sym opened) (stays _ _ _ (requests_of (ending_of g w (Some call))) _ (search rules) refl (record { more = entries_of (places_from w.submission call.count); accepted = refl; ended = refl }))
 completion_by g w s a (event_runs n outstanding idle spared ready no_cancel) = stays _ _ _ (requests_of (happens g w (step.Issue n) answer.Run)) _ (search rules) refl (record { more = []; accepted = sym (append-nil w.requests.accepted); ended = refl })

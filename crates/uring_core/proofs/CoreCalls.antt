@@ -12,6 +12,7 @@ use Rattle.uring_rings.specs.Cq.{Cq, ShowsCompletions, KeepsMemory}
 use Rattle.uring_rings.specs.declared.answers.BeginAnswer.{BeginAnswer}
 use Rattle.uring_rings.specs.declared.answers.BeginAnswer.TheVariants as begin
 use Rattle.uring_rules.specs.RulesDispatch.{Rules, ShowsRequests, IsSameCount}
+use Rattle.uring_core.specs.Stops.{some_skips}
 use Rattle.uring_core.specs.World.{World, requests_of}
 use Rattle.uring_core.specs.StepAnswers.{OrAgain, begin_answer, is_spent}
 use Rattle.uring_core.specs.Histories.{History, world}
@@ -20,6 +21,7 @@ use Rattle.uring_core.specs.Core.{Core, ShowsWorld, FitsApart, IsShortFor, held_
 use Rattle.uring_core.specs.declared.step.Step.TheVariants as step
 use Rattle.uring_core.specs.declared.answer.Answer.TheVariants as answer
 use Rattle.uring_core.proofs.Changes.{not_some}
+use Rattle.uring_core.proofs.TakenEntries.{begun_entries}
 
 -- Begin.
 
@@ -97,7 +99,8 @@ begun_shows p w s' q d count n s none length shown kept room promised same fits 
     let to_post = subst (λ k. d.outstanding + k ≤ q.room) length (omega (arith, room, same)) in
     let to_accept = subst (λ k. k ≤ d.room) length fits in
     let below = subst (λ k. d.accepted + k ≤ 2 ^ 63 - 1) length (omega (arith, same, numbers)) in
-    grind (arith, held, to_post, to_accept, below)
+    let skipped = s.skipped ∙ ap some_skips (sym (begun_entries w.submission count none)) in
+    grind (arith, held, skipped, to_post, to_accept, below)
 
 pub call_goes : (p : Core) (s' : Sq) (q : Cq) (d : Rules) (count n : ℕ) (r : BeginAnswer)
     → Opens p count n

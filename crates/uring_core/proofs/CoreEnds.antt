@@ -27,6 +27,7 @@ use Rattle.uring_rules.specs.declared.answers.Issued.{Issued}
 use Rattle.uring_rules.specs.declared.answers.Issued.TheVariants as issue
 use Rattle.uring_dispatch.specs.declared.answers.Posts.{Posts}
 use Rattle.uring_dispatch.specs.declared.answers.Posts.TheVariants as post
+use Rattle.uring_core.specs.Stops.{some_skips}
 use Rattle.uring_core.specs.World.{World, requests_of, ending_of, with_end_of}
 use Rattle.uring_core.specs.Told.{issue_told, with_told}
 use Rattle.uring_core.specs.StepAnswers.{end_answer_in, issue_answer, FinishesApart}
@@ -36,6 +37,7 @@ use Rattle.uring_core.specs.declared.step.Step.TheVariants as step
 use Rattle.uring_core.specs.declared.answer.Answer.{Answer}
 use Rattle.uring_core.specs.declared.answer.Answer.TheVariants as answer
 use Rattle.uring_core.proofs.CoreTakes.{held_within}
+use Rattle.uring_core.proofs.TakenEntries.{closed_entries}
 use Rattle.uring_core.proofs.CoreSteps.{told_if}
 
 -- End.
@@ -80,7 +82,8 @@ closed_shows p w q d call s is all accepts few shown =
     let requests = subst (λ xs. ShowsRequests d (called_by p.setup.linux (requests_of w) xs)) held by_rules in
     let rules = accepts.rules ∙ s.rules in
     let none_held : ◌≡◌ {A = List Sqe} [] [] = refl in
-    grind (arith, requests, rules, none_held)
+    let skipped = s.skipped ∙ ap some_skips (sym (closed_entries w.submission call is all)) in
+    grind (arith, requests, rules, none_held, skipped)
 
 closed_answer : (g : Setup) (w : World) (call : Call) (t : Taken)
     → ended_as.Taken t ≡ ring.end_of g w.submission (Some call)
@@ -187,6 +190,7 @@ ended_shows p w d q r n res bytes s shows same_rules accepted outstanding room b
       requests = shows;
       rules = rules;
       held = s.held;
+      skipped = s.skipped;
       closed = s.closed;
       between = in_between;
       room_to_post = to_post;
@@ -316,8 +320,8 @@ pub new_fits : (p : Core) → ShowsSubmission p.setup p.sq no_submission
     → ShowsCompletions p.setup p.cq no_completion → p.cq.room ≡ 0
     → ShowsRequests p.dispatch no_request → p.dispatch.linux ≡ p.setup.linux
     → p.dispatch.is_between_calls ≡ true
-    → p.held ≡ [] → p.is_closed ≡ false → FitsApart p []
-new_fits p submission completions none_promised requests rules between held open_ring =
+    → p.held ≡ [] → p.has_skipped ≡ false → p.is_closed ≡ false → FitsApart p []
+new_fits p submission completions none_promised requests rules between held none_skipped open_ring =
     let a : p.dispatch.accepted ≡ 0 = requests.accepted in
     let o : p.dispatch.outstanding ≡ 0 = requests.outstanding in
     record {

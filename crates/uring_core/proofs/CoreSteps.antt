@@ -1,10 +1,11 @@
 -- What a core shows after a step on one ring alone, from what that ring shows. Each such step goes on from here in its function's answers.
-use Rattle.std.proofs.Common.{◌≡◌, ◌+◌, ◌-◌, ◌^◌, ◌≤◌, Bool, true, false, cond, ◌∷◌, length, refl, sym, subst, ◌∙◌}
+use Rattle.std.proofs.Common.{◌≡◌, ◌+◌, ◌-◌, ◌^◌, ◌≤◌, Bool, true, false, cond, ◌∷◌, length, refl, sym, ap, subst, ◌∙◌}
 use Rattle.uring_entry.specs.Setup.{Setup, IsWithinLimits}
 use Rattle.uring_entry.specs.Submission.{Submission}
 use Rattle.uring_entry.specs.Completions.{Completions}
 use Rattle.uring_rings.specs.Sq.{Sq, ShowsSubmission}
 use Rattle.uring_rings.specs.Cq.{Cq, ShowsCompletions, KeepsMemory}
+use Rattle.uring_core.specs.Stops.{taken_entries, some_skips}
 use Rattle.uring_core.specs.World.{World}
 use Rattle.uring_core.specs.Histories.{Event, History}
 use Rattle.uring_core.specs.Core.{Core, ShowsWorld, FitsApart, IsCore, held_by, positions_of}
@@ -19,13 +20,15 @@ core_after p q e same goes core =
 pub on_submission : (p : Core) (w : World) (q : Sq) (l : Submission) → ShowsWorld p w
     → ShowsSubmission p.setup q l → l.call ≡ w.submission.call
     → held_by l l.call ≡ held_by w.submission w.submission.call
+    → taken_entries l ≡ taken_entries w.submission
     → ShowsWorld (record p { sq = q }) (record w { submission = l })
-on_submission p w q l s shows call held =
+on_submission p w q l s shows call held took =
     let same_held = s.held ∙ sym held in
+    let same_skipped = s.skipped ∙ ap some_skips (sym took) in
     let to_post = subst (λ c. p.dispatch.outstanding + positions_of c ≤ p.cq.room) (sym call) s.room_to_post in
     let to_accept = subst (λ c. positions_of c ≤ p.dispatch.room) (sym call) s.room_to_accept in
     let numbers = subst (λ c. p.dispatch.accepted + positions_of c ≤ 2 ^ 63 - 1) (sym call) s.numbers in
-    assumption (s, shows, same_held, to_post, to_accept, numbers)
+    assumption (s, shows, same_held, same_skipped, to_post, to_accept, numbers)
 
 -- A change of the completion ring alone, which posts nothing.
 pub on_completions : (p : Core) (w : World) (q : Cq) (l : Completions) → ShowsWorld p w

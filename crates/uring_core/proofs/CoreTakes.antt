@@ -1,23 +1,26 @@
 -- What a core shows as a submission call takes a position, and that there is room for what it took.
 use Rattle.std.specs.Option.{option_and_then}
-use Rattle.std.proofs.Common.{◌≡◌, ℕ, zero, suc, ◌+◌, ◌-◌, ◌^◌, ◌<◌, ◌≤◌, Bool, false, cond, eqb, List, [], ◌∷◌, ◌++◌, length, take, drop, Option, Some, None, slice_get, refl, sym, ap, subst, ◌∙◌, arith, IfSome, true}
+use Rattle.std.proofs.Common.{◌≡◌, ℕ, zero, suc, ◌+◌, ◌-◌, ◌^◌, ◌<◌, ◌≤◌, Bool, false, cond, eqb, ◌||◌, List, [], ◌∷◌, ◌++◌, length, take, drop, Option, Some, None, slice_get, refl, sym, ap, subst, ◌∙◌, arith, IfSome, true}
 use Rattle.std.proofs.lemmas.Bool.{eqb-false}
 use Rattle.std.proofs.lemmas.List.Elements.{filter_map-append}
 use Rattle.std.proofs.lemmas.Grind.{common_steps}
 use Rattle.std.proofs.lemmas.List.{append-nil}
 use Rattle.uring_entry.specs.Setup.{Setup}
 use Rattle.uring_entry.specs.Layout.{Sqe}
-use Rattle.uring_entry.specs.Submission.{Submission, Call, Place, taken, pending, staged, entries_of, with_taken, stops_at, with_stopped}
+use Rattle.uring_entry.specs.Submission.{Submission, Call, Place, taken, pending, staged, entries_of, with_taken, with_stopped}
 use Rattle.uring_rings.specs.Sq.{Sq, ShowsSubmission}
 use Rattle.uring_rings.specs.SqAnswers as ring
 use Rattle.uring_rings.specs.declared.answers.TakeAnswer.{TakeAnswer}
 use Rattle.uring_rings.specs.declared.answers.TakeAnswer.TheVariants as took_as
 use Rattle.uring_rings.proofs.Places.{places_more, entries_and_dropped}
-use Rattle.uring_core.specs.World.{World, taking_of, taking_entry_of}
+use Rattle.uring_linux.specs.LinuxRequests.{asks_to_skip}
+use Rattle.uring_core.specs.Stops.{some_skips, stops_behind, stops_at_word}
+use Rattle.uring_core.specs.World.{World, taking_on, taking_of, stops_there, taking_entry_of}
 use Rattle.uring_core.specs.StepAnswers.{take_answer_in}
 use Rattle.uring_core.specs.Histories.{History, world}
 use Rattle.uring_core.specs.Core.{Core, ShowsWorld, FitsApart, held_by, positions_of}
 use Rattle.uring_core.proofs.SoundRings.{stopped_between}
+use Rattle.uring_core.proofs.TakenEntries.{skips_more, skips_same}
 use Rattle.uring_core.specs.declared.step.Step.TheVariants as step
 use Rattle.uring_core.specs.declared.answer.Answer.{Answer}
 use Rattle.uring_core.specs.declared.answer.Answer.TheVariants as answer
@@ -88,12 +91,13 @@ some_call None call P is holds = cc
 some_call (Some other) call P is holds = let same : other ≡ call = cc in subst P same holds
 
 -- the parts after a take, whatever was taken, and whether or not the call stops behind it
-taken_shows : (p : Core) (w : World) (q : Sq) (call : Call) (held : List Sqe) (stops : Bool)
+taken_shows : (p : Core) (w : World) (q : Sq) (call : Call) (held : List Sqe) (has_skipped stops : Bool)
     → ShowsWorld p w → w.submission.call ≡ Some call → eqb call.taken call.count ≡ false
     → ShowsSubmission p.setup q (with_stopped stops (with_taken w.submission call))
     → held ≡ entries_of (take (call.taken + 1) (drop (taken w.submission) w.submission.published))
-    → ShowsWorld (record p { sq = q; held = held }) (record w { submission = with_stopped stops (with_taken w.submission call) })
-taken_shows p w q call held stops s is more shown holds =
+    → has_skipped ≡ some_skips (entries_of (take (taken w.submission + (call.taken + 1)) w.submission.published))
+    → ShowsWorld (record p { sq = q; held = held; has_skipped = has_skipped }) (taking_on w stops call)
+taken_shows p w q call held has_skipped stops s is more shown holds skipped =
     let fits = some_call w.submission.call call _ is s.submission.call_fits in
     let further : call.taken + 1 ≤ call.count = omega (arith, fits.0, eqb-false call.taken call.count more) in
     let fewer = (stopped_between stops (record call { taken = call.taken + 1 }) further).1 in
@@ -106,6 +110,7 @@ taken_shows p w q call held stops s is more shown holds =
       requests = s.requests;
       rules = s.rules;
       held = holds;
+      skipped = skipped;
       closed = s.closed;
       between = s.between;
       room_to_post = omega (arith, fewer, to_post);
@@ -116,14 +121,14 @@ taken_shows p w q call held stops s is more shown holds =
     }
 
 -- what a take shows and answers, by the call that is open, where the call stops behind it or not
-pub record Takes (p : Core) (w v : World) (q : Sq) (held : List Sqe) (a : Answer) (c : Option Call) : Type 0 where
-  pub shows : ShowsWorld (record p { sq = q; held = held }) v
+pub record Takes (p : Core) (w v : World) (q : Sq) (held : List Sqe) (has_skipped : Bool) (a : Answer) (c : Option Call) : Type 0 where
+  pub shows : ShowsWorld (record p { sq = q; held = held; has_skipped = has_skipped }) v
   pub answered : a ≡ take_answer_in w c
 
 take_entry : (p : Core) (w : World) (q : Sq) (entry : Sqe) (c : Option Call) → ShowsWorld p w
     → w.submission.call ≡ c → took_as.Entry entry ≡ ring.take_in w.submission c
-    → ShowsSubmission p.setup q (with_stopped (stops_at p.setup entry) (ring.taken_on w.submission c))
-    → Takes p w (taking_entry_of p.setup w entry c) q (p.held ++ entry ∷ []) (answer.Entry entry) c
+    → ShowsSubmission p.setup q (with_stopped (stops_behind p.setup (p.has_skipped || asks_to_skip entry) entry) (ring.taken_on w.submission c))
+    → Takes p w (taking_entry_of p.setup w entry c) q (p.held ++ entry ∷ []) (p.has_skipped || asks_to_skip entry) (answer.Entry entry) c
 take_entry p w q entry None s is e shown =
     absurd (let f : took_as.Entry entry ≡ took_as.NoCall = e in cc)
 take_entry p w q entry (Some call) s is e shown =
@@ -132,8 +137,10 @@ take_entry p w q entry (Some call) s is e shown =
     let place = place_given _ entry within.1 in
     let so_far : p.held ≡ entries_of (take call.taken (drop (taken w.submission) w.submission.published)) = s.held ∙ ap (held_by w.submission) is in
     record {
-      shows = taken_shows p w q call (p.held ++ entry ∷ []) (stops_at p.setup entry) s is more shown
-          (sym (held_more w.submission call place.0 place.1 ∙ ap (λ xs. xs ++ entries_of (place.0 ∷ [])) (sym so_far) ∙ ap (λ xs. p.held ++ xs) (one_entry place.0 entry place.2)));
+      shows = taken_shows p w q call (p.held ++ entry ∷ []) (p.has_skipped || asks_to_skip entry) (stops_there p.setup w.submission entry) s is more
+          (subst (λ b. ShowsSubmission p.setup q (with_stopped (stops_behind p.setup (b || asks_to_skip entry) entry) (with_taken w.submission call))) s.skipped shown)
+          (sym (held_more w.submission call place.0 place.1 ∙ ap (λ xs. xs ++ entries_of (place.0 ∷ [])) (sym so_far) ∙ ap (λ xs. p.held ++ xs) (one_entry place.0 entry place.2)))
+          (ap (λ b. b || asks_to_skip entry) s.skipped ∙ skips_more w.submission call place.0 entry is place.1 place.2);
       answered = answered_entry w call place.0 entry more place.1 place.2;
     }
 
@@ -151,8 +158,8 @@ place_of_call l call fits more within = found (taken l + call.taken) l.published
 
 take_dropped : (p : Core) (w : World) (q : Sq) (c : Option Call) → ShowsWorld p w
     → w.submission.call ≡ c → took_as.Dropped ≡ ring.take_in w.submission c
-    → ShowsSubmission p.setup q (ring.taken_on w.submission c)
-    → Takes p w (taking_of w c) q p.held answer.Dropped c
+    → ShowsSubmission p.setup q (with_stopped (stops_at_word p.setup) (ring.taken_on w.submission c))
+    → Takes p w (taking_of p.setup w c) q p.held p.has_skipped answer.Dropped c
 take_dropped p w q None s is e shown = absurd (let f : took_as.Dropped ≡ took_as.NoCall = e in cc)
 take_dropped p w q (Some call) s is e shown =
     let within = given_as (eqb call.taken call.count) took_as.Dropped _ e (λ f. cc) in
@@ -161,31 +168,37 @@ take_dropped p w q (Some call) s is e shown =
     let none = place_dropped _ place.0 place.1 within.1 in
     let so_far : p.held ≡ entries_of (take call.taken (drop (taken w.submission) w.submission.published)) = s.held ∙ ap (held_by w.submission) is in
     record {
-      shows = taken_shows p w q call p.held false s is more shown
-          (sym (held_more w.submission call place.0 place.1 ∙ ap (λ xs. entries_of (take call.taken (drop (taken w.submission) w.submission.published)) ++ xs) (no_entries place.0 none) ∙ append-nil _ ∙ sym so_far));
+      shows = taken_shows p w q call p.held p.has_skipped (stops_at_word p.setup) s is more shown
+          (sym (held_more w.submission call place.0 place.1 ∙ ap (λ xs. entries_of (take call.taken (drop (taken w.submission) w.submission.published)) ++ xs) (no_entries place.0 none) ∙ append-nil _ ∙ sym so_far))
+          (s.skipped ∙ skips_same w.submission call place.0 is place.1 none);
       answered = answered_dropped w call place.0 more place.1 none;
     }
 
 -- the ring after a take, and then with its call stopped behind the entry, if it stops there
-pub take_entry_goes : (p : Core) (q stops : Sq) (entry : Sqe)
+pub take_entry_goes : (p : Core) (q stops : Sq) (entry : Sqe) (has_skipped : Bool)
+    → has_skipped ≡ (p.has_skipped || asks_to_skip entry)
     → ((g : Setup) (l : Submission) → ShowsSubmission g p.sq l → took_as.Entry entry ≡ ring.take_answer l)
     → ((g : Setup) (l : Submission) → ShowsSubmission g p.sq l → ShowsSubmission g q (ring.after_take l (took_as.Entry entry)))
-    → ((g : Setup) (l : Submission) → ShowsSubmission g q l → ShowsSubmission g stops (with_stopped (stops_at p.setup entry) l))
+    → ((g : Setup) (l : Submission) → ShowsSubmission g q l → ShowsSubmission g stops (with_stopped (stops_behind p.setup has_skipped entry) l))
     → (h : History) → FitsApart p h
-    → FitsApart (record p { sq = stops; held = p.held ++ entry ∷ [] }) ((step.Take, answer.Entry entry) ∷ h)
-take_entry_goes p q stops entry answered shown stopped h f =
+    → FitsApart (record p { sq = stops; held = p.held ++ entry ∷ []; has_skipped = has_skipped }) ((step.Take, answer.Entry entry) ∷ h)
+take_entry_goes p q stops entry has_skipped is answered shown stopped h f =
     let w = world p.setup h in
-    let t = take_entry p w stops entry w.submission.call f.shows refl (answered p.setup w.submission f.shows.submission) (stopped p.setup _ (shown p.setup w.submission f.shows.submission)) in
-    record { shows = t.shows; lawful = (t.answered, f.lawful) }
+    let after = subst (λ b. ShowsSubmission p.setup stops (with_stopped (stops_behind p.setup b entry) (ring.after_take w.submission (took_as.Entry entry)))) is (stopped p.setup _ (shown p.setup w.submission f.shows.submission)) in
+    let t = take_entry p w stops entry w.submission.call f.shows refl (answered p.setup w.submission f.shows.submission) after in
+    subst (λ b. FitsApart (record p { sq = stops; held = p.held ++ entry ∷ []; has_skipped = b }) ((step.Take, answer.Entry entry) ∷ h)) (sym is)
+    (record { shows = t.shows; lawful = (t.answered, f.lawful) })
 
-pub take_dropped_goes : (p : Core) (q : Sq)
+-- the ring after a word was dropped, and then with its call stopped, if it stops there
+pub take_dropped_goes : (p : Core) (q stops : Sq)
     → ((g : Setup) (l : Submission) → ShowsSubmission g p.sq l → took_as.Dropped ≡ ring.take_answer l)
     → ((g : Setup) (l : Submission) → ShowsSubmission g p.sq l → ShowsSubmission g q (ring.after_take l took_as.Dropped))
+    → ((g : Setup) (l : Submission) → ShowsSubmission g q l → ShowsSubmission g stops (with_stopped (stops_at_word p.setup) l))
     → (h : History) → FitsApart p h
-    → FitsApart (record p { sq = q }) ((step.Take, answer.Dropped) ∷ h)
-take_dropped_goes p q answered shown h f =
+    → FitsApart (record p { sq = stops }) ((step.Take, answer.Dropped) ∷ h)
+take_dropped_goes p q stops answered shown stopped h f =
     let w = world p.setup h in
-    let t = take_dropped p w q w.submission.call f.shows refl (answered p.setup w.submission f.shows.submission) (shown p.setup w.submission f.shows.submission) in
+    let t = take_dropped p w stops w.submission.call f.shows refl (answered p.setup w.submission f.shows.submission) (stopped p.setup _ (shown p.setup w.submission f.shows.submission)) in
     record { shows = t.shows; lawful = (t.answered, f.lawful) }
 
 -- what a call took fits its positions

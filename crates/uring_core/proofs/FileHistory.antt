@@ -47,8 +47,8 @@ files_more r files (first ∷ later) e =
 doomed_changes_none : (linux : Bool) (files : List FileContents) (r : Requests) (n : ℕ)
     → after files (operation_of (entry_of r n)) (doomed_result linux r n) ≡ files
 doomed_changes_none true files r n =
-    cond_both (is_faulty (entry_of r n)) (negsuc 21) (cond (is_refused_drain r n) (negsuc 94) (negsuc 124)) (λ res. after files (operation_of (entry_of r n)) res ≡ files) (λ _. failed files (operation_of (entry_of r n)) 21)
-    (λ _. cond_both (is_refused_drain r n) (negsuc 94) (negsuc 124) (λ res. after files (operation_of (entry_of r n)) res ≡ files) (λ _. failed files (operation_of (entry_of r n)) 94) (λ _. failed files (operation_of (entry_of r n)) 124))
+    cond_both (is_refused_drain r n) (negsuc 94) (cond (is_faulty (entry_of r n)) (negsuc 21) (negsuc 124)) (λ res. after files (operation_of (entry_of r n)) res ≡ files) (λ _. failed files (operation_of (entry_of r n)) 94)
+    (λ _. cond_both (is_faulty (entry_of r n)) (negsuc 21) (negsuc 124) (λ res. after files (operation_of (entry_of r n)) res ≡ files) (λ _. failed files (operation_of (entry_of r n)) 21) (λ _. failed files (operation_of (entry_of r n)) 124))
 doomed_changes_none false files r n =
     cond_both (is_faulty (entry_of r n)) (negsuc 21) (negsuc 124) (λ res. after files (operation_of (entry_of r n)) res ≡ files) (λ _. failed files (operation_of (entry_of r n)) 21) (λ _. failed files (operation_of (entry_of r n)) 124)
 

@@ -27,3 +27,5 @@ pub mod RecordedAnswers
 pub mod Issuable
 pub mod WholeCalls
 pub mod Outstanding
+pub mod NoStops
+pub mod TakenEntries

@@ -35,7 +35,7 @@ move_by g w s a (refuses _ _ same silent) =
     subst (λ v. Move g.linux (requests_of w) s a v.requests) (sym (same w)) (stays s a silent.starts silent.ends)
 move_by g w s a (takes entry call place opened left at valid) = subst (λ o. Move g.linux (requests_of w) s a (taking_entry_of g w entry o).requests) (sym opened) (stays _ _ refl refl)
 move_by g w s a (drops call place opened left at invalid) =
-    subst (λ o. Move g.linux (requests_of w) s a (taking_of w o).requests) (sym opened) (stays _ _ refl refl)
+    subst (λ o. Move g.linux (requests_of w) s a (taking_of g w o).requests) (sym opened) (stays _ _ refl refl)
 move_by g w s a (closes accepted missed head call opened all told) = subst (λ o. Move g.linux (requests_of w) s a (ending_of g w o).requests) (sym opened) (accepts accepted missed head (entries_of (places_from w.submission call.count)))
 move_by g w s a (runs n outstanding idle spared ready no_cancel) =
     starts n outstanding idle spared ready no_cancel

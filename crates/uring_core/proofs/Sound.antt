@@ -1,9 +1,10 @@
 -- What holds of everything that a lawful history has made.
 use Rattle.std.proofs.Common.{◌≡◌, ℕ, ◌+◌, Bool, false, [], ◌∷◌, refl, subst, arith}
 use Rattle.uring_entry.specs.Setup.{Setup}
-use Rattle.uring_entry.specs.Submission.{with_taken, stops_at, no_submission}
+use Rattle.uring_entry.specs.Submission.{with_taken, no_submission}
 use Rattle.uring_linux.specs.LinuxRequests.{LinuxRequests}
-use Rattle.uring_core.specs.World.{World, requests_of, at_first}
+use Rattle.uring_core.specs.Stops.{stops_at_word}
+use Rattle.uring_core.specs.World.{World, requests_of, at_first, stops_there}
 use Rattle.uring_core.specs.Histories.{History, world, IsLawfulApart}
 use Rattle.uring_core.specs.declared.step.Step.{Step}
 use Rattle.uring_core.specs.declared.answer.Answer.{Answer}
@@ -58,9 +59,9 @@ submission_kept g w s a v (stores tail) i = store_sound g.sq w.submission i
 submission_kept g w s a v (loads head) i = grind arith
 submission_kept g w s a v (begins count is_open no_call unspent) i = grind arith
 submission_kept g w s a v (takes entry call place opened left at valid) i =
-    stop_sound g.sq (with_taken w.submission call) (record call { taken = call.taken + 1 }) (stops_at g entry) refl (take_sound g.sq w.submission call opened left i)
+    stop_sound g.sq (with_taken w.submission call) (record call { taken = call.taken + 1 }) (stops_there g w.submission entry) refl (take_sound g.sq w.submission call opened left i)
 submission_kept g w s a v (drops call place opened left at invalid) i =
-    take_sound g.sq w.submission call opened left i
+    stop_sound g.sq (with_taken w.submission call) (record call { taken = call.taken + 1 }) (stops_at_word g) refl (take_sound g.sq w.submission call opened left i)
 submission_kept g w s a v (closes accepted missed head call opened all counted) i =
     close_sound g.sq w.submission call opened i
 

@@ -8,6 +8,7 @@ use Rattle.std.proofs.lemmas.Option.{slice_get_within, get_or_from_slice_get}
 use Rattle.uring_entry.specs.Layout.{Cqe}
 use Rattle.uring_entry.specs.Submission.{Submission, Call, staged, taken, is_full, with_staged, with_published, with_taken, stopped, with_stopped, with_closed}
 use Rattle.uring_entry.specs.Completions.{Completions, has_room, next_to_reap, with_posted, with_reaped}
+use Rattle.uring_core.specs.Stops.{open_taken}
 
 -- The completion ring.
 
@@ -80,10 +81,6 @@ reap_sound size l c e s =
 abbrev pub open_count : Option Call → ℕ
 open_count None = 0
 open_count (Some call) = call.count
-
-abbrev pub open_taken : Option Call → ℕ
-open_taken None = 0
-open_taken (Some call) = call.taken
 
 pub record IsSoundSubmission (size : ℕ) (l : Submission) : Type 0 where
   pub seen_first : l.seen_head ≤ taken l

@@ -54,7 +54,7 @@ pub data SubmissionMove (g : Setup) (w : World) : Step → Answer → World → 
       → SubmissionMove g w step.Take (answer.Entry entry) (taking_entry_of g w entry (Some call))
   drops : (call : Call) (place : Place) → w.submission.call ≡ Some call → eqb call.taken call.count ≡ false
       → slice_get w.submission.published (taken w.submission + call.taken) ≡ Some place → place.entry ≡ None
-      → SubmissionMove g w step.Take answer.Dropped (taking_of w (Some call))
+      → SubmissionMove g w step.Take answer.Dropped (taking_of g w (Some call))
   closes : (accepted missed head : ℕ) (call : Call) → w.submission.call ≡ Some call → nat_lt call.taken call.count ≡ false
       → accepted ≡ length (entries_of (places_from w.submission call.count))
       → SubmissionMove g w step.End (answer.Taken accepted missed head) (ending_of g w (Some call))
@@ -89,7 +89,7 @@ submission_by g w s a (event_begins count is_open no_call unspent) =
 submission_by g w s a (event_takes entry call place opened left at valid) =
     subst (λ o. SubmissionMove g w step.Take (answer.Entry entry) (taking_entry_of g w entry o)) (sym opened) (takes entry call place opened left at valid)
 submission_by g w s a (event_drops call place opened left at invalid) =
-    subst (λ o. SubmissionMove g w step.Take answer.Dropped (taking_of w o)) (sym opened) (drops call place opened left at invalid)
+    subst (λ o. SubmissionMove g w step.Take answer.Dropped (taking_of g w o)) (sym opened) (drops call place opened left at invalid)
 submission_by g w s a (event_closes accepted missed head call opened all counted) =
     subst (λ o. SubmissionMove g w step.End (answer.Taken accepted missed head) (ending_of g w o)) (sym opened) (closes accepted missed head call opened all counted)
 submission_by g w s a (event_dooms n outstanding idle doomed) =

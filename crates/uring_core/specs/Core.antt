@@ -6,6 +6,7 @@ use Rattle.uring_entry.specs.Submission.{Submission, Call, call_length, entries_
 use Rattle.uring_rings.specs.Sq.{Sq, ShowsSubmission}
 use Rattle.uring_rings.specs.Cq.{Cq, ShowsCompletions}
 use Rattle.uring_rules.specs.RulesDispatch.{Rules, ShowsRequests}
+use Rattle.uring_core.specs.Stops.{taken_entries, some_skips}
 use Rattle.uring_core.specs.World.{World, requests_of}
 use Rattle.uring_core.specs.Histories.{History, world, IsLawfulApart}
 use Rattle.uring_entry.specs.Requests.{is_running, outstanding_in, running_in}
@@ -16,13 +17,14 @@ use Rattle.uring_core.specs.declared.cores.Counts.{Counts}
 use Rattle.uring_core.specs.declared.step.Step.{Step}
 use Rattle.uring_core.specs.declared.step.Step.TheVariants as step
 
--- The parts of a core: both rings, the dispatcher, the entries that the open call took, and whether the ring is closed.
+-- The parts of a core: both rings, the dispatcher, the entries that the open call took, whether an entry that was taken asks for skipped success, and whether the ring is closed.
 pub record Core : Type 0 where
   pub setup : Setup
   pub sq : Sq
   pub cq : Cq
   pub dispatch : Rules
   pub held : List Sqe
+  pub has_skipped : Bool
   pub is_closed : Bool
 
 -- the entries that the open call took so far
@@ -42,6 +44,7 @@ pub record ShowsWorld (p : Core) (w : World) : Type 0 where
   pub requests : ShowsRequests p.dispatch (requests_of w)
   pub rules : p.dispatch.linux ≡ p.setup.linux
   pub held : p.held ≡ held_by w.submission w.submission.call
+  pub skipped : p.has_skipped ≡ some_skips (taken_entries w.submission)
   pub closed : p.is_closed ≡ w.is_closed
   pub between : p.dispatch.is_between_calls ≡ true
   -- what is outstanding, and what the open call may still accept, will find room to be accepted and to end

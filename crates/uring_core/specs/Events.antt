@@ -1,10 +1,11 @@
 -- What one event tells, and whom a cancel chose by its result.
-use Rattle.std.specs.Prelude.{ℕ, Bool, true, false, ◌||◌, ◌==◌, length, Option, Some, None, ℤ, pos, ◌≡◌, ◌⊎◌, is_some, if◌then◌else◌}
+use Rattle.std.specs.Prelude.{ℕ, Bool, true, false, ◌||◌, ◌==◌, List, length, Option, Some, None, ℤ, pos, ◌≡◌, ◌⊎◌, is_some, if◌then◌else◌}
 use Rattle.uring_entry.specs.Layout.{Sqe, Cqe}
 use Rattle.uring_entry.specs.Setup.{Setup}
-use Rattle.uring_entry.specs.Submission.{stops_at}
 use Rattle.uring_entry.specs.Preparation.{is_cancel, is_cancel_all}
 use Rattle.uring_entry.specs.Requests.{Requests, Ending, entry_of, target_of, is_target}
+use Rattle.uring_linux.specs.LinuxRequests.{asks_to_skip}
+use Rattle.uring_core.specs.Stops.{some_skips, stops_behind, stops_at_word}
 use Rattle.uring_core.specs.Histories.{Event}
 use Rattle.uring_core.specs.declared.step.Step.TheVariants as step
 use Rattle.uring_core.specs.declared.answer.Answer.TheVariants as answer
@@ -48,10 +49,12 @@ takes_position (step.Take, answer.Entry entry) = true
 takes_position (step.Take, answer.Dropped) = true
 takes_position _ = false
 
--- whether a call takes an entry behind which it stops
-abbrev pub takes_last : Setup → Event → Bool
-takes_last g (step.Take, answer.Entry entry) = stops_at g entry
-takes_last g _ = false
+-- whether a call stops behind the position that it takes, if these entries were taken before
+abbrev pub takes_last : Setup → List Sqe → Event → Bool
+takes_last g before (step.Take, answer.Entry entry) =
+    stops_behind g (some_skips before || asks_to_skip entry) entry
+takes_last g before (step.Take, answer.Dropped) = stops_at_word g
+takes_last g before _ = false
 
 -- how many positions the call has that opens
 abbrev pub opened_by : Event → Option ℕ
@@ -101,7 +104,7 @@ abbrev pub is_store_cq_head : Event → Bool
 is_store_cq_head (step.StoreCqHead, _) = true
 is_store_cq_head _ = false
 
--- Whom a cancel chose, by its entry and its result.
+-- Whom a cancel chose, by its entry and its result, and by the manual pages' rules: by Linux's it chooses nobody.
 
 -- n, a cancel of one that ended with 0, had m as its target
 pub record ChoseOne (r : Requests) (n : ℕ) (res : ℤ) (m : ℕ) : Type 0 where

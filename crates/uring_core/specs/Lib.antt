@@ -1,3 +1,4 @@
+pub mod Stops
 pub mod World
 pub mod StepAnswers
 pub mod Histories

@@ -1,13 +1,14 @@
 -- What all the steps so far have made: the three records of lists, how the drains stand by Linux's rules, and whether the ring is closed.
-use Rattle.std.specs.Prelude.{ℕ, ℤ, List, Bool, true, false, Option, Some, None, length, if◌then◌else◌}
+use Rattle.std.specs.Prelude.{ℕ, ℤ, List, Bool, true, false, ◌||◌, Option, Some, None, length, if◌then◌else◌}
 use Rattle.uring_entry.specs.Setup.{Setup}
 use Rattle.uring_entry.specs.Layout.{Sqe}
-use Rattle.uring_entry.specs.Submission.{Submission, Call, no_submission, entries_from, with_filled, with_staged, with_published, with_head_loaded, with_begun, with_taken, stops_at, with_stopped, with_closed}
+use Rattle.uring_entry.specs.Submission.{Submission, Call, no_submission, entries_from, with_filled, with_staged, with_published, with_head_loaded, with_begun, with_taken, with_stopped, with_closed}
 use Rattle.uring_entry.specs.Requests.{Requests, no_request, entry_of, with_call, with_started, with_ended, no_bytes}
 use Rattle.uring_entry.specs.Completions.{Completions, no_completion, with_posted, completion_for, with_flushed, with_tail_loaded, with_reaped, with_head_stored}
 use Rattle.uring_linux.specs.Drains.{Drains, no_drains}
-use Rattle.uring_linux.specs.LinuxRequests.{LinuxRequests}
+use Rattle.uring_linux.specs.LinuxRequests.{LinuxRequests, asks_to_skip}
 use Rattle.uring_rules.specs.Rules.{posts, with_issued_end, drains_called, drains_ended}
+use Rattle.uring_core.specs.Stops.{taken_entries, some_skips, stops_behind, stops_at_word}
 use Rattle.uring_core.specs.declared.step.Step.{Step}
 use Rattle.uring_core.specs.declared.step.Step.TheVariants as step
 use Rattle.uring_core.specs.declared.answer.Answer.{Answer}
@@ -49,21 +50,29 @@ abbrev pub beginning : World → ℕ → Answer → World
 beginning w count (answer.Call length) = record w { submission = with_begun w.submission count }
 beginning w count _ = w
 
--- the open call takes a position, if a call is open
-abbrev pub taking_of : World → Option Call → World
-taking_of w None = w
-taking_of w (Some call) = record w { submission = with_taken w.submission call }
+-- the open call takes a position, and stops behind it or not
+abbrev pub taking_on : World → (stops : Bool) → Call → World
+taking_on w stops call =
+    record w { submission = with_stopped stops (with_taken w.submission call) }
 
--- the open call takes this entry, and stops behind it if it stops there
+-- the open call takes a word that names no slot, if a call is open
+abbrev pub taking_of : Setup → World → Option Call → World
+taking_of g w None = w
+taking_of g w (Some call) = taking_on w (stops_at_word g) call
+
+-- whether the open call stops behind this entry
+abbrev pub stops_there : Setup → Submission → Sqe → Bool
+stops_there g l entry = stops_behind g (some_skips (taken_entries l) || asks_to_skip entry) entry
+
+-- the open call takes this entry
 abbrev pub taking_entry_of : Setup → World → Sqe → Option Call → World
 taking_entry_of g w entry None = w
-taking_entry_of g w entry (Some call) =
-    record w { submission = with_stopped (stops_at g entry) (with_taken w.submission call) }
+taking_entry_of g w entry (Some call) = taking_on w (stops_there g w.submission entry) call
 
--- a position was taken: an entry, or a word that names no slot, behind which no call stops
+-- a position was taken: an entry, or a word that names no slot
 abbrev pub taking : Setup → World → Answer → World
 taking g w (answer.Entry entry) = taking_entry_of g w entry w.submission.call
-taking g w answer.Dropped = taking_of w w.submission.call
+taking g w answer.Dropped = taking_of g w w.submission.call
 taking g w _ = w
 
 -- the open call closes, and the entries that it took are accepted

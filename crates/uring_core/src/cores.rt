@@ -2,7 +2,6 @@
 
 ghost use Rattle.std.specs.Prelude.{◌≡◌, ℕ, ◌+◌, ◌<◌, ◌≤◌, ◌∷◌, [], true, length, IsOk, IfOk, None};
 ghost use Rattle.uring_entry.specs.Setup.{Setup};
-ghost use Rattle.uring_entry.specs.Submission.{Submission, stops_at, with_stopped};
 ghost use Rattle.uring_entry.specs.Completions.{Completions};
 ghost use Rattle.uring_rings.specs.Cq.{ShowsCompletions};
 ghost use Rattle.uring_rings.specs.Sq.{ShowsSubmission};
@@ -19,11 +18,12 @@ mod submit;
 use crate::answer::Answer;
 use crate::conversions::{next_answer, reaped};
 use crate::step::Step;
+use crate::stopping::{has_skipped, stop_at_word, stop_behind};
 use std::alloc::{AllocError, Global};
 use std::marker::Model;
 pub use submit::NotSubmitted;
 use uring_dispatch::{Posts, ReserveError};
-use uring_entry::{Cqe, Outcome, Setup, Sqe, prepare};
+use uring_entry::{Cqe, Outcome, Setup, Sqe};
 use uring_memory::Memory;
 use uring_rings::{Cq, EndAnswer, Sq, TakeAnswer};
 use uring_rules::{Issued, Rules};
@@ -37,6 +37,8 @@ pub struct Core {
     dispatch: Rules,
     // The entries that the open call took, in order. There is room for those of a whole ring.
     held: Vec<Sqe>,
+    // Whether an entry that was taken asks for skipped success.
+    has_skipped: bool,
     // Whether a Close was answered Shut.
     is_closed: bool,
 }
@@ -49,11 +51,11 @@ impl Model for Core {
     ghost use Rattle.std.specs.Prelude.{◌≤◌, vec_capacity};
     ghost use Rattle.uring_core.specs.Core.{IsCore};
 
-    ghost view = { λ c. record { setup = c.setup; sq = c.sq; cq = c.cq; dispatch = c.dispatch; held = c.held.items; is_closed = c.is_closed } };
+    ghost view = { λ c. record { setup = c.setup; sq = c.sq; cq = c.cq; dispatch = c.dispatch; held = c.held.items; has_skipped = c.has_skipped; is_closed = c.is_closed } };
 
     ghost invariant = { λ c. (c.setup.sq ≤ vec_capacity c.held)
         × IsCore
-        (record { setup = c.setup; sq = c.sq; cq = c.cq; dispatch = c.dispatch; held = c.held.items; is_closed = c.is_closed }) };
+        (record { setup = c.setup; sq = c.sq; cq = c.cq; dispatch = c.dispatch; held = c.held.items; has_skipped = c.has_skipped; is_closed = c.is_closed }) };
 }
 
 impl Core {
@@ -81,6 +83,7 @@ impl Core {
             cq: Cq::new_in(memory, alloc, setup)?,
             dispatch: Rules::new(alloc, setup.is_linux()),
             held,
+            has_skipped: false,
             is_closed: false,
         })
     }
@@ -231,7 +234,7 @@ impl Core {
         Answer::from(self.sq.begin(count))
     }
 
-    /// The dispatcher copies the call's next position. A call that stops behind its entry takes no more.
+    /// The dispatcher copies the call's next position. A call that stops behind it takes no more.
     #[inline(always)]
     fn take(&mut self) -> Answer
         ensures setup { self.new.setup ≡ self.old.setup }
@@ -240,9 +243,14 @@ impl Core {
         ensures memory { HasNoLessMemory self.old self.new }
     {
         let answer = self.sq.take();
-        if let TakeAnswer::Entry(entry) = answer {
-            self.held.push_reserved(entry);
-            stop_behind(&mut self.sq, self.setup, &entry);
+        match answer {
+            TakeAnswer::Entry(entry) => {
+                self.held.push_reserved(entry);
+                self.has_skipped = has_skipped(self.has_skipped, &entry);
+                stop_behind(&mut self.sq, self.setup, self.has_skipped, &entry);
+            }
+            TakeAnswer::Dropped => stop_at_word(&mut self.sq, self.setup),
+            _ => {}
         }
         Answer::from(answer)
     }
@@ -376,16 +384,6 @@ pub struct Counts {
 
     /// The completions reaped, at most those posted.
     pub reaped: u64,
-}
-
-/// Stops the open call, if a call of this set-up stops behind this entry.
-fn stop_behind(sq: &mut Sq, setup: Setup, entry: &Sqe)
-    ensures { (g : Setup) (l : Submission) → ShowsSubmission g sq.old l
-        → ShowsSubmission g sq.new (with_stopped (stops_at setup entry.now) l) }
-{
-    if setup.stops() && prepare(entry).is_err() {
-        sq.stop();
-    }
 }
 
 /// Posts what the end of a request is to post.

@@ -6,6 +6,7 @@ mod conversions;
 mod cores;
 mod follow;
 mod step;
+mod stopping;
 mod wanted;
 
 pub use answer::{Answer, same_answer};

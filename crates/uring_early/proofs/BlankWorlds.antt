@@ -80,9 +80,9 @@ begin_made : (w : World) (count : ℕ) (a : Answer) → beginning (blank_world w
 begin_made w count (answer.Call length) = refl
 begin_made w count _ = refl
 
-taking_made : (w : World) (call : Option Call) → taking_of (blank_world w) call ≡ blank_world (taking_of w call)
-taking_made w None = refl
-taking_made w (Some call) = refl
+taking_made : (g : Setup) (w : World) (call : Option Call) → taking_of g (blank_world w) call ≡ blank_world (taking_of g w call)
+taking_made g w None = refl
+taking_made g w (Some call) = refl
 
 entry_made : (g : Setup) (w : World) (entry : Sqe) (call : Option Call) → taking_entry_of g (blank_world w) entry call ≡ blank_world (taking_entry_of g w entry call)
 entry_made g w entry None = refl
@@ -90,7 +90,7 @@ entry_made g w entry (Some call) = refl
 
 take_made : (g : Setup) (w : World) (a : Answer) → taking g (blank_world w) a ≡ blank_world (taking g w a)
 take_made g w (answer.Entry entry) = entry_made g w entry w.submission.call
-take_made g w answer.Dropped = taking_made w w.submission.call
+take_made g w answer.Dropped = taking_made g w w.submission.call
 take_made g w _ = refl
 
 ending_made : (g : Setup) (w : World) (call : Option Call) → ending_of g (blank_world w) call ≡ blank_world (ending_of g w call)

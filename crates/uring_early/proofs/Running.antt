@@ -103,7 +103,7 @@ runs_by g w s a n (refuses _ _ same silent) =
 runs_by g w s a n (takes entry call place opened left at valid) =
     subst (λ o. is_running (taking_entry_of g w entry o).requests n ≡ is_running w.requests n) (sym opened) refl
 runs_by g w s a n (drops call place opened left at invalid) =
-    subst (λ o. is_running (taking_of w o).requests n ≡ is_running w.requests n) (sym opened) refl
+    subst (λ o. is_running (taking_of g w o).requests n ≡ is_running w.requests n) (sym opened) refl
 runs_by g w s a n (closes accepted missed head call opened all told) =
     subst (λ o. is_running (ending_of g w o).requests n ≡ is_running w.requests n) (sym opened) refl
 runs_by g w s a n (runs m outstanding idle spared ready no_cancel) =

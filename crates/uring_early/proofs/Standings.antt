@@ -131,7 +131,7 @@ starts_stay g w s a n (refuses _ _ same silent) started =
 starts_stay g w s a n (takes entry call place opened left at valid) started =
     subst (λ o. has_started (taking_entry_of g w entry o).requests n ≡ true) (sym opened) started
 starts_stay g w s a n (drops call place opened left at invalid) started =
-    subst (λ o. has_started (taking_of w o).requests n ≡ true) (sym opened) started
+    subst (λ o. has_started (taking_of g w o).requests n ≡ true) (sym opened) started
 starts_stay g w s a n (closes accepted missed head call opened all told) started =
     subst (λ o. has_started (ending_of g w o).requests n ≡ true) (sym opened) started
 starts_stay g w s a n (runs m outstanding idle spared ready no_cancel) started =

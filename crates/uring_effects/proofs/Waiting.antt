@@ -71,7 +71,7 @@ change_runs g w s a n (refuses _ _ same silent) other running =
 change_runs g w s a n (takes entry call place opened left at valid) other running =
     subst (λ o. is_running (taking_entry_of g w entry o).requests n ≡ true) (sym opened) running
 change_runs g w s a n (drops call place opened left at invalid) other running =
-    subst (λ o. is_running (taking_of w o).requests n ≡ true) (sym opened) running
+    subst (λ o. is_running (taking_of g w o).requests n ≡ true) (sym opened) running
 change_runs g w s a n (closes accepted missed head call opened all told) other running =
     subst (λ o. is_running (ending_of g w o).requests n ≡ true) (sym opened) running
 change_runs g w s a n (runs m outstanding idle spared ready no_cancel) other running =

@@ -8,7 +8,9 @@ use Rattle.uring_entry.specs.Setup.{Setup}
 use Rattle.uring_entry.specs.Layout.{Sqe, zero_entry}
 use Rattle.uring_entry.specs.Submission.{Call, place_of, call_length}
 use Rattle.uring_core.specs.Events.{filled_by, staged_by, takes_position, takes_last, opens_call, opened_by, closes_call, is_store_tail, is_load_head}
-use Rattle.uring_laws.specs.Direct.{last_told, since_last, staged_words, published_words, slot_content, taken_since, has_stopped, open_count, open_call, call_counts, taken_count, loaded_head}
+use Rattle.uring_laws.specs.Direct.{last_told, since_last, staged_words, published_words, slot_content, taken_since, entries_taken, has_stopped, open_count, open_call, call_counts, taken_count, loaded_head}
+use Rattle.uring_linux.specs.LinuxRequests.{asks_to_skip}
+use Rattle.uring_core.specs.Stops.{open_taken, taken_entries, some_skips, stops_behind}
 use Rattle.uring_core.specs.World.{World}
 use Rattle.uring_core.specs.Histories.{Event, History, world, IsLawfulApart}
 use Rattle.uring_core.specs.declared.step.Step.{Step}
@@ -16,8 +18,9 @@ use Rattle.uring_core.specs.declared.step.Step.TheVariants as step
 use Rattle.uring_core.specs.declared.answer.Answer.{Answer}
 use Rattle.uring_core.specs.declared.answer.Answer.TheVariants as answer
 use Rattle.uring_core.proofs.SubmissionMoves.{SubmissionMove, stays, fills, stages, stores, loads, begins, takes, drops, closes, submission_move}
-use Rattle.uring_core.proofs.SoundRings.{IsSoundSubmission, open_taken, open_count as positions_open}
+use Rattle.uring_core.proofs.SoundRings.{IsSoundSubmission, open_count as positions_open}
 use Rattle.uring_core.proofs.Sound.{sound_of}
+use Rattle.uring_laws.proofs.TakenPlaces.{takes_places}
 use Rattle.uring_laws.proofs.Telling.{count_more, count_same, told_same, before_same}
 
 -- an open call is the one that was opened last
@@ -41,9 +44,17 @@ pub record DirectSubmission (g : Setup) (h : History) (w : World) : Type 0 where
   pub opened : IsOpened g h w.submission.call
 
 -- an event behind which a call stops takes a position
-takes_last_takes : (g : Setup) (e : Event) → takes_position e ≡ false → takes_last g e ≡ false
-takes_last_takes g (step.Take, answer.Entry entry) idle = absurd cc
-takes_last_takes g _ idle = refl
+takes_last_takes : (g : Setup) (before : List Sqe) (e : Event) → takes_position e ≡ false
+    → takes_last g before e ≡ false
+takes_last_takes g before (step.Take, answer.Entry entry) idle = absurd cc
+takes_last_takes g before (step.Take, answer.Dropped) idle = absurd cc
+takes_last_takes g before _ idle = refl
+
+-- what an event makes of whether the call stopped, if it opens none
+stopped_by : (g : Setup) (h : History) (e : Event) → opens_call e ≡ false
+    → has_stopped g (e ∷ h) ≡ (takes_last g (entries_taken h) e || has_stopped g h)
+stopped_by g h e other =
+    ap (λ b. if b then false else takes_last g (entries_taken h) e || has_stopped g h) other
 
 -- what an event leaves of the call that was opened last, if it opens none and takes no position
 record SameOpened (g : Setup) (h : History) (e : Event) : Type 0 where
@@ -55,7 +66,7 @@ same_opened : (g : Setup) (h : History) (e : Event) → opens_call e ≡ false �
 same_opened g h e other none idle =
     let since : since_last opens_call (e ∷ h) ≡ e ∷ since_last opens_call h = ap (λ b. cond b [] (e ∷ since_last opens_call h)) other in
     let taken : taken_since h ≡ taken_since (e ∷ h) = sym (ap (count_by takes_position) since ∙ count_same takes_position e (since_last opens_call h) idle) in
-    let stops : has_stopped g h ≡ has_stopped g (e ∷ h) = sym (ap (list_any (takes_last g)) since ∙ ap (λ b. b || has_stopped g h) (takes_last_takes g e idle)) in
+    let stops : has_stopped g h ≡ has_stopped g (e ∷ h) = sym (stopped_by g h e other ∙ ap (λ b. b || has_stopped g h) (takes_last_takes g (entries_taken h) e idle)) in
     let last : last_told opened_by h ≡ last_told opened_by (e ∷ h) = sym (ap (λ o. option_or o (last_told opened_by h)) none) in
     record {
       taken = taken;
@@ -112,7 +123,7 @@ record PositionTaken (g : Setup) (h : History) (w : World) (e : Event) (call : C
   calls : w.submission.calls ≡ call_counts (e ∷ h)
   closed : count_by closes_call (e ∷ h) ≡ length w.submission.calls
   openings : count_by opens_call (e ∷ h) ≡ length w.submission.calls + 1
-  opened : (call.taken + 1 ≡ taken_since (e ∷ h)) × ((if takes_last g e then call.taken + 1 else call.count) ≡ open_count g (e ∷ h))
+  opened : (call.taken + 1 ≡ taken_since (e ∷ h)) × ((if takes_last g (entries_taken h) e then call.taken + 1 else call.count) ≡ open_count g (e ∷ h))
 
 position_taken : (g : Setup) (h : History) (w : World) (e : Event) (call : Call)
     → w.submission.call ≡ Some call → eqb call.taken call.count ≡ false → opens_call e ≡ false
@@ -122,7 +133,7 @@ position_taken g h w e call is left none_opened none none_closed taken i =
     let so_far : (call.taken ≡ taken_since h) × (call.count ≡ open_count g h) = subst (IsOpened g h) is i.opened in
     let since : since_last opens_call (e ∷ h) ≡ e ∷ since_last opens_call h = ap (λ b. cond b [] (e ∷ since_last opens_call h)) none_opened in
     let more : call.taken + 1 ≡ taken_since (e ∷ h) = omega (arith, count_more takes_position e (since_last opens_call h) taken, so_far.0) ∙ sym (ap (count_by takes_position) since) in
-    let stops : has_stopped g (e ∷ h) ≡ (takes_last g e || has_stopped g h) = ap (list_any (takes_last g)) since in
+    let stops = stopped_by g h e none_opened in
     let last : last_told opened_by (e ∷ h) ≡ last_told opened_by h = ap (λ o. option_or o (last_told opened_by h)) none in
     record {
       calls = i.calls ∙ ap (λ b. if b then call_counts h ++ taken_since h ∷ [] else call_counts h) (sym none_closed);
@@ -130,16 +141,17 @@ position_taken g h w e call is left none_opened none none_closed taken i =
       openings = count_same opens_call e h none_opened ∙ i.openings ∙ ap (λ o. length w.submission.calls + open_calls o) is;
       opened = (
         more,
-        count_further (takes_last g e) (has_stopped g h) call.count call.taken (taken_since (e ∷ h)) (unwrap_or (last_told opened_by h) 0)
+        count_further (takes_last g (entries_taken h) e) (has_stopped g h) call.count call.taken (taken_since (e ∷ h)) (unwrap_or (last_told opened_by h) 0)
             (so_far.1 ∙ ap (λ n. cond (has_stopped g h) n (unwrap_or (last_told opened_by h) 0)) (sym so_far.0)) left more
             ∙ ap₂ (λ b o. cond b (taken_since (e ∷ h)) (unwrap_or o 0)) (sym stops) (sym last),
       );
     }
 
 submission_direct : (g : Setup) (h : History) (w : World) (s : Step) (a : Answer) (v : World)
-    → SubmissionMove g w s a v → IsSoundSubmission g.sq w.submission → DirectSubmission g h w
+    → SubmissionMove g w s a v → IsSoundSubmission g.sq w.submission
+    → entries_taken h ≡ taken_entries w.submission → DirectSubmission g h w
     → DirectSubmission g ((s, a) ∷ h) v
-submission_direct g h w s a v (stays _ _ r c is_closed off left) sound i =
+submission_direct g h w s a v (stays _ _ r c is_closed off left) sound entries i =
     let f = none_called g h w (s, a) off.opens_none off.opens off.closes off.takes i in
     record {
       content = λ slot. i.content slot ∙ sym (ap (λ o. unwrap_or (option_or o (last_told (filled_by slot) h)) zero_entry) (off.fills slot));
@@ -151,27 +163,27 @@ submission_direct g h w s a v (stays _ _ r c is_closed off left) sound i =
       seen = i.seen ∙ ap taken_count (sym (before_same is_load_head (s, a) h off.loads_head));
       opened = f.opened;
     }
-submission_direct g h w s a v (fills slot entry) sound i =
+submission_direct g h w s a v (fills slot entry) sound entries i =
     let f = none_called g h w (s, a) refl refl refl refl i in
     let content : (asked : ℕ) → (if asked == slot then entry else w.submission.content asked) ≡ slot_content ((step.Fill slot entry, answer.Filled) ∷ h) asked =
     λ asked. ap (λ o. if asked == slot then entry else o) (i.content asked) ∙ sym (fill_tells (asked == slot) entry (last_told (filled_by asked) h)) in
     assumption (content, f, i)
-submission_direct g h w s a v (stages word room) sound i =
+submission_direct g h w s a v (stages word room) sound entries i =
     let f = none_called g h w (s, a) refl refl refl refl i in
     let staged = sym (append_assoc (published_words h) w.submission.fresh (word ∷ [])) ∙ ap (λ xs. xs ++ word ∷ []) i.staged in
     assumption (staged, f, i)
-submission_direct g h w s a v (stores tail) sound i =
+submission_direct g h w s a v (stores tail) sound entries i =
     let f = none_called g h w (s, a) refl refl refl refl i in
     let published =
     map-append (λ p. p.word) w.submission.published (map (place_of g.sq w.submission.content) w.submission.fresh)
     ∙ ap₂ (λ xs ys. xs ++ ys) i.published (words_of_places g.sq w.submission.content w.submission.fresh) ∙ i.staged in
     let staged = append-nil (staged_words h) in
     assumption (published, staged, f, i)
-submission_direct g h w s a v (loads head) sound i =
+submission_direct g h w s a v (loads head) sound entries i =
     let f = none_called g h w (s, a) refl refl refl refl i in
     let seen = ap sum i.calls in
     assumption (seen, f, i)
-submission_direct g h w s a v (begins count is_open no_call unspent) sound i =
+submission_direct g h w s a v (begins count is_open no_call unspent) sound entries i =
     record {
       content = i.content;
       published = i.published;
@@ -184,13 +196,22 @@ submission_direct g h w s a v (begins count is_open no_call unspent) sound i =
       seen = i.seen;
       opened = (refl, refl);
     }
-submission_direct g h w s a v (takes entry call place opened left at valid) sound i =
+submission_direct g h w s a v (takes entry call place opened left at valid) sound entries i =
+    let f = position_taken g h w (s, a) call opened left refl refl refl refl i in
+    record {
+      content = i.content;
+      published = i.published;
+      staged = i.staged;
+      calls = f.calls;
+      closed = f.closed;
+      openings = f.openings;
+      seen = i.seen;
+      opened = (f.opened.0, subst (λ xs. (if stops_behind g (some_skips xs || asks_to_skip entry) entry then call.taken + 1 else call.count) ≡ open_count g ((s, a) ∷ h)) entries f.opened.1);
+    }
+submission_direct g h w s a v (drops call place opened left at invalid) sound entries i =
     let f = position_taken g h w (s, a) call opened left refl refl refl refl i in
     assumption (f, i)
-submission_direct g h w s a v (drops call place opened left at invalid) sound i =
-    let f = position_taken g h w (s, a) call opened left refl refl refl refl i in
-    assumption (f, i)
-submission_direct g h w s a v (closes accepted missed head call opened all counted) sound i =
+submission_direct g h w s a v (closes accepted missed head call opened all counted) sound entries i =
     let longer = length_push w.submission.calls call.count in
     let so_far : (call.taken ≡ taken_since h) × (call.count ≡ open_count g h) = subst (IsOpened g h) opened i.opened in
     let within : call.taken ≤ call.count = subst (λ o. open_taken o ≤ positions_open o) opened sound.within_call in
@@ -221,7 +242,7 @@ direct_submission g [] lawful = record {
   opened = tt;
 }
 direct_submission g ((s, a) ∷ before) lawful =
-    submission_direct g before (world g before) s a _ (submission_move g s a before lawful) (sound_of g before lawful.1).submission (direct_submission g before lawful.1)
+    submission_direct g before (world g before) s a _ (submission_move g s a before lawful) (sound_of g before lawful.1).submission (takes_places g before lawful.1).entries (direct_submission g before lawful.1)
 
 -- the call that is open
 pub call_direct : (g : Setup) (h : History) (w : World) → DirectSubmission g h w

@@ -10,10 +10,11 @@ use Rattle.uring_entry.proofs.RequestLemmas.{is_joined_no, is_joined_yes, entry_
 use Rattle.uring_entry.proofs.GroupEvents.{is_last_cut, is_last_cut_last}
 use Rattle.uring_linux.specs.declared.deferred.Deferred.{Deferred}
 use Rattle.uring_linux.specs.Drains.{Drains, is_in_some, is_none, still_deferred, deferred_with, with_deferred, with_ring}
-use Rattle.uring_linux.specs.LinuxRequests.{LinuxRequests, has_fault, is_in_faulty_group, is_deferred, is_alone, is_faulty_from, after_going_on, with_group, with_last_entry, with_accepted, with_cut, with_ended}
+use Rattle.uring_linux.specs.LinuxRequests.{LinuxRequests, has_fault, is_let_in, is_granted_drain, is_in_faulty_group, is_deferred, is_alone, is_faulty_from, after_going_on, with_group, with_last_entry, with_accepted, with_cut, with_ended}
 use Rattle.uring_linux.specs.Happenings.{Happening, Call, Start, End, with_entries, made_by, MayHaveHappened}
 use Rattle.uring_linux.proofs.WindowEvents.{last_accepted, last_kept}
 use Rattle.uring_linux.proofs.Deferring.{not_alone}
+use Rattle.uring_linux.proofs.Standings.{fine_let_in}
 use Rattle.uring_linux.proofs.Reaching.{IsSettled, accepted_settled, all_between}
 use Rattle.uring_laws.proofs.LinuxGroups.{IsTold, AreTold, told_higher, told_push, told_still, pushed_new, pushed_old, gone_calm, left_calm}
 use Rattle.uring_laws.proofs.LinuxKept.{HasDrain, Waits, KeepsGroups, accepted_keeps, cut_keeps, started_keeps, ended_keeps, WaitForNone, RingDrains, IsDrained, more_waits, more_ring, more_told}
@@ -212,22 +213,22 @@ accepted_drained l e s i = go (is_linked e) refl where
   ring : RingDrains r d
   ring off = more_ring l.requests r l.drains keeps i (or_parts l.drains.ring _ off).0
 
-  drain_if : (drain fault : Bool) → (drain && not fault) ≡ false → fault ≡ false → drain ≡ false
-  drain_if drain false e f = and_true drain e where
+  drain_if : (drain granted : Bool) → (drain && granted) ≡ false → granted ≡ true → drain ≡ false
+  drain_if drain true e f = and_true drain e where
     and_true : (b : Bool) → (b && true) ≡ false → b ≡ false
     and_true true g = g
     and_true false g = refl
-  drain_if drain true e f = absurd (let g : true ≡ false = f in cc)
+  drain_if drain false e f = absurd (let g : false ≡ true = f in cc)
 
   group : d.group ≡ false → (k : ℕ) → d.from ≤ k → k < length r.accepted → has_fault r k ≡ false → is_drain (entry_of r k) ≡ false
   group still k le lt fine =
       let p = or_parts l.drains.group _ still in
-      let q = or_parts (is_drain (entry_of r last) && not (has_fault r last)) _ p.1 in
+      let q = or_parts (is_granted_drain r last) _ p.1 in
       elim (cases_lt k last) [
         | inl before ↦ keeps.drain k before ∙ i.group p.0 k le before (sym (keeps.fault k before) ∙ fine)
         | inr past ↦
             let same : last ≡ k = omega (arith, past, lt, more) in
-            subst (λ j. has_fault r j ≡ false → is_drain (entry_of r j) ≡ false) same (drain_if (is_drain (entry_of r last)) (has_fault r last) q.0) fine
+            subst (λ j. has_fault r j ≡ false → is_drain (entry_of r j) ≡ false) same (λ right. drain_if (is_drain (entry_of r last)) (is_let_in r last) q.0 (fine_let_in r last right)) fine
       ]
 
   on_by : (a b x : Bool) → (a ≡ false → b ≡ false) → (a || x) ≡ false → (b || x) ≡ false

@@ -56,7 +56,7 @@ change_happens g w s a (refuses _ _ same silent) so =
 change_happens g w s a (takes entry call place opened left at valid) so =
     subst (λ o. HasHappened (requests_of (taking_entry_of (by_linux g) w entry o))) (sym opened) so
 change_happens g w s a (drops call place opened left at invalid) so =
-    subst (λ o. HasHappened (requests_of (taking_of w o))) (sym opened) so
+    subst (λ o. HasHappened (requests_of (taking_of (by_linux g) w o))) (sym opened) so
 change_happens g w s a (closes accepted missed head call opened all told) so =
     subst (λ o. HasHappened (requests_of (ending_of (by_linux g) w o))) (sym opened)
     (happens_more (requests_of w) _ (Call (entries_from w.submission call.count)) so tt (whole_call true (requests_of w) (entries_from w.submission call.count)))

@@ -76,7 +76,7 @@ stays_by g w s a (refuses _ _ same silent) n below cut doomed =
 stays_by g w s a (takes entry call place opened left at valid) n below cut doomed =
     subst (λ o. is_doomed (taking_entry_of (by_linux g) w entry o).requests n ≡ true) (sym opened) doomed
 stays_by g w s a (drops call place opened left at invalid) n below cut doomed =
-    subst (λ o. is_doomed (taking_of w o).requests n ≡ true) (sym opened) doomed
+    subst (λ o. is_doomed (taking_of (by_linux g) w o).requests n ≡ true) (sym opened) doomed
 stays_by g w s a (closes accepted missed head call opened all told) n below cut doomed =
     subst (λ o. is_doomed (ending_of (by_linux g) w o).requests n ≡ true) (sym opened) (doom_called w.requests (entries_of (places_from w.submission call.count)) cut n below ∙ doomed)
 stays_by g w s a (runs m outstanding idle spared ready no_cancel) n below cut doomed =
@@ -266,7 +266,7 @@ none_by g w s a (refuses _ _ same silent) = ap (λ (v : World). v.requests.cance
 none_by g w s a (takes entry call place opened left at valid) =
     ap (λ o. (taking_entry_of (by_linux g) w entry o).requests.cancelled) opened
 none_by g w s a (drops call place opened left at invalid) =
-    ap (λ o. (taking_of w o).requests.cancelled) opened
+    ap (λ o. (taking_of (by_linux g) w o).requests.cancelled) opened
 none_by g w s a (closes accepted missed head call opened all told) =
     ap (λ o. (ending_of (by_linux g) w o).requests.cancelled) opened
 none_by g w s a _ = refl

@@ -25,8 +25,9 @@ use Rattle.uring_core.specs.declared.answer.Answer.TheVariants as answer
 use Rattle.uring_core.proofs.SubmissionMoves.{SubmissionMove, stays, stores, closes, submission_move}
 use Rattle.uring_laws.proofs.ReadOff.{own_submission}
 use Rattle.uring_core.proofs.Sound.{sound_of}
-use Rattle.uring_core.proofs.SoundRings.{open_taken, open_count}
-use Rattle.uring_laws.proofs.TakenPlaces.{reached, takes_places}
+use Rattle.uring_core.proofs.SoundRings.{open_count}
+use Rattle.uring_core.specs.Stops.{open_taken, reached}
+use Rattle.uring_laws.proofs.TakenPlaces.{takes_places}
 use Rattle.uring_laws.proofs.Telling.{count_more, count_same, before_same}
 use Rattle.uring_rings.proofs.Places.{entries_and_dropped}
 

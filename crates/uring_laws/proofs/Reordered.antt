@@ -1,8 +1,8 @@
--- Histories of one class, by the manual pages' rules: `reordered_alike`, by one pair of events after the other.
+-- Histories of one class: `reordered_alike`, by one pair of events after the other.
 use Rattle.std.proofs.Common.{◌∙◌, ◌∷◌, ◌++◌, refl}
 use Rattle.uring_entry.specs.Setup.{Setup}
 use Rattle.uring_core.specs.World.{World}
-use Rattle.uring_core.specs.Histories.{world, by_manual}
+use Rattle.uring_core.specs.Histories.{world}
 use Rattle.uring_laws.specs.Swaps.{AreAlike, unchanged, swapped, ReorderedAlike}
 use Rattle.uring_laws.proofs.Alike.{change_anywhere}
 use Rattle.uring_laws.proofs.Swapping.{alike_same}
@@ -24,13 +24,13 @@ through g u v w a b = record {
   files = a.files ∙ b.files;
 }
 
-pub reordered_alike : (g : Setup) → ReorderedAlike (by_manual g)
+pub reordered_alike : (g : Setup) → ReorderedAlike g
 reordered_alike g h k (unchanged _) lawful =
-    record { lawful = lawful; alike = alike_same (by_manual g) (world (by_manual g) h) (world (by_manual g) h) refl }
+    record { lawful = lawful; alike = alike_same g (world g h) (world g h) refl }
 reordered_alike g h k (swapped rest before _ x y change later) lawful =
-    let one = change_anywhere (by_manual g) rest before x y change lawful in
+    let one = change_anywhere g rest before x y change lawful in
     let two = reordered_alike g (rest ++ (x ∷ y ∷ before)) k later one.lawful in
     record {
       lawful = two.lawful;
-      alike = through (by_manual g) (world (by_manual g) (rest ++ (y ∷ x ∷ before))) (world (by_manual g) (rest ++ (x ∷ y ∷ before))) (world (by_manual g) k) one.alike two.alike;
+      alike = through g (world g (rest ++ (y ∷ x ∷ before))) (world g (rest ++ (x ∷ y ∷ before))) (world g k) one.alike two.alike;
     }

@@ -44,9 +44,10 @@ taken_sub : (g : Setup) (w : World) (entry : Sqe) (o : Option Call)
 taken_sub g w entry None = refl
 taken_sub g w entry (Some call) = refl
 
-dropped_sub : (w : World) (o : Option Call) → taking_of w o ≡ submitted w (taking_of w o).submission
-dropped_sub w None = refl
-dropped_sub w (Some call) = refl
+dropped_sub : (g : Setup) (w : World) (o : Option Call)
+    → taking_of g w o ≡ submitted w (taking_of g w o).submission
+dropped_sub g w None = refl
+dropped_sub g w (Some call) = refl
 
 sub_alone : (g : Setup) (w : World) (s : Step) (a : Answer) → Change g w s a → IsOnSubmission s
     → happens g w s a ≡ submitted w (happens g w s a).submission
@@ -54,7 +55,8 @@ sub_alone g w s a (refuses _ _ same silent) on =
     same w ∙ ap (λ (v : World). submitted w v.submission) (sym (same w))
 sub_alone g w s a (takes entry call place opened left at valid) on =
     taken_sub g w entry w.submission.call
-sub_alone g w s a (drops call place opened left at invalid) on = dropped_sub w w.submission.call
+sub_alone g w s a (drops call place opened left at invalid) on =
+    dropped_sub g w w.submission.call
 sub_alone g w s a (closes accepted missed head call opened all told) on = absurd on
 sub_alone g w s a (runs n outstanding idle spared ready no_cancel) on = absurd on
 sub_alone g w s a (dooms n outstanding idle doomed) on = absurd on
@@ -72,10 +74,10 @@ taken_with : (g : Setup) (w : World) (x : Rest) (entry : Sqe) (o : Option Call)
 taken_with g w x entry None = refl
 taken_with g w x entry (Some call) = refl
 
-dropped_with : (w : World) (x : Rest) (o : Option Call)
-    → taking_of (with_rest w x) o ≡ with_rest (taking_of w o) x
-dropped_with w x None = refl
-dropped_with w x (Some call) = refl
+dropped_with : (g : Setup) (w : World) (x : Rest) (o : Option Call)
+    → taking_of g (with_rest w x) o ≡ with_rest (taking_of g w o) x
+dropped_with g w x None = refl
+dropped_with g w x (Some call) = refl
 
 -- whatever the rest is
 sub_with : (g : Setup) (w : World) (x : Rest) (s : Step) (a : Answer) → Change g w s a → IsOnSubmission s
@@ -85,7 +87,7 @@ sub_with g w x s a (refuses _ _ same silent) on =
 sub_with g w x s a (takes entry call place opened left at valid) on =
     taken_with g w x entry w.submission.call
 sub_with g w x s a (drops call place opened left at invalid) on =
-    dropped_with w x w.submission.call
+    dropped_with g w x w.submission.call
 sub_with g w x s a (closes accepted missed head call opened all told) on = absurd on
 sub_with g w x s a (runs n outstanding idle spared ready no_cancel) on = absurd on
 sub_with g w x s a (dooms n outstanding idle doomed) on = absurd on

@@ -20,6 +20,7 @@ use Rattle.uring_laws.specs.Standing.{Stands, FreeSlotIsFilled, WordIsStaged, Ta
 use Rattle.uring_core.specs.declared.step.Step.TheVariants as step
 use Rattle.uring_core.specs.declared.answer.Answer.{Answer}
 use Rattle.uring_core.specs.declared.answer.Answer.TheVariants as answer
+use Rattle.uring_core.proofs.NoStops.{goes_on, word_goes_on}
 
 -- Filling and staging.
 
@@ -145,9 +146,10 @@ call_opens g w count asked a s is_open few called =
 took_place : (g : Setup) (w : World) (count done : ℕ) (entry : Option Sqe) (a : Answer)
     → g.stops ≡ false → a ≡ entry_answer entry
     → taking g (in_call w count done) a ≡ in_call w count (done + 1)
-took_place g w count done None a goes is = ap (taking g (in_call w count done)) is
+took_place g w count done None a goes is =
+    ap (taking g (in_call w count done)) is ∙ ap (λ b. in_call w (if b then done + 1 else count) (done + 1)) (word_goes_on g goes)
 took_place g w count done (Some entry) a goes is =
-    ap (taking g (in_call w count done)) is ∙ ap (λ b. in_call w (if b && is_faulty entry then done + 1 else count) (done + 1)) goes
+    ap (taking g (in_call w count done)) is ∙ ap (λ b. in_call w (if b then done + 1 else count) (done + 1)) (goes_on g _ entry goes)
 
 pub position_taken : (g : Setup) → PositionIsTaken g
 position_taken g goes w count asked done a s few low called =

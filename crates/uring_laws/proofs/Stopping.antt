@@ -18,7 +18,9 @@ use Rattle.uring_core.specs.declared.step.Step.TheVariants as step
 use Rattle.uring_core.specs.declared.answer.Answer.{Answer}
 use Rattle.uring_core.specs.declared.answer.Answer.TheVariants as answer
 use Rattle.uring_core.proofs.SubmissionMoves.{SubmissionMove, stays, begins, takes, drops, closes, submission_move}
-use Rattle.uring_core.proofs.SoundRings.{open_taken, open_count as positions_open}
+use Rattle.uring_core.proofs.SoundRings.{open_count as positions_open}
+use Rattle.uring_core.specs.Stops.{open_taken}
+use Rattle.uring_core.proofs.NoStops.{goes_on, word_goes_on}
 use Rattle.uring_core.proofs.Sound.{sound_of}
 use Rattle.uring_laws.proofs.DirectSubmission.{IsOpened, direct_submission}
 use Rattle.uring_laws.proofs.Telling.{count_more, count_same, told_same}
@@ -126,13 +128,13 @@ all_kept g h s a v goes (begins count is_open no_call unspent) i =
 all_kept g h s a v goes (takes entry call place opened left at valid) i =
     let l = (world g h).submission in
     record {
-      opened = i.opened ∙ ap (λ o. l.calls ++ open_counts o) opened ∙ ap (λ b. l.calls ++ (if b && is_faulty entry then call.taken + 1 else call.count) ∷ []) (sym goes);
+      opened = i.opened ∙ ap (λ o. l.calls ++ open_counts o) opened ∙ ap (λ b. l.calls ++ (if b then call.taken + 1 else call.count) ∷ []) (sym (goes_on g _ entry goes));
       closed = count_same closes_call (step.Take, answer.Entry entry) h refl ∙ i.closed;
     }
 all_kept g h s a v goes (drops call place opened left at invalid) i =
     let l = (world g h).submission in
     record {
-      opened = i.opened ∙ ap (λ o. l.calls ++ open_counts o) opened;
+      opened = i.opened ∙ ap (λ o. l.calls ++ open_counts o) opened ∙ ap (λ b. l.calls ++ (if b then call.taken + 1 else call.count) ∷ []) (sym (word_goes_on g goes));
       closed = count_same closes_call (step.Take, answer.Dropped) h refl ∙ i.closed;
     }
 all_kept g h s a v goes (closes accepted missed head call opened all counted) i =

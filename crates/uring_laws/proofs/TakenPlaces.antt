@@ -9,6 +9,7 @@ use Rattle.std.proofs.lemmas.Option.{slice_get_within, get_or_from_slice_get}
 use Rattle.uring_entry.specs.Setup.{Setup, IsWithinLimits}
 use Rattle.uring_entry.specs.Layout.{Sqe}
 use Rattle.uring_entry.specs.Submission.{Submission, Call, Place, taken, entries_of, place_of, call_length}
+use Rattle.uring_core.specs.Stops.{open_taken, reached}
 use Rattle.uring_core.specs.World.{World, happens, taking_of, taking_entry_of, ending_of}
 use Rattle.uring_core.specs.Histories.{History, world, IsLawfulApart}
 use Rattle.uring_core.specs.Events.{takes_position, entry_taken_by}
@@ -19,27 +20,15 @@ use Rattle.uring_core.specs.declared.step.Step.TheVariants as step
 use Rattle.uring_core.specs.declared.answer.Answer.{Answer}
 use Rattle.uring_core.specs.declared.answer.Answer.TheVariants as answer
 use Rattle.uring_core.proofs.SubmissionMoves.{SubmissionMove, stays, stores, begins, takes, drops, closes, submission_move}
-use Rattle.uring_core.proofs.SoundRings.{IsSoundSubmission, open_taken, open_count}
+use Rattle.uring_core.proofs.SoundRings.{IsSoundSubmission, open_count}
 use Rattle.uring_core.proofs.Sound.{sound_of}
+use Rattle.uring_core.proofs.TakenEntries.{one_further}
 use Rattle.uring_laws.proofs.Telling.{count_more, count_same, told_same}
-
--- the positions taken, by calls that closed and by the open one
-abbrev pub reached : Submission → ℕ
-reached l = taken l + open_taken l.call
 
 -- as many positions were taken as the lists say, and the entries are those that they have
 pub record TakesPlaces (h : History) (w : World) : Type 0 where
   pub count : positions_taken h ≡ reached w.submission
   pub entries : entries_taken h ≡ entries_of (take (reached w.submission) w.submission.published)
-
--- a beginning that goes one place further
-one_further : (places : List Place) (k : ℕ) (place : Place) (entry : Option Sqe)
-    → slice_get places k ≡ Some place → place.entry ≡ entry
-    → entries_of (take (k + 1) places) ≡ entries_of (take k places) ++ cons_option entry []
-one_further places k place entry at is =
-    ap entries_of (take_more places k place (slice_get_within places k place at)) ∙ filter_map-append (λ p. p.entry) (take k places) (get_or places k place ∷ [])
-    ∙ ap (λ p. entries_of (take k places) ++ cons_option p.entry []) (get_or_from_slice_get places k place place at)
-    ∙ ap (λ o. entries_of (take k places) ++ cons_option o []) is
 
 took_valid : (g : Setup) (h : History) (w : World) (entry : Sqe) (call : Call) (place : Place)
     → w.submission.call ≡ Some call
@@ -56,12 +45,12 @@ took_valid g h w entry call place opened at valid i =
       entries = ap (λ xs. xs ++ entry ∷ []) (i.entries ∙ ap (λ k. entries_of (take k w.submission.published)) here) ∙ sym (one_further w.submission.published (taken w.submission + call.taken) place (Some entry) at valid) ∙ ap (λ k. entries_of (take k w.submission.published)) (omega arith);
     }
 
-took_invalid : (h : History) (w : World) (call : Call) (place : Place)
+took_invalid : (g : Setup) (h : History) (w : World) (call : Call) (place : Place)
     → w.submission.call ≡ Some call
     → slice_get w.submission.published (taken w.submission + call.taken) ≡ Some place
     → place.entry ≡ None
-    → TakesPlaces h w → TakesPlaces ((step.Take, answer.Dropped) ∷ h) (taking_of w (Some call))
-took_invalid h w call place opened at invalid i =
+    → TakesPlaces h w → TakesPlaces ((step.Take, answer.Dropped) ∷ h) (taking_of g w (Some call))
+took_invalid g h w call place opened at invalid i =
     let t : open_taken w.submission.call ≡ call.taken = ap open_taken opened in
     let here : reached w.submission ≡ taken w.submission + call.taken = omega arith in
     record {
@@ -116,7 +105,7 @@ places_kept g h w s a v (begins count is_open no_call unspent) sound i =
 places_kept g h w s a v (takes entry call place opened left at valid) sound i =
     took_valid g h w entry call place opened at valid i
 places_kept g h w s a v (drops call place opened left at invalid) sound i =
-    took_invalid h w call place opened at invalid i
+    took_invalid g h w call place opened at invalid i
 places_kept g h w s a v (closes accepted missed head call opened all counted) sound i =
     closed_places g h w accepted missed head call opened all sound i
 places_kept g h w s a v _ sound i = record {

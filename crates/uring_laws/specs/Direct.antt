@@ -1,5 +1,5 @@
 -- Lists and counts read straight off a history: what its events tell, and which of them stand before which.
-use Rattle.std.specs.Prelude.{ℕ, ◌+◌, Bool, not, ◌&&◌, ◌==◌, nat_lt, List, [], ◌∷◌, ◌++◌, length, sum, count_by, Option, Some, None, unwrap_or, if◌then◌else◌, slice_index_or}
+use Rattle.std.specs.Prelude.{ℕ, ◌+◌, Bool, false, not, ◌&&◌, ◌||◌, ◌==◌, nat_lt, List, [], ◌∷◌, ◌++◌, length, sum, count_by, Option, Some, None, unwrap_or, if◌then◌else◌, slice_index_or}
 use Rattle.std.specs.List.{list_any, filter_map}
 use Rattle.std.specs.Option.{option_or}
 use Rattle.uring_entry.specs.Layout.{Sqe, Cqe, zero_entry}
@@ -105,9 +105,16 @@ taken_count h = sum (call_counts h)
 abbrev pub loaded_head : History → ℕ
 loaded_head h = taken_count (before_last is_load_head h)
 
--- whether the call that was opened last stopped: it took an entry behind which it stops
+-- the entries that calls took, in order
+abbrev pub entries_taken : History → List Sqe
+entries_taken h = told entry_taken_by h
+
+-- whether the call that was opened last stopped: it took a position behind which it stops
 abbrev pub has_stopped : Setup → History → Bool
-has_stopped g h = list_any (takes_last g) (since_last opens_call h)
+has_stopped g [] = false
+has_stopped g (event ∷ before) =
+    if opens_call event then false else
+    (takes_last g (entries_taken before) event || has_stopped g before)
 
 -- how many positions the call takes that was opened last: those that it opened with, or those that it took, if it stopped
 abbrev pub open_count : Setup → History → ℕ
@@ -128,10 +135,7 @@ sums_from before (x ∷ xs) = (before + x) ∷ sums_from (before + x) xs
 abbrev pub cut_counts : History → List ℕ
 cut_counts h = sums_from 0 (told accepted_by h)
 
--- the entries that calls took, in order, and how many positions they took
-abbrev pub entries_taken : History → List Sqe
-entries_taken h = told entry_taken_by h
-
+-- how many positions calls took
 abbrev pub positions_taken : History → ℕ
 positions_taken h = count_by takes_position h
 

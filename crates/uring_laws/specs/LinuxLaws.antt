@@ -1,4 +1,4 @@
--- What holds of every lawful history of a ring that keeps requests by Linux's rules. What these are is told in docs/PROTOCOL.md, under the words "Linux 6.18".
+-- What holds of every lawful history of a ring that keeps requests by Linux's rules. docs/PROTOCOL.md tells these, in the section By Linux's rules.
 use Rattle.std.specs.Prelude.{◌≡◌, ℕ, ◌<◌, neg_ℤ, Bool, true, false, not, ◌&&◌, ◌||◌, List, [], ◌∷◌, ◌++◌, length, Some, slice_get, ◌⊎◌}
 use Rattle.uring_entry.specs.Setup.{Setup}
 use Rattle.uring_entry.specs.Requests.{Requests, Ending, is_joined, is_draining, is_outstanding, is_running}
@@ -14,7 +14,7 @@ use Rattle.uring_core.specs.declared.answer.Answer.TheVariants as answer
 use Rattle.uring_laws.specs.Direct.{ends}
 use Rattle.uring_laws.specs.Laws.{times_started, times_ended}
 
--- A doomed request was never started, and each end of it has the result of the doomed: EINVAL if its entry has a fault, EOPNOTSUPP if it is a drain that the ring refuses, else ECANCELED.
+-- A doomed request was never started, and each end of it has the result of the doomed: EOPNOTSUPP if it is a drain that the ring refuses, EINVAL if its entry has another fault, else ECANCELED.
 pub record DoomedNeverRun (g : Setup) (h : History) : Type 0 where
   pub never_run : (n : ℕ) → is_doomed (world g h).requests n ≡ true → times_started h n ≡ 0
   pub ends_so : (k : ℕ) (e : Ending) → slice_get (ends h) k ≡ Some e

@@ -22,12 +22,12 @@ pub fn deferred_dont_start()
     ensures { (g : Setup) → g.linux ≡ true → IsWithinLimits g → DeferredDontStart g }
 {}
 
-/// What starts has waited for all that links and drains put before it: each earlier member of its group, everything before a group that drains, and each group before it that drains and has no fault. All of these have ended, once.
+/// What starts has waited for what links and drains put before it: each earlier member of its group, everything before a group that drains, and each group before it that drains and has no fault. All of these have ended, once.
 pub fn drains_hold()
     ensures { (g : Setup) → g.linux ≡ true → IsWithinLimits g → DrainsHold g }
 {}
 
-/// With something outstanding, not all of it is deferred, and the least outstanding request that isn't is running, or else `Issue` doesn't refuse it: nothing waits for ever.
+/// With something outstanding, not all of it is deferred, and the least outstanding request that isn't is running, or else `Issue` doesn't refuse it.
 pub fn least_free_goes_on()
     ensures { (g : Setup) → g.linux ≡ true → IsWithinLimits g → LeastFreeGoesOn g }
 {}

@@ -1,14 +1,13 @@
 -- What the dispatcher shows behind each event.
 use Rattle.std.proofs.Common.{◌≡◌, ℕ, ◌+◌, length, Bool, true, false, not, ◌&&◌, ◌||◌, ◌==◌, [], ◌∷◌, ◌++◌, refl, sym, ◌∙◌, ap, subst, arith, length-append}
 use Rattle.uring_entry.specs.Layout.{Sqe}
-use Rattle.uring_entry.specs.Preparation.{is_faulty}
 use Rattle.uring_entry.specs.Requests as manual
 use Rattle.uring_entry.specs.Requests.{Requests, entry_of, is_linked, is_drain}
 use Rattle.uring_entry.specs.Below.{some_below}
 use Rattle.uring_linux.specs.declared.request.Request.{Request}
 use Rattle.uring_linux.specs.Drains.{Drains, no_drains, with_entry}
 use Rattle.uring_linux.specs.KeptDrains.{KeptDrains, accepted_drains, cut_drains, with_request}
-use Rattle.uring_linux.specs.LinuxRequests.{LinuxRequests, is_skipping, has_fault, no_request, with_last_entry, with_accepted, with_cut}
+use Rattle.uring_linux.specs.LinuxRequests.{LinuxRequests, is_past, asks_to_skip, is_let_in, no_request, with_last_entry, with_accepted, with_cut}
 use Rattle.uring_linux.specs.Window.{Window, new_request, end_of, Tells, Shows}
 use Rattle.uring_linux.specs.LinuxDispatch.{dispatch_of, ShowsRequests}
 use Rattle.uring_linux.proofs.WindowCounts.{unended_shown, running_shown}
@@ -26,13 +25,13 @@ dispatch_new s d es ed =
 taken : (q : Request) (d e : Drains) (first second : Bool) (r : Requests) (n : ℕ) → Tells q r n → d ≡ e
     → first ≡ second → second ≡ (e.from == n) → with_request d first q ≡ with_last_entry r n e
 taken q d e first second r n t same is at =
-    let fault = ap (λ x. x || q.is_refused) t.faulty ∙ ap (λ x. is_faulty (entry_of r n) || x) t.refused in
+    let admits : (is_past q.entry && not q.is_refused) ≡ is_let_in r n = ap (λ x. is_past x && not q.is_refused) t.entry ∙ ap (λ x. is_past (entry_of r n) && not x) t.refused in
     ap (λ (x : Drains). with_request x first q) same ∙ ap (λ x. with_request e x q) (is ∙ at)
-    ∙ ap (λ x. with_entry e (e.from == n) (not x) (is_drain q.entry && not x)) fault
-    ∙ ap (λ x. with_entry e (e.from == n) (not (has_fault r n)) (is_drain x && not (has_fault r n))) t.entry
+    ∙ ap (λ x. with_entry e (e.from == n) x (is_drain q.entry && x)) admits
+    ∙ ap (λ x. with_entry e (e.from == n) (is_let_in r n) (is_drain x && is_let_in r n)) t.entry
 
 pub dispatch_accepted : (s t : Window) (d k : KeptDrains) (b c : Bool) (room left : ℕ) (between amid : Bool) (e : Sqe) (q : Request) (l : LinuxRequests) (first : Bool)
-    → ShowsRequests (dispatch_of s d b room between) l → c ≡ (b || is_skipping e) → q ≡ new_request e c
+    → ShowsRequests (dispatch_of s d b room between) l → c ≡ (b || asks_to_skip e) → q ≡ new_request e c
     → t.first ≡ s.first → t.items ≡ s.items ++ q ∷ [] → first ≡ (d.drains.from == end_of s)
     → ((r : Requests) → Shows t r → k.drains ≡ accepted_drains r (is_linked q.entry) (with_request d.drains first q))
     → ShowsRequests (dispatch_of t k c left amid) (with_accepted l e)
@@ -55,7 +54,7 @@ dispatch_accepted s t d k b c room left between amid e q l first h ec eq ef ei i
             ∙ ap (accepted_drains (manual.with_accepted r e) (is_linked e))
             (taken q d.drains l.drains first (d.drains.from == end_of s) (manual.with_accepted r e) n tells h.held.drains is
             (ap (λ (x : Drains). x.from == end_of s) h.held.drains ∙ ap (λ x. l.drains.from == x) h.held.window.count));
-        skipped = skip ∙ ap (some_below (λ m. is_skipping (entry_of (manual.with_accepted r e) m))) more;
+        skipped = skip ∙ ap (some_below (λ m. asks_to_skip (entry_of (manual.with_accepted r e) m))) more;
       };
     }
 

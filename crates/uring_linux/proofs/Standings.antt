@@ -2,7 +2,8 @@
 use Rattle.std.proofs.Common.{◌≡◌, ℕ, suc, ◌+◌, ◌<◌, ℤ, pos, length, Bool, true, false, not, ◌&&◌, ◌||◌, leb, Option, Some, None, is_some, refl, sym, ◌∙◌, ap, subst, arith, inl, inr, List, set, ◌-◌}
 use Rattle.std.specs.Prelude.{if◌then◌else◌, neg_ℤ}
 use Rattle.std.proofs.lemmas.Bool.{cases_lt, cases_Bool, and_left, and_right, and_from, and_parts, or_parts, or_left, both_ways, lt-ltb, le-ltb, le-leb, lt-leb, not-true}
-use Rattle.uring_entry.specs.Preparation.{is_faulty, is_cancel, is_cancel_all, operation_of}
+use Rattle.uring_entry.specs.Preparation.{fault_of, is_faulty, is_cancel, is_cancel_all, operation_of}
+use Rattle.uring_entry.specs.declared.fault.Fault.{Fault}
 use Rattle.uring_entry.specs.Success as success
 use Rattle.uring_entry.specs.Below.{least_below, count_below}
 use Rattle.uring_entry.specs.Groups.{first_member}
@@ -18,7 +19,7 @@ use Rattle.uring_linux.specs.declared.answers.Issued.{Issued}
 use Rattle.uring_linux.specs.declared.answers.Issued.TheVariants.{Run, Ended, NotReady, Running, Unknown}
 use Rattle.uring_linux.specs.KeptDrains.{KeptDrains}
 use Rattle.uring_linux.specs.Drains.{Drains}
-use Rattle.uring_linux.specs.LinuxRequests.{LinuxRequests, has_fault, is_in_faulty_group, is_in_turn, is_doomed, is_deferred, is_issuable, found_by, cancel_result, doomed_result, after_going_on, with_started, with_ended}
+use Rattle.uring_linux.specs.LinuxRequests.{LinuxRequests, comes_past, is_let_in, has_fault, is_in_faulty_group, is_in_turn, is_doomed, is_deferred, is_issuable, found_by, cancel_result, doomed_result, after_going_on, with_started, with_ended}
 use Rattle.uring_linux.specs.Laws.{is_refusal}
 use Rattle.uring_linux.specs.Issues.{issued, issued_ready, ended_with, after_end}
 use Rattle.uring_linux.specs.Window.{Window, at, end_of, Tells, Shows}
@@ -74,6 +75,16 @@ running_outstanding s r n h e =
       | inl low ↦ and_from _ _ (lt-ltb n (length r.accepted) low) parts.1
       | inr past ↦ absurd (both_ways _ (h.later n past).started parts.0)
     ]
+
+-- what has no fault is let in
+pub fine_let_in : (r : Requests) (n : ℕ) → has_fault r n ≡ false → is_let_in r n ≡ true
+fine_let_in r n e =
+    let parts = or_parts _ _ e in
+    and_from _ _ (past (fault_of (entry_of r n)) parts.0) (ap not parts.1)
+  where
+    past : (fault : Option Fault) → is_some fault ≡ false → comes_past fault ≡ true
+    past None none = refl
+    past (Some fault) none = absurd (let g : true ≡ false = none in cc)
 
 -- who is not in a group with a fault has none
 pub healthy : (r : Requests) (n : ℕ) → n < length r.accepted → is_doomed r n ≡ false

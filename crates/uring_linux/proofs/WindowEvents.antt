@@ -8,14 +8,14 @@ use Rattle.std.proofs.Math.Seq.{get_or-append_seam}
 use Rattle.uring_entry.specs.Layout.{Sqe}
 use Rattle.uring_entry.specs.Preparation.{is_faulty}
 use Rattle.uring_entry.specs.Success.{is_success}
-use Rattle.uring_entry.specs.Requests.{Requests, no_request, entry_of, is_linked, is_drain, is_last, has_ended, with_accepted, with_cut, with_started, with_ended}
+use Rattle.uring_entry.specs.Requests.{Requests, no_request, entry_of, is_linked, is_last, has_ended, with_accepted, with_cut, with_started, with_ended}
 use Rattle.uring_entry.proofs.BelowLemmas.{some_below_same}
 use Rattle.uring_entry.specs.Below.{some_below}
 use Rattle.std.proofs.Math.Bool.{or-false}
 use Rattle.uring_entry.proofs.RequestLemmas.{get_or_push_other, entry_of_accepted_at, entry_of_accepted_other, has_failed_unended, has_failed_accepted, has_ended_other, has_ended_same, has_failed_other, has_failed_same, is_running_started_same, is_running_started_other, is_running_ended_same, is_running_ended_other, added_other}
 use Rattle.uring_entry.proofs.GroupEvents.{entry_same, is_last_cut, is_last_cut_last}
 use Rattle.uring_linux.specs.declared.request.Request.{Request}
-use Rattle.uring_linux.specs.LinuxRequests.{is_skipping, has_skipped, is_refused_drain}
+use Rattle.uring_linux.specs.LinuxRequests.{asks_to_drain, asks_to_skip, has_skipped, is_refused_drain}
 use Rattle.uring_linux.specs.Window.{Window, new_request, at, end_of, Tells, Shows, IsWithin, IsNew}
 use Rattle.uring_linux.proofs.WindowLemmas.{at_low, at_high}
 
@@ -98,10 +98,10 @@ at_set_other s q n k le ne =
 pub refused_accepted : (r : Requests) (e : Sqe) (k : ℕ) → k < length r.accepted
     → is_refused_drain (with_accepted r e) k ≡ is_refused_drain r k
 refused_accepted r e k lt =
-    ap (λ b. b && has_skipped (with_accepted r e) k) (entry_same r e is_drain k lt)
-    ∙ ap (λ b. is_drain (entry_of r k) && b)
-    (some_below_same (λ m. is_skipping (entry_of (with_accepted r e) m)) (λ m. is_skipping (entry_of r m)) (k + 1)
-    (λ m low. entry_same r e is_skipping m (omega arith)))
+    ap (λ b. b && has_skipped (with_accepted r e) k) (entry_same r e asks_to_drain k lt)
+    ∙ ap (λ b. asks_to_drain (entry_of r k) && b)
+    (some_below_same (λ m. asks_to_skip (entry_of (with_accepted r e) m)) (λ m. asks_to_skip (entry_of r m)) (k + 1)
+    (λ m low. entry_same r e asks_to_skip m (omega arith)))
 
 pub last_accepted : (r : Requests) (e : Sqe) (k : ℕ) → k < length r.accepted
     → is_last (with_accepted r e) k ≡ is_last r k
@@ -342,16 +342,16 @@ pushed_shows s t q r e first items h tells =
 
 -- whether skipped success was asked for, behind one more entry
 pub skipped_accepted : (r : Requests) (e : Sqe) (b : Bool)
-    → b ≡ some_below (λ m. is_skipping (entry_of r m)) (length r.accepted)
-    → (b || is_skipping e) ≡ some_below (λ m. is_skipping (entry_of (with_accepted r e) m)) (length r.accepted + 1)
+    → b ≡ some_below (λ m. asks_to_skip (entry_of r m)) (length r.accepted)
+    → (b || asks_to_skip e) ≡ some_below (λ m. asks_to_skip (entry_of (with_accepted r e) m)) (length r.accepted + 1)
 skipped_accepted r e b is =
     let more : suc (length r.accepted) ≡ length r.accepted + 1 = omega arith in
-    ap (λ c. c || is_skipping e) is
-    ∙ ap (λ c. c || is_skipping e)
-    (some_below_same (λ m. is_skipping (entry_of r m)) (λ m. is_skipping (entry_of (with_accepted r e) m)) (length r.accepted)
-    (λ m low. sym (entry_same r e is_skipping m low)))
-    ∙ ap (λ x. some_below (λ m. is_skipping (entry_of (with_accepted r e) m)) (length r.accepted) || is_skipping x) (sym (entry_of_accepted_at r e))
-    ∙ ap (some_below (λ m. is_skipping (entry_of (with_accepted r e) m))) more
+    ap (λ c. c || asks_to_skip e) is
+    ∙ ap (λ c. c || asks_to_skip e)
+    (some_below_same (λ m. asks_to_skip (entry_of r m)) (λ m. asks_to_skip (entry_of (with_accepted r e) m)) (length r.accepted)
+    (λ m low. sym (entry_same r e asks_to_skip m low)))
+    ∙ ap (λ x. some_below (λ m. asks_to_skip (entry_of (with_accepted r e) m)) (length r.accepted) || asks_to_skip x) (sym (entry_of_accepted_at r e))
+    ∙ ap (some_below (λ m. asks_to_skip (entry_of (with_accepted r e) m))) more
 
 pub tells_new : (r : Requests) (e : Sqe) (b : Bool) → IsNew r (length r.accepted)
     → b ≡ has_skipped (with_accepted r e) (length r.accepted)
@@ -361,7 +361,7 @@ tells_new r e b new is =
     record {
       entry = here;
       faulty = ap is_faulty here;
-      refused = ap (λ x. is_drain x && b) here ∙ ap (λ c. is_drain (entry_of (with_accepted r e) (length r.accepted)) && c) is;
+      refused = ap (λ x. asks_to_drain x && b) here ∙ ap (λ c. asks_to_drain (entry_of (with_accepted r e) (length r.accepted)) && c) is;
       last =
           ap (λ x. not (is_linked x)) here
           ∙ sym (ap (λ c. not (is_linked (entry_of (with_accepted r e) (length r.accepted))) || c) new.cut ∙ or-false _);

@@ -28,21 +28,21 @@ is_among n g = nat_le g.from n && nat_lt n g.end
 abbrev pub is_in_some : List Deferred → ℕ → Bool
 is_in_some groups n = list_any (is_among n) groups
 
--- whether the next group takes the drain that is owed, with this entry: the entry is its first, and healthy
-abbrev pub takes_owed : Drains → (is_first is_healthy : Bool) → Bool
-takes_owed d is_first is_healthy = d.owed && (is_first && is_healthy)
+-- whether the next group takes the drain that is owed, with this entry: the entry is its first, and let in
+abbrev pub takes_owed : Drains → (is_first is_let_in : Bool) → Bool
+takes_owed d is_first is_let_in = d.owed && (is_first && is_let_in)
 
--- Whether a drain is owed behind an entry: what was owed and isn't taken still is, and a healthy drain that isn't the first of its group owes one.
-abbrev pub owed_behind : Drains → (is_first is_healthy is_drain : Bool) → Bool
-owed_behind d is_first is_healthy is_drain =
-    if is_first then d.owed && not is_healthy else d.owed || is_drain
+-- Whether a drain is owed behind an entry: what was owed and isn't taken still is, and a drain that isn't the first of its group owes one.
+abbrev pub owed_behind : Drains → (is_first is_let_in is_drain : Bool) → Bool
+owed_behind d is_first is_let_in is_drain =
+    if is_first then d.owed && not is_let_in else d.owed || is_drain
 
--- An entry is taken. From a healthy drain on the ring and the group drain, and from one that is owed.
-abbrev pub with_entry : Drains → (is_first is_healthy is_drain : Bool) → Drains
-with_entry d is_first is_healthy is_drain = record d {
-  ring = d.ring || (is_drain || takes_owed d is_first is_healthy);
-  owed = owed_behind d is_first is_healthy is_drain;
-  group = d.group || (is_drain || takes_owed d is_first is_healthy);
+-- An entry is taken. From a drain on the ring and the group drain, and from one that is owed.
+abbrev pub with_entry : Drains → (is_first is_let_in is_drain : Bool) → Drains
+with_entry d is_first is_let_in is_drain = record d {
+  ring = d.ring || (is_drain || takes_owed d is_first is_let_in);
+  owed = owed_behind d is_first is_let_in is_drain;
+  group = d.group || (is_drain || takes_owed d is_first is_let_in);
 }
 
 -- the groups behind the first ones that don't drain
@@ -68,6 +68,6 @@ deferred_with d end = d.deferred ++ record { from = d.from; end = end; drains = 
 abbrev pub with_deferred : Drains → (end : ℕ) → List Deferred → Drains
 with_deferred d end groups = record d { from = end; group = false; deferred = groups }
 
--- The ring drains no more once a group was accepted that doesn't drain, and nothing is deferred.
+-- A group without a fault was accepted by a ring that drains: it drains on if that group does, or something is deferred still.
 abbrev pub with_ring : Drains → (drains : Bool) → Drains
 with_ring d drains = record d { ring = d.ring && (drains || not (is_none d.deferred)) }

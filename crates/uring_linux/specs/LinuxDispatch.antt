@@ -4,7 +4,7 @@ use Rattle.uring_entry.specs.Requests.{entry_of, outstanding_in, running_in}
 use Rattle.uring_entry.specs.Below.{some_below}
 use Rattle.uring_linux.specs.Drains.{Drains}
 use Rattle.uring_linux.specs.KeptDrains.{KeptDrains}
-use Rattle.uring_linux.specs.LinuxRequests.{LinuxRequests, is_skipping}
+use Rattle.uring_linux.specs.LinuxRequests.{LinuxRequests, asks_to_skip}
 use Rattle.uring_linux.specs.Window.{Window, Shows, end_of, unended_among, running_among}
 
 -- what the dispatcher keeps of the requests. Only `ShowsRequests` says what it means
@@ -55,7 +55,7 @@ pub record StandsFor (held : Held) (l : LinuxRequests) : Type 0 where
   pub window : Shows held.window l.requests
   pub drains : held.drains ≡ l.drains
   pub skipped : held.has_skipped
-      ≡ some_below (λ m. is_skipping (entry_of l.requests m)) (length l.requests.accepted)
+      ≡ some_below (λ m. asks_to_skip (entry_of l.requests m)) (length l.requests.accepted)
 
 -- The dispatcher shows these requests: everything it answers is as the definitions on them say.
 pub record ShowsRequests (d : LinuxDispatch) (l : LinuxRequests) : Type 0 where

@@ -1,14 +1,16 @@
--- The requests of a ring as Linux 6.18 keeps them, where it differs from the manual pages. Requests, groups and links are those of uring_entry's Requests; each rule here was seen of the kernel, and docs/PROTOCOL.md tells what was seen, under the words "The kernel" and "Linux 6.18".
-use Rattle.std.specs.Prelude.{ℕ, ◌+◌, ℤ, pos, neg_ℤ, Bool, not, ◌&&◌, ◌||◌, ◌==◌, nat_lt, nat_le, List, length, Option, Some, None, is_some, if◌then◌else◌}
+-- The requests of a ring as Linux 6.18 keeps them, where it differs from the manual pages. Requests, groups and links are those of uring_entry's Requests. Each rule here was seen of the kernel, but for what says that it is our own; docs/PROTOCOL.md has them side by side with the manual pages', in the section By Linux's rules.
+use Rattle.std.specs.Prelude.{ℕ, ◌+◌, ℤ, pos, neg_ℤ, Bool, true, false, not, ◌&&◌, ◌||◌, ◌==◌, nat_lt, nat_le, List, length, Option, Some, None, is_some, if◌then◌else◌}
 use Rattle.uring_entry.specs.declared.errno.TheConstants.{ENOENT, EINVAL, EOPNOTSUPP, EALREADY, ECANCELED}
 use Rattle.uring_entry.specs.Flags.{skip_success}
 use Rattle.uring_entry.specs.Layout.{Sqe, has, addr_of, user_data_of}
-use Rattle.uring_entry.specs.Preparation.{is_faulty, is_cancel_all}
+use Rattle.uring_entry.specs.Preparation.{fault_of, is_faulty, is_cancel_all}
 use Rattle.uring_entry.specs.Success.{posts_completion}
 use Rattle.uring_entry.specs.Requests as manual
 use Rattle.uring_entry.specs.Requests.{Requests, entry_of, is_linked, is_drain, is_joined, is_in_group, is_behind_failure, is_outstanding, is_running, has_ended}
 use Rattle.uring_entry.specs.Why.{failed_member_of}
 use Rattle.uring_entry.specs.Below.{some_below, least_below}
+use Rattle.uring_entry.specs.declared.fault.Fault.{Fault}
+use Rattle.uring_entry.specs.declared.fault.Fault.TheVariants.{Flags, Opcode}
 use Rattle.uring_linux.specs.declared.deferred.Deferred.{Deferred}
 use Rattle.uring_linux.specs.Drains.{Drains, no_drains, is_in_some, with_entry, still_deferred, deferred_with, with_deferred, with_ring}
 
@@ -21,27 +23,50 @@ pub record LinuxRequests : Type 0 where
 abbrev pub no_request : LinuxRequests
 no_request = record { requests = manual.no_request; drains = no_drains }
 
--- Faults.
+-- Faults, and what counts of flags.
 
--- whether an entry asks for skipped success, and isn't faulty by itself
-abbrev pub is_skipping : Sqe → Bool
-is_skipping e = has skip_success e && not (is_faulty e)
+-- Linux looks at an entry's operation and flags first. Where one of these is refused, it comes no further: such an entry neither drains, nor does its skip count. With another fault an entry drains all the same, and its skip counts.
+abbrev pub is_seen_first : Fault → Bool
+is_seen_first Flags = true
+is_seen_first Opcode = true
+is_seen_first _ = false
+
+-- whether an entry that has this fault, or none, comes past that first look
+abbrev pub comes_past : Option Fault → Bool
+comes_past None = true
+comes_past (Some fault) = not (is_seen_first fault)
+
+-- whether an entry comes past the first look
+abbrev pub is_past : Sqe → Bool
+is_past e = comes_past (fault_of e)
+
+-- whether an entry asks for skipped success, and comes past the first look
+abbrev pub asks_to_skip : Sqe → Bool
+asks_to_skip e = has skip_success e && is_past e
+
+-- whether an entry asks to drain, and comes past the first look
+abbrev pub asks_to_drain : Sqe → Bool
+asks_to_drain e = is_drain e && is_past e
 
 -- whether an entry that was accepted up to n, n itself included, asks for skipped success
 abbrev pub has_skipped : Requests → ℕ → Bool
-has_skipped r n = some_below (λ m. is_skipping (entry_of r m)) (n + 1)
+has_skipped r n = some_below (λ m. asks_to_skip (entry_of r m)) (n + 1)
 
 -- whether n asks to drain in a ring that has used skipped success. docs/PROTOCOL.md, Drains
 abbrev pub is_refused_drain : Requests → ℕ → Bool
-is_refused_drain r n = is_drain (entry_of r n) && has_skipped r n
+is_refused_drain r n = asks_to_drain (entry_of r n) && has_skipped r n
 
 -- whether n has a fault: by its entry alone, or as a drain that is refused
 abbrev pub has_fault : Requests → ℕ → Bool
 has_fault r n = is_faulty (entry_of r n) || is_refused_drain r n
 
--- whether n asks to drain, and has no fault
-abbrev pub is_healthy_drain : Requests → ℕ → Bool
-is_healthy_drain r n = is_drain (entry_of r n) && not (has_fault r n)
+-- whether n comes past the first look, and isn't a drain that is refused
+abbrev pub is_let_in : Requests → ℕ → Bool
+is_let_in r n = is_past (entry_of r n) && not (is_refused_drain r n)
+
+-- whether n drains: it asks to, and is let in
+abbrev pub is_granted_drain : Requests → ℕ → Bool
+is_granted_drain r n = is_drain (entry_of r n) && is_let_in r n
 
 -- Who is doomed: not started any more, but ended in its turn. No cancel dooms anybody.
 
@@ -54,11 +79,11 @@ is_in_faulty_group r n =
 abbrev pub is_doomed : Requests → ℕ → Bool
 is_doomed r n = is_in_faulty_group r n || is_behind_failure r n
 
--- what a doomed request ends with: its own fault's number, else ECANCELED
+-- what a doomed request ends with: its own fault's number, that of a refused drain first, else ECANCELED
 abbrev pub doomed_result : Requests → ℕ → ℤ
 doomed_result r n =
-    if is_faulty (entry_of r n) then neg_ℤ EINVAL else
     if is_refused_drain r n then neg_ℤ EOPNOTSUPP else
+    if is_faulty (entry_of r n) then neg_ℤ EINVAL else
     neg_ℤ ECANCELED
 
 -- Who may start.
@@ -148,7 +173,7 @@ with_group r d =
 -- the last entry is taken
 abbrev pub with_last_entry : Requests → ℕ → Drains → Drains
 with_last_entry r n d =
-    with_entry d (d.from == n) (not (has_fault r n)) (is_healthy_drain r n)
+    with_entry d (d.from == n) (is_let_in r n) (is_granted_drain r n)
 
 -- an entry is accepted; its group is with the first that has no link flag
 abbrev pub with_accepted : LinuxRequests → Sqe → LinuxRequests

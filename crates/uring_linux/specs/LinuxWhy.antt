@@ -17,19 +17,20 @@ abbrev pub faulty_member_of : Requests → ℕ → Option ℕ
 faulty_member_of r n =
     least_below (λ m. is_in_group r m n && has_fault r m) (length r.accepted)
 
--- what dooms n, if its own entry has no fault: that it is a drain which the ring refuses, a member of its group with a fault, or an earlier one with a soft link that failed
+-- what dooms n, if it has no fault itself: a member of its group with a fault, or an earlier one with a soft link that failed
 abbrev pub doom_without_fault : Requests → ℕ → Option ℕ → Doom
-doom_without_fault r n (Some m) = if is_refused_drain r n then RefusedDrain else FaultOf m
+doom_without_fault r n (Some m) = FaultOf m
 doom_without_fault r n None = FailureOf (unwrap_or (failed_member_of r n) n)
 
--- what dooms n, by the fault of its entry, if it has one
+-- what dooms n, if it is no drain that the ring refuses: the fault of its entry, if it has one
 abbrev pub doom_by : Requests → ℕ → Option Fault → Doom
 doom_by r n (Some fault) = OwnFault fault
 doom_by r n None = doom_without_fault r n (faulty_member_of r n)
 
 -- what dooms n, if it is doomed
 abbrev pub doom_of : Requests → ℕ → Doom
-doom_of r n = doom_by r n (fault_of (entry_of r n))
+doom_of r n =
+    if is_refused_drain r n then RefusedDrain else doom_by r n (fault_of (entry_of r n))
 
 -- the least outstanding request that isn't deferred: what a deferred group waits for
 abbrev pub least_free_of : LinuxRequests → Option ℕ

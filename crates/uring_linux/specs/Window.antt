@@ -8,7 +8,7 @@ use Rattle.uring_entry.specs.Requests.{Requests, entry_of, is_linked, is_drain, 
 use Rattle.uring_linux.specs.declared.request.Request.{Request}
 use Rattle.uring_linux.specs.declared.request.Test.{Test}
 use Rattle.uring_linux.specs.declared.request.Test.TheVariants.{Unended, Faulty, Broken, Runs}
-use Rattle.uring_linux.specs.LinuxRequests.{is_refused_drain, has_fault}
+use Rattle.uring_linux.specs.LinuxRequests.{asks_to_drain, is_refused_drain, has_fault}
 
 -- What is kept: the first number, the requests from there on, and how many more can be pushed.
 pub record Window : Type 0 where
@@ -57,7 +57,7 @@ abbrev pub new_request : Sqe → (has_skipped : Bool) → Request
 new_request e has_skipped = record {
   entry = e;
   is_faulty = is_faulty e;
-  is_refused = is_drain e && has_skipped;
+  is_refused = asks_to_drain e && has_skipped;
   is_last = not (is_linked e);
   is_running = false;
   has_ended = false;

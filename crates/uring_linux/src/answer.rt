@@ -124,10 +124,10 @@ impl Window {
 fn doomed_result(request: &Request) -> i32
     ensures { (r : Requests) (n : ℕ) → Tells request.now r n → result ≡ linux.doomed_result r n }
 {
-    if request.is_faulty {
-        -EINVAL
-    } else if request.is_refused {
+    if request.is_refused {
         -EOPNOTSUPP
+    } else if request.is_faulty {
+        -EINVAL
     } else {
         -ECANCELED
     }

@@ -5,7 +5,7 @@ ghost use Rattle.uring_dispatch.specs.Window.{one_if};
 ghost use Rattle.uring_entry.specs.Requests.{is_outstanding, operation_running, entry_outstanding, least_of, outstanding_in, running_in};
 ghost use Rattle.uring_linux.specs.Laws.{is_refusal};
 ghost use Rattle.uring_linux.specs.Issues.{issued, after_issue, posted_by, after_end};
-ghost use Rattle.uring_linux.specs.LinuxRequests.{LinuxRequests, is_skipping, no_request, with_accepted, with_cut, with_started, with_ended, next_of};
+ghost use Rattle.uring_linux.specs.LinuxRequests.{LinuxRequests, asks_to_skip, no_request, with_accepted, with_cut, with_started, with_ended, next_of};
 ghost use Rattle.uring_entry.specs.Preparation as preparation;
 ghost use Rattle.uring_linux.specs.Window.{end_of, at, is_unended, IsOpen};
 ghost use Rattle.uring_linux.specs.Window as spec;
@@ -13,12 +13,13 @@ ghost use Rattle.uring_linux.specs.LinuxRequests as spec_of;
 
 use crate::answers::Issued;
 use crate::drains::Drains;
+use crate::entries::{asks_to_drain, asks_to_skip};
 use crate::request::{Request, Test, operation};
 use crate::window::Window;
 use std::alloc::Global;
 use std::marker::Model;
 use uring_dispatch::{Posts, ReserveError};
-use uring_entry::{Op, Sqe, SqeFlags, prepare, succeeded};
+use uring_entry::{Op, Sqe, prepare, succeeded};
 use uring_memory::Memory;
 
 /// The requests that were accepted, numbered from 0 in the order of their acceptance, with what was made of them, by the rules of Linux 6.18.
@@ -28,7 +29,7 @@ use uring_memory::Memory;
 pub struct LinuxDispatch {
     pub(crate) window: Window,
     pub(crate) drains: Drains,
-    // Whether an entry without a fault has asked for skipped success.
+    // Whether an entry whose operation and flags aren't refused has asked for skipped success.
     has_skipped: bool,
     // How many requests haven't ended.
     outstanding: u64,
@@ -320,11 +321,9 @@ fn less_if(count: u64, is_less: bool) -> u64
 
 /// Whether an entry has asked for skipped success by then, behind this one.
 fn has_skipped(before: bool, entry: &Sqe) -> bool
-    ensures { result ≡ (before || is_skipping entry.now) }
+    ensures { result ≡ (before || asks_to_skip entry.now) }
 {
-    let skips = entry.has(SqeFlags::CQE_SKIP_SUCCESS);
-    let is_faulty = is_faulty(entry);
-    before || skips && !is_faulty
+    before || asks_to_skip(entry)
 }
 
 /// Whether an entry is faulty by itself.
@@ -341,12 +340,12 @@ fn is_faulty(entry: &Sqe) -> bool
 fn new_request(entry: Sqe, has_skipped: bool) -> Request
     ensures { result ≡ spec.new_request entry has_skipped }
 {
-    let is_drain = entry.is_drain();
+    let is_draining = asks_to_drain(&entry);
     let is_linked = entry.is_linked();
     Request {
         entry,
         is_faulty: is_faulty(&entry),
-        is_refused: is_drain && has_skipped,
+        is_refused: is_draining && has_skipped,
         is_last: !is_linked,
         is_running: false,
         has_ended: false,

@@ -9,6 +9,7 @@ ghost use Rattle.uring_linux.specs.Window.{Shows, end_of};
 ghost use Rattle.uring_linux.specs.KeptDrains.{accepted_drains, cut_drains, with_request};
 
 use crate::deferred::Deferred;
+use crate::entries::is_past;
 use crate::request::{Request, Test};
 use crate::window::Window;
 use std::alloc::{AllocError, Global};
@@ -87,15 +88,15 @@ impl Drains {
     }
 
     /// An entry is taken.
-    pub(crate) fn take(&mut self, is_first: bool, is_healthy: bool, is_drain: bool)
+    pub(crate) fn take(&mut self, is_first: bool, is_let_in: bool, is_drain: bool)
         ensures { self.new
-            ≡ record self.old { drains = with_entry self.old.drains is_first is_healthy is_drain } }
+            ≡ record self.old { drains = with_entry self.old.drains is_first is_let_in is_drain } }
     {
-        let takes = self.owed && is_first && is_healthy;
+        let takes = self.owed && is_first && is_let_in;
         self.ring = self.ring || is_drain || takes;
         self.group = self.group || is_drain || takes;
         self.owed = if is_first {
-            self.owed && !is_healthy
+            self.owed && !is_let_in
         } else {
             self.owed || is_drain
         };
@@ -117,9 +118,9 @@ impl Drains {
             → length self.old.drains.deferred ≤ self.old.drains.from
             → length self.new.drains.deferred ≤ self.new.drains.from }
     {
-        let has_fault = request.is_faulty || request.is_refused;
+        let is_let_in = is_past(&request.entry) && !request.is_refused;
         let is_drain = request.entry.is_drain();
-        self.take(is_first, !has_fault, is_drain && !has_fault);
+        self.take(is_first, is_let_in, is_drain && is_let_in);
         if !request.entry.is_linked() {
             self.accept_group(window);
         }

@@ -6,6 +6,7 @@ mod answers;
 mod deferred;
 mod dispatch;
 mod drains;
+mod entries;
 mod found;
 mod issuable;
 pub mod laws;
@@ -17,4 +18,5 @@ mod window;
 
 pub use answers::Issued;
 pub use dispatch::LinuxDispatch;
+pub use entries::{asks_to_drain, asks_to_skip};
 pub use uring_dispatch::{Found, Posts, ReserveError};

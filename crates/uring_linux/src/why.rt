@@ -86,16 +86,15 @@ impl Window {
         ensures { (r : Requests) → Shows self.now r → Tells request.now r n
             → IsSpan self.now r n span.from span.end → result ≡ doom_of r n }
     {
+        if request.is_refused {
+            return Doom::RefusedDrain;
+        }
         if let Err(fault) = prepare(&request.entry) {
             return Doom::OwnFault(fault);
         }
-        let Some(m) = self.faulty(span) else {
-            return Doom::FailureOf(self.failed(n, span).unwrap_or(n));
-        };
-        if request.is_refused {
-            Doom::RefusedDrain
-        } else {
-            Doom::FaultOf(m)
+        match self.faulty(span) {
+            Some(m) => Doom::FaultOf(m),
+            None => Doom::FailureOf(self.failed(n, span).unwrap_or(n)),
         }
     }
 

@@ -207,7 +207,7 @@ comes g w s a (stores tail) sound unrefused kept c =
 comes {moves} g w s a (takes entry call place opened left at valid) sound unrefused kept c =
     subst (λ o. IsCome (by_manual g) (taking_entry_of (by_manual g) w entry o) (files_of (by_manual g) (taking_entry_of (by_manual g) w entry o)) moves c.calls) (sym opened) (still (by_manual g) w (taking_entry_of (by_manual g) w entry (Some call)) (files_of (by_manual g) w) refl refl refl refl c)
 comes {moves} g w s a (drops call place opened left at invalid) sound unrefused kept c =
-    subst (λ o. IsCome (by_manual g) (taking_of w o) (files_of (by_manual g) (taking_of w o)) moves c.calls) (sym opened) (still (by_manual g) w (taking_of w (Some call)) (files_of (by_manual g) w) refl refl refl refl c)
+    subst (λ o. IsCome (by_manual g) (taking_of (by_manual g) w o) (files_of (by_manual g) (taking_of (by_manual g) w o)) moves c.calls) (sym opened) (still (by_manual g) w (taking_of (by_manual g) w (Some call)) (files_of (by_manual g) w) refl refl refl refl c)
 comes {moves} g w s a (closes accepted missed head call opened all counted) sound unrefused kept c =
     let within : taken w.submission + call.count ≤ length w.submission.published = omega (arith, sound.submission.call_published, ap open_count opened) in
     let there : IsCome (by_manual g) (ending_of (by_manual g) w w.submission.call) (files_of (by_manual g) w) (moves ++ move.Accept ∷ []) c.calls = subst (λ o. IsCome (by_manual g) (ending_of (by_manual g) w o) (files_of (by_manual g) w) (moves ++ move.Accept ∷ []) c.calls) (sym opened) (call_comes (by_manual g) w (files_of (by_manual g) w) call within c) in

@@ -112,10 +112,10 @@ issuable_goes is_linux l n =
 
 -- Results.
 
-linux_doom : (own drain : Bool)
-    → IsDoomedResult (if own then neg_ℤ EINVAL else if drain then neg_ℤ EOPNOTSUPP else neg_ℤ ECANCELED)
-linux_doom true drain = inl refl
-linux_doom false true = inr (inl refl)
+linux_doom : (drain own : Bool)
+    → IsDoomedResult (if drain then neg_ℤ EOPNOTSUPP else if own then neg_ℤ EINVAL else neg_ℤ ECANCELED)
+linux_doom true own = inr (inl refl)
+linux_doom false true = inl refl
 linux_doom false false = inr (inr refl)
 
 manual_doom : (own : Bool) → IsDoomedResult (if own then neg_ℤ EINVAL else neg_ℤ ECANCELED)
@@ -123,7 +123,7 @@ manual_doom true = inl refl
 manual_doom false = inr (inr refl)
 
 pub doomed_fails : (is_linux : Bool) (r : Requests) (n : ℕ) → IsDoomedResult (doomed_result is_linux r n)
-doomed_fails true r n = linux_doom (is_faulty (entry_of r n)) (is_refused_drain r n)
+doomed_fails true r n = linux_doom (is_refused_drain r n) (is_faulty (entry_of r n))
 doomed_fails false r n = manual_doom (is_faulty (entry_of r n))
 
 found_cases : (found : Bool) → IsCancelResult (if found then neg_ℤ EALREADY else neg_ℤ ENOENT)

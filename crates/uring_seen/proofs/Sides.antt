@@ -84,7 +84,7 @@ moved g step.Take a l closed r q c d of e = go a where
   entry_taken entry None = record { submission = refl; accepted = e; closed = refl }
   entry_taken entry (Some call) = record { submission = refl; accepted = e; closed = refl }
 
-  word_taken : (call : Option Call) → SameSide (taking_of (world_with l r c closed) call) (taking_of (world_with l q d closed) call)
+  word_taken : (call : Option Call) → SameSide (taking_of g (world_with l r c closed) call) (taking_of g (world_with l q d closed) call)
   word_taken None = record { submission = refl; accepted = e; closed = refl }
   word_taken (Some call) = record { submission = refl; accepted = e; closed = refl }
 

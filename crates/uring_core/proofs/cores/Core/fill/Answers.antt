@@ -28,9 +28,9 @@ fill_shows : (p : Core) (w : World) (q : Sq) (slot : ℕ) (entry : Sqe) (r : Fil
     → ShowsWorld p w → ShowsSubmission p.setup q (ring.after_fill w.submission slot entry r)
     → ShowsWorld (record p { sq = q }) (filling w slot entry (fill_told r))
 fill_shows p w q slot entry fill.Filled s shows =
-    on_submission p w q (with_filled w.submission slot entry) s shows refl refl
-fill_shows p w q slot entry fill.NoSlot s shows = on_submission p w q w.submission s shows refl refl
-fill_shows p w q slot entry fill.Busy s shows = on_submission p w q w.submission s shows refl refl
+    on_submission p w q (with_filled w.submission slot entry) s shows refl refl refl
+fill_shows p w q slot entry fill.NoSlot s shows = on_submission p w q w.submission s shows refl refl refl
+fill_shows p w q slot entry fill.Busy s shows = on_submission p w q w.submission s shows refl refl refl
 
 fill_goes : (p : Core) (q : Sq) (slot : ℕ) (entry : Sqe) (r : FillAnswer)
     → SubmissionStep p q (step.Fill slot entry, fill_told r) (λ g l. r ≡ ring.fill_answer g.sq l slot) (λ g l. ring.after_fill l slot entry r)

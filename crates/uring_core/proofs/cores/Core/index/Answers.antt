@@ -15,12 +15,12 @@ use Rattle.uring_core.proofs.cores.Core.index.Goals as goal
 index_shows : (p : Core) (w : World) (q : Sq) (word : ℕ) (r : IndexAnswer) → ShowsWorld p w
     → ShowsSubmission p.setup q (ring.after_index w.submission word r)
     → ShowsWorld (record p { sq = q }) (staging w word (index_told r))
-index_shows p w q word index.Staged s shows = on_submission p w q (with_staged w.submission word) s shows refl (held_indexed w.submission word w.submission.call)
+index_shows p w q word index.Staged s shows = on_submission p w q (with_staged w.submission word) s shows refl (held_indexed w.submission word w.submission.call) refl
   where
     held_indexed : (l : Submission) (word : ℕ) (c : Option Call) → held_by (with_staged l word) c ≡ held_by l c
     held_indexed l word None = refl
     held_indexed l word (Some call) = refl
-index_shows p w q word index.Full s shows = on_submission p w q w.submission s shows refl refl
+index_shows p w q word index.Full s shows = on_submission p w q w.submission s shows refl refl refl
 
 index_goes : (p : Core) (q : Sq) (word : ℕ) (r : IndexAnswer)
     → SubmissionStep p q (step.Index word, index_told r) (λ g l. r ≡ ring.index_answer g.sq l) (λ g l. ring.after_index l word r)

@@ -15,7 +15,7 @@ load_head_goes p q head answered shown h f =
     let s = f.shows.submission in
     let l = (world p.setup h).submission in
     record {
-      shows = on_submission p (world p.setup h) q (with_head_loaded l) f.shows (shown p.setup _ s) refl (held_loaded l l.call);
+      shows = on_submission p (world p.setup h) q (with_head_loaded l) f.shows (shown p.setup _ s) refl (held_loaded l l.call) refl;
       lawful = (ap (λ n. answer.Head n) (answered p.setup _ s), f.lawful);
     }
   where

@@ -6,4 +6,4 @@ pub invariant_of-result : goal.invariant_of-result
 invariant_of-result g c =
     let size = c.sq.ensures.value in
     let capacity = c.in_ok-held.ensures.capacity in
-    (omega arith, (c.sq.ensures.limits, [], new_fits _ c.in_ok-new_in.ensures.shows c.in_ok-new_in-2.ensures.shows c.in_ok-new_in-2.ensures.room c.new.ensures.shows (c.new.ensures.rules ∙ c.is_linux.ensures.value) c.new.ensures.between c.in_ok-held.ensures.items refl))
+    (omega arith, (c.sq.ensures.limits, [], new_fits _ c.in_ok-new_in.ensures.shows c.in_ok-new_in-2.ensures.shows c.in_ok-new_in-2.ensures.room c.new.ensures.shows (c.new.ensures.rules ∙ c.is_linux.ensures.value) c.new.ensures.between c.in_ok-held.ensures.items refl refl))

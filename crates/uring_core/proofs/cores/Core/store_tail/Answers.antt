@@ -7,6 +7,7 @@ use Rattle.uring_core.specs.Histories.{world}
 use Rattle.uring_core.specs.Core.{Core, held_by}
 use Rattle.uring_core.specs.declared.step.Step.TheVariants as step
 use Rattle.uring_core.specs.declared.answer.Answer.TheVariants as answer
+use Rattle.uring_core.proofs.TakenEntries.{stored_entries}
 use Rattle.uring_core.proofs.CoreSteps.{on_submission, SubmissionStep, core_after}
 use Rattle.uring_core.proofs.cores.Core.store_tail.Goals as goal
 
@@ -27,7 +28,7 @@ store_tail_goes p q tail answered shown h f =
     let s = f.shows.submission in
     let l = (world p.setup h).submission in
     record {
-      shows = on_submission p (world p.setup h) q (with_published p.setup.sq l) f.shows (shown p.setup _ s) refl (held_stored p.setup.sq l l.call s.call_fits s.taken_first);
+      shows = on_submission p (world p.setup h) q (with_published p.setup.sq l) f.shows (shown p.setup _ s) refl (held_stored p.setup.sq l l.call s.call_fits s.taken_first) (stored_entries p.setup.sq l s.taken_first s.call_fits);
       lawful = (ap (λ n. answer.Tail n) (answered p.setup _ s), f.lawful);
     }
 

@@ -18,7 +18,7 @@ use Rattle.uring_core.specs.declared.answer.Answer.TheVariants as answer
 use Rattle.uring_core.proofs.CoreSteps.{core_after}
 use Rattle.uring_core.proofs.CoreTakes.{take_entry_goes, take_dropped_goes, held_has_room}
 use Rattle.uring_core.proofs.cores.Core.take.Goals as goal
-use Rattle.uring_core.proofs.cores.Core.take.Goals.{in-Entry, in_default}
+use Rattle.uring_core.proofs.cores.Core.take.Goals.{in-Entry, in-Dropped, in_default}
 
 -- what a place gives is no refusal
 given_no_more : (o : Option Sqe) → took_as.NoMore ≡ ring.given o → ⊥
@@ -55,22 +55,21 @@ no_call w (Some call) e =
       | inr more ↦ absurd (given_no_call _ (in_call w.submission call _ _ e more))
     ]
 
--- a take that gave no entry
-no_entry_goes : (p : Core) (q : Sq) (r : TakeAnswer) → ((entry : Sqe) → r ≡ took_as.Entry entry → ⊥)
+-- a take that gave neither an entry nor a word
+neither_goes : (p : Core) (q : Sq) (r : TakeAnswer) → ((entry : Sqe) → r ≡ took_as.Entry entry → ⊥)
+    → (r ≡ took_as.Dropped → ⊥)
     → ((g : Setup) (l : Submission) → ShowsSubmission g p.sq l → r ≡ ring.take_answer l)
-    → ((g : Setup) (l : Submission) → ShowsSubmission g p.sq l → ShowsSubmission g q (ring.after_take l r))
     → (r ≡ took_as.NoCall → q ≡ p.sq) → (r ≡ took_as.NoMore → q ≡ p.sq)
     → (h : History) → FitsApart p h → FitsApart (record p { sq = q }) ((step.Take, take_told r) ∷ h)
-no_entry_goes p q (took_as.Entry entry) other answered shown same same' h f =
-    absurd (other entry refl)
-no_entry_goes p q took_as.Dropped other answered shown same same' h f =
-    take_dropped_goes p q answered shown h f
-no_entry_goes p q took_as.NoMore other answered shown same same' h f =
+neither_goes p q (took_as.Entry entry) no_entry no_word answered same same' h f =
+    absurd (no_entry entry refl)
+neither_goes p q took_as.Dropped no_entry no_word answered same same' h f = absurd (no_word refl)
+neither_goes p q took_as.NoMore no_entry no_word answered same same' h f =
     subst (λ s. FitsApart (record p { sq = s }) ((step.Take, answer.NoMore) ∷ h)) (sym (same' refl)) (record {
       shows = f.shows;
       lawful = (no_more (world p.setup h) (world p.setup h).submission.call (answered p.setup _ f.shows.submission), f.lawful);
     })
-no_entry_goes p q took_as.NoCall other answered shown same same' h f =
+neither_goes p q took_as.NoCall no_entry no_word answered same same' h f =
     subst (λ s. FitsApart (record p { sq = s }) ((step.Take, answer.NoCall) ∷ h)) (sym (same refl)) (record {
       shows = f.shows;
       lawful = (no_call (world p.setup h) (world p.setup h).submission.call (answered p.setup _ f.shows.submission), f.lawful);
@@ -83,14 +82,15 @@ push_reserved-requires c =
     omega arith
 
 pub invariant_of-self : goal.invariant_of-self
-invariant_of-self c = rw (c.push_reserved.ensures.items, c.push_reserved.ensures.capacity) (c.self.invariant.0, core_after _ _ _ refl (take_entry_goes _ c.take-answer.new.self c.stop_behind.new.sq c.in-Entry.entry c.in-Entry.ensures.answer c.in-Entry.ensures.shows c.stop_behind.ensures) c.self.invariant.1)
+invariant_of-self c = rw (c.push_reserved.ensures.items, c.push_reserved.ensures.capacity) (c.self.invariant.0, core_after _ _ _ refl (take_entry_goes _ c.take-answer.new.self c.stop_behind.new.sq c.in-Entry.entry c.has_skipped-self-inside.result c.has_skipped-self-inside.ensures c.in-Entry.ensures.answer c.in-Entry.ensures.shows c.stop_behind.ensures) c.self.invariant.1)
 
-pub invariant_of-self-in_default : goal.invariant_of-self-in_default
-invariant_of-self-in_default c = (c.self.invariant.0, core_after _ _ _ refl (no_entry_goes _ c.take-answer.new.self c.take-answer.result c.in_default.not-Entry c.take-answer.ensures.answer c.take-answer.ensures.shows c.take-answer.ensures.no_call c.take-answer.ensures.no_more) c.self.invariant.1)
+pub invariant_of-self-in-Dropped : goal.invariant_of-self-in-Dropped
+invariant_of-self-in-Dropped c = (c.self.invariant.0, core_after _ _ _ refl (take_dropped_goes _ c.take-answer.new.self c.stop_at_word.new.sq c.in-Dropped.ensures.answer c.in-Dropped.ensures.shows c.stop_at_word.ensures) c.self.invariant.1)
 
 pub returns-clause-fits : goal.returns-clause-fits
 returns-clause-fits c =
     elim c.match-answer.branch [
-      | in-Entry w ↦ rw (c.from.ensures, w.self-is, w.answer-is, ← c.self.view_is) (simp w.push_reserved.ensures.items (take_entry_goes _ c.take-answer.new.self w.stop_behind.new.sq w.in-Entry.entry w.in-Entry.ensures.answer w.in-Entry.ensures.shows w.stop_behind.ensures))
-      | in_default w ↦ rw (c.from.ensures, w.self-is, w.answer-is, ← c.self.view_is) (no_entry_goes _ c.take-answer.new.self c.take-answer.result w.in_default.not-Entry c.take-answer.ensures.answer c.take-answer.ensures.shows c.take-answer.ensures.no_call c.take-answer.ensures.no_more)
+      | in-Entry w ↦ rw (c.from.ensures, w.self-is, w.answer-is, ← c.self.view_is) (simp w.push_reserved.ensures.items (take_entry_goes _ c.take-answer.new.self w.stop_behind.new.sq w.in-Entry.entry w.has_skipped-self-inside.result w.has_skipped-self-inside.ensures w.in-Entry.ensures.answer w.in-Entry.ensures.shows w.stop_behind.ensures))
+      | in-Dropped w ↦ rw (c.from.ensures, w.self-is, w.answer-is, w.in-Dropped.is, ← c.self.view_is) (take_dropped_goes _ c.take-answer.new.self w.stop_at_word.new.sq w.in-Dropped.ensures.answer w.in-Dropped.ensures.shows w.stop_at_word.ensures)
+      | in_default w ↦ rw (c.from.ensures, w.self-is, w.answer-is, ← c.self.view_is) (neither_goes _ c.take-answer.new.self c.take-answer.result w.in_default.not-Entry w.in_default.not-Dropped c.take-answer.ensures.answer c.take-answer.ensures.no_call c.take-answer.ensures.no_more)
     ]

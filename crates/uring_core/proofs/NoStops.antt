@@ -1,0 +1,17 @@
+-- No call stops in a ring that goes on.
+use Rattle.std.proofs.Common.{◌≡◌, Bool, true, false, ◌&&◌, if◌then◌else◌, ap}
+use Rattle.uring_entry.specs.Setup.{Setup}
+use Rattle.uring_entry.specs.Layout.{Sqe}
+use Rattle.uring_entry.specs.Preparation.{is_faulty}
+use Rattle.uring_core.specs.Stops.{stops_linux, stops_behind, stops_at_word}
+
+pub goes_on : (g : Setup) (has_skipped : Bool) (e : Sqe) → g.stops ≡ false
+    → stops_behind g has_skipped e ≡ false
+goes_on g has_skipped e goes = by g.linux
+  where
+    by : (linux : Bool) → (if linux then g.stops && stops_linux has_skipped e else g.stops && is_faulty e) ≡ false
+    by true = ap (λ b. b && stops_linux has_skipped e) goes
+    by false = ap (λ b. b && is_faulty e) goes
+
+pub word_goes_on : (g : Setup) → g.stops ≡ false → stops_at_word g ≡ false
+word_goes_on g goes = ap (λ b. b && g.linux) goes

@@ -1,0 +1,68 @@
+-- Whether an entry that was taken asks for skipped success, from step to step.
+use Rattle.std.proofs.Common.{◌≡◌, ℕ, ◌+◌, ◌≤◌, Bool, ◌||◌, [], ◌∷◌, ◌++◌, length, take, map, sum, List, Option, Some, None, slice_get, get_or, refl, sym, ap, subst, ◌∙◌, arith, append-nil, IfSome}
+use Rattle.std.specs.List.{list_any, cons_option}
+use Rattle.std.proofs.lemmas.List.{take-append-le, take_more}
+use Rattle.std.proofs.lemmas.List.Elements.{filter_map-append}
+use Rattle.std.proofs.lemmas.List.Sums.{sum_by_push}
+use Rattle.std.proofs.lemmas.Option.{slice_get_within, get_or_from_slice_get}
+use Rattle.uring_entry.specs.Layout.{Sqe}
+use Rattle.uring_entry.specs.Submission.{Submission, Call, Place, taken, pending, entries_of, place_of, with_published, with_begun, with_closed}
+use Rattle.uring_entry.proofs.RequestLemmas.{list_any_push}
+use Rattle.uring_linux.specs.LinuxRequests.{asks_to_skip}
+use Rattle.uring_core.specs.Stops.{open_taken, reached, taken_entries, some_skips}
+
+-- a beginning that goes one place further
+pub one_further : (places : List Place) (k : ℕ) (place : Place) (entry : Option Sqe)
+    → slice_get places k ≡ Some place → place.entry ≡ entry
+    → entries_of (take (k + 1) places) ≡ entries_of (take k places) ++ cons_option entry []
+one_further places k place entry at is =
+    ap entries_of (take_more places k place (slice_get_within places k place at)) ∙ filter_map-append (λ p. p.entry) (take k places) (get_or places k place ∷ [])
+    ∙ ap (λ p. entries_of (take k places) ++ cons_option p.entry []) (get_or_from_slice_get places k place place at)
+    ∙ ap (λ o. entries_of (take k places) ++ cons_option o []) is
+
+-- the entries once the open call took this position more
+abbrev further : Submission → Call → List Sqe
+further l call = entries_of (take (taken l + (call.taken + 1)) l.published)
+
+pub skips_more : (l : Submission) (call : Call) (place : Place) (entry : Sqe) → l.call ≡ Some call
+    → slice_get l.published (taken l + call.taken) ≡ Some place → place.entry ≡ Some entry
+    → (some_skips (taken_entries l) || asks_to_skip entry) ≡ some_skips (further l call)
+skips_more l call place entry is at has =
+    sym
+    (ap (λ k. some_skips (entries_of (take k l.published))) (omega arith)
+    ∙ ap some_skips (one_further l.published (taken l + call.taken) place (Some entry) at has)
+    ∙ list_any_push asks_to_skip (entries_of (take (taken l + call.taken) l.published)) entry
+    ∙ ap (λ o. some_skips (entries_of (take (taken l + open_taken o) l.published)) || asks_to_skip entry) (sym is))
+
+pub skips_same : (l : Submission) (call : Call) (place : Place) → l.call ≡ Some call
+    → slice_get l.published (taken l + call.taken) ≡ Some place → place.entry ≡ None
+    → some_skips (taken_entries l) ≡ some_skips (further l call)
+skips_same l call place is at has =
+    sym
+    (ap (λ k. some_skips (entries_of (take k l.published))) (omega arith)
+    ∙ ap some_skips (one_further l.published (taken l + call.taken) place None at has ∙ append-nil _)
+    ∙ ap (λ o. some_skips (entries_of (take (taken l + open_taken o) l.published))) (sym is))
+
+-- what was taken stays as more is published
+pub stored_entries : (size : ℕ) (l : Submission) → taken l ≤ length l.published
+    → IfSome l.call (λ call. (call.taken ≤ call.count) × (call.count ≤ pending l))
+    → taken_entries (with_published size l) ≡ taken_entries l
+stored_entries size l within fits =
+    ap entries_of (take-append-le (reached l) l.published (map (place_of size l.content) l.fresh) (below l.call fits))
+  where
+    below : (c : Option Call) → IfSome c (λ call. (call.taken ≤ call.count) × (call.count ≤ pending l)) → taken l + open_taken c ≤ length l.published
+    below None f = omega (arith, within)
+    below (Some call) f = omega (arith, within, f.0, f.1)
+
+-- as a call opens
+pub begun_entries : (l : Submission) (count : ℕ) → l.call ≡ None
+    → taken_entries (with_begun l count) ≡ taken_entries l
+begun_entries l count none =
+    ap (λ o. entries_of (take (taken l + open_taken o) l.published)) (sym none)
+
+-- and as it closes
+pub closed_entries : (l : Submission) (call : Call) → l.call ≡ Some call → call.taken ≡ call.count
+    → taken_entries (with_closed l call) ≡ taken_entries l
+closed_entries l call is all =
+    ap (λ k. entries_of (take k l.published)) (omega (arith, sum_by_push (λ x. x) l.calls call.count, all))
+    ∙ ap (λ o. entries_of (take (taken l + open_taken o) l.published)) (sym is)
