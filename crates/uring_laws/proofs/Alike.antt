@@ -1,7 +1,7 @@
 -- Worlds that are alike answer alike, and stay alike by each event, by either's rules: `alike_go_on`.
 -- Each definition on requests and drains reads their lists only by what is found in them, so that the order of what started and ended is read by none.
 -- Stable: other crates may import what is pub.
-use Rattle.std.proofs.Common.{◌≡◌, ℕ, ℤ, Bool, true, not, if◌then◌else◌, List, [], ◌∷◌, ◌++◌, Option, Some, None, refl, sym, subst, ap, ap₂, ◌∙◌}
+use Rattle.std.proofs.Common.{◌≡◌, ℕ, ℤ, true, if◌then◌else◌, List, [], ◌∷◌, ◌++◌, Option, Some, None, refl, sym, subst, ap, ap₂, ◌∙◌}
 use Rattle.uring_entry.specs.Setup.{Setup}
 use Rattle.uring_entry.specs.Layout.{Sqe}
 use Rattle.uring_entry.specs.Preparation.{is_cancel, operation_of}
@@ -25,22 +25,13 @@ use Rattle.uring_core.proofs.FileHistory.{files_kept, files_ended}
 use Rattle.uring_laws.specs.Swaps.{StandAlike, AreAlike, AlikeAnswerAlike, AlikeGoOnAlike, ChangeAnywhere}
 use Rattle.uring_laws.proofs.AlikeRequests.{AreSame, listed, outstanding_same, running_same}
 use Rattle.uring_laws.proofs.AlikeRules.{ends_doomed_same, may_start_same, cancel_result_same, posts_same, next_of_same, drains_called_same, drains_ended_same, issued_end_same, end_same, pushed}
+use Rattle.uring_laws.proofs.StartedRequests.{issued_by}
 use Rattle.uring_laws.proofs.WholeLaws.{lawful_apart}
 
 -- Answers.
 
 abbrev with_lists : World → List ℕ → List ℕ → List Ending → Drains → World
 with_lists w s c e d = record w { requests = listed w.requests s c e; drains = d }
-
--- the answer to an issue, by what it asks
-abbrev issued_by : Bool → Bool → Bool → Bool → Bool → ℤ → ℤ → Answer
-issued_by outstanding running doomed ready cancel x z =
-    if not outstanding then answer.Unknown else
-    if running then answer.Running else
-    if doomed then answer.Ended x no_bytes else
-    if not ready then answer.NotReady else
-    if cancel then answer.Ended z no_bytes else
-    answer.Run
 
 -- by either's rules, with other lists in which the same is found, and with the same drains by Linux's
 module _ (g : Setup) (w : World) (s c : List ℕ) (e : List Ending) (d : Drains) (a : AreSame w.requests s c e) (same : g.linux ≡ true → w.drains ≡ d) where

@@ -1,5 +1,5 @@
 -- Requests in whose lists the same is found stand alike by the rules of each set-up, if by Linux's the drains stand the same.
-use Rattle.std.proofs.Common.{◌≡◌, ℕ, ℤ, Bool, true, false, not, ◌&&◌, ◌++◌, ◌∷◌, [], List, refl, sym, ap, ap₂, ◌∙◌, ◌||◌}
+use Rattle.std.proofs.Common.{◌≡◌, ℕ, ◌==◌, ℤ, Bool, true, false, not, ◌&&◌, ◌++◌, ◌∷◌, [], List, refl, sym, ap, ap₂, ◌∙◌, ◌||◌}
 use Rattle.std.specs.List.{list_any}
 use Rattle.std.proofs.lemmas.List.Folds.{list_any-append}
 use Rattle.uring_entry.specs.Layout.{Sqe}
@@ -12,6 +12,7 @@ use Rattle.uring_rules.specs.Rules.{ends_doomed, may_start, cancel_result, posts
 use Rattle.uring_laws.specs.Swaps.{StandAlike}
 use Rattle.uring_laws.proofs.AlikeRequests.{AreSame, listed, doomed_same, ready_same, cancel_same, chosen_same, next_same}
 use Rattle.uring_laws.proofs.AlikeLinux as by_linux
+use Rattle.uring_laws.proofs.AlikeDrains.{called_same, going_same}
 
 -- what is pushed behind both is found in both
 pub pushed : {X : Type 0} (p : X → Bool) (xs ys zs : List X) → list_any p xs ≡ list_any p ys
@@ -54,7 +55,7 @@ module _ (l : LinuxRequests) (s c : List ℕ) (e : List Ending) (a : AreSame l.r
       → linux ≡ true → drains_called linux l entries ≡ drains_called linux (relisted l s c e d) entries
   drains_called_same true d same entries is =
       sym
-      (ap (λ (k : Drains). drains_called true (relisted l s c e k) entries) (sym (same refl)) ∙ by_linux.called_same l s c e a entries)
+      (ap (λ (k : Drains). drains_called true (relisted l s c e k) entries) (sym (same refl)) ∙ called_same l s c e (by_linux.ends_same l.requests s c e a) entries)
   drains_called_same false d same entries is = absurd (let f : false ≡ true = is in cc)
 
   ended_same : (n : ℕ) (res : ℤ) (bytes : List ℕ)
@@ -70,7 +71,7 @@ module _ (l : LinuxRequests) (s c : List ℕ) (e : List Ending) (a : AreSame l.r
   drains_ended_same true d same n res is =
       sym
       (ap (λ (k : Drains). drains_ended true (relisted l s c e k) n res) (sym (same refl))
-      ∙ ap (λ gs. record l.drains { deferred = gs }) (by_linux.going_same (manual.with_ended l.requests n res no_bytes) s c (e ++ record { number = n; res = res; bytes = no_bytes } ∷ []) (ended_same n res no_bytes) l.drains.deferred))
+      ∙ ap (λ gs. record l.drains { deferred = gs }) (going_same (manual.with_ended l.requests n res no_bytes) s c (e ++ record { number = n; res = res; bytes = no_bytes } ∷ []) (λ k. sym ((ended_same n res no_bytes).ended (λ x. x.number == k))) l.drains.deferred))
   drains_ended_same false d same n res is = absurd (let f : false ≡ true = is in cc)
 
   -- who ends as it is issued dooms the same requests

@@ -27,17 +27,6 @@ pub mod Stopping
 pub mod WholeLaws
 pub mod FilesApart
 pub mod FileLaws
--- Events that change places:
-pub mod AlikeRequests
-pub mod AlikeLinux
-pub mod AlikeRules
-pub mod Alike
-pub mod Swapping
-pub mod Apart
-pub mod Unseen
-pub mod DoomedEnds
-pub mod Sides
-pub mod Reordered
 -- By Linux's rules:
 pub mod LinuxSound
 pub mod LinuxGroups
@@ -45,5 +34,21 @@ pub mod LinuxKept
 pub mod LinuxDrains
 pub mod LinuxHistories
 pub mod LinuxLaws
+-- Events that change places:
+pub mod AlikeRequests
+pub mod AlikeDrains
+pub mod AlikeLinux
+pub mod AlikeRules
+pub mod StartedRequests
+pub mod Alike
+pub mod EndedRequests
+pub mod Turns
+pub mod Swapping
+pub mod Apart
+pub mod CalledRequests
+pub mod Unseen
+pub mod DoomedEnds
+pub mod Sides
+pub mod Reordered
 -- The definitions, computed on one history:
 mod WorkedHistory

@@ -3,7 +3,7 @@
 use Rattle.std.proofs.Common.{◌≡◌, ℕ, ◌+◌, ◌-◌, ◌==◌, ◌<◌, ◌≤◌, ℤ, min, max, List, [], ◌∷◌, length, Bool, true, false, not, ◌&&◌, ◌||◌, if◌then◌else◌, neg_ℤ, refl, sym, subst, ◌∙◌, ap, ap₂, arith, ◌⊎◌, inl, inr}
 use Rattle.std.specs.List.{list_any}
 use Rattle.std.specs.Ordering.{int_eq}
-use Rattle.std.proofs.lemmas.Bool.{and_parts, and_left, and_right, or_from, or_left, or_right, or_cases, both_ways, eqb-true, not-true, not-false, not_from_true, false_from_ne_true}
+use Rattle.std.proofs.lemmas.Bool.{and_parts, and_left, and_right, cases_eq, or_from, or_left, or_right, or_cases, both_ways, eqb-true, not-true, not-false, not_from_true, false_from_ne_true}
 use Rattle.std.proofs.lemmas.Bool.Decides.{Decides-int_eq}
 use Rattle.uring_entry.specs.Setup.{Setup}
 use Rattle.uring_entry.specs.Layout.{Sqe}
@@ -11,9 +11,9 @@ use Rattle.uring_entry.specs.Success.{is_success}
 use Rattle.uring_entry.specs.Preparation.{is_faulty}
 use Rattle.uring_entry.specs.Submission.{entries_of, places_from}
 use Rattle.uring_entry.specs.declared.errno.TheConstants.{EINVAL, EOPNOTSUPP, ECANCELED}
-use Rattle.uring_entry.specs.Requests.{Requests, Ending, no_request, entry_of, has_started, has_ended, has_failed, is_last, is_soft, is_drain, is_joined, is_in_group, is_behind_failure, with_call, with_started, with_ended}
+use Rattle.uring_entry.specs.Requests.{Requests, Ending, no_request, entry_of, has_started, has_ended, has_failed, is_last, is_soft, is_joined, is_in_group, is_behind_failure, with_call, with_started, with_ended}
 use Rattle.uring_entry.proofs.BelowLemmas.{some_below_same, some_below_between, some_below_out}
-use Rattle.uring_entry.proofs.RequestLemmas.{is_joined_no, list_any_push}
+use Rattle.uring_entry.proofs.RequestLemmas.{is_joined_no, list_any_push, has_failed_other}
 use Rattle.uring_entry.proofs.EventLemmas.{is_joined_started, is_joined_ended, is_behind_failure_tells, is_behind_failure_from}
 use Rattle.uring_linux.specs.LinuxRequests.{LinuxRequests, asks_to_drain, asks_to_skip, has_skipped, is_refused_drain, has_fault, is_in_faulty_group, is_doomed, doomed_result, is_in_turn, keeps_back, is_deferred}
 use Rattle.uring_core.specs.World.{World, requests_of, happens, taking_of, taking_entry_of, ending_of}
@@ -25,7 +25,6 @@ use Rattle.uring_core.proofs.Groups.{longer, entry_kept, join_kept}
 use Rattle.uring_core.proofs.ListCounts.{any_kept, any_new, any_looser}
 use Rattle.uring_core.proofs.SoundRequests.{IsSoundRequests, outstanding_tells}
 use Rattle.uring_core.proofs.Sound.{sound_of}
-use Rattle.uring_laws.proofs.Swapping.{behind_end}
 
 -- the same set-up, with Linux's rules
 abbrev pub by_linux : Setup → Setup
@@ -78,16 +77,31 @@ start_linux r n spared first s =
 
 -- A request ends.
 
+-- by either's rules the end of another counts for nobody who isn't behind it in its group
+pub behind_end : (r : Requests) (m : ℕ) (res : ℤ) (bytes : List ℕ) (n : ℕ)
+    → (m < n → is_joined r m n ≡ false)
+    → is_behind_failure (with_ended r m res bytes) n ≡ is_behind_failure r n
+unfolding is_behind_failure is_joined
+behind_end r m res bytes n apart =
+    some_below_same (λ k. is_joined (with_ended r m res bytes) k n && is_soft (entry_of r k) && has_failed (with_ended r m res bytes) k) (λ k. is_joined r k n && is_soft (entry_of r k) && has_failed r k) n by_number where
+      by_number : (k : ℕ) → k < n → (is_joined r k n && is_soft (entry_of r k) && has_failed (with_ended r m res bytes) k) ≡ (is_joined r k n && is_soft (entry_of r k) && has_failed r k)
+      by_number k low = elim (cases_eq k m) [
+        | inl same ↦
+            let none : is_joined r k n ≡ false = subst (λ j. j < n → is_joined r j n ≡ false) (sym same) apart low in
+            and_left _ _ (and_left _ _ none) ∙ sym (and_left _ _ (and_left _ _ none))
+        | inr differ ↦ ap (λ b. is_joined r k n && is_soft (entry_of r k) && b) (has_failed_other r m res bytes k differ)
+      ]
+
 module _ (r : Requests) (n : ℕ) (res : ℤ) (bytes : List ℕ) where
   fault_ended : (m : ℕ) → is_in_faulty_group (with_ended r n res bytes) m ≡ is_in_faulty_group r m
   unfolding is_in_faulty_group is_joined
   fault_ended m = refl
 
-  first_ended : (m : ℕ) → IsFirst r m → IsFirst (with_ended r n res bytes) m
+  pub first_ended : (m : ℕ) → IsFirst r m → IsFirst (with_ended r n res bytes) m
   first_ended m first k lt joined = any_kept (λ x. x.number == k) r.ended _ (first k lt (sym (is_joined_ended r n res bytes k m) ∙ joined))
 
   -- who was in its turn while n hadn't ended stays as doomed as it was
-  doom_ended : (m : ℕ) → has_ended r n ≡ false → IsFirst r m
+  pub doom_ended : (m : ℕ) → has_ended r n ≡ false → IsFirst r m
       → is_doomed (with_ended r n res bytes) m ≡ is_doomed r m
   doom_ended m still first =
       ap₂ (λ x y. x || y) (fault_ended m) (behind_end r n res bytes m (λ lt. false_from_ne_true _ (λ joined. both_ways _ still (first n lt joined))))

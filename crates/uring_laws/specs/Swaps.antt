@@ -4,14 +4,14 @@ use Rattle.std.specs.List.{list_any}
 use Rattle.std.specs.Ordering.{int_eq}
 use Rattle.uring_entry.specs.Setup.{Setup}
 use Rattle.uring_entry.specs.Preparation.{operation_of}
-use Rattle.uring_entry.specs.Success.{posts_completion}
-use Rattle.uring_entry.specs.Requests.{Requests, Ending, entry_of, is_doomed, is_ready}
+use Rattle.uring_entry.specs.Requests.{Requests, Ending, entry_of}
 use Rattle.uring_entry.specs.declared.operation.Op.{Op}
 use Rattle.uring_entry.specs.declared.operation.Op.TheVariants.{Read, Write, Fsync}
 use Rattle.uring_entry.specs.declared.operation.Outcome.{Outcome}
 use Rattle.uring_files.specs.Contents.{FileContents}
 use Rattle.uring_files.specs.Operations.{after, result_of, IsOutcome}
-use Rattle.uring_core.specs.World.{World}
+use Rattle.uring_rules.specs.Rules.{ends_doomed, may_start, posts}
+use Rattle.uring_core.specs.World.{World, requests_of}
 use Rattle.uring_core.specs.CalledFor.{CalledFor, IsLawful, files_of}
 use Rattle.uring_core.specs.Histories.{Event, History, world}
 use Rattle.uring_core.specs.declared.step.Step.{Step}
@@ -73,11 +73,11 @@ ChangeAnywhere g = (rest h : History) (x y : Event) → ChangePlaces g h x y
 abbrev pub start_of : ℕ → Event
 start_of n = (step.Issue n, answer.Run)
 
--- n ends, and not as a cancel that was carried out: it was running, or it was doomed and ends as it is issued
-abbrev pub Ends : Requests → ℕ → Event → Type 0
-Ends r n (step.Finish m, answer.Ended res bytes) = m ≡ n
-Ends r n (step.Issue m, answer.Ended res bytes) = (m ≡ n) × (is_doomed r m ≡ true)
-Ends r n _ = ⊥
+-- n ends, and not as a cancel that was carried out: it was running, or it was doomed, by the rules of the set-up, and ends as it is issued
+abbrev pub Ends : (is_linux : Bool) → Requests → ℕ → Event → Type 0
+Ends is_linux r n (step.Finish m, answer.Ended res bytes) = m ≡ n
+Ends is_linux r n (step.Issue m, answer.Ended res bytes) = (m ≡ n) × (ends_doomed is_linux r m ≡ true)
+Ends is_linux r n _ = ⊥
 
 -- Two starts change places.
 abbrev pub StartsChange : Setup → Type 0
@@ -86,20 +86,20 @@ StartsChange g = (h : History) (m n : ℕ) → IsLawful g (start_of n ∷ start_
 
 -- A start changes places with the end of another request behind it.
 abbrev pub StartThenEnd : Setup → Type 0
-StartThenEnd g = (h : History) (m n : ℕ) (e : Event) → Ends (world g h).requests m e → m ≢ n
+StartThenEnd g = (h : History) (m n : ℕ) (e : Event) → Ends g.linux (world g h).requests m e → m ≢ n
     → IsLawful g (e ∷ start_of n ∷ h) → ChangePlaces g h (start_of n) e
 
--- An end changes places with the start of a request behind it that could start before it too.
+-- An end changes places with the start of a request behind it that might start before it too: by the manual pages' rules it waited for nobody any more, by Linux's it was in its turn and not deferred.
 abbrev pub EndThenStart : Setup → Type 0
-EndThenStart g = (h : History) (m n : ℕ) (e : Event) → Ends (world g h).requests m e
-    → is_ready (world g h).requests n ≡ true → IsLawful g (start_of n ∷ e ∷ h)
+EndThenStart g = (h : History) (m n : ℕ) (e : Event) → Ends g.linux (world g h).requests m e
+    → may_start g.linux (requests_of (world g h)) n ≡ true → IsLawful g (start_of n ∷ e ∷ h)
     → ChangePlaces g h e (start_of n)
 
--- whether an event ends a request and posts nothing
-abbrev pub PostsNothing : Requests → Event → Type 0
-PostsNothing r (step.Finish m, answer.Ended res bytes) = posts_completion (entry_of r m) res ≡ false
-PostsNothing r (step.Issue m, answer.Ended res bytes) = posts_completion (entry_of r m) res ≡ false
-PostsNothing r _ = ⊥
+-- whether an event ends a request and posts nothing, by the rules of the set-up
+abbrev pub PostsNothing : (is_linux : Bool) → Requests → Event → Type 0
+PostsNothing is_linux r (step.Finish m, answer.Ended res bytes) = posts is_linux r m res ≡ false
+PostsNothing is_linux r (step.Issue m, answer.Ended res bytes) = posts is_linux r m res ≡ false
+PostsNothing is_linux r _ = ⊥
 
 -- Operations on these files with these outcomes that don't meet: the later one could end so on the files before the earlier one, the earlier one behind the later one, and both orders leave the same files.
 pub record DontMeet (files : List FileContents) (d : Op) (x : Outcome) (e : Op) (y : Outcome) : Type 0 where
@@ -111,10 +111,10 @@ pub record DontMeet (files : List FileContents) (d : Op) (x : Outcome) (e : Op) 
 abbrev pub finish_of : ℕ → Outcome → Event
 finish_of n o = (step.Finish n, answer.Ended o.res o.bytes)
 
--- Two ends of running requests change places if one posts nothing, and their operations don't meet.
+-- Two ends of running requests change places if one posts nothing, and their operations don't meet. By Linux's rules neither is of a group that is deferred: as long as the other is outstanding no group goes on, so the drains stand the same in either order.
 abbrev pub FinishesChange : Setup → Type 0
 FinishesChange g = (h : History) (m n : ℕ) (x y : Outcome)
-    → PostsNothing (world g h).requests (finish_of m x) ⊎ PostsNothing (world g h).requests (finish_of n y)
+    → PostsNothing g.linux (world g h).requests (finish_of m x) ⊎ PostsNothing g.linux (world g h).requests (finish_of n y)
     → DontMeet (files_of g (world g h)) (operation_of (entry_of (world g h).requests m)) x (operation_of (entry_of (world g h).requests n)) y
     → IsLawful g (finish_of n y ∷ finish_of m x ∷ h) → ChangePlaces g h (finish_of m x) (finish_of n y)
 
@@ -164,9 +164,9 @@ IsIssue _ = ⊥
 
 -- Two ends of which one is that of a doomed request, as it is issued, change places if one posts nothing, and the doomed were doomed before both.
 abbrev pub DoomedEndsChange : Setup → Type 0
-DoomedEndsChange g = (h : History) (m n : ℕ) (d e : Event) → Ends (world g h).requests m d
-    → Ends (world g h).requests n e → IsIssue d ⊎ IsIssue e
-    → PostsNothing (world g h).requests d ⊎ PostsNothing (world g h).requests e
+DoomedEndsChange g = (h : History) (m n : ℕ) (d e : Event) → Ends g.linux (world g h).requests m d
+    → Ends g.linux (world g h).requests n e → IsIssue d ⊎ IsIssue e
+    → PostsNothing g.linux (world g h).requests d ⊎ PostsNothing g.linux (world g h).requests e
     → IsLawful g (e ∷ d ∷ h) → ChangePlaces g h d e
 
 -- The two sides of a core.

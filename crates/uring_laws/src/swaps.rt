@@ -1,9 +1,8 @@
-//! Which adjacent events may change places, and what no later answer tells apart: laws of the definitions alone. Worlds that are alike stay so by either's rules, and what lies on the two sides of a core changes places by either's; the other laws are of set-ups of the manual pages' rules.
-ghost use Rattle.std.specs.Prelude.{◌≡◌, false};
+//! Which adjacent events may change places, and what no later answer tells apart: laws of the definitions alone, by the manual pages' rules and by Linux's.
 ghost use Rattle.uring_entry.specs.Setup.{Setup};
 ghost use Rattle.uring_laws.specs.Swaps.{AlikeAnswerAlike, AlikeGoOnAlike, ChangeAnywhere, StartsChange, StartThenEnd, EndThenStart, FinishesChange, DoomedEndsChange, ApartDontMeet, StartThenRings, RingsThenStart, SubmissionThenRest, RestThenSubmission, ReorderedAlike};
 
-/// Worlds that differ only in the order in which requests started, were doomed by cancels and ended call for the same answers, and stay so by whatever comes, by either's rules. So events that change places do so in the midst of a history.
+/// Worlds that differ only in the order in which requests started, were doomed by cancels and ended call for the same answers, and stay so by whatever comes. So events that change places do so in the midst of a history.
 pub fn alike_go_on_alike()
     ensures answers { (g : Setup) → AlikeAnswerAlike g }
     ensures go_on { (g : Setup) → AlikeGoOnAlike g }
@@ -12,23 +11,23 @@ pub fn alike_go_on_alike()
 
 /// Two starts, one behind the other, change places.
 pub fn starts_change_places()
-    ensures { (g : Setup) → g.linux ≡ false → StartsChange g }
+    ensures { (g : Setup) → StartsChange g }
 {}
 
-/// A start changes places with the end of another request, unless that carries out a cancel: with one behind it always, and with one before it if the request was ready then already.
+/// A start changes places with the end of another request, unless that carries out a cancel: with one behind it always, and with one before it if the request might start then already.
 pub fn starts_and_ends_change_places()
-    ensures later { (g : Setup) → g.linux ≡ false → StartThenEnd g }
-    ensures earlier { (g : Setup) → g.linux ≡ false → EndThenStart g }
+    ensures later { (g : Setup) → StartThenEnd g }
+    ensures earlier { (g : Setup) → EndThenStart g }
 {}
 
-/// Two ends of running requests change places if one posts nothing, and their operations don't meet.
+/// Two ends of running requests change places if one posts nothing, and their operations don't meet. By Linux's rules neither is deferred, so whoever ends first lets no group go on.
 pub fn finishes_change_places()
-    ensures { (g : Setup) → g.linux ≡ false → FinishesChange g }
+    ensures { (g : Setup) → FinishesChange g }
 {}
 
 /// The end of a doomed request, as it is issued, changes places with another such end, and with the end of a running request, if one posts nothing and the doomed were doomed before both.
 pub fn doomed_ends_change_places()
-    ensures { (g : Setup) → g.linux ≡ false → DoomedEndsChange g }
+    ensures { (g : Setup) → DoomedEndsChange g }
 {}
 
 /// Operations that stay apart don't meet: on different files, or on one file with no byte in common, none behind a read that is written, and no sync beside a write.
@@ -38,17 +37,17 @@ pub fn operations_that_stay_apart()
 
 /// A start changes places with each step of the application, of a submission call and of a flush.
 pub fn starts_pass_the_rings()
-    ensures later { (g : Setup) → g.linux ≡ false → StartThenRings g }
-    ensures earlier { (g : Setup) → g.linux ≡ false → RingsThenStart g }
+    ensures later { (g : Setup) → StartThenRings g }
+    ensures earlier { (g : Setup) → RingsThenStart g }
 {}
 
-/// By either's rules a step on the submission ring, or of a call that doesn't close, changes places with a step on requests and completions.
+/// A step on the submission ring, or of a call that doesn't close, changes places with a step on requests and completions.
 pub fn sides_pass_one_another()
     ensures later { (g : Setup) → SubmissionThenRest g }
     ensures earlier { (g : Setup) → RestThenSubmission g }
 {}
 
-/// However many events of a lawful history change places, one pair after the other, by either's rules it stays lawful, and leaves a world that is alike: so one run of each class is enough.
+/// However many events of a lawful history change places, one pair after the other, it stays lawful, and leaves a world that is alike: so one run of each class is enough.
 pub fn reordered_leave_alike()
     ensures { (g : Setup) → ReorderedAlike g }
 {}

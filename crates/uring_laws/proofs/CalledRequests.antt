@@ -1,0 +1,255 @@
+-- Who can start before a call accepts entries can start behind it, and the other way round, by either's rules. By Linux's no group that was deferred goes on by a call: something else is outstanding then.
+use Rattle.std.proofs.Common.{◌≡◌, ℕ, ◌<◌, ◌≤◌, ◌==◌, Bool, true, false, not, ◌&&◌, ◌||◌, nat_lt, if◌then◌else◌, List, [], ◌∷◌, length, refl, sym, ap, ap₂, ◌∙◌, arith, ◌⊎◌, inl, inr, length-append}
+use Rattle.std.specs.List.{list_any}
+use Rattle.std.proofs.lemmas.Bool.{and_parts, cases_Bool, both_ways, not-true, not-false, lt-ltb, false_from_ne_true}
+use Rattle.uring_entry.specs.Layout.{Sqe}
+use Rattle.uring_entry.specs.Preparation.{is_cancel}
+use Rattle.uring_entry.specs.Requests as manual
+use Rattle.uring_entry.specs.Requests.{Requests, entry_of, has_ended, is_outstanding, is_joined, is_linked, is_draining, is_drain, is_ready, waits_for, holds_back, with_call}
+use Rattle.uring_entry.proofs.BelowLemmas.{some_below_same, some_below_in}
+use Rattle.uring_entry.specs.Below.{some_below}
+use Rattle.uring_linux.specs.declared.deferred.Deferred.{Deferred}
+use Rattle.uring_linux.specs.Drains.{Drains, is_in_some, deferred_with, still_deferred, with_deferred, with_ring}
+use Rattle.uring_linux.specs.LinuxRequests.{LinuxRequests, after_going_on, is_alone, is_deferred, is_faulty_from, is_in_turn, keeps_back, with_accepted, with_cut, with_group, with_last_entry}
+use Rattle.uring_linux.specs.Happenings.{with_entries}
+use Rattle.uring_linux.proofs.Deferring.{HasGoneOn, not_alone}
+use Rattle.uring_linux.proofs.Reaching.{IsBetween}
+use Rattle.uring_rules.specs.Rules.{ends_doomed, may_start}
+use Rattle.uring_rules.specs.RulesCalls.{called_by}
+use Rattle.uring_core.proofs.Groups.{longer, entry_kept, join_kept, member_kept, doom_kept}
+use Rattle.uring_laws.proofs.LinuxGroups.{in_pushed, pushed_old, still_fewer}
+use Rattle.uring_laws.proofs.LinuxSound.{doom_called}
+use Rattle.uring_laws.proofs.StartedRequests.{CanStart}
+
+-- Who is deferred behind a call.
+
+-- behind one group that is accepted: whoever was taken before it
+module _ (r : Requests) (d : Drains) where
+  -- the drains, whether the group was deferred or not
+  abbrev after_group : Bool → Drains
+  after_group plain =
+      if plain
+      then with_deferred d (length r.accepted) d.deferred
+      else with_ring (with_deferred d (length r.accepted) (after_going_on r (deferred_with d (length r.accepted)))) d.group
+
+  abbrev next_group : Deferred
+  next_group = record { from = d.from; end = length r.accepted; drains = d.group }
+
+  group_fewer : (n : ℕ) → n < d.from → is_in_some (with_group r d).deferred n ≡ true → is_in_some d.deferred n ≡ true
+  group_fewer n lt held = go (not d.ring || is_faulty_from r d.from) held where
+    go : (plain : Bool) → is_in_some (after_group plain).deferred n ≡ true → is_in_some d.deferred n ≡ true
+    go true e = e
+    go false e =
+        elim (in_pushed d.deferred next_group n (still_fewer _ (deferred_with d (length r.accepted)) n e)) [
+          | inl old ↦ old
+          | inr new ↦ (let from : d.from ≤ n = new.0 in absurd (omega (arith, from, lt)))
+        ]
+
+  -- as long as something else is outstanding, nobody goes on
+  group_keeps : (k n : ℕ) → k < d.from → k < length r.accepted → has_ended r k ≡ false → is_in_some d.deferred k ≡ false
+      → is_in_some d.deferred n ≡ true → is_in_some (with_group r d).deferred n ≡ true
+  group_keeps k n lt accepted still out held = go (not d.ring || is_faulty_from r d.from) where
+    with_next : is_in_some (deferred_with d (length r.accepted)) k ≡ false
+    with_next = false_from_ne_true _ (λ e. elim (in_pushed d.deferred next_group k e) [
+      | inl old ↦ both_ways _ out old
+      | inr new ↦ (let from : d.from ≤ k = new.0 in omega (arith, from, lt))
+    ])
+
+    unmoved : (alone : Bool) (groups : List Deferred) → alone ≡ false → is_in_some groups n ≡ true → is_in_some (still_deferred alone groups) n ≡ true
+    unmoved false [] e f = f
+    unmoved false (g ∷ rest) e f = f
+    unmoved true groups e f = absurd (let x : true ≡ false = e in cc)
+
+    go : (plain : Bool) → is_in_some (after_group plain).deferred n ≡ true
+    go true = held
+    go false =
+        unmoved (is_alone r (deferred_with d (length r.accepted))) (deferred_with d (length r.accepted)) (not_alone r (deferred_with d (length r.accepted)) k accepted still with_next) (pushed_old d.deferred next_group n held)
+
+  group_from : d.from ≤ length r.accepted → d.from ≤ (with_group r d).from
+  group_from le = go (not d.ring || is_faulty_from r d.from) where
+    go : (plain : Bool) → d.from ≤ (after_group plain).from
+    go true = le
+    go false = le
+
+  group_within : (with_group r d).from ≤ length r.accepted
+  group_within = go (not d.ring || is_faulty_from r d.from) where
+    go : (plain : Bool) → (after_group plain).from ≤ length r.accepted
+    go true = omega arith
+    go false = omega arith
+
+-- n was taken with a group that was accepted
+record IsTaken (l : LinuxRequests) (n : ℕ) : Type 0 where
+  before : n < l.drains.from
+  within : l.drains.from ≤ length l.requests.accepted
+
+-- one that is outstanding and not deferred
+record KeepsBack (l : LinuxRequests) (k : ℕ) : Type 0 where
+  taken : IsTaken l k
+  still : has_ended l.requests k ≡ false
+  free : is_deferred l k ≡ false
+
+module _ (l : LinuxRequests) (e : Sqe) where
+  abbrev longer_by : Requests
+  longer_by = manual.with_accepted l.requests e
+
+  abbrev with_last : Drains
+  with_last = with_last_entry longer_by (length l.requests.accepted) l.drains
+
+  -- the requests once the entry was accepted, whether another member follows or not
+  abbrev behind : Bool → LinuxRequests
+  behind linked =
+      record { requests = longer_by; drains = if linked then with_last else with_group longer_by with_last }
+
+  accepted_taken : (n : ℕ) → IsTaken l n → IsTaken (with_accepted l e) n
+  accepted_taken n t = go (is_linked e) where
+    more : length l.requests.accepted ≤ length longer_by.accepted
+    more = let grown = length-append l.requests.accepted (e ∷ []) in omega (arith, grown)
+
+    low : l.drains.from ≤ length longer_by.accepted
+    low = let le = t.within in omega (arith, le, more)
+
+    go : (linked : Bool) → IsTaken (behind linked) n
+    go true = record { before = t.before; within = low }
+    go false = record {
+      before = let lt = t.before in let up = group_from longer_by with_last low in omega (arith, lt, up);
+      within = group_within longer_by with_last;
+    }
+
+  accepted_fewer : (n : ℕ) → IsTaken l n → is_deferred (with_accepted l e) n ≡ true → is_deferred l n ≡ true
+  accepted_fewer n t held = go (is_linked e) held where
+    go : (linked : Bool) → is_deferred (behind linked) n ≡ true → is_deferred l n ≡ true
+    go true f = f
+    go false f = group_fewer longer_by with_last n t.before f
+
+  accepted_keeps : (k n : ℕ) → KeepsBack l k → is_deferred l n ≡ true → is_deferred (with_accepted l e) n ≡ true
+  accepted_keeps k n b held = go (is_linked e) where
+    low : k < length longer_by.accepted
+    low =
+        let lt = b.taken.before in
+        let le = b.taken.within in
+        let grown = length-append l.requests.accepted (e ∷ []) in
+        omega (arith, lt, le, grown)
+
+    go : (linked : Bool) → is_deferred (behind linked) n ≡ true
+    go true = held
+    go false = group_keeps longer_by with_last k n b.taken.before low b.still b.free held
+
+  accepted_back : (k : ℕ) → KeepsBack l k → KeepsBack (with_accepted l e) k
+  accepted_back k b = record {
+    taken = accepted_taken k b.taken;
+    still = b.still;
+    free = false_from_ne_true _ (λ f. both_ways _ b.free (accepted_fewer k b.taken f));
+  }
+
+entries_taken : (xs : List Sqe) (l : LinuxRequests) (n : ℕ) → IsTaken l n → IsTaken (with_entries l xs) n
+entries_taken [] l n t = t
+entries_taken (x ∷ xs) l n t = entries_taken xs (with_accepted l x) n (accepted_taken l x n t)
+
+entries_fewer : (xs : List Sqe) (l : LinuxRequests) (n : ℕ) → IsTaken l n
+    → is_deferred (with_entries l xs) n ≡ true → is_deferred l n ≡ true
+entries_fewer [] l n t held = held
+entries_fewer (x ∷ xs) l n t held =
+    accepted_fewer l x n t (entries_fewer xs (with_accepted l x) n (accepted_taken l x n t) held)
+
+entries_keep : (xs : List Sqe) (l : LinuxRequests) (k n : ℕ) → KeepsBack l k → is_deferred l n ≡ true
+    → is_deferred (with_entries l xs) n ≡ true
+entries_keep [] l k n b held = held
+entries_keep (x ∷ xs) l k n b held =
+    entries_keep xs (with_accepted l x) k n (accepted_back l x k b) (accepted_keeps l x k n b held)
+
+entries_back : (xs : List Sqe) (l : LinuxRequests) (k : ℕ) → KeepsBack l k → KeepsBack (with_entries l xs) k
+entries_back [] l k b = b
+entries_back (x ∷ xs) l k b = entries_back xs (with_accepted l x) k (accepted_back l x k b)
+
+module _ (l : LinuxRequests) where
+  abbrev closed : Bool → Drains
+  closed amid = if amid then with_group (manual.with_cut l.requests) l.drains else l.drains
+
+  cut_fewer : (n : ℕ) → IsTaken l n → is_in_some (with_cut l).drains.deferred n ≡ true → is_deferred l n ≡ true
+  cut_fewer n t held = go (nat_lt l.drains.from (length l.requests.accepted)) held where
+    go : (amid : Bool) → is_in_some (closed amid).deferred n ≡ true → is_deferred l n ≡ true
+    go true f = group_fewer (manual.with_cut l.requests) l.drains n t.before f
+    go false f = f
+
+  cut_keeps : (k n : ℕ) → KeepsBack l k → is_deferred l n ≡ true → is_in_some (with_cut l).drains.deferred n ≡ true
+  cut_keeps k n b held = go (nat_lt l.drains.from (length l.requests.accepted)) where
+    low : k < length l.requests.accepted
+    low = let lt = b.taken.before in let le = b.taken.within in omega (arith, lt, le)
+
+    go : (amid : Bool) → is_in_some (closed amid).deferred n ≡ true
+    go true = group_keeps (manual.with_cut l.requests) l.drains k n b.taken.before low b.still b.free held
+    go false = held
+
+someone : (r : Requests) (groups : List Deferred) → is_alone r groups ≡ false
+    → some_below (λ k. not (has_ended r k) && not (is_in_some groups k)) (length r.accepted) ≡ true
+unfolding is_alone
+someone r groups e = not-false _ e
+
+-- between calls, who was accepted is deferred behind a call exactly if it was before
+deferred_called : (l : LinuxRequests) (entries : List Sqe) (n : ℕ) → n < length l.requests.accepted → IsBetween l
+    → is_in_some (with_cut (with_entries l entries)).drains.deferred n ≡ is_deferred l n
+deferred_called l entries n within b = elim (cases_Bool (is_deferred l n)) [
+  | inl held ↦ kept held b.settled.gone ∙ sym held
+  | inr out ↦
+      false_from_ne_true _ (λ e. both_ways _ out (entries_fewer entries l n (taken n within) (cut_fewer (with_entries l entries) n (entries_taken entries l n (taken n within)) e))) ∙ sym out
+] where
+  taken : (k : ℕ) → k < length l.requests.accepted → IsTaken l k
+  taken k lt = record { before = let up = b.closed in omega (arith, lt, up); within = b.settled.low }
+
+  kept : is_deferred l n ≡ true → HasGoneOn l.requests l.drains.deferred → is_in_some (with_cut (with_entries l entries)).drains.deferred n ≡ true
+  kept held (inl none) = absurd (both_ways (is_deferred l n) (ap (λ groups. is_in_some groups n) none) held)
+  kept held (inr apart) =
+      let found = some_below_in (λ k. not (has_ended l.requests k) && not (is_deferred l k)) (length l.requests.accepted) (someone l.requests l.drains.deferred apart) in
+      let p = and_parts (not (has_ended l.requests found.0)) (not (is_deferred l found.0)) found.2 in
+      let back : KeepsBack l found.0 = record { taken = taken found.0 found.1; still = not-true _ p.0; free = not-true _ p.1 } in
+      cut_keeps (with_entries l entries) found.0 n (entries_back entries l found.0 back) (entries_keep entries l found.0 n back held)
+
+-- Who can start.
+
+module _ (l : LinuxRequests) (entries : List Sqe) (cut : (length l.requests.accepted ≡ 0) ⊎ (list_any (λ c. c == length l.requests.accepted) l.requests.cuts ≡ true)) (n : ℕ) (within : n < length l.requests.accepted) where
+  abbrev r : Requests
+  r = l.requests
+
+  waits_kept : (k : ℕ) → k < n → waits_for (with_call r entries) n k ≡ waits_for r n k
+  waits_kept k low =
+      ap₂ (λ x y. (is_joined (with_call r entries) k n || x) || y) (member_kept r entries cut is_drain k (omega (arith, within, low))) (member_kept r entries cut is_drain n within)
+      ∙ ap (λ x. (x || is_draining r k) || is_draining r n) (join_kept r entries cut k n within)
+
+  ready_kept : is_ready (with_call r entries) n ≡ is_ready r n
+  unfolding is_ready
+  ready_kept = ap not (some_below_same (holds_back (with_call r entries) n) (holds_back r n) n (λ k low. ap (λ b. not (has_ended r k) && b) (waits_kept k low)))
+
+  turn_kept : is_in_turn (with_call r entries) n ≡ is_in_turn r n
+  unfolding is_in_turn
+  turn_kept = ap not (some_below_same (keeps_back (with_call r entries) n) (keeps_back r n) n (λ k low. ap (λ b. b && not (has_ended r k)) (join_kept r entries cut k n within)))
+
+  outstanding_kept : is_outstanding (with_call r entries) n ≡ is_outstanding r n
+  outstanding_kept =
+      let more = longer r entries cut in
+      ap (λ b. b && not (has_ended r n)) (lt-ltb n (length (with_call r entries).accepted) (omega (arith, within, more)) ∙ sym (lt-ltb n (length r.accepted) within))
+
+  ends_doomed_kept : (linux : Bool) → ends_doomed linux (with_call r entries) n ≡ ends_doomed linux r n
+  ends_doomed_kept true = ap₂ (λ x y. x && y) turn_kept (doom_called r entries cut n within)
+  ends_doomed_kept false = doom_kept r entries cut n within
+
+  may_start_kept : (linux : Bool) → (linux ≡ true → IsBetween l) → may_start linux (called_by linux l entries) n ≡ may_start linux l n
+  may_start_kept true so = ap₂ (λ x y. x && not y) turn_kept (deferred_called l entries n within (so refl))
+  may_start_kept false so = ready_kept
+
+  pub start_kept : (linux : Bool) → (linux ≡ true → IsBetween l) → CanStart linux l n → CanStart linux (called_by linux l entries) n
+  start_kept linux so c = record {
+    outstanding = outstanding_kept ∙ c.outstanding;
+    idle = c.idle;
+    spared = ends_doomed_kept linux ∙ c.spared;
+    ready = may_start_kept linux so ∙ c.ready;
+    no_cancel = ap is_cancel (entry_kept r entries cut n within) ∙ c.no_cancel;
+  }
+
+  pub start_was : (linux : Bool) → (linux ≡ true → IsBetween l) → CanStart linux (called_by linux l entries) n → CanStart linux l n
+  start_was linux so c = record {
+    outstanding = sym outstanding_kept ∙ c.outstanding;
+    idle = c.idle;
+    spared = sym (ends_doomed_kept linux) ∙ c.spared;
+    ready = sym (may_start_kept linux so) ∙ c.ready;
+    no_cancel = sym (ap is_cancel (entry_kept r entries cut n within)) ∙ c.no_cancel;
+  }

@@ -1,0 +1,248 @@
+-- What an end leaves of other requests, by either's rules: who can start, who is to end as doomed and who posts; and the drains that two ends leave, in either order.
+use Rattle.std.proofs.Common.{◌≡◌, ◌≢◌, ℕ, ◌<◌, ◌==◌, ℤ, Bool, true, false, not, ◌&&◌, ◌||◌, nat_lt, if◌then◌else◌, List, [], ◌∷◌, ◌++◌, length, Option, Some, None, refl, sym, subst, ap, ap₂, ◌∙◌, inl, inr}
+use Rattle.std.specs.List.{list_any}
+use Rattle.std.proofs.lemmas.Bool.{and_from, and_parts, and_left, and_right, and_cases, or_parts, both_ways, cases_Bool, cases_eq, not-true, not-false, false_from_ne_true}
+use Rattle.uring_entry.specs.Success.{is_success}
+use Rattle.uring_entry.specs.Requests.{Requests, Ending, entry_of, has_ended, is_outstanding, is_running, is_doomed, is_cancelled, is_draining, is_in_faulty_group, is_joined, is_ready, is_soft, some_member, holds_back, waits_for, no_bytes, with_ended}
+use Rattle.uring_entry.specs.Why.{failed_member_of, is_failure_before}
+use Rattle.uring_entry.proofs.BelowLemmas.{some_below_none, least_below_same}
+use Rattle.uring_entry.proofs.RequestLemmas.{list_any_push, has_ended_same, has_ended_other, has_failed_other, is_ready_yes, is_ready_inside, is_running_ended_other, is_doomed_faulty, is_doomed_behind, is_doomed_cancelled}
+use Rattle.uring_entry.proofs.EventLemmas.{is_doomed_tells, is_behind_failure_tells, is_behind_failure_from}
+use Rattle.uring_linux.specs.declared.deferred.Deferred.{Deferred}
+use Rattle.uring_linux.specs.Drains.{Drains, is_in_some, still_deferred}
+use Rattle.uring_linux.specs.LinuxRequests as kernel
+use Rattle.uring_linux.specs.LinuxRequests.{LinuxRequests, breaker_of, first_of, is_alone, is_deferred, is_in_turn, keeps_back, posts_behind}
+use Rattle.uring_linux.proofs.Deferring.{not_alone}
+use Rattle.uring_rules.specs.Rules.{ends_doomed, may_start, posts, drains_ended}
+use Rattle.uring_core.proofs.ListCounts.{any_kept}
+use Rattle.uring_laws.proofs.AlikeDrains.{going_same}
+use Rattle.uring_laws.proofs.LinuxGroups.{still_fewer}
+use Rattle.uring_laws.proofs.LinuxSound as sound
+use Rattle.uring_laws.proofs.LinuxSound.{IsFirst, behind_end, doom_ended, doom_stays, first_ended, turn_first}
+use Rattle.uring_laws.proofs.StartedRequests.{CanStart}
+
+-- m has ended
+abbrev pub with_end : (linux : Bool) → LinuxRequests → ℕ → ℤ → List ℕ → LinuxRequests
+with_end linux l m res bytes =
+    record { requests = with_ended l.requests m res bytes; drains = drains_ended linux l m res }
+
+-- By the manual pages' rules.
+
+-- whoever is ready waits for nobody that hasn't ended
+waits_not : (r : Requests) (m n : ℕ) → is_ready r n ≡ true → has_ended r m ≡ false → m < n
+    → waits_for r n m ≡ false
+waits_not r m n ready still low =
+    sym (ap (λ b. not b && waits_for r n m) still) ∙ is_ready_inside r n m ready low
+
+-- and is in no group behind it
+joined_not : (r : Requests) (m n : ℕ) → is_ready r n ≡ true → has_ended r m ≡ false → m < n
+    → is_joined r m n ≡ false
+joined_not r m n ready still low =
+    (or_parts (is_joined r m n) (is_draining r m) (or_parts (is_joined r m n || is_draining r m) (is_draining r n) (waits_not r m n ready still low)).0).0
+
+module _ (r : Requests) (m : ℕ) (res : ℤ) (bytes : List ℕ) (n : ℕ) where
+  abbrev q : Requests
+  q = with_ended r m res bytes
+
+  doomed_end : (m < n → is_joined r m n ≡ false) → is_doomed q n ≡ is_doomed r n
+  unfolding is_doomed some_member is_joined
+  doomed_end apart =
+      ap (λ b. is_in_faulty_group r n || b || is_cancelled r n) (behind_end r m res bytes n apart)
+
+  waits_end : (k : ℕ) → waits_for q n k ≡ waits_for r n k
+  unfolding some_member is_joined
+  waits_end k = refl
+
+  ready_end : is_ready r n ≡ true → is_ready q n ≡ true
+  ready_end ready = is_ready_yes q n free where
+    free : (k : ℕ) → k < n → holds_back q n k ≡ false
+    free k low = elim (and_cases (not (has_ended r k)) (waits_for r n k) (is_ready_inside r n k ready low)) [
+      | inl over ↦ and_left _ _ (ap not (any_kept (λ e. e.number == k) r.ended _ (not-false _ over)))
+      | inr none ↦ and_right _ _ (waits_end k ∙ none)
+    ]
+
+  -- who is doomed stays so behind an end
+  stays_doomed : is_doomed r n ≡ true → is_doomed q n ≡ true
+  unfolding some_member is_joined
+  stays_doomed doomed = elim (is_doomed_tells r n doomed) [
+    | inl faulty ↦ is_doomed_faulty q n faulty
+    | inr rest ↦
+        elim rest [
+          | inl behind ↦
+              let f = is_behind_failure_tells r n behind in
+              is_doomed_behind q n (is_behind_failure_from q n f.0 (record { before = f.1.before; joined = f.1.joined; soft = f.1.soft; failed = any_kept (λ e. (e.number == f.0) && not (is_success (entry_of r f.0) e.res)) r.ended _ f.1.failed }))
+          | inr cancelled ↦ is_doomed_cancelled q n cancelled
+        ]
+  ]
+
+  -- By Linux's rules.
+
+  turn_from : (p : Requests) → IsFirst p n → is_in_turn p n ≡ true
+  unfolding is_in_turn
+  turn_from p first =
+      ap not
+      (some_below_none (keeps_back p n) n
+      (λ k lt. elim (cases_Bool (is_joined p k n)) [
+        | inl joined ↦ and_right _ _ (ap not (first k lt joined))
+        | inr apart ↦ and_left _ _ apart
+      ]))
+
+  turn_end : is_in_turn r n ≡ true → is_in_turn q n ≡ true
+  turn_end turn = turn_from q (first_ended r m res bytes n (turn_first r n turn))
+
+  -- By either's.
+
+  pub outstanding_end : n ≢ m → is_outstanding q n ≡ is_outstanding r n
+  outstanding_end differ =
+      ap (λ b. nat_lt n (length r.accepted) && not b) (has_ended_other r m res bytes n differ)
+
+  pub ends_doomed_stays : (linux : Bool) → ends_doomed linux r n ≡ true → ends_doomed linux q n ≡ true
+  ends_doomed_stays true doomed =
+      let p = and_parts (is_in_turn r n) (kernel.is_doomed r n) doomed in
+      and_from _ _ (turn_end p.0) (doom_stays r m res bytes n p.1)
+  ends_doomed_stays false doomed = stays_doomed doomed
+
+  failed_one_end : IsFirst r n → has_ended r m ≡ false → failed_member_of q n ≡ failed_member_of r n
+  unfolding is_joined
+  failed_one_end first still = least_below_same (is_failure_before q n) (is_failure_before r n) n by_number where
+    by_number : (k : ℕ) → k < n → is_failure_before q n k ≡ is_failure_before r n k
+    by_number k low = elim (cases_eq k m) [
+      | inl same ↦
+          let none : is_joined r k n ≡ false = false_from_ne_true _ (λ joined. both_ways _ still (subst (λ j. has_ended r j ≡ true) same (first k low joined))) in
+          and_left _ _ (and_left _ _ none) ∙ sym (and_left _ _ (and_left _ _ none))
+      | inr differ ↦ ap (λ b. is_joined r k n && is_soft (entry_of r k) && b) (has_failed_other r m res bytes k differ)
+    ]
+
+  faulty_end : kernel.is_in_faulty_group q n ≡ kernel.is_in_faulty_group r n
+  unfolding kernel.is_in_faulty_group is_joined
+  faulty_end = refl
+
+  first_one_end : first_of q n ≡ first_of r n
+  unfolding first_of is_joined
+  first_one_end = refl
+
+  behind_one : (o : Option ℕ) (other : ℤ) → posts_behind q o n other ≡ posts_behind r o n other
+  behind_one None other = refl
+  behind_one (Some k) other = refl
+
+  breaker_end : IsFirst r n → has_ended r m ≡ false → breaker_of q n ≡ breaker_of r n
+  breaker_end first still =
+      ap (λ b. if b then first_of q n else failed_member_of q n) faulty_end
+      ∙ ap₂ (λ x y. if kernel.is_in_faulty_group r n then x else y) first_one_end (failed_one_end first still)
+
+  -- whether n posts isn't changed by the end of one that isn't before it in its group
+  pub posts_end : (linux : Bool) → (linux ≡ true → IsFirst r n) → has_ended r m ≡ false → (other : ℤ)
+      → posts linux q n other ≡ posts linux r n other
+  posts_end true first still other =
+      behind_one (breaker_of q n) other ∙ ap (λ (o : Option ℕ). posts_behind r o n other) (breaker_end (first refl) still)
+  posts_end false first still other = refl
+
+-- Who can start beside an end.
+
+module _ (l : LinuxRequests) (m : ℕ) (res : ℤ) (bytes : List ℕ) (n : ℕ) (still : has_ended l.requests m ≡ false) where
+  spared_past : (linux : Bool) → ends_doomed linux l.requests n ≡ false → may_start linux l n ≡ true
+      → ends_doomed linux (with_ended l.requests m res bytes) n ≡ false
+  spared_past true spared ready =
+      let k = sound.starts_so l n spared ready in
+      and_right _ _ (doom_ended l.requests m res bytes n still (turn_first l.requests n k.turn) ∙ k.spared)
+  spared_past false spared ready =
+      doomed_end l.requests m res bytes n (joined_not l.requests m n ready still) ∙ spared
+
+  ready_past : (linux : Bool) → may_start linux l n ≡ true → may_start linux (with_end linux l m res bytes) n ≡ true
+  ready_past true ready =
+      let p = and_parts (is_in_turn l.requests n) (not (is_deferred l n)) ready in
+      and_from _ _ (turn_end l.requests m res bytes n p.0)
+      (ap not (false_from_ne_true _ (λ e. both_ways (is_deferred l n) (not-true _ p.1) (still_fewer _ l.drains.deferred n e))))
+  ready_past false ready = ready_end l.requests m res bytes n ready
+
+  spared_ahead : (linux : Bool) → may_start linux l n ≡ true
+      → ends_doomed linux (with_ended l.requests m res bytes) n ≡ false → ends_doomed linux l.requests n ≡ false
+  spared_ahead true ready spared =
+      let turn : is_in_turn l.requests n ≡ true = (and_parts (is_in_turn l.requests n) (not (is_deferred l n)) ready).0 in
+      let free : kernel.is_doomed (with_ended l.requests m res bytes) n ≡ false = sym (ap (λ b. b && kernel.is_doomed (with_ended l.requests m res bytes) n) (turn_end l.requests m res bytes n turn)) ∙ spared in
+      and_right _ _ (sym (doom_ended l.requests m res bytes n still (turn_first l.requests n turn)) ∙ free)
+  spared_ahead false ready spared =
+      sym (doomed_end l.requests m res bytes n (joined_not l.requests m n ready still)) ∙ spared
+
+  -- a request that can start can do so behind the end of another, and could before it if it might then
+  pub start_past : (linux : Bool) → n ≢ m → CanStart linux l n → CanStart linux (with_end linux l m res bytes) n
+  start_past linux differ c = record {
+    outstanding = outstanding_end l.requests m res bytes n differ ∙ c.outstanding;
+    idle = is_running_ended_other l.requests m res bytes n differ ∙ c.idle;
+    spared = spared_past linux c.spared c.ready;
+    ready = ready_past linux c.ready;
+    no_cancel = c.no_cancel;
+  }
+
+  pub start_ahead : (linux : Bool) → n ≢ m → may_start linux l n ≡ true → CanStart linux (with_end linux l m res bytes) n → CanStart linux l n
+  start_ahead linux differ ready c = record {
+    outstanding = sym (outstanding_end l.requests m res bytes n differ) ∙ c.outstanding;
+    idle = sym (is_running_ended_other l.requests m res bytes n differ) ∙ c.idle;
+    spared = spared_ahead linux ready c.spared;
+    ready = ready;
+    no_cancel = c.no_cancel;
+  }
+
+pub not_ended : (r : Requests) (n : ℕ) → is_outstanding r n ≡ true → has_ended r n ≡ false
+not_ended r n out =
+    not-true _ (and_parts (nat_lt n (length r.accepted)) (not (has_ended r n)) out).1
+
+pub not_over : (r : Requests) (n : ℕ) → is_running r n ≡ true → has_ended r n ≡ false
+not_over r n running = not-true _ (and_parts _ (not (has_ended r n)) running).1
+
+-- whoever is outstanding behind an end isn't the one that ended
+pub other_than : (r : Requests) (m : ℕ) (res : ℤ) (bytes : List ℕ) (n : ℕ)
+    → is_outstanding (with_ended r m res bytes) n ≡ true → n ≢ m
+other_than r m res bytes n outstanding same =
+    both_ways (has_ended (with_ended r m res bytes) n) (not_ended (with_ended r m res bytes) n outstanding)
+    (subst (λ k. has_ended (with_ended r m res bytes) k ≡ true) (sym same) (has_ended_same r m res bytes))
+
+-- The drains that two ends leave.
+
+pub either_order : (x y z : Bool) → ((x || y) || z) ≡ ((x || z) || y)
+either_order true y z = refl
+either_order false true true = refl
+either_order false true false = refl
+either_order false false z = sym (none z) where
+  none : (b : Bool) → (b || false) ≡ b
+  none true = refl
+  none false = refl
+
+-- whoever is outstanding and not deferred when another ends keeps the deferred from going on
+pub record IsApart (l : LinuxRequests) (n : ℕ) : Type 0 where
+  pub accepted : n < length l.requests.accepted
+  pub still : has_ended l.requests n ≡ false
+  pub free : is_in_some l.drains.deferred n ≡ false
+
+unmoved : (alone : Bool) (groups : List Deferred) → alone ≡ false → still_deferred alone groups ≡ groups
+unmoved false [] e = refl
+unmoved false (g ∷ rest) e = refl
+unmoved true groups e = absurd (let f : true ≡ false = e in cc)
+
+none_goes_on : (l : LinuxRequests) (m : ℕ) (res : ℤ) (n : ℕ) → n ≢ m → IsApart l n
+    → drains_ended true l m res ≡ l.drains
+none_goes_on l m res n differ a =
+    let r : Requests = with_ended l.requests m res no_bytes in
+    ap (λ gs. record l.drains { deferred = gs }) (unmoved (is_alone r l.drains.deferred) l.drains.deferred (not_alone r l.drains.deferred n a.accepted (has_ended_other l.requests m res no_bytes n differ ∙ a.still) a.free))
+
+same_numbers : (ended : List Ending) (a b c d : Ending) (k : ℕ) → a.number ≡ d.number → b.number ≡ c.number
+    → list_any (λ e. e.number == k) ((ended ++ a ∷ []) ++ b ∷ []) ≡ list_any (λ e. e.number == k) ((ended ++ c ∷ []) ++ d ∷ [])
+same_numbers ended a b c d k one two =
+    list_any_push (λ e. e.number == k) (ended ++ a ∷ []) b
+    ∙ ap (λ z. z || (b.number == k)) (list_any_push (λ e. e.number == k) ended a)
+    ∙ either_order (list_any (λ e. e.number == k) ended) (a.number == k) (b.number == k)
+    ∙ ap₂ (λ i j. (list_any (λ e. e.number == k) ended || (i == k)) || (j == k)) two one
+    ∙ sym (list_any_push (λ e. e.number == k) (ended ++ c ∷ []) d ∙ ap (λ z. z || (d.number == k)) (list_any_push (λ e. e.number == k) ended c))
+
+-- Two that are outstanding and not deferred end: the drains stand the same in either order.
+pub drains_either : (linux : Bool) (l : LinuxRequests) (m n : ℕ) (x y : ℤ) (xs ys : List ℕ) → n ≢ m
+    → (linux ≡ true → IsApart l m) → (linux ≡ true → IsApart l n)
+    → drains_ended linux (with_end linux l m x xs) n y ≡ drains_ended linux (with_end linux l n y ys) m x
+drains_either true l m n x y xs ys differ one two =
+    let r : Requests = l.requests in
+    let p : Requests = with_ended (with_ended r m x xs) n y no_bytes in
+    let q : Requests = with_ended (with_ended r n y ys) m x no_bytes in
+    ap (λ (d : Drains). drains_ended true (record { requests = with_ended r m x xs; drains = d }) n y) (none_goes_on l m x n differ (two refl))
+    ∙ ap (λ gs. record l.drains { deferred = gs }) (going_same q r.started r.cancelled p.ended (λ k. same_numbers r.ended (record { number = m; res = x; bytes = xs }) (record { number = n; res = y; bytes = no_bytes }) (record { number = n; res = y; bytes = ys }) (record { number = m; res = x; bytes = no_bytes }) k refl refl) l.drains.deferred)
+    ∙ sym (ap (λ (d : Drains). drains_ended true (record { requests = with_ended r n y ys; drains = d }) m x) (none_goes_on l n y m (λ e. differ (sym e)) (one refl)))
+drains_either false l m n x y xs ys differ one two = refl

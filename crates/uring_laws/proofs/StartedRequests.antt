@@ -1,0 +1,128 @@
+-- What a start leaves as it was, by either's rules: who is doomed, who may start, who posts and how the drains stand. Only who runs changes.
+use Rattle.std.proofs.Common.{◌≡◌, ◌≢◌, ℕ, ℤ, Bool, true, false, not, ◌&&◌, if◌then◌else◌, List, [], ◌∷◌, ◌++◌, Option, Some, None, refl, sym, ap, ap₂, ◌∙◌}
+use Rattle.uring_entry.specs.Layout.{Sqe}
+use Rattle.uring_entry.specs.Preparation.{is_cancel}
+use Rattle.uring_entry.specs.Requests as manual
+use Rattle.uring_entry.specs.Requests.{Requests, entry_of, is_outstanding, is_running, is_joined, is_ready, some_member, no_bytes}
+use Rattle.uring_entry.proofs.EventLemmas.{is_doomed_started}
+use Rattle.uring_entry.proofs.RequestLemmas.{is_running_started_other}
+use Rattle.uring_linux.specs.LinuxRequests.{LinuxRequests, breaker_of, first_of, is_deferred, is_in_faulty_group, is_in_turn, posts_behind, with_started}
+use Rattle.uring_rules.specs.Rules.{ends_doomed, may_start, doomed_result, cancel_result, posts, drains_called, drains_ended}
+use Rattle.uring_core.specs.World.{World, requests_of}
+use Rattle.uring_core.specs.StepAnswers.{issue_answer}
+use Rattle.uring_entry.specs.Setup.{Setup}
+use Rattle.uring_core.specs.declared.answer.Answer.{Answer}
+use Rattle.uring_core.specs.declared.answer.Answer.TheVariants as answer
+use Rattle.uring_laws.proofs.AlikeDrains.{called_same, going_same}
+use Rattle.uring_laws.proofs.LinuxSound.{doom_started}
+
+turn_started : (r : Requests) (m n : ℕ) → is_in_turn (manual.with_started r m) n ≡ is_in_turn r n
+unfolding is_in_turn is_joined
+turn_started r m n = refl
+
+pub ends_doomed_started : (linux : Bool) (r : Requests) (m n : ℕ)
+    → ends_doomed linux (manual.with_started r m) n ≡ ends_doomed linux r n
+ends_doomed_started true r m n =
+    ap₂ (λ x y. x && y) (turn_started r m n) (doom_started r m n)
+ends_doomed_started false r m n = is_doomed_started r m n
+
+ready_started : (r : Requests) (m n : ℕ) → is_ready (manual.with_started r m) n ≡ is_ready r n
+unfolding is_ready some_member is_joined
+ready_started r m n = refl
+
+pub may_start_started : (linux : Bool) (l : LinuxRequests) (m n : ℕ)
+    → may_start linux (with_started l m) n ≡ may_start linux l n
+may_start_started true l m n = ap (λ b. b && not (is_deferred l n)) (turn_started l.requests m n)
+may_start_started false l m n = ready_started l.requests m n
+
+breaker_started : (r : Requests) (m n : ℕ) → breaker_of (manual.with_started r m) n ≡ breaker_of r n
+unfolding is_in_faulty_group first_of is_joined
+breaker_started r m n = refl
+
+behind_one : (r : Requests) (m : ℕ) (o : Option ℕ) (n : ℕ) (res : ℤ)
+    → posts_behind (manual.with_started r m) o n res ≡ posts_behind r o n res
+behind_one r m None n res = refl
+behind_one r m (Some k) n res = refl
+
+pub posts_started : (linux : Bool) (r : Requests) (m n : ℕ) (res : ℤ)
+    → posts linux (manual.with_started r m) n res ≡ posts linux r n res
+posts_started true r m n res =
+    behind_one r m (breaker_of (manual.with_started r m) n) n res ∙ ap (λ (o : Option ℕ). posts_behind r o n res) (breaker_started r m n)
+posts_started false r m n res = refl
+
+pub drains_ended_started : (linux : Bool) (l : LinuxRequests) (m n : ℕ) (res : ℤ)
+    → drains_ended linux (with_started l m) n res ≡ drains_ended linux l n res
+drains_ended_started true l m n res =
+    let r : Requests = manual.with_ended l.requests n res no_bytes in
+    ap (λ gs. record l.drains { deferred = gs }) (going_same r (r.started ++ m ∷ []) r.cancelled r.ended (λ k. refl) l.drains.deferred)
+drains_ended_started false l m n res = refl
+
+pub drains_called_started : (linux : Bool) (l : LinuxRequests) (m : ℕ) (entries : List Sqe)
+    → drains_called linux (with_started l m) entries ≡ drains_called linux l entries
+drains_called_started true l m entries =
+    called_same l (l.requests.started ++ m ∷ []) l.requests.cancelled l.requests.ended (λ k. refl) entries
+drains_called_started false l m entries = refl
+
+-- Who can start.
+
+-- what an issue asks for before it starts a request
+pub record CanStart (linux : Bool) (l : LinuxRequests) (n : ℕ) : Type 0 where
+  pub outstanding : is_outstanding l.requests n ≡ true
+  pub idle : is_running l.requests n ≡ false
+  pub spared : ends_doomed linux l.requests n ≡ false
+  pub ready : may_start linux l n ≡ true
+  pub no_cancel : is_cancel (entry_of l.requests n) ≡ false
+
+-- the answer to an issue, by what it asks
+abbrev pub issued_by : Bool → Bool → Bool → Bool → Bool → ℤ → ℤ → Answer
+issued_by outstanding running doomed ready cancel x z =
+    if not outstanding then answer.Unknown else
+    if running then answer.Running else
+    if doomed then answer.Ended x no_bytes else
+    if not ready then answer.NotReady else
+    if cancel then answer.Ended z no_bytes else
+    answer.Run
+
+tells_start : (o i d y c : Bool) (x z : ℤ) → answer.Run ≡ issued_by o i d y c x z
+    → ((o ≡ true) × (i ≡ false)) × ((d ≡ false) × ((y ≡ true) × (c ≡ false)))
+tells_start true false false true false x z e = ((refl, refl), (refl, (refl, refl)))
+tells_start _ _ _ _ _ x z e = absurd cc
+
+starts_so : (o i d y c : Bool) (x z : ℤ) → o ≡ true → i ≡ false → d ≡ false → y ≡ true → c ≡ false
+    → answer.Run ≡ issued_by o i d y c x z
+starts_so true false false true false x z e f h k l = refl
+starts_so _ _ _ _ _ x z e f h k l = absurd cc
+
+pub can_start : (g : Setup) (w : World) (n : ℕ) → answer.Run ≡ issue_answer g w n
+    → CanStart g.linux (requests_of w) n
+can_start g w n e =
+    let r : Requests = w.requests in
+    let p = tells_start (is_outstanding r n) (is_running r n) (ends_doomed g.linux r n) (may_start g.linux (requests_of w) n) (is_cancel (entry_of r n)) (doomed_result g.linux r n) (cancel_result g.linux r n) e in
+    record { outstanding = p.0.0; idle = p.0.1; spared = p.1.0; ready = p.1.1.0; no_cancel = p.1.1.1 }
+
+pub start_called : (g : Setup) (w : World) (n : ℕ) → CanStart g.linux (requests_of w) n
+    → answer.Run ≡ issue_answer g w n
+start_called g w n c =
+    let r : Requests = w.requests in
+    starts_so (is_outstanding r n) (is_running r n) (ends_doomed g.linux r n) (may_start g.linux (requests_of w) n) (is_cancel (entry_of r n)) (doomed_result g.linux r n) (cancel_result g.linux r n) c.outstanding c.idle c.spared c.ready c.no_cancel
+
+-- a request that can start could start before another one did, and can behind it
+pub start_before : (linux : Bool) (l : LinuxRequests) (m n : ℕ) → n ≢ m
+    → CanStart linux (with_started l m) n → CanStart linux l n
+start_before linux l m n differ c = record {
+  outstanding = c.outstanding;
+  idle = sym (is_running_started_other l.requests m n differ) ∙ c.idle;
+  spared = sym (ends_doomed_started linux l.requests m n) ∙ c.spared;
+  ready = sym (may_start_started linux l m n) ∙ c.ready;
+  no_cancel = c.no_cancel;
+}
+
+pub start_behind : (linux : Bool) (l : LinuxRequests) (m n : ℕ) → n ≢ m → CanStart linux l n
+    → CanStart linux (with_started l m) n
+start_behind linux l m n differ c = record {
+  outstanding = c.outstanding;
+  idle = is_running_started_other l.requests m n differ ∙ c.idle;
+  spared = ends_doomed_started linux l.requests m n ∙ c.spared;
+  ready = may_start_started linux l m n ∙ c.ready;
+  no_cancel = c.no_cancel;
+}

@@ -1,0 +1,76 @@
+-- Who runs, or is to end as doomed, in a lawful history: by Linux's rules all earlier members of its group have ended, and it isn't deferred.
+use Rattle.std.proofs.Common.{◌≡◌, ℕ, true, not, ◌&&◌, subst}
+use Rattle.std.proofs.lemmas.Bool.{and_parts, both_ways, false_from_ne_true}
+use Rattle.uring_entry.specs.Setup.{Setup}
+use Rattle.uring_entry.specs.Requests.{has_started, has_ended, is_outstanding, is_running}
+use Rattle.uring_linux.specs.LinuxRequests.{LinuxRequests, is_doomed, is_in_turn}
+use Rattle.uring_linux.proofs.Deferring.{held_by, not_doomed}
+use Rattle.uring_linux.proofs.Reaching.{IsBetween, all_between}
+use Rattle.uring_rules.specs.Rules.{ends_doomed}
+use Rattle.uring_core.specs.World.{requests_of}
+use Rattle.uring_core.specs.Histories.{History, world, IsLawfulApart}
+use Rattle.uring_core.proofs.Sound.{sound_of}
+use Rattle.uring_core.proofs.SoundRequests.{outstanding_tells}
+use Rattle.uring_laws.proofs.EndedRequests.{IsApart, not_over}
+use Rattle.uring_laws.proofs.LinuxHistories.{history_happens}
+use Rattle.uring_laws.proofs.LinuxSound.{IsFirst, by_linux, of_linux, linux_sound, turn_first}
+
+between_by_linux : (g : Setup) (h : History) → IsLawfulApart (by_linux g) h → IsBetween (requests_of (world (by_linux g) h))
+between_by_linux g h lawful =
+    let so = history_happens g h lawful in
+    subst IsBetween so.made (all_between so.happened so.may)
+
+-- what is so of the requests and drains of a lawful history by Linux's rules, whatever happened
+pub between : (g : Setup) (h : History) → IsLawfulApart g h → g.linux ≡ true
+    → IsBetween (requests_of (world g h))
+between g h lawful is =
+    of_linux (λ g. (h : History) → IsLawfulApart g h → IsBetween (requests_of (world g h))) between_by_linux g is h lawful
+
+-- by Linux's rules n is in its turn, and not deferred
+pub record GoesOn (l : LinuxRequests) (n : ℕ) : Type 0 where
+  pub first : IsFirst l.requests n
+  pub apart : IsApart l n
+
+running_by_linux : (g : Setup) (h : History) (n : ℕ) → IsLawfulApart (by_linux g) h
+    → is_running (world (by_linux g) h).requests n ≡ true → GoesOn (requests_of (world (by_linux g) h)) n
+running_by_linux g h n lawful running =
+    let l : LinuxRequests = requests_of (world (by_linux g) h) in
+    let started : has_started l.requests n ≡ true = (and_parts (has_started l.requests n) (not (has_ended l.requests n)) running).0 in
+    let waiting = (between_by_linux g h lawful).settled.waiting in
+    record {
+      first = (linux_sound g h lawful).started_first n started;
+      apart = record {
+        accepted = (sound_of (by_linux g) h lawful).requests.started_accepted n started;
+        still = not_over l.requests n running;
+        free = false_from_ne_true _ (λ held. let k = held_by l.requests 0 l.drains.deferred l.drains.from n waiting held in both_ways _ (k.waiting.idle n k.low k.high).started started);
+      };
+    }
+
+pub running_goes_on : (g : Setup) (h : History) (n : ℕ) → IsLawfulApart g h
+    → is_running (world g h).requests n ≡ true → g.linux ≡ true → GoesOn (requests_of (world g h)) n
+running_goes_on g h n lawful running is =
+    of_linux (λ g. (h : History) (n : ℕ) → IsLawfulApart g h → is_running (world g h).requests n ≡ true → GoesOn (requests_of (world g h)) n) running_by_linux g is h n lawful running
+
+doomed_by_linux : (g : Setup) (h : History) (n : ℕ) → IsLawfulApart (by_linux g) h
+    → is_outstanding (world (by_linux g) h).requests n ≡ true
+    → (is_in_turn (world (by_linux g) h).requests n && is_doomed (world (by_linux g) h).requests n) ≡ true
+    → GoesOn (requests_of (world (by_linux g) h)) n
+doomed_by_linux g h n lawful outstanding doomed =
+    let l : LinuxRequests = requests_of (world (by_linux g) h) in
+    let p = and_parts (is_in_turn l.requests n) (is_doomed l.requests n) doomed in
+    let t = outstanding_tells l.requests n outstanding in
+    let waiting = (between_by_linux g h lawful).settled.waiting in
+    record {
+      first = turn_first l.requests n p.0;
+      apart = record {
+        accepted = t.0;
+        still = t.1;
+        free = false_from_ne_true _ (λ held. let k = held_by l.requests 0 l.drains.deferred l.drains.from n waiting held in both_ways _ (not_doomed l.requests k.group n k.waiting k.low k.high) p.1);
+      };
+    }
+
+pub doomed_goes_on : (g : Setup) (h : History) (n : ℕ) → IsLawfulApart g h
+    → is_outstanding (world g h).requests n ≡ true → ends_doomed g.linux (world g h).requests n ≡ true
+    → g.linux ≡ true → GoesOn (requests_of (world g h)) n
+doomed_goes_on g h n lawful outstanding doomed is =
+    of_linux (λ g. (h : History) (n : ℕ) → IsLawfulApart g h → is_outstanding (world g h).requests n ≡ true → ends_doomed g.linux (world g h).requests n ≡ true → GoesOn (requests_of (world g h)) n) doomed_by_linux g is h n lawful outstanding doomed
