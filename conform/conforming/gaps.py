@@ -26,7 +26,7 @@ class Written:
 
     def __init__(self, setup, is_linux):
         self.setup, self.is_linux, self.rules = setup, is_linux, Rules()
-        self.tail = self.head = self.dropped = 0
+        self.tail = self.published = self.head = self.dropped = 0
 
     def event(self, event):
         if isinstance(event, Staged):
@@ -47,9 +47,12 @@ class Written:
     def call(self, event):
         groups = self.groups(event)
         lines = self.submissions(event, groups) if groups or event.items or self.is_linux and event.returned else [[]]
-        lines[0].insert(0, f"tail = tail {self.tail}")
-        lines[-1].append(f"head = head {event.head}")
-        self.head, self.dropped = event.head, event.dropped
+        # (each line more is one more before which the search may put what can't be seen)
+        if self.published != self.tail:
+            lines[0].insert(0, f"tail = tail {self.tail}")
+        if self.head != event.head:
+            lines[-1].append(f"head = head {event.head}")
+        self.published, self.head, self.dropped = self.tail, event.head, event.dropped
         return Submissions(event, groups, lines)
 
     def groups(self, event):
