@@ -200,7 +200,8 @@ bool wulgach_names_slot(uint32_t word, uint32_t entries);
 struct wulgach_core_entry {
     uint64_t user_data;
     uint64_t target;    /* of a cancel: the user data that it looks for, else 0 */
-    uint8_t code;       /* a no-op, a cancel, or 255, which it doesn't serve, of an entry with a fault */
+    uint32_t len;       /* 0, or 65, which it refuses */
+    uint8_t code;       /* a no-op or a cancel; of an entry with a fault 255, which it doesn't serve, if that is an unknown operation or a flag, else a read of that length */
     uint8_t flags;      /* those that it is told, whatever fault the entry has */
 };
 

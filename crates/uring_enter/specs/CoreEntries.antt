@@ -6,7 +6,8 @@ use Rattle.uring_enter.specs.declared.form.Form.TheVariants.{Token, Cancel, Refu
 use Rattle.uring_enter.specs.declared.member.Member.{Member}
 use Rattle.uring_enter.specs.declared.submission.Submission.{Submission}
 use Rattle.uring_enter.specs.Clocks.{has_some}
-use Rattle.uring_enter.specs.Forms.{core_flags}
+use Rattle.uring_enter.specs.Forms.{core_flags, first_fault}
+use Rattle.uring_entry.specs.Errors.{is_below}
 
 -- the slot that an index word names in a table of so many entries: one past its end names none, and is dropped. io_uring_setup(2), struct io_sqring_offsets
 abbrev pub slot_of : ℕ → ℕ → Option ℕ
@@ -20,11 +21,16 @@ is_one_chain one other = one.chain == other.chain
 abbrev pub is_drain : ℕ → Bool
 is_drain flags = has_some flags 2
 
--- the operation that the core is told: a no-op (0) stands for whatever is carried out outside of it, a cancel (14) for a cancel of its own, and 255, which it doesn't serve, for an entry with a fault
-abbrev pub code_of : Form → ℕ
-code_of Token = 0
-code_of Cancel = 14
-code_of (Refused _) = 255
+-- the operation that the core is told: a no-op (0) stands for whatever is carried out outside of it, a cancel (14) for a cancel of its own, and 255, which it doesn't serve, for an entry with an unknown operation or a refused flag. One with another fault, whose drain and skip count by Linux's rules, is a read (22) of more bytes than the core takes
+abbrev pub code_of : Form → Submission → ℕ
+code_of Token e = 0
+code_of Cancel e = 14
+code_of (Refused _) e = if is_below (first_fault e) then 255 else 22
+
+-- more than 64 bytes are a fault of any entry of the core's
+abbrev pub len_of : Form → Submission → ℕ
+len_of (Refused _) e = if is_below (first_fault e) then 0 else 65
+len_of _ e = 0
 
 -- whom a cancel of the core's looks for: the user data in the place of its address
 abbrev pub target_of : Form → Submission → ℕ
@@ -34,8 +40,9 @@ target_of _ e = 0
 -- the core's entry of an application's
 abbrev pub core_entry_of : Submission → Form → CoreEntry
 core_entry_of e form = record {
-  code = code_of form;
+  code = code_of form e;
   flags = core_flags e.flags;
   user_data = e.user_data;
   target = target_of form e;
+  len = len_of form e;
 }

@@ -3,7 +3,7 @@
 ghost use Rattle.std.specs.Prelude.{◌≡◌};
 ghost use Rattle.uring_enter.specs.CoreEntries as spec;
 
-use crate::form::{Form, core_flags};
+use crate::form::{Form, core_flags, first_fault};
 use crate::member::Member;
 use crate::submission::Submission;
 
@@ -15,6 +15,9 @@ pub struct CoreEntry {
 
     /// Of a cancel: the user data that it looks for.
     pub target: u64,
+
+    /// 0, or a length that the core refuses.
+    pub len: u32,
 
     pub code: u8,
 
@@ -49,18 +52,28 @@ pub fn core_entry_of(entry: &Submission, form: Form) -> CoreEntry
     CoreEntry {
         user_data: entry.user_data,
         target: target_of(form, entry),
-        code: code_of(form),
+        len: len_of(form, entry),
+        code: code_of(form, entry),
         flags: core_flags(entry.flags),
     }
 }
 
-fn code_of(form: Form) -> u8
-    ensures { result ≡ spec.code_of form }
+fn code_of(form: Form, entry: &Submission) -> u8
+    ensures { result ≡ spec.code_of form entry.now }
 {
     match form {
         Form::Token => 0,
         Form::Cancel => 14,
-        Form::Refused(_) => 255,
+        Form::Refused(_) => { if first_fault(entry) < 0 { 255 } else { 22 } }
+    }
+}
+
+fn len_of(form: Form, entry: &Submission) -> u32
+    ensures { result ≡ spec.len_of form entry.now }
+{
+    match form {
+        Form::Refused(_) => { if first_fault(entry) < 0 { 0 } else { 65 } }
+        _ => 0,
     }
 }
 

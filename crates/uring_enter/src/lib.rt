@@ -147,6 +147,7 @@ pub use outcome::EndedEarly;
 pub use outcome::Success;
 pub use outcome::has_succeeded;
 pub use outcome::is_success;
+pub use outcome::looks_for_next;
 pub use outcome::looks_for_running;
 pub use outcome::shown_of;
 pub use outcome::success_of;
