@@ -208,6 +208,10 @@ struct wulgach_core_entry {
 /* Writes what the core is given of an entry that is this to it (enum wulgach_form). */
 void wulgach_core_entry_of(const struct wulgach_submission *entry, uint32_t form, struct wulgach_core_entry *made);
 
+/* The flags that the core is told of an entry, by Linux's rules, where these were its flags and the next entry of its call is this one: a
+ * soft link before a linked timeout that ends the chain is told as a hard one, so that the timeout posts as its own flags say. */
+uint8_t wulgach_flags_before(uint8_t flags, const struct wulgach_submission *next);
+
 /* Whether the flags of an entry are those of a drain. */
 bool wulgach_is_drain(uint8_t flags);
 

@@ -1,5 +1,5 @@
 -- What is read of the submission ring, and what the core is given of it. io_uring(7), Submitting I/O requests; that the core is told no more of an entry is our own rule.
-use Rattle.std.specs.Prelude.{ℕ, Bool, ◌==◌, nat_lt, Option, Some, None, if◌then◌else◌}
+use Rattle.std.specs.Prelude.{ℕ, Bool, not, ◌&&◌, ◌==◌, nat_lt, Option, Some, None, if◌then◌else◌}
 use Rattle.uring_enter.specs.declared.core_entry.CoreEntry.{CoreEntry}
 use Rattle.uring_enter.specs.declared.form.Form.{Form}
 use Rattle.uring_enter.specs.declared.form.Form.TheVariants.{Token, Cancel, Refused}
@@ -8,6 +8,7 @@ use Rattle.uring_enter.specs.declared.submission.Submission.{Submission}
 use Rattle.uring_enter.specs.Clocks.{has_some}
 use Rattle.uring_enter.specs.Forms.{core_flags, first_fault}
 use Rattle.uring_entry.specs.Errors.{is_below}
+use Rattle.std.specs.Int.RustNames.{bit_or}
 
 -- the slot that an index word names in a table of so many entries: one past its end names none, and is dropped. io_uring_setup(2), struct io_sqring_offsets
 abbrev pub slot_of : ℕ → ℕ → Option ℕ
@@ -36,6 +37,11 @@ len_of _ e = 0
 abbrev pub target_of : Form → Submission → ℕ
 target_of Cancel e = e.addr
 target_of _ e = 0
+
+-- By Linux's rules, the flags of an entry with these before the next entry of its call: where a linked timeout (15) ends the chain behind it, IO_LINK (4) is told as IO_HARDLINK (8). So the timeout ends by itself whatever becomes of the request that it limits, and posts as its own flags say, which Linux 6.18 was seen to do
+abbrev pub flags_before : ℕ → Submission → ℕ
+flags_before flags next =
+    if has_some flags 4 && not (has_some flags 8) && (next.opcode == 15 && not (has_some next.flags 12)) then bit_or flags 8 else flags
 
 -- the core's entry of an application's
 abbrev pub core_entry_of : Submission → Form → CoreEntry

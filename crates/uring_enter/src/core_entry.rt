@@ -58,6 +58,18 @@ pub fn core_entry_of(entry: &Submission, form: Form) -> CoreEntry
     }
 }
 
+/// The flags that the core is told of an entry, by Linux's rules, where these were its flags and the next entry of its call is this one. A soft link before a linked timeout that ends the chain is told as a hard one: so the timeout ends by itself, and posts as its own flags say.
+pub fn flags_before(flags: u8, next: &Submission) -> u8
+    ensures { result ≡ spec.flags_before flags next.now }
+{
+    let is_soft = flags & 4 != 0 && flags & 8 == 0;
+    if is_soft && (next.opcode == 15 && next.flags & 12 == 0) {
+        flags | 8
+    } else {
+        flags
+    }
+}
+
 fn code_of(form: Form, entry: &Submission) -> u8
     ensures { result ≡ spec.code_of form entry.now }
 {

@@ -90,6 +90,7 @@ pub use copying::has_one_buffer;
 pub use copying::next_piece;
 pub use core_entry::CoreEntry;
 pub use core_entry::core_entry_of;
+pub use core_entry::flags_before;
 pub use core_entry::is_drain;
 pub use core_entry::is_one_chain;
 pub use core_entry::slot_of;
