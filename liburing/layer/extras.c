@@ -1,6 +1,6 @@
 /* The core posts one completion for a request, and knows of no others. So each extra one is a request to it, of the layer's
  * own, submitted, issued and ended at once, whose completion shows the event. So the order in the ring and what overflows
- * are the core's here too. By Linux's rules it is one with a fault, which waits for no drain and takes none that is owed. By
+ * are the core's here too. By Linux's rules it is one of an unknown operation, which waits for no drain and takes none that is owed. By
  * the manual pages' it is a no-op: as that would have to wait behind a drain, events and messages are left where they are
  * until the library says that one may be posted.
  */
@@ -16,6 +16,8 @@
 #include <errno.h>
 #include <fcntl.h>
 #include <stdlib.h>
+
+enum { UNKNOWN_OPERATION = 255 };
 
 bool can_post_extra(struct ring *ring)
 {
@@ -48,6 +50,7 @@ void post_extra(struct ring *ring, uint64_t call, uint64_t user_data, int32_t re
     struct request *request = make_request(&ring->requests);
     demand(request != NULL, "out of memory");
     request->entry.user_data = request->token = user_data;
+    request->entry.opcode = ring->is_linux ? UNKNOWN_OPERATION : IORING_OP_NOP;
     request->mapping = ring->is_linux ? REFUSED : TOKEN;
     request->flags = flags;
     request->call = call;
