@@ -129,7 +129,7 @@ static void judge_flags(struct model *model)
         wrong(model, "flags %#" PRIx32 " are shown", call->flags);
     if (call->flags == 0)
         for (struct request *request = model->requests; request < model->requests + model->count; request++)
-            if (!request->is_ended && !(request->action->flags & IOSQE_CQE_SKIP_SUCCESS))
+            if (!request->is_ended && !(request->action->flags & IOSQE_CQE_SKIP_SUCCESS) && !request->is_silent)
                 wrong(model, "entry %u is outstanding, and no flag says so", request->index);
     if (call->flags & IORING_SQ_CQ_OVERFLOW && !is_any_outstanding(model))
         wrong(model, "a completion has overflowed, and none is to come");

@@ -6,6 +6,9 @@
 #include <stdio.h>
 #include <string.h>
 
+/* Of a ring that no completion overflows. */
+enum { MOST_COMPLETIONS = 512 };
+
 static uint64_t state;
 
 /* A generator of 64 bits whose state is a counter (splitmix64). */
@@ -143,7 +146,21 @@ struct progress {
     const struct action *before[MOST_RINGS];    /* the last entry of each ring, if it isn't called since */
     uint16_t published[MOST_RINGS];             /* since the last call */
     bool is_skipping;
+    bool has_drained[MOST_RINGS], has_skipped[MOST_RINGS];
 };
+
+/* By Linux's rules what is deferred depends on what has ended: so a ring that drains skips nothing afterwards, and shows all. */
+static void keep_known(const struct program *program, struct action *action, struct progress *progress)
+{
+    if (program->is_manual)
+        return;
+    if (action->flags & IOSQE_CQE_SKIP_SUCCESS && progress->has_drained[action->ring])
+        action->flags &= (uint8_t)~IOSQE_CQE_SKIP_SUCCESS;
+    progress->has_skipped[action->ring] |= (action->flags & IOSQE_CQE_SKIP_SUCCESS) && action->flaw != BAD_CODE && action->flaw != BAD_FLAG;
+    if (!progress->has_skipped[action->ring] && !program->has_drains)
+        action->flags &= (uint8_t)~IOSQE_IO_DRAIN;
+    progress->has_drained[action->ring] |= action->flags & IOSQE_IO_DRAIN && !progress->has_skipped[action->ring];
+}
 
 /* What is registered with the ring: its file, a buffer of its own or one that is provided. */
 static void choose_registered(struct action *action, uint16_t index, bool is_plain)
@@ -212,6 +229,7 @@ static void choose_entry(struct program *program, struct action *action, struct 
     action->turn = one_in(5) ? (uint16_t)below(16) : 0;
     action->flags |= any_flags(action, index, is_plain, progress->is_skipping);
     action->flaw = any_flaw(action, is_plain);
+    keep_known(program, action, progress);
     progress->before[action->ring] = action;
     progress->published[action->ring]++;
 }
@@ -254,6 +272,8 @@ static void choose_action(struct program *program, struct progress *progress)
         choose_call(program, action, progress);
     else
         action->kind = kind;
+    if (kind == REOPEN)
+        progress->has_skipped[action->ring] = false;
     /* It ends the call, and so a chain. */
     if (kind == PUT_WORD)
         progress->before[action->ring] = NULL;
@@ -268,6 +288,8 @@ static void choose_ring(struct program *program, struct ring_options *ring)
         ring->completions = (uint16_t)(2 * ring->entries + below(4) - (one_in(2) ? ring->entries : 0));
     if (ring->completions && ring->completions < ring->entries)
         ring->completions = 0;
+    if (program->has_drains && !program->is_manual)
+        ring->completions = MOST_COMPLETIONS;
     ring->flags = (one_in(2) ? flags[0] : 0) | (one_in(8) ? flags[1] : 0) | (one_in(8) ? flags[2] : 0);
     /* In the layer this one changes nothing: here it says that the ring's entries read and write pipes. */
     if (!program->is_plain && one_in(3))
@@ -298,6 +320,8 @@ void generate(struct program *program, uint64_t seed)
     memset(program, 0, sizeof *program);
     state = seed * 0x2545f4914f6cdd1du + 1;
     program->seed = seed;
+    program->is_manual = seed % 3 == 0;
+    program->has_drains = seed % 2 == 0;
     program->is_plain = one_in(5);
     if (one_in(3))
         strcpy(program->policy, one_in(2) ? "lazy" : "order");
