@@ -146,21 +146,7 @@ struct progress {
     const struct action *before[MOST_RINGS];    /* the last entry of each ring, if it isn't called since */
     uint16_t published[MOST_RINGS];             /* since the last call */
     bool is_skipping;
-    bool has_drained[MOST_RINGS], has_skipped[MOST_RINGS];
 };
-
-/* By Linux's rules what is deferred depends on what has ended: so a ring that drains skips nothing afterwards, and shows all. */
-static void keep_known(const struct program *program, struct action *action, struct progress *progress)
-{
-    if (program->is_manual)
-        return;
-    if (action->flags & IOSQE_CQE_SKIP_SUCCESS && progress->has_drained[action->ring])
-        action->flags &= (uint8_t)~IOSQE_CQE_SKIP_SUCCESS;
-    progress->has_skipped[action->ring] |= (action->flags & IOSQE_CQE_SKIP_SUCCESS) && action->flaw != BAD_CODE && action->flaw != BAD_FLAG;
-    if (!progress->has_skipped[action->ring] && !program->has_drains)
-        action->flags &= (uint8_t)~IOSQE_IO_DRAIN;
-    progress->has_drained[action->ring] |= action->flags & IOSQE_IO_DRAIN && !progress->has_skipped[action->ring];
-}
 
 /* What is registered with the ring: its file, a buffer of its own or one that is provided. */
 static void choose_registered(struct action *action, uint16_t index, bool is_plain)
@@ -229,7 +215,6 @@ static void choose_entry(struct program *program, struct action *action, struct 
     action->turn = one_in(5) ? (uint16_t)below(16) : 0;
     action->flags |= any_flags(action, index, is_plain, progress->is_skipping);
     action->flaw = any_flaw(action, is_plain);
-    keep_known(program, action, progress);
     progress->before[action->ring] = action;
     progress->published[action->ring]++;
 }
@@ -272,8 +257,6 @@ static void choose_action(struct program *program, struct progress *progress)
         choose_call(program, action, progress);
     else
         action->kind = kind;
-    if (kind == REOPEN)
-        progress->has_skipped[action->ring] = false;
     /* It ends the call, and so a chain. */
     if (kind == PUT_WORD)
         progress->before[action->ring] = NULL;

@@ -10,19 +10,18 @@ static bool has_flag(const struct request *request, uint8_t flag)
     return request->action->flags & flag;
 }
 
-/* Its operation and its flags are known: whatever other fault it has, its drain and its skip count. */
-static bool counts(const struct request *request)
+bool counts(const struct action *action)
 {
-    return request->action->flaw != BAD_CODE && request->action->flaw != BAD_FLAG;
+    return action->flaw != BAD_CODE && action->flaw != BAD_FLAG;
 }
 
 void note_flags(struct model *model, struct request *request, bool is_first)
 {
-    bool drains = counts(request) && has_flag(request, IOSQE_IO_DRAIN);
-    model->has_skipped |= counts(request) && has_flag(request, IOSQE_CQE_SKIP_SUCCESS);
+    bool drains = counts(request->action) && has_flag(request, IOSQE_IO_DRAIN);
+    model->has_skipped |= counts(request->action) && has_flag(request, IOSQE_CQE_SKIP_SUCCESS);
     request->is_refused = drains && model->has_skipped;
     request->is_faulty |= request->is_refused;
-    bool is_let_in = counts(request) && !request->is_refused, is_granted = drains && is_let_in;
+    bool is_let_in = counts(request->action) && !request->is_refused, is_granted = drains && is_let_in;
     bool takes_owed = model->owes_drain && is_first && is_let_in;
     model->is_draining |= is_granted || takes_owed;
     model->drains[request->group] |= is_granted || takes_owed;

@@ -150,6 +150,9 @@ void force_before(struct model *model, const struct request *request);
 
 /* ---- linux.c: what Linux's rules make of drains and of ends ---- */
 
+/* An entry's operation and its flags are known: whatever other fault it has, its drain and its skip count. */
+bool counts(const struct action *action);
+
 /* An entry was accepted, the first of its group or not; and its group was. */
 void note_flags(struct model *model, struct request *request, bool is_first);
 void note_group(struct model *model, uint16_t group);

@@ -99,7 +99,7 @@ struct program {
     bool is_ends;           /* one choice for issuing and finishing */
     bool is_plain;          /* it asks for no more than the kernel promises */
     bool is_manual;         /* its rings go by the manual pages' rules, and not by Linux's */
-    bool has_drains;        /* by Linux's rules: drains in rings that haven't skipped success; else only those that are refused */
+    bool has_drains;        /* by Linux's rules: drains that aren't refused */
     bool is_threaded;       /* each ring is used by a thread of its own */
     bool has_messages;      /* rings send messages to one another */
     uint16_t fault_rate;
