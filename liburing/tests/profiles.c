@@ -1,4 +1,5 @@
-/* The rules in which Linux differs from the manual pages, under each profile, which WULGACH_PROFILE says. All hold under every policy.
+/* The rules in which Linux differs from the manual pages, under each profile, which WULGACH_PROFILE says. All hold under every policy; and
+ * Linux's on a real ring, if the kernel gives one and it is built for that.
  */
 #define _GNU_SOURCE
 #include "engines.h"
@@ -249,5 +250,13 @@ int main(int count, char **words)
         {"messages beside drains", test_messages_beside_drains},
         {"linked timeouts", test_linked_timeouts},
     };
+#ifdef IS_ALSO_REAL
+    long fd = set_up(1, &ring.params);
+    if (fd < 0) {
+        puts("profiles: this kernel makes no rings");
+        return 0;
+    }
+    close((int)fd);
+#endif
     return run_tests(tests, sizeof tests / sizeof *tests, count > 1 ? words[1] : NULL);
 }
