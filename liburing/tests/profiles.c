@@ -135,7 +135,7 @@ static void test_doomed_in_their_turn(void)
     stop();
 }
 
-/* A cancel finds what waits, whether or not it was begun; by Linux's rules nothing that a link holds back. */
+/* A cancel finds what waits, whether or not it was begun; by Linux's rules nothing that a link holds back, or a drain up to the cancel's own end. */
 static void test_cancels(void)
 {
     int32_t results[3];
@@ -159,6 +159,11 @@ static void test_cancels(void)
         feed();
         EXPECT({0, 1}, {1, 0});
     }
+    put(&ring, IORING_OP_ASYNC_CANCEL, 0, 0)->addr = 1;
+    put(&ring, IORING_OP_NOP, 1, IOSQE_IO_DRAIN);
+    submit(2);
+    reap_all(&ring, 2, results);
+    check(is_by_manual() ? results[0] == 0 && results[1] == -ECANCELED : results[0] == -ENOENT && results[1] == 0);
     stop();
 }
 
@@ -197,7 +202,16 @@ static void test_drains(void)
     stop();
 }
 
-/* A completion that belongs to no end of a request waits for no drain by Linux's rules. */
+static void send_to_ring(struct ring *other)
+{
+    struct io_uring_sqe *message = put(other, IORING_OP_MSG_RING, 0, 0);
+    message->fd = ring.fd;
+    message->len = 7;
+    message->off = 5;
+    check(result_of_one(other, 1) == 0);
+}
+
+/* A completion that belongs to no end of a request waits for no drain by Linux's rules, and takes none that is owed. */
 static void test_messages_beside_drains(void)
 {
     struct ring other;
@@ -206,11 +220,7 @@ static void test_messages_beside_drains(void)
     put_waiting(0, 0);
     put(&ring, IORING_OP_NOP, 1, IOSQE_IO_DRAIN);
     submit(2);
-    struct io_uring_sqe *message = put(&other, IORING_OP_MSG_RING, 0, 0);
-    message->fd = ring.fd;
-    message->len = 7;
-    message->off = 5;
-    check(result_of_one(&other, 1) == 0);
+    send_to_ring(&other);
     if (!is_by_manual())
         EXPECT({5, 7});
     feed();
@@ -218,6 +228,23 @@ static void test_messages_beside_drains(void)
         EXPECT({0, 1}, {1, 0}, {5, 7});
     else
         EXPECT({0, 1}, {1, 0});
+    put(&ring, IORING_OP_NOP, 0, IOSQE_IO_LINK);
+    put(&ring, IORING_OP_NOP, 1, IOSQE_IO_DRAIN);
+    submit(2);
+    EXPECT({0, 0}, {1, 0});
+    send_to_ring(&other);
+    EXPECT({5, 7});
+    put_waiting(2, 0);
+    submit(1);
+    put(&ring, IORING_OP_NOP, 3, 0);
+    submit(1);
+    if (is_by_manual())
+        EXPECT({3, 0});
+    feed();
+    if (is_by_manual())
+        EXPECT({2, 1});
+    else
+        EXPECT({2, 1}, {3, 0});
     close_ring(&other);
     stop();
 }
