@@ -10,10 +10,9 @@ use Rattle.uring_entry.specs.Success.{posts_completion}
 use Rattle.uring_entry.specs.Completions.{put_by_flush, completion_for}
 use Rattle.uring_entry.specs.declared.errno.TheConstants.{EINVAL, EOPNOTSUPP, ECANCELED}
 use Rattle.uring_rules.specs.Rules.{is_issuable, posts}
-use Rattle.uring_rules.specs.RulesLaws.{IsDoomedResult}
 use Rattle.uring_core.specs.World.{requests_of}
-use Rattle.uring_entry.specs.Requests.{Requests, is_outstanding, is_running, has_started, has_ended, entry_of, entry_outstanding, no_bytes, count_result}
-use Rattle.uring_entry.specs.Preparation.{is_cancel_all}
+use Rattle.uring_entry.specs.Requests.{Requests, is_drain, is_outstanding, is_running, has_started, has_ended, entry_of, entry_outstanding, no_bytes, count_result}
+use Rattle.uring_entry.specs.Preparation.{is_faulty, is_cancel_all}
 use Rattle.uring_core.specs.Core.{Core}
 use Rattle.uring_core.specs.StepAnswers.{CalledForApart}
 use Rattle.uring_core.specs.Histories.{Event, History, world, IsLawfulApart}
@@ -21,7 +20,7 @@ use Rattle.uring_core.specs.declared.step.Step.TheVariants as step
 use Rattle.uring_core.specs.declared.answer.Answer.{Answer}
 use Rattle.uring_core.specs.declared.answer.Answer.TheVariants as answer
 use Rattle.uring_fill.specs.Filling.{is_hidden, seen_in, IsPart}
-use Rattle.uring_fill.specs.Parts.{is_asked, is_stale, StandsAt, Adds, HasEndsOf, IsIdle, AreNext, AreAllNext, FinishFits, TellsNext, QuietResult, with_none, with_count, with_error}
+use Rattle.uring_fill.specs.Parts.{is_asked, is_stale, StandsAt, Adds, HasEndsOf, IsIdle, AreNext, AreAllNext, FinishFits, TellsNext, IsErrorOf, QuietResult, with_none, with_count, with_error}
 use Rattle.uring_results.specs.Results.{may_end}
 use Rattle.uring_fill.proofs.Events.{HiddenEvent, idle_one, start, issue_end, finish_end, flush, hidden_event, flush_idle, few_moved, issued_end, part_issue, part_finish, finish_runs, quiet_end, seen_part, part_seen}
 use Rattle.uring_fill.proofs.Issuing.{both_so, outstanding_accepted}
@@ -184,7 +183,7 @@ counts_all P n old new accepted kept some none (suc k) few so =
 -- each end that posts nothing is there
 pub quiet_there : (linux : Bool) (e : Sqe) (accepted n : ℕ) (Q : ℤ → Type 0) (errors new : List Event)
     → ((x : Event) → Contains errors x → Contains new x)
-    → ((res : ℤ) → Q res → linux ≡ true → IsDoomedResult res → Contains errors (issued_as n res))
+    → ((res : ℤ) → Q res → linux ≡ true → IsErrorOf e res → Contains errors (issued_as n res))
     → (posts_completion e (pos 0) ≡ false → Q (pos 0) → Contains new (issued_as n (pos 0)))
     → (linux ≡ false → is_cancel_all e ≡ true → (count : ℕ) → count ≤ accepted → posts_completion e (count_result count) ≡ false → Q (count_result count) → Contains new (issued_as n (count_result count)))
     → (res : ℤ) → Q res → QuietResult linux e accepted res → Contains new (issued_as n res)
@@ -194,22 +193,22 @@ quiet_there linux e accepted n Q errors new kept failed none some _ so (with_cou
 quiet_there linux e accepted n Q errors new kept failed none some _ so (with_error res is error) =
     kept (issued_as n res) (failed res so is error)
 
--- each of the three errors is there
-pub errors_there : (n : ℕ) (Q : ℤ → Type 0) (first second new : List Event)
+-- each of the errors is there
+pub errors_there : (e : Sqe) (n : ℕ) (Q : ℤ → Type 0) (first second new : List Event)
     → ((x : Event) → Contains first x → Contains second x)
     → ((x : Event) → Contains second x → Contains new x)
-    → (Q (neg_ℤ EINVAL) → Contains first (issued_as n (neg_ℤ EINVAL)))
-    → (Q (neg_ℤ EOPNOTSUPP) → Contains second (issued_as n (neg_ℤ EOPNOTSUPP)))
-    → (Q (neg_ℤ ECANCELED) → Contains new (issued_as n (neg_ℤ ECANCELED)))
-    → (res : ℤ) → Q res → IsDoomedResult res → Contains new (issued_as n res)
-errors_there n Q first second new on further a b c res so (inl is) =
+    → (is_faulty e ≡ true → Q (neg_ℤ EINVAL) → Contains first (issued_as n (neg_ℤ EINVAL)))
+    → (is_drain e ≡ true → Q (neg_ℤ EOPNOTSUPP) → Contains second (issued_as n (neg_ℤ EOPNOTSUPP)))
+    → (is_faulty e ≡ false → Q (neg_ℤ ECANCELED) → Contains new (issued_as n (neg_ℤ ECANCELED)))
+    → (res : ℤ) → Q res → IsErrorOf e res → Contains new (issued_as n res)
+errors_there e n Q first second new on further a b c res so (inl (is, faulty)) =
     subst (λ r. Contains new (issued_as n r)) (sym is)
-    (further (issued_as n (neg_ℤ EINVAL)) (on (issued_as n (neg_ℤ EINVAL)) (a (subst Q is so))))
-errors_there n Q first second new on further a b c res so (inr (inl is)) =
+    (further (issued_as n (neg_ℤ EINVAL)) (on (issued_as n (neg_ℤ EINVAL)) (a faulty (subst Q is so))))
+errors_there e n Q first second new on further a b c res so (inr (inl (is, drain))) =
     subst (λ r. Contains new (issued_as n r)) (sym is)
-    (further (issued_as n (neg_ℤ EOPNOTSUPP)) (b (subst Q is so)))
-errors_there n Q first second new on further a b c res so (inr (inr is)) =
-    subst (λ r. Contains new (issued_as n r)) (sym is) (c (subst Q is so))
+    (further (issued_as n (neg_ℤ EOPNOTSUPP)) (b drain (subst Q is so)))
+errors_there e n Q first second new on further a b c res so (inr (inr (is, fine))) =
+    subst (λ r. Contains new (issued_as n r)) (sym is) (c fine (subst Q is so))
 
 -- each end of a request of this entry as it is issued that goes on from the part is there
 issued_here : (core : Core) (seen : List Event) (wanted : Option Cqe) (h : History) (n : ℕ) (res : ℤ) (bytes : List ℕ) (quiet new : List Event)

@@ -7,18 +7,16 @@ use Rattle.std.proofs.lemmas.List.{length-drop}
 use Rattle.uring_entry.specs.Setup.{Setup}
 use Rattle.uring_entry.specs.Layout.{Sqe, Cqe, has}
 use Rattle.uring_entry.specs.Flags.{skip_success}
-use Rattle.uring_entry.specs.Preparation.{is_cancel, is_cancel_all}
+use Rattle.uring_entry.specs.Preparation.{is_faulty, is_cancel, is_cancel_all}
 use Rattle.uring_entry.specs.Success.{is_success, posts_completion}
-use Rattle.uring_entry.specs.declared.errno.TheConstants.{ENOENT, EALREADY}
+use Rattle.uring_entry.specs.declared.errno.TheConstants.{ENOENT, EINVAL, EOPNOTSUPP, EALREADY, ECANCELED}
 use Rattle.uring_entry.specs.Why.{failed_member_of, is_failure_before}
 use Rattle.uring_entry.proofs.BelowLemmas.{is_some_least_below}
 use Rattle.uring_linux.specs.LinuxRequests.{LinuxRequests}
 use Rattle.uring_linux.specs.LinuxRequests as kernel
 use Rattle.uring_rules.specs.Rules.{posts, ends_doomed, may_start, is_issuable, doomed_result, cancel_result}
-use Rattle.uring_rules.specs.RulesLaws.{IsDoomedResult}
 use Rattle.uring_rules.proofs.RulesLemmas.{issuable_is}
-use Rattle.uring_rules.proofs.RulesLemmas.{doomed_fails as doomed_errors}
-use Rattle.uring_entry.specs.Requests.{Requests, Ending, entry_of, has_started, has_ended, is_behind_failure, is_outstanding, is_running, count_result, result_for, target_of, targets_of, is_target, no_bytes}
+use Rattle.uring_entry.specs.Requests.{Requests, Ending, entry_of, has_started, has_ended, is_behind_failure, is_drain, is_outstanding, is_running, count_result, result_for, target_of, targets_of, is_target, no_bytes}
 use Rattle.uring_entry.specs.Completions.{Completions, with_posted, with_flushed, put_by_flush, completion_for}
 use Rattle.uring_entry.proofs.RequestLemmas.{one_success}
 use Rattle.uring_entry.specs.Below.{count_below}
@@ -39,7 +37,7 @@ use Rattle.uring_core.proofs.Sound.{sound_of}
 use Rattle.uring_core.proofs.SoundRings.{IsSoundCompletions}
 use Rattle.uring_fill.specs.Filling.{is_hidden, seen_in, completions_in, GivesAllowed, Begins, IsPart}
 use Rattle.uring_laws.proofs.LinuxSound.{IsSoundLinux, linux_sound, of_linux, starts_so}
-use Rattle.uring_fill.specs.Parts.{is_stale, StandsAt, TellsNext, FinishFits, QuietResult, with_none, with_count, with_error, IsIdle}
+use Rattle.uring_fill.specs.Parts.{is_stale, StandsAt, TellsNext, FinishFits, IsErrorOf, QuietResult, with_none, with_count, with_error, IsIdle}
 use Rattle.uring_fill.proofs.Begun.{begins_next, behind_begun}
 
 -- What an end posts.
@@ -297,10 +295,21 @@ quiet_cancel linux r n res true cancel is quiet same = quiet_all linux r n res i
 quiet_cancel linux r n res false cancel is quiet same =
     quiet_one linux (entry_of r n) (length r.accepted) res cancel is quiet
 
+error_by : (e : Sqe) (refused faulty : Bool) → (refused ≡ true → is_drain e ≡ true) → is_faulty e ≡ faulty
+    → IsErrorOf e (if refused then neg_ℤ EOPNOTSUPP else if faulty then neg_ℤ EINVAL else neg_ℤ ECANCELED)
+error_by e true faulty drain is = inr (inl (refl, drain refl))
+error_by e false true drain is = inl (refl, is)
+error_by e false false drain is = inr (inr (refl, is))
+
+error_of : (r : Requests) (n : ℕ) → IsErrorOf (entry_of r n) (kernel.doomed_result r n)
+error_of r n =
+    error_by (entry_of r n) (kernel.is_refused_drain r n) (is_faulty (entry_of r n))
+    (λ refused. (and_parts (is_drain (entry_of r n)) _ (and_parts (kernel.asks_to_drain (entry_of r n)) _ refused).0).0) refl
+
 quiet_by : (linux : Bool) (r : Requests) (n : ℕ) (res : ℤ) → posts linux r n res ≡ false → IssueEnd linux r n res
     → QuietResult linux (entry_of r n) (length r.accepted) res
 quiet_by true r n res quiet (doomed_end same) =
-    with_error res refl (subst IsDoomedResult (sym same) (doomed_errors true r n))
+    with_error res refl (subst (IsErrorOf (entry_of r n)) (sym same) (error_of r n))
 quiet_by true r n res quiet (cancel_end same cancel spared) =
     quiet_cancel true r n res (is_cancel_all (entry_of r n)) cancel refl (sym (spared_posts r n res (spared refl)) ∙ quiet) same
 quiet_by false r n res quiet (doomed_end same) =

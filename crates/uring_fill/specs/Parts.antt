@@ -1,15 +1,15 @@
 -- Glue. A search for a history that shows what was seen: the parts that are still to be gone on from, and the one that came furthest.
-use Rattle.std.specs.Prelude.{◌≡◌, ℕ, ◌≤◌, Bool, true, false, List, [], ◌∷◌, ◌++◌, ◌==◌, ℤ, pos, length, map, ◌⊎◌, Option, Some, Contains, slice_get}
+use Rattle.std.specs.Prelude.{◌≡◌, ℕ, ◌≤◌, Bool, true, false, List, [], ◌∷◌, ◌++◌, ◌==◌, ℤ, pos, neg_ℤ, length, map, ◌⊎◌, Option, Some, Contains, slice_get}
 use Rattle.std.specs.declared.vec.Vec.{Vec}
 use Rattle.std.specs.declared.alloc.Global.{Global}
 use Rattle.uring_entry.specs.Setup.{Setup}
 use Rattle.uring_entry.specs.Layout.{Cqe, Sqe, user_data_of}
 use Rattle.uring_entry.specs.Success.{posts_completion}
-use Rattle.uring_entry.specs.Preparation.{is_cancel_all}
-use Rattle.uring_entry.specs.Requests.{outstanding_in, no_bytes, count_result}
+use Rattle.uring_entry.specs.declared.errno.TheConstants.{EINVAL, EOPNOTSUPP, ECANCELED}
+use Rattle.uring_entry.specs.Preparation.{is_faulty, is_cancel_all}
+use Rattle.uring_entry.specs.Requests.{is_drain, outstanding_in, no_bytes, count_result}
 use Rattle.uring_results.specs.Results.{may_end}
 use Rattle.uring_entry.specs.Completions.{completion_for}
-use Rattle.uring_rules.specs.RulesLaws.{IsDoomedResult}
 use Rattle.uring_core.specs.Core.{Core, FitsApart}
 use Rattle.uring_core.specs.Histories.{Event, History, world, history_of, IsLawfulApart}
 use Rattle.uring_core.specs.declared.step.Step.{Step}
@@ -101,11 +101,17 @@ pub record FinishFits (e : Sqe) (wanted : Option Cqe) (res : ℤ) (bytes : List 
   pub may : MayEndBy e res bytes
   pub tells : TellsNext (posts_completion e res) e wanted res bytes
 
--- The results with which a request of this entry may end as it is issued and post nothing: a cancel with 0, and by the manual pages' rules one of all with each number of requests; by Linux's rules a doomed request with one of three errors.
+-- the errors with which a doomed request of this entry may end, by Linux's rules: EINVAL if its entry has a fault, EOPNOTSUPP if it asks to drain, ECANCELED if its entry has no fault
+abbrev pub IsErrorOf : Sqe → ℤ → Type 0
+IsErrorOf e res = ((res ≡ neg_ℤ EINVAL) × (is_faulty e ≡ true))
+    ⊎ (((res ≡ neg_ℤ EOPNOTSUPP) × (is_drain e ≡ true))
+    ⊎ ((res ≡ neg_ℤ ECANCELED) × (is_faulty e ≡ false)))
+
+-- The results with which a request of this entry may end as it is issued and post nothing: a cancel with 0, and by the manual pages' rules one of all with each number of requests; by Linux's rules a doomed request with an error.
 pub data QuietResult (is_linux : Bool) (e : Sqe) (accepted : ℕ) : ℤ → Type 0 where
   with_none : posts_completion e (pos 0) ≡ false → QuietResult is_linux e accepted (pos 0)
   with_count : (count : ℕ) → is_linux ≡ false → is_cancel_all e ≡ true → count ≤ accepted → posts_completion e (count_result count) ≡ false → QuietResult is_linux e accepted (count_result count)
-  with_error : (res : ℤ) → is_linux ≡ true → IsDoomedResult res → QuietResult is_linux e accepted res
+  with_error : (res : ℤ) → is_linux ≡ true → IsErrorOf e res → QuietResult is_linux e accepted res
 
 -- whether a request that isn't there, or of this entry, has the user data of the completion that is to be posted next
 abbrev pub is_asked : Option Sqe → Option Cqe → Bool

@@ -5,23 +5,23 @@ ghost use Rattle.uring_entry.specs.Success as success;
 ghost use Rattle.uring_results.specs.Results as results;
 ghost use Rattle.uring_entry.specs.Layout.{Sqe, Cqe};
 ghost use Rattle.uring_entry.specs.Preparation.{is_cancel_all};
+ghost use Rattle.uring_entry.specs.Preparation as preparation;
 ghost use Rattle.uring_entry.specs.Requests.{entry_of, is_outstanding, is_running, no_bytes, count_result};
 ghost use Rattle.uring_entry.specs.Completions.{completion_for};
 ghost use Rattle.uring_rules.specs.Rules as rules;
-ghost use Rattle.uring_rules.specs.RulesLaws.{IsDoomedResult};
 ghost use Rattle.uring_core.specs.Core.{FitsApart};
 ghost use Rattle.uring_core.specs.Histories.{Event, History, world};
 ghost use Rattle.uring_core.specs.declared.step.Step.TheVariants as step;
 ghost use Rattle.uring_core.specs.declared.answer.Answer.TheVariants as answer;
 ghost use Rattle.uring_fill.specs.Filling.{IsPart};
-ghost use Rattle.uring_fill.specs.Parts.{StandsAt, Adds, HasEndsOf, FinishFits, QuietResult};
+ghost use Rattle.uring_fill.specs.Parts.{StandsAt, Adds, HasEndsOf, FinishFits, IsErrorOf, QuietResult};
 
 use crate::seen::accepted_of;
 use crate::starts::can_issue;
 use std::alloc::AllocError;
 use uring_core::{Answer, Core, Cqe, Sqe, SqeFlags, Step};
 use uring_entry::errno::{ECANCELED, EINVAL, EOPNOTSUPP};
-use uring_entry::{posts_completion, succeeded};
+use uring_entry::{posts_completion, prepare, succeeded};
 use uring_results::{greatest_result, may_end};
 
 /// The bytes of an end that gives none.
@@ -310,29 +310,45 @@ fn add_quiet_issues(
         → QuietResult core.now.setup.linux entry.now accepted res
         → Contains next.new.items (step.Issue number, answer.Ended res no_bytes)) }
 {
-    add_errors(core, number, next)?;
+    add_errors(core, entry, number, next)?;
     add_skipped(core, entry, accepted, number, next)?;
     Ok(())
 }
 
-/// Adds the ends of a doomed request that post nothing. By the manual pages' rules there is none.
-fn add_errors(core: &Core, number: u64, next: &mut Vec<(Step, Answer)>) -> Result<(), AllocError>
+/// Adds the ends of a doomed request of this entry that post nothing. By the manual pages' rules there is none.
+fn add_errors(
+    core: &Core,
+    entry: &Sqe,
+    number: u64,
+    next: &mut Vec<(Step, Answer)>,
+) -> Result<(), AllocError>
     ensures adds { OnOk result
         ((wanted : Option Cqe) → Adds core.now wanted next.old.items next.new.items) }
     ensures all { OnOk result
         ((h : History) (res : ℤ) → FitsApart core.now h
         → is_outstanding (world core.now.setup h).requests number ≡ true
         → rules.posts core.now.setup.linux (world core.now.setup h).requests number res ≡ false
-        → core.now.setup.linux ≡ true → IsDoomedResult res
+        → core.now.setup.linux ≡ true → IsErrorOf entry.now res
         → Contains next.new.items (step.Issue number, answer.Ended res no_bytes)) }
 {
     if !core.setup().is_linux() {
         return Ok(());
     }
-    add_quiet(core, number, -EINVAL, next)?;
-    add_quiet(core, number, -EOPNOTSUPP, next)?;
-    add_quiet(core, number, -ECANCELED, next)?;
+    let is_faulty = is_faulty(entry);
+    add_quiet_if(core, is_faulty, number, -EINVAL, next)?;
+    add_quiet_if(core, entry.is_drain(), number, -EOPNOTSUPP, next)?;
+    add_quiet_if(core, !is_faulty, number, -ECANCELED, next)?;
     Ok(())
+}
+
+/// Whether an entry has a fault.
+fn is_faulty(entry: &Sqe) -> bool
+    ensures { result ≡ preparation.is_faulty entry.now }
+{
+    match prepare(entry) {
+        Ok(_) => false,
+        Err(_) => true,
+    }
 }
 
 /// Adds the ends of a cancel of this entry that post nothing since it asks to skip a success: with 0, and if it is one of all with each number of requests.
@@ -418,6 +434,28 @@ fn add_quiet(
         next.push((Step::Issue { number }, Answer::ended(res, NO_BYTES)))?;
     }
     Ok(())
+}
+
+/// Adds the end of a request as it is issued with this result, if it may have it and posts nothing.
+fn add_quiet_if(
+    core: &Core,
+    may_have: bool,
+    number: u64,
+    res: i32,
+    next: &mut Vec<(Step, Answer)>,
+) -> Result<(), AllocError>
+    ensures adds { OnOk result
+        ((wanted : Option Cqe) → Adds core.now wanted next.old.items next.new.items) }
+    ensures added { OnOk result
+        (may_have ≡ true → (h : History) → FitsApart core.now h
+        → is_outstanding (world core.now.setup h).requests number ≡ true
+        → rules.posts core.now.setup.linux (world core.now.setup h).requests number res ≡ false
+        → Contains next.new.items (step.Issue number, answer.Ended res no_bytes)) }
+{
+    if !may_have {
+        return Ok(());
+    }
+    add_quiet(core, number, res, next)
 }
 
 /// Whether the end of an outstanding request with this result posts a completion.
