@@ -143,7 +143,7 @@ struct wulgach_ended_early {
     int32_t fault;          /* the error of its entry, */
     bool is_faulty;         /* if that has a fault */
     bool is_cancel;
-    bool has_cancelled;     /* which has found a request that runs, and that it could cancel */
+    bool has_cancelled;     /* which has found a request that runs or could start, and that it could cancel */
     bool is_linked_timeout;
     bool has_fired;         /* which has cancelled the request before it */
 };
@@ -151,7 +151,11 @@ struct wulgach_ended_early {
 /* Whether a cancel that the core has ended so has found a request that runs. */
 bool wulgach_looks_for_running(bool is_cancel, int32_t res);
 
-/* What is shown of a request that the core has ended with this result: 0 of a cancel that has cancelled a request which runs, an
+/* Whether a cancel that the core has ended so looks for a request which hasn't started and could: by Linux's rules the core finds only what
+ * has started, and the kernel starts in the call that takes it what can start. */
+bool wulgach_looks_for_next(bool is_cancel, int32_t res, bool linux_rules);
+
+/* What is shown of a request that the core has ended with this result: 0 of a cancel that has cancelled a request, an
  * entry's own error in the place of -22 (EINVAL), of a linked timeout what it ends with behind its request; else the same. */
 int32_t wulgach_shown_of(const struct wulgach_ended_early *request, int32_t res);
 

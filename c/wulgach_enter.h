@@ -226,9 +226,9 @@ bool wulgach_drains_accept(struct wulgach_drains *drains, uint32_t members, bool
 /* A request has ended, which drains or doesn't. */
 void wulgach_drains_end(struct wulgach_drains *drains, bool is_draining);
 
-/* Whether such a completion may be posted, where so many positions are staged and not taken: none is, and nothing that drains is
- * outstanding. */
-bool wulgach_drains_may_post(const struct wulgach_drains *drains, uint64_t staged);
+/* Whether such a completion may be posted, where so many positions are staged and not taken: none is, and, but by Linux's rules, nothing
+ * that drains is outstanding. */
+bool wulgach_drains_may_post(const struct wulgach_drains *drains, uint64_t staged, bool linux_rules);
 
 #ifdef __cplusplus
 }

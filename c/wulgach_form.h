@@ -200,12 +200,17 @@ bool wulgach_names_slot(uint32_t word, uint32_t entries);
 struct wulgach_core_entry {
     uint64_t user_data;
     uint64_t target;    /* of a cancel: the user data that it looks for, else 0 */
-    uint8_t code;       /* a no-op, a cancel, or 255, which it doesn't serve, of an entry with a fault */
+    uint32_t len;       /* 0, or 65, which it refuses */
+    uint8_t code;       /* a no-op or a cancel; of an entry with a fault 255, which it doesn't serve, if that is an unknown operation or a flag, else a read of that length */
     uint8_t flags;      /* those that it is told, whatever fault the entry has */
 };
 
 /* Writes what the core is given of an entry that is this to it (enum wulgach_form). */
 void wulgach_core_entry_of(const struct wulgach_submission *entry, uint32_t form, struct wulgach_core_entry *made);
+
+/* The flags that the core is told of an entry, by Linux's rules, where these were its flags and the next entry of its call is this one: a
+ * soft link before a linked timeout that ends the chain is told as a hard one, so that the timeout posts as its own flags say. */
+uint8_t wulgach_flags_before(uint8_t flags, const struct wulgach_submission *next);
 
 /* Whether the flags of an entry are those of a drain. */
 bool wulgach_is_drain(uint8_t flags);

@@ -23,9 +23,10 @@ struct wulgach_asked_ring {
     bool is_open;           /* with IORING_SETUP_ATTACH_WQ: the descriptor is open, */
     bool is_ring;           /* a ring, */
     bool has_thread;        /* and one with IORING_SETUP_SQPOLL */
+    bool linux_rules;       /* requests are to be kept by Linux's rules; else by the manual pages' */
 };
 
-/* Writes the set-up of the core of the ring that is asked for, with the sizes that the ring has, and returns 0. Else returns the first of
+/* Writes the set-up of the core of the ring that is asked for, with the sizes that the ring has and the rules that are asked for, and returns 0. Else returns the first of
  * these faults, and writes nothing: -22 (EINVAL) of a reserved field, of a flag that isn't served, stands without one that it wants or
  * beside one that it can't, and of the sizes; of the ring to be shared, -6 (ENXIO) if its descriptor isn't open, and -22 if it is no ring,
  * or has no thread that is to be shared; -22 of the processor. */

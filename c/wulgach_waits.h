@@ -34,9 +34,9 @@ void wulgach_needs_of(const struct wulgach_submission *entry, struct wulgach_nee
 /* On how many bytes an FADVISE or a MADVISE advises. 0 of an FADVISE: all from its offset on. */
 uint64_t wulgach_advised_length(const struct wulgach_submission *entry);
 
-/* Whether the call that has taken a request just now finds its files and its buffer: nothing links it, and nothing that drains is
- * outstanding, itself among that. Those of another are found when it starts, and may be what those before it open. */
-bool wulgach_drains_find_file(const struct wulgach_drains *drains, const struct wulgach_member *request);
+/* Whether the call that has taken a request just now finds its files and its buffer: nothing links it, nothing that drains is outstanding,
+ * itself among that, and it could start. Those of another are found when it starts, and may be what those before it open. */
+bool wulgach_drains_find_file(const struct wulgach_drains *drains, const struct wulgach_member *request, bool may_start);
 
 /* ---- whether it may have to wait for its descriptor ---- */
 

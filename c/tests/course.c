@@ -119,7 +119,8 @@ static void judge_results(void)
     struct wulgach_ended_early fired = {.is_linked_timeout = true, .has_fired = true}, idle = {.is_linked_timeout = true};
     demand(wulgach_shown_of(&faulty, -22) == -14 && wulgach_shown_of(&faulty, -125) == -125, "an entry with a fault");
     demand(wulgach_looks_for_running(true, -114) && !wulgach_looks_for_running(true, -2) && !wulgach_looks_for_running(false, -114), "what a cancel looks for");
-    demand(wulgach_shown_of(&cancel, -114) == 0 && wulgach_shown_of(&late, -114) == -114 && wulgach_shown_of(&cancel, -2) == -2, "a cancel");
+    demand(wulgach_shown_of(&cancel, -114) == 0 && wulgach_shown_of(&late, -114) == -114 && wulgach_shown_of(&cancel, -2) == 0 && wulgach_shown_of(&late, -2) == -2, "a cancel");
+    demand(wulgach_looks_for_next(true, -2, true) && !wulgach_looks_for_next(true, -2, false) && !wulgach_looks_for_next(true, -114, true), "what it looks for by Linux's rules");
     demand(wulgach_shown_of(&fired, -125) == -62 && wulgach_shown_of(&idle, -125) == -125 && wulgach_shown_of(&idle, -22) == -22, "a linked timeout's end");
 }
 

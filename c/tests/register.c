@@ -20,7 +20,7 @@ static int32_t set_up(struct wulgach_asked_ring asked)
 {
     struct wulgach_setup setup = {.sq = 77};
     int32_t fault = wulgach_set_up(&asked, &setup);
-    demand(fault == 0 ? setup.has_cq && !setup.stops && setup.start == 0 : setup.sq == 77, "what a set-up writes");
+    demand(fault == 0 ? setup.has_cq && !setup.stops && setup.start == 0 && setup.linux_rules == asked.linux_rules : setup.sq == 77, "what a set-up writes");
     return fault < 0 ? fault : (int32_t)(setup.cq * 10000 + setup.sq);
 }
 
@@ -29,7 +29,7 @@ static int32_t set_up(struct wulgach_asked_ring asked)
 static void make_rings(void)
 {
     demand(SET_UP(.entries = 0) == -22 && SET_UP(.entries = 0, .flags = CLAMP) == -22 && SET_UP(.entries = 4097) == -22, "no entries, too many");
-    demand(SET_UP(.entries = 1) == 20001 && SET_UP(.entries = 5) == 160008 && SET_UP(.entries = 5000, .flags = CLAMP) == 81924096, "sizes");
+    demand(SET_UP(.entries = 1) == 20001 && SET_UP(.entries = 1, .linux_rules = true) == 20001 && SET_UP(.entries = 5) == 160008 && SET_UP(.entries = 5000, .flags = CLAMP) == 81924096, "sizes");
     demand(SET_UP(.entries = 4, .cq_entries = 70) == 80004 && SET_UP(.entries = 4, .cq_entries = 5, .flags = CQSIZE) == 80004, "a completion ring");
     demand(SET_UP(.entries = 3, .cq_entries = 3, .flags = CQSIZE) == 40004 && SET_UP(.entries = 5, .cq_entries = 4, .flags = CQSIZE) == -22, "a small one");
     demand(SET_UP(.entries = 4, .flags = CQSIZE) == -22 && SET_UP(.entries = 4, .cq_entries = 9000, .flags = CQSIZE) == -22, "one of none, and of too many");

@@ -55,14 +55,14 @@ static void post(void)
     struct wulgach_course course;
     int32_t res = 7;
     wulgach_drains_begin(&drains);
-    demand(wulgach_drains_may_post(&drains, 0) && !wulgach_drains_may_post(&drains, 1), "nothing drains");
-    demand(!wulgach_drains_accept(&drains, 3, false) && wulgach_drains_may_post(&drains, 0), "a chain without a drain");
+    demand(wulgach_drains_may_post(&drains, 0, false) && !wulgach_drains_may_post(&drains, 1, false) && !wulgach_drains_may_post(&drains, 1, true), "nothing drains");
+    demand(!wulgach_drains_accept(&drains, 3, false) && wulgach_drains_may_post(&drains, 0, false), "a chain without a drain");
     demand(wulgach_drains_accept(&drains, 2, true), "a chain with one");
     wulgach_drains_end(&drains, true);
     wulgach_drains_end(&drains, false);
-    demand(!wulgach_drains_may_post(&drains, 0), "its second member");
+    demand(!wulgach_drains_may_post(&drains, 0, false) && wulgach_drains_may_post(&drains, 0, true), "its second member");
     wulgach_drains_end(&drains, true);
-    demand(wulgach_drains_may_post(&drains, 0), "behind its end");
+    demand(wulgach_drains_may_post(&drains, 0, false), "behind its end");
     wulgach_shown_begin(&shown);
     demand(!wulgach_shown_is_readable(&shown, 0, false) && wulgach_shown_is_readable(&shown, 0, true) && wulgach_shown_is_readable(&shown, 1, false), "an empty ring");
     wulgach_shown_post(&shown);
@@ -130,7 +130,13 @@ static void copy_pieces(void)
     wulgach_core_entry_of(&cancel, WULGACH_FORM_TOKEN, &made);
     demand(made.code == 0 && made.flags == 94 && made.user_data == 5 && made.target == 0, "a token");
     wulgach_core_entry_of(&cancel, WULGACH_FORM_REFUSED, &made);
-    demand(made.code == 255 && made.flags == 94 && wulgach_is_drain(2) && !wulgach_is_drain(253), "an entry with a fault");
+    demand(made.code == 255 && made.len == 0 && made.flags == 94 && wulgach_is_drain(2) && !wulgach_is_drain(253), "an entry with a fault of its flags");
+    cancel.flags = 94;
+    wulgach_core_entry_of(&cancel, WULGACH_FORM_REFUSED, &made);
+    demand(made.code == 22 && made.len == 65 && made.flags == 94, "an entry with another");
+    struct wulgach_submission timeout = {.opcode = 15}, linked = {.opcode = 15, .flags = 4}, other = {.opcode = 11};
+    demand(wulgach_flags_before(70, &timeout) == 78 && wulgach_flags_before(72, &timeout) == 72 && wulgach_flags_before(66, &timeout) == 66, "before a linked timeout");
+    demand(wulgach_flags_before(4, &linked) == 4 && wulgach_flags_before(4, &other) == 4, "before another");
     demand(wulgach_names_slot(7, 8) && !wulgach_names_slot(8, 8), "a slot");
     for (int code = 0; code < 256; code++) {
         struct wulgach_submission entry = {.opcode = (uint8_t)code, .flags = 32, .addr = 8, .len = 3};

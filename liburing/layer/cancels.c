@@ -102,12 +102,11 @@ static int32_t cancel_by(struct ring *ring, const struct request *canceller)
     return res;
 }
 
-/* The request that a removal finds, or NULL. */
-static struct request *find_request(struct ring *ring, const struct io_uring_sqe *removal)
+struct request *find_request(struct ring *ring, const struct io_uring_sqe *seeker)
 {
     struct wulgach_sought sought;
     struct wulgach_cancel cancel;
-    wulgach_sought_of(submission_of(removal), &sought);
+    wulgach_sought_of(submission_of(seeker), &sought);
     wulgach_cancel_begin(&cancel, &sought);
     for (size_t i = 0; i < ring->requests.count; i++) {
         struct request *request = ring->requests.rows[i];

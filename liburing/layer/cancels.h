@@ -16,6 +16,9 @@ void cancel_request(struct ring *ring, struct request *request);
  * ends so when it is next gone on with. */
 bool cancel_running(struct ring *ring, uint64_t user_data);
 
+/* The request that a cancel or a removal finds among those that run and wait, and those that could start; or NULL. */
+struct request *find_request(struct ring *ring, const struct io_uring_sqe *seeker);
+
 /* Carries out a cancel, a removal of a poll or one of a timeout. */
 int32_t act_on_others(struct ring *ring, const struct request *request);
 

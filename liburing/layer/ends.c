@@ -43,9 +43,10 @@ void end_of(struct ring *ring, struct request *request, int32_t res, int32_t tol
 {
     trace_result(ring, request, res);
     note_outcome(request, told);
-    if (told >= 0 && request->entry.flags & IOSQE_CQE_SKIP_SUCCESS)
+    bool is_posted = note_end(ring, request, told);
+    if (!is_posted)
         record_silent_end(ring, request);
-    wulgach_times_count_end(&ring->times, &request->course, is_timeout(request), note_end(ring, request, told));
+    wulgach_times_count_end(&ring->times, &request->course, is_timeout(request), is_posted);
     note_ended(ring, request);
     note_counts(ring);
     if (request->file)
@@ -57,21 +58,28 @@ void end_of(struct ring *ring, struct request *request, int32_t res, int32_t tol
     ring->completions.is_behind = true;
 }
 
-int32_t shown_of(struct ring *ring, const struct request *request, int32_t res)
+/* A cancel of the core's has ended so: cancels what it has found all the same, and says whether there is one. */
+static bool cancel_behind(struct ring *ring, const struct request *cancel, struct request *next, int32_t res)
+{
+    if (wulgach_looks_for_running(true, res))
+        return cancel_running(ring, cancel->entry.addr);
+    if (!next || !wulgach_looks_for_next(true, res, ring->is_linux))
+        return false;
+    cancel_request(ring, next);
+    return true;
+}
+
+int32_t shown_of(struct ring *ring, const struct request *request, struct request *next, int32_t res)
 {
     bool is_cancel = request->mapping == CANCEL;
     struct wulgach_ended_early ended = {
         .fault = request->fault,
         .is_faulty = request->mapping == REFUSED,
         .is_cancel = is_cancel,
-        .has_cancelled = wulgach_looks_for_running(is_cancel, res) && cancel_running(ring, request->entry.addr),
+        .has_cancelled = is_cancel && cancel_behind(ring, request, next, res),
         .is_linked_timeout = is_linked_timeout(request),
         .has_fired = request->has_fired,
     };
     return wulgach_shown_of(&ended, res);
 }
 
-void end_extra(struct ring *ring, struct request *request, int32_t res)
-{
-    end_of(ring, request, res, TOLD_SUCCESS);
-}

@@ -19,10 +19,8 @@ void look_afresh(struct ring *ring);
 /* A request has ended: its completion is queued, and who had to wait needn't perhaps now. */
 void end_of(struct ring *ring, struct request *request, int32_t res, int32_t told);
 
-/* What the application sees of a request that the core ends without letting it start. */
-int32_t shown_of(struct ring *ring, const struct request *request, int32_t res);
-
-/* A no-op of the layer's own has ended on the core: the application sees this result. */
-void end_extra(struct ring *ring, struct request *request, int32_t res);
+/* What the application sees of a request that the core ends without letting it start. `next`: of a cancel, what it would have found that could
+ * start, or NULL. */
+int32_t shown_of(struct ring *ring, const struct request *request, struct request *next, int32_t res);
 
 #endif

@@ -1,7 +1,8 @@
-/* The core posts one completion for a request, and knows of no others. So each extra one is a request to it: a no-op of the
- * layer's own, submitted, issued and finished at once, whose completion shows the event. So the order in the ring and what
- * overflows are the core's here too. As a no-op behind a drain would have to wait, events and messages are left where they
- * are until the library says that one may be posted: until no drain is outstanding.
+/* The core posts one completion for a request, and knows of no others. So each extra one is a request to it, of the layer's
+ * own, submitted, issued and ended at once, whose completion shows the event. So the order in the ring and what overflows
+ * are the core's here too. By Linux's rules it is one of an unknown operation, which waits for no drain and takes none that is owed. By
+ * the manual pages' it is a no-op: as that would have to wait behind a drain, events and messages are left where they are
+ * until the library says that one may be posted.
  */
 #include "extras.h"
 #include "descriptors.h"
@@ -16,18 +17,41 @@
 #include <fcntl.h>
 #include <stdlib.h>
 
+enum { UNKNOWN_OPERATION = 255 };
+
 bool can_post_extra(struct ring *ring)
 {
-    return wulgach_drains_may_post(&ring->drains, ring->staged.count) && reserve_all(ring, 1);
+    return wulgach_drains_may_post(&ring->drains, ring->staged.count, ring->is_linux) && reserve_all(ring, 1);
+}
+
+/* A request of the layer's own was accepted: ends it with this result, and returns that of the core's. */
+static int32_t end_own(struct ring *ring, struct request *request, int32_t res)
+{
+    int32_t ended;
+    uint32_t kind = issue(ring, request->number, &ended);
+    if (request->mapping == REFUSED) {
+        demand(kind == WULGACH_ENDED, "the core doesn't end an entry with a fault");
+        note_fact(request, WULGACH_FACT_DROPPED, res);
+        return ended;
+    }
+    demand(kind == WULGACH_RUN, "the core doesn't start a no-op");
+    demand(wulgach_course_start(&request->course), "a request starts twice");
+    wulgach_lookout_starts(&ring->lookout, insert_request(&ring->running, request));
+    demand(wulgach_course_act(&request->course, &ended) == WULGACH_ACT_CARRY_OUT, "a no-op isn't carried out");
+    demand(wulgach_course_done(&request->course, res), "an operation is done that wasn't begun");
+    finish(ring, request->number, TOLD_SUCCESS);
+    demand(wulgach_course_end(&request->course), "a request ends that isn't to end");
+    return TOLD_SUCCESS;
 }
 
 void post_extra(struct ring *ring, uint64_t call, uint64_t user_data, int32_t res, uint32_t flags)
 {
-    int32_t ended;
     struct wulgach_entry entry;
     struct request *request = make_request(&ring->requests);
     demand(request != NULL, "out of memory");
     request->entry.user_data = request->token = user_data;
+    request->entry.opcode = ring->is_linux ? UNKNOWN_OPERATION : IORING_OP_NOP;
+    request->mapping = ring->is_linux ? REFUSED : TOKEN;
     request->flags = flags;
     request->call = call;
     write_token(&entry, request);
@@ -43,14 +67,8 @@ void post_extra(struct ring *ring, uint64_t call, uint64_t user_data, int32_t re
     wulgach_course_begin(&request->course);
     add_request(&ring->requests, request);
     trace_note(ring, "request %llu: a completion of the layer's own", (unsigned long long)request->number);
-    demand(issue(ring, request->number, &ended) == WULGACH_RUN, "the core doesn't start a no-op");
-    demand(wulgach_course_start(&request->course), "a request starts twice");
-    wulgach_lookout_starts(&ring->lookout, insert_request(&ring->running, request));
-    demand(wulgach_course_act(&request->course, &ended) == WULGACH_ACT_CARRY_OUT, "a no-op isn't carried out");
-    demand(wulgach_course_done(&request->course, res), "an operation is done that wasn't begun");
-    finish(ring, request->number, 0);
-    demand(wulgach_course_end(&request->course), "a request ends that isn't to end");
-    end_extra(ring, request, res);
+    int32_t told = end_own(ring, request, res);
+    end_of(ring, request, res, told);
 }
 
 bool has_messages(struct ring *ring)

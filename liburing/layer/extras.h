@@ -26,7 +26,7 @@ struct inbox {
     size_t count;                   /* how many: looked at without the lock */
 };
 
-/* Whether an extra completion can be posted now: no drain is outstanding, and there is memory. */
+/* Whether an extra completion can be posted now: by the manual pages' rules no drain is outstanding; and there is memory. */
 bool can_post_extra(struct ring *ring);
 
 /* What no call has submitted. */

@@ -2,6 +2,7 @@
  * the layer asks which can be issued.
  */
 #include "progress.h"
+#include "cancels.h"
 #include "ends.h"
 #include "extras.h"
 #include "fault.h"
@@ -148,9 +149,11 @@ static bool issue_waiting(struct ring *ring, struct request *request)
 {
     int32_t res;
     note_standing(ring, request);
+    /* (behind its end others could start, which it doesn't find) */
+    struct request *next = ring->is_linux && request->mapping == CANCEL ? find_request(ring, &request->entry) : NULL;
     uint32_t kind = issue(ring, request->number, &res);
     if (kind == WULGACH_ENDED) {
-        int32_t shown = shown_of(ring, request, res);
+        int32_t shown = shown_of(ring, request, next, res);
         note_fact(request, WULGACH_FACT_DROPPED, shown);
         end_of(ring, request, shown, res);
         return false;
@@ -182,8 +185,9 @@ static struct request *first_to_finish(struct ring *ring)
 static struct request *first_to_issue(struct ring *ring)
 {
     const struct requests *requests = &ring->requests;
-    /* The least outstanding one runs or can be issued, so of one that waits the core needn't be asked. */
-    if (requests->count > 0 && !requests->rows[0]->course.has_started)
+    /* The least outstanding one runs or can be issued, unless it is deferred behind a drain, so of one that waits the core mostly needn't be asked. */
+    bool can_be_deferred = ring->is_linux && ring->has_drained;
+    if (requests->count > 0 && !can_be_deferred && !requests->rows[0]->course.has_started)
         return requests->rows[0];
     uint64_t number;
     return requests->count > 0 && find_next(ring, &number) ? request_of(requests, number) : NULL;

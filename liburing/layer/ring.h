@@ -48,6 +48,8 @@ struct ring {
     struct sleeper *sleepers;           /* the threads that sleep in a call on it */
     struct memory memory;
     struct wulgach_core core;
+    bool is_linux;                      /* which keeps requests by Linux's rules; else by the manual pages' */
+    bool has_drained;                   /* an entry has asked to drain: else nobody waits but behind a link */
     struct requests requests;           /* accepted and not ended */
     struct requests running;            /* those of them that were started */
     struct wulgach_drains drains;       /* which of them drain, */
@@ -71,7 +73,7 @@ struct ring {
     int eventfd;                        /* then one of the layer's own */
     uint64_t call_number;               /* how many calls were made that can end requests */
     struct wulgach_issuer issuer;       /* the one thread that may call, or submit, if there is one; and whether the ring is disabled */
-    struct wulgach_strict strict;       /* where the layer is strict: what it has seen of its entries */
+    struct wulgach_strict strict;       /* where the layer is strict, or goes by Linux's rules: what it has seen of its entries */
     struct wulgach_restrictions restrictions;
     uint64_t accepted;                  /* how many requests were accepted so far, */
     uint64_t begun;                     /* and how many have started */

@@ -11,6 +11,7 @@
 #include "passing.h"
 #include "policy.h"
 #include "process.h"
+#include "profile.h"
 #include "readiness.h"
 #include "ring.h"
 #include "server.h"
@@ -50,10 +51,10 @@ void free_ring(struct ring *ring)
     free(ring);
 }
 
-/* What a set-up asks for, and what is so of the ring and of the processor that it names. */
+/* What a set-up asks for, by which rules, and what is so of the ring and of the processor that it names. */
 static struct wulgach_asked_ring asked_ring(uint32_t entries, const struct io_uring_params *params)
 {
-    struct wulgach_asked_ring asked = {.entries = entries, .cq_entries = params->cq_entries, .flags = params->flags, .processor = params->sq_thread_cpu};
+    struct wulgach_asked_ring asked = {.entries = entries, .cq_entries = params->cq_entries, .flags = params->flags, .processor = params->sq_thread_cpu, .linux_rules = is_profile_linux()};
     for (size_t i = 0; i < sizeof params->resv / sizeof *params->resv; i++)
         asked.has_reserved |= params->resv[i] != 0;
     if (params->flags & IORING_SETUP_SQ_AFF)
@@ -112,6 +113,7 @@ static int make_ring(struct ring **made, uint32_t entries, struct io_uring_param
     wulgach_shown_begin(&ring->completions.at);
     wulgach_drains_begin(&ring->drains);
     wulgach_lookout_begin(&ring->lookout);
+    ring->is_linux = sizes.linux_rules;
     ring->ready_fd = -1;
     wulgach_eventfd_begin(&ring->telling);
     ring->fd = fill_ring(ring, &sizes, params, is_polled);

@@ -4,8 +4,8 @@
 
 #include <errno.h>
 
-_Static_assert(WAITS_TO_DRAIN - WAITS_IN_GROUP == WULGACH_OWN_DRAINS - WULGACH_SAME_GROUP, "reasons of waiting stand in one order");
-_Static_assert(DOOMED_BY_CANCEL - DOOMED_BY_OWN_FAULT == WULGACH_CANCELLED - WULGACH_OWN_FAULT, "dooms stand in one order");
+_Static_assert(WAITS_DEFERRED - WAITS_IN_GROUP == WULGACH_DEFERRED - WULGACH_SAME_GROUP, "reasons of waiting stand in one order");
+_Static_assert(DOOMED_AS_DRAIN - DOOMED_BY_OWN_FAULT == WULGACH_REFUSED_DRAIN - WULGACH_OWN_FAULT, "dooms stand in one order");
 
 void note_standing(struct ring *ring, const struct request *request)
 {

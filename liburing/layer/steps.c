@@ -36,6 +36,7 @@ void write_token(struct wulgach_entry *entry, const struct request *request)
     wulgach_core_entry_of(submission_of(&request->entry), request->mapping, &made);
     wulgach_entry(entry->words, made.code, made.user_data, made.flags, 0);
     entry->words[2] = made.target;
+    entry->words[3] = made.len;
 }
 
 void fill_slot(struct ring *ring, uint32_t slot, const struct wulgach_entry *entry)

@@ -12,7 +12,7 @@ bool is_strict(void);
 /* Has the kernel judge a set-up: 0, or the negative of the error number that it refuses it with. */
 int ask_set_up(uint32_t entries, const struct io_uring_params *params);
 
-/* What an entry is refused with that was read just now, or 0. */
+/* What an entry is refused with that was read just now, or 0: by a strict ring, or as a drain beside skipped success, as Linux's rules have it. */
 int32_t strict_fault(struct ring *ring, const struct io_uring_sqe *entry);
 
 #endif

@@ -8,6 +8,7 @@
 #include "operations.h"
 #include "outlook.h"
 #include "rules.h"
+#include "steps.h"
 #include "strict.h"
 #include "timeouts.h"
 #include "trace.h"
@@ -99,9 +100,16 @@ static void mark_draining(struct ring *ring, size_t first, size_t end)
     bool has_drain = false;
     for (size_t i = first; i < end; i++)
         has_drain |= wulgach_is_drain(ring->requests.rows[i]->entry.flags);
+    ring->has_drained |= has_drain;
     bool is_draining = has_drain && wulgach_drains_accept(&ring->drains, (uint32_t)(end - first), has_drain);
     for (size_t i = first; i < end && is_draining; i++)
         ring->requests.rows[i]->is_draining = true;
+}
+
+/* Whether the core lets a request start that nothing links, which was accepted just now. */
+static bool may_start(struct ring *ring, const struct request *request)
+{
+    return !ring->has_drained || can_issue(ring, request->number);
 }
 
 /* Of the requests from a row on, which are new: which drain, and on what those are carried out that wait for no other. */
@@ -113,7 +121,7 @@ static void note_chains(struct ring *ring, size_t first)
             end++;
         mark_draining(ring, first, end);
         for (size_t i = first; i < end; i++)
-            if (wulgach_drains_find_file(&ring->drains, &rows[i]->member))
+            if (wulgach_drains_find_file(&ring->drains, &rows[i]->member, may_start(ring, rows[i])))
                 assign(ring, rows[i]);
     }
 }

@@ -53,7 +53,7 @@ static void open_trace(struct ring *ring)
         fprintf(stderr, "wulgach: %s can't be written\n", path);
         return;
     }
-    fprintf(ring->trace, "setup --sq %" PRIu32 " --cq %" PRIu32 " --files 1 --start 0", ring->memory.sq_entries, ring->memory.cq_entries);
+    fprintf(ring->trace, "setup --sq %" PRIu32 " --cq %" PRIu32 " --files 1 --start 0%s", ring->memory.sq_entries, ring->memory.cq_entries, ring->is_linux ? " --linux" : "");
     end_line(ring);
 }
 
@@ -91,12 +91,16 @@ static void print_fill(FILE *out, const struct wulgach_step *step)
         fputs("nop", out);
     else if (code == WULGACH_OP_CANCEL)
         fputs("cancel", out);
+    else if (code == WULGACH_OP_READ)
+        fputs("read", out);
     else
         fprintf(out, "op %u", (unsigned)code);
     fprintf(out, " %" PRIu64 " ", step->entry[4]);
     print_flags(out, flags);
     if (code == WULGACH_OP_CANCEL)
         fprintf(out, " %" PRIu64, step->entry[2]);
+    if (code == WULGACH_OP_READ)
+        fprintf(out, " 0 0 %" PRIu32, (uint32_t)step->entry[3]);
 }
 
 static void print_step(FILE *out, const struct wulgach_step *step)

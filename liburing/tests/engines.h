@@ -11,6 +11,13 @@ static inline struct io_uring_sqe *put_plain(struct ring *ring, uint8_t code, ui
     return entry;
 }
 
+/* Whether rings go by the manual pages' rules, where Linux's are others. */
+static inline bool is_by_manual(void)
+{
+    const char *profile = getenv("WULGACH_PROFILE");
+    return profile && strcmp(profile, "manual") == 0;
+}
+
 /* Submits this many entries, whose user data are 0, 1 and so on, waits for all, and returns the result of the last. */
 static inline int32_t result_of_one(struct ring *ring, uint32_t count)
 {

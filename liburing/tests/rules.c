@@ -92,6 +92,8 @@ static int meet(const char *word)
         waiting(IOSQE_IO_LINK, 1), entry(0, 9), cancelling(9, 2), submit(1), write(ends[1], "x", 1), reap(2);
     else if (strcmp(word, "skipped") == 0)
         entry(IOSQE_CQE_SKIP_SUCCESS, 1), entry(0, 2), submit(1);
+    else if (strcmp(word, "refused") == 0)
+        entry(IOSQE_CQE_SKIP_SUCCESS, 1), entry(IOSQE_IO_DRAIN, 2), submit(1);
     else if (strcmp(word, "told") == 0)
         failing(IOSQE_CQE_SKIP_SUCCESS, 1), submit(1);
     else if (strcmp(word, "overflow") == 0)

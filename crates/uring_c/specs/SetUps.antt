@@ -21,7 +21,7 @@ IsRefused w = (s : Setup) → IsAskedFor w s → ⊥
 abbrev pub without_files : SetupWords → SetupWords
 without_files w = record w { files = 1 }
 
--- the words of a core with these sizes, both asked for, whose calls go on, by the manual pages' rules. Our own rule
+-- the words of a core with these sizes, both asked for, and by these rules, whose calls go on. Our own rule
 abbrev pub words_of_setup : Setup → SetupWords
 words_of_setup s = record {
   sq = s.sq;
@@ -30,7 +30,7 @@ words_of_setup s = record {
   start = 0;
   has_cq = true;
   stops = false;
-  linux = false;
+  linux = s.linux;
 }
 
 -- this is as many elements as either ring has entries, and as there are files, if the words ask for a set-up. Our own rule

@@ -6,7 +6,7 @@ ghost use Rattle.uring_enter.specs.declared.act.Fact.TheVariants.{Ended as HasEn
 ghost use Rattle.uring_enter.specs.declared.member.Entry.{Entry};
 ghost use Rattle.uring_enter.specs.Courses.{KeepsCourse, act, behind_act, fits, notice_of};
 ghost use Rattle.uring_enter.specs.Courses.{shown as shown_by};
-ghost use Rattle.uring_enter.specs.Outcomes.{is_success, looks_for_running, shown_of, success_of_entry};
+ghost use Rattle.uring_enter.specs.Outcomes.{is_success, looks_for_next, looks_for_running, shown_of, success_of_entry};
 ghost use Rattle.uring_enter.specs.Shots as shots;
 ghost use Rattle.uring_enter.specs.Chains.{member_of, limits};
 ghost use Rattle.uring_enter.specs.Showing.{Change, KeepsShown};
@@ -18,7 +18,7 @@ use crate::completion_words::CompletionWords;
 use crate::course_words::{act_res, act_word, fact, last, part};
 use uring_enter::{
     Carried, Course, EndedEarly, Entry, Fact, Member, Posted, Shown, Submission, Success,
-    completion_flags, has_succeeded, is_success, looks_for_running, shown_of,
+    completion_flags, has_succeeded, is_success, looks_for_next, looks_for_running, shown_of,
 };
 
 /// A request that was accepted just now.
@@ -168,6 +168,14 @@ pub extern "C" fn wulgach_looks_for_running(is_cancel: bool, res: i32) -> bool
     ensures { result ≡ looks_for_running is_cancel res }
 {
     looks_for_running(is_cancel, res)
+}
+
+/// Whether a cancel that the core has ended so looks for a request which hasn't started and could.
+#[unsafe(no_mangle)]
+pub extern "C" fn wulgach_looks_for_next(is_cancel: bool, res: i32, linux: bool) -> bool
+    ensures { result ≡ looks_for_next is_cancel res linux }
+{
+    looks_for_next(is_cancel, res, linux)
 }
 
 /// What is shown of a request that the core has ended with this result.

@@ -6,8 +6,8 @@ ghost use Rattle.uring_enter.specs.NoOps.{result_of};
 ghost use Rattle.uring_c.specs.RingForm.{form_of_word};
 
 use uring_enter::{
-    CoreEntry, Form, Layout, Member, Submission, call_flags, core_entry_of, is_drain, is_one_chain,
-    layout_of, no_op_result, slot_of,
+    CoreEntry, Form, Layout, Member, Submission, call_flags, core_entry_of, flags_before, is_drain,
+    is_one_chain, layout_of, no_op_result, slot_of,
 };
 
 /// Whether an index word names a slot of a table of so many entries: the one of that number.
@@ -40,6 +40,14 @@ pub extern "C" fn wulgach_core_entry_of(entry: &Submission, form: u32, made: &mu
     ensures { made.new ≡ spec.core_entry_of entry.now (form_of_word form) }
 {
     *made = core_entry_of(entry, form_by_word(form));
+}
+
+/// The flags that the core is told of an entry, by Linux's rules, where these were its flags and the next entry of its call is this one.
+#[unsafe(no_mangle)]
+pub extern "C" fn wulgach_flags_before(flags: u8, next: &Submission) -> u8
+    ensures { result ≡ spec.flags_before flags next.now }
+{
+    flags_before(flags, next)
 }
 
 fn form_by_word(word: u32) -> Form

@@ -67,7 +67,7 @@ impl SetupWords {
         }
     }
 
-    /// The words of a core with the sizes of a set-up.
+    /// The words of a core with the sizes and the rules of a set-up.
     pub(crate) fn of(sizes: Setup) -> SetupWords
         ensures { result ≡ words_of_setup sizes }
     {
@@ -78,7 +78,7 @@ impl SetupWords {
             start: 0,
             has_cq: true,
             stops: false,
-            linux: false,
+            linux: sizes.is_linux(),
         }
     }
 

@@ -125,19 +125,24 @@ pub extern "C" fn wulgach_drains_end(drains: &mut Drains, is_draining: bool)
     drains.end(is_draining);
 }
 
-/// Whether a completion may be posted that belongs to no end of a request, where so many positions are staged and not taken.
+/// Whether a completion may be posted that belongs to no end of a request, where so many positions are staged and not taken, in a ring by Linux's rules or by the manual pages'.
 #[unsafe(no_mangle)]
-pub extern "C" fn wulgach_drains_may_post(drains: &Drains, staged: u64) -> bool
-    ensures { (log : List Drainage) → KeepsDrains log drains.now → result ≡ may_post log staged }
+pub extern "C" fn wulgach_drains_may_post(drains: &Drains, staged: u64, linux: bool) -> bool
+    ensures { (log : List Drainage) → KeepsDrains log drains.now
+        → result ≡ may_post log staged linux }
 {
-    drains.may_post(staged)
+    drains.may_post(staged, linux)
 }
 
-/// Whether the call that has taken a request just now finds its files and its buffer.
+/// Whether the call that has taken a request just now, which could start or not, finds its files and its buffer.
 #[unsafe(no_mangle)]
-pub extern "C" fn wulgach_drains_find_file(drains: &Drains, request: &Member) -> bool
+pub extern "C" fn wulgach_drains_find_file(
+    drains: &Drains,
+    request: &Member,
+    may_start: bool,
+) -> bool
     ensures { (log : List Drainage) → KeepsDrains log drains.now
-        → result ≡ finds_file log request.now }
+        → result ≡ finds_file log request.now may_start }
 {
-    drains.finds_file(request)
+    drains.finds_file(request, may_start)
 }

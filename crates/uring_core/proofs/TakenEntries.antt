@@ -1,6 +1,6 @@
 -- Whether an entry that was taken asks for skipped success, from step to step.
-use Rattle.std.proofs.Common.{◌≡◌, ℕ, ◌+◌, ◌≤◌, Bool, ◌||◌, [], ◌∷◌, ◌++◌, length, take, map, sum, List, Option, Some, None, slice_get, get_or, refl, sym, ap, subst, ◌∙◌, arith, append-nil, IfSome}
-use Rattle.std.specs.List.{list_any, cons_option}
+use Rattle.std.proofs.Common.{◌≡◌, ℕ, ◌+◌, ◌≤◌, ◌||◌, [], ◌∷◌, ◌++◌, length, take, map, List, Option, Some, None, slice_get, get_or, sym, ap, ◌∙◌, arith, append-nil, IfSome}
+use Rattle.std.specs.List.{cons_option}
 use Rattle.std.proofs.lemmas.List.{take-append-le, take_more}
 use Rattle.std.proofs.lemmas.List.Elements.{filter_map-append}
 use Rattle.std.proofs.lemmas.List.Sums.{sum_by_push}

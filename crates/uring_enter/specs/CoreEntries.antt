@@ -1,12 +1,14 @@
 -- What is read of the submission ring, and what the core is given of it. io_uring(7), Submitting I/O requests; that the core is told no more of an entry is our own rule.
-use Rattle.std.specs.Prelude.{ℕ, Bool, ◌==◌, nat_lt, Option, Some, None, if◌then◌else◌}
+use Rattle.std.specs.Prelude.{ℕ, Bool, not, ◌&&◌, ◌==◌, nat_lt, Option, Some, None, if◌then◌else◌}
 use Rattle.uring_enter.specs.declared.core_entry.CoreEntry.{CoreEntry}
 use Rattle.uring_enter.specs.declared.form.Form.{Form}
 use Rattle.uring_enter.specs.declared.form.Form.TheVariants.{Token, Cancel, Refused}
 use Rattle.uring_enter.specs.declared.member.Member.{Member}
 use Rattle.uring_enter.specs.declared.submission.Submission.{Submission}
 use Rattle.uring_enter.specs.Clocks.{has_some}
-use Rattle.uring_enter.specs.Forms.{core_flags}
+use Rattle.uring_enter.specs.Forms.{core_flags, first_fault}
+use Rattle.uring_entry.specs.Errors.{is_below}
+use Rattle.std.specs.Int.RustNames.{bit_or}
 
 -- the slot that an index word names in a table of so many entries: one past its end names none, and is dropped. io_uring_setup(2), struct io_sqring_offsets
 abbrev pub slot_of : ℕ → ℕ → Option ℕ
@@ -20,22 +22,33 @@ is_one_chain one other = one.chain == other.chain
 abbrev pub is_drain : ℕ → Bool
 is_drain flags = has_some flags 2
 
--- the operation that the core is told: a no-op (0) stands for whatever is carried out outside of it, a cancel (14) for a cancel of its own, and 255, which it doesn't serve, for an entry with a fault
-abbrev pub code_of : Form → ℕ
-code_of Token = 0
-code_of Cancel = 14
-code_of (Refused _) = 255
+-- the operation that the core is told: a no-op (0) stands for whatever is carried out outside of it, a cancel (14) for a cancel of its own, and 255, which it doesn't serve, for an entry with an unknown operation or a refused flag. One with another fault, whose drain and skip count by Linux's rules, is a read (22) of more bytes than the core takes
+abbrev pub code_of : Form → Submission → ℕ
+code_of Token e = 0
+code_of Cancel e = 14
+code_of (Refused _) e = if is_below (first_fault e) then 255 else 22
+
+-- more than 64 bytes are a fault of any entry of the core's
+abbrev pub len_of : Form → Submission → ℕ
+len_of (Refused _) e = if is_below (first_fault e) then 0 else 65
+len_of _ e = 0
 
 -- whom a cancel of the core's looks for: the user data in the place of its address
 abbrev pub target_of : Form → Submission → ℕ
 target_of Cancel e = e.addr
 target_of _ e = 0
 
+-- By Linux's rules, the flags of an entry with these before the next entry of its call: where a linked timeout (15) ends the chain behind it, IO_LINK (4) is told as IO_HARDLINK (8). So the timeout ends by itself whatever becomes of the request that it limits, and posts as its own flags say, which Linux 6.18 was seen to do
+abbrev pub flags_before : ℕ → Submission → ℕ
+flags_before flags next =
+    if has_some flags 4 && not (has_some flags 8) && (next.opcode == 15 && not (has_some next.flags 12)) then bit_or flags 8 else flags
+
 -- the core's entry of an application's
 abbrev pub core_entry_of : Submission → Form → CoreEntry
 core_entry_of e form = record {
-  code = code_of form;
+  code = code_of form e;
   flags = core_flags e.flags;
   user_data = e.user_data;
   target = target_of form e;
+  len = len_of form e;
 }

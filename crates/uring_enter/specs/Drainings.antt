@@ -1,5 +1,5 @@
--- Which outstanding requests drain, by what has happened, the newest first. io_uring_enter(2), IOSQE_IO_DRAIN. That a completion which belongs to no end of a request waits behind them is our own rule: it is a request of its own to the core, and so would wait.
-use Rattle.std.specs.Prelude.{◌≡◌, ℕ, ◌+◌, ◌-◌, Bool, not, ◌&&◌, ◌==◌, List, [], ◌∷◌, if◌then◌else◌}
+-- Which outstanding requests drain, by what has happened, the newest first. io_uring_enter(2), IOSQE_IO_DRAIN. That a completion which belongs to no end of a request waits behind them by the manual pages' rules is our own rule: it is a request of its own to the core, and so would wait. By Linux's rules it is one with a fault, which waits for none.
+use Rattle.std.specs.Prelude.{◌≡◌, ℕ, ◌+◌, ◌-◌, Bool, not, ◌&&◌, ◌||◌, ◌==◌, List, [], ◌∷◌, if◌then◌else◌}
 use Rattle.uring_enter.specs.declared.drains.Drains.{Drains}
 use Rattle.uring_enter.specs.declared.member.Member.{Member}
 
@@ -17,13 +17,13 @@ outstanding (Accepted members drains ∷ earlier) =
 outstanding (Ended drains ∷ earlier) =
     if drains then outstanding earlier - 1 else outstanding earlier
 
--- whether such a completion may be posted: nothing that drains is outstanding, and nothing is staged that no call has taken
-abbrev pub may_post : List Drainage → ℕ → Bool
-may_post log staged = outstanding log == 0 && staged == 0
+-- whether such a completion may be posted: nothing that drains is outstanding, unless the ring goes by Linux's rules, and nothing is staged that no call has taken
+abbrev pub may_post : List Drainage → ℕ → (linux : Bool) → Bool
+may_post log staged linux = (linux || outstanding log == 0) && staged == 0
 
--- whether the call that takes a request finds its files and its buffer: nothing links it, and nothing that drains is outstanding, itself among that. Another finds them when it starts, and so may use a file that those before it open. What the kernel does
-abbrev pub finds_file : List Drainage → Member → Bool
-finds_file log request = outstanding log == 0 && not request.is_linked
+-- whether the call that takes a request finds its files and its buffer: nothing links it, nothing that drains is outstanding, itself among that, and it could start. Another finds them when it starts, and so may use a file that those before it open. What the kernel does
+abbrev pub finds_file : List Drainage → Member → (may_start : Bool) → Bool
+finds_file log request may_start = outstanding log == 0 && not request.is_linked && may_start
 
 -- glue: what is kept is that of a ring to which this has happened
 pub record KeepsDrains (log : List Drainage) (d : Drains) : Type 0 where

@@ -53,9 +53,16 @@ is_success a res =
 abbrev pub looks_for_running : Bool → ℤ → Bool
 looks_for_running is_cancel res = is_cancel && int_eq res (error 114)
 
--- what is shown in the place of a result of the core's: 0 of a cancel that found a request which waits, as the kernel does; of an entry with a fault its own error in the place of -22 (EINVAL); of a linked timeout -62 (ETIME) in the place of -125 (ECANCELED), if it has cancelled the request before it. Our own rule, since the core knows no more of either
+-- By Linux's rules a cancel of the core's finds only what has started: -2 (ENOENT). One that could start is found all the same, since the kernel starts it in the call that takes it
+abbrev pub looks_for_next : Bool → ℤ → (linux : Bool) → Bool
+looks_for_next is_cancel res linux = linux && is_cancel && int_eq res (error 2)
+
+abbrev pub may_have_found : Bool → ℤ → Bool
+may_have_found is_cancel res = is_cancel && (int_eq res (error 114) || int_eq res (error 2))
+
+-- what is shown in the place of a result of the core's: 0 of a cancel that found a request which waits or could start, as the kernel does; of an entry with a fault its own error in the place of -22 (EINVAL); of a linked timeout -62 (ETIME) in the place of -125 (ECANCELED), if it has cancelled the request before it. Our own rule, since the core knows no more of either
 abbrev pub shown_of : EndedEarly → ℤ → ℤ
 shown_of r res =
-    if looks_for_running r.is_cancel res && r.has_cancelled then pos 0 else
+    if may_have_found r.is_cancel res && r.has_cancelled then pos 0 else
     if r.is_faulty && int_eq res (error 22) then r.fault else
     if r.is_linked_timeout && int_eq res (error 125) then linked_outcome r.has_fired else res

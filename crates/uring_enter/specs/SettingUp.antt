@@ -49,10 +49,15 @@ place_fault a =
     if is_below (sharing_fault a) then sharing_fault a else
     if has_bad_processor a then error 22 else pos 0
 
--- a ring of these sizes is made
+-- this is a set-up of the sizes that are asked for, by the rules that are. Which rules is our own rule
+abbrev pub IsAsked : AskedRing → Setup → Type 0
+IsAsked a s =
+    IsSetupFor (asked_sq a) (asked_cq a) 1 0 (record s { linux = false }) × (s.linux ≡ a.linux)
+
+-- a ring of these sizes is made, by these rules
 abbrev pub IsMade : AskedRing → Setup → Type 0
 IsMade a s =
-    (is_malformed a ≡ false) × IsSetupFor (asked_sq a) (asked_cq a) 1 0 s × (is_below (place_fault a) ≡ false)
+    (is_malformed a ≡ false) × IsAsked a s × (is_below (place_fault a) ≡ false)
 
 -- what is wrong by itself comes first, then sizes, each -22, and then the fault of what is named
 abbrev pub IsRefusedWith : AskedRing → ℤ → Type 0

@@ -1,6 +1,6 @@
 //! Which rings a set-up makes, and with which error it refuses others. io_uring_setup(2).
 
-ghost use Rattle.std.specs.Prelude.{◌≡◌, MatchOption, MatchResult};
+ghost use Rattle.std.specs.Prelude.{◌≡◌, false, MatchOption, MatchResult};
 ghost use Rattle.uring_entry.specs.Setup.{IsSetupFor};
 ghost use Rattle.uring_enter.specs.SettingUp as spec;
 
@@ -35,9 +35,12 @@ pub struct AskedRing {
 
     /// Which has a thread. IORING_SETUP_SQPOLL.
     pub has_thread: bool,
+
+    /// Its requests are kept by Linux's rules. Else they are by the manual pages'.
+    pub linux: bool,
 }
 
-/// The sizes of the ring that is made, or the error with which it is refused.
+/// The sizes and the rules of the ring that is made, or the error with which it is refused.
 pub fn set_up(asked: &AskedRing) -> Result<Setup, i32>
     ensures { MatchResult result (spec.IsMade asked.now) (spec.IsRefusedWith asked.now) }
 {
@@ -48,7 +51,19 @@ pub fn set_up(asked: &AskedRing) -> Result<Setup, i32>
         return Err(-22);
     };
     let fault = place_fault(asked);
-    if fault < 0 { Err(fault) } else { Ok(sizes) }
+    if fault < 0 {
+        Err(fault)
+    } else {
+        Ok(with_rules(asked, sizes))
+    }
+}
+
+/// A set-up by the rules that are asked for.
+fn with_rules(asked: &AskedRing, sizes: Setup) -> Setup
+    requires { sizes.linux ≡ false }
+    ensures { result ≡ record sizes { linux = asked.now.linux } }
+{
+    if asked.linux { sizes.linux() } else { sizes }
 }
 
 /// Whether a reserved field or the flags are other than they may be.

@@ -3,7 +3,7 @@
 ghost use Rattle.std.specs.Prelude.{◌≡◌};
 ghost use Rattle.uring_enter.specs.CoreEntries as spec;
 
-use crate::form::{Form, core_flags};
+use crate::form::{Form, core_flags, first_fault};
 use crate::member::Member;
 use crate::submission::Submission;
 
@@ -15,6 +15,9 @@ pub struct CoreEntry {
 
     /// Of a cancel: the user data that it looks for.
     pub target: u64,
+
+    /// 0, or a length that the core refuses.
+    pub len: u32,
 
     pub code: u8,
 
@@ -49,18 +52,40 @@ pub fn core_entry_of(entry: &Submission, form: Form) -> CoreEntry
     CoreEntry {
         user_data: entry.user_data,
         target: target_of(form, entry),
-        code: code_of(form),
+        len: len_of(form, entry),
+        code: code_of(form, entry),
         flags: core_flags(entry.flags),
     }
 }
 
-fn code_of(form: Form) -> u8
-    ensures { result ≡ spec.code_of form }
+/// The flags that the core is told of an entry, by Linux's rules, where these were its flags and the next entry of its call is this one. A soft link before a linked timeout that ends the chain is told as a hard one: so the timeout ends by itself, and posts as its own flags say.
+pub fn flags_before(flags: u8, next: &Submission) -> u8
+    ensures { result ≡ spec.flags_before flags next.now }
+{
+    let is_soft = flags & 4 != 0 && flags & 8 == 0;
+    if is_soft && (next.opcode == 15 && next.flags & 12 == 0) {
+        flags | 8
+    } else {
+        flags
+    }
+}
+
+fn code_of(form: Form, entry: &Submission) -> u8
+    ensures { result ≡ spec.code_of form entry.now }
 {
     match form {
         Form::Token => 0,
         Form::Cancel => 14,
-        Form::Refused(_) => 255,
+        Form::Refused(_) => { if first_fault(entry) < 0 { 255 } else { 22 } }
+    }
+}
+
+fn len_of(form: Form, entry: &Submission) -> u32
+    ensures { result ≡ spec.len_of form entry.now }
+{
+    match form {
+        Form::Refused(_) => { if first_fault(entry) < 0 { 0 } else { 65 } }
+        _ => 0,
     }
 }
 

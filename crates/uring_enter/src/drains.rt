@@ -42,18 +42,19 @@ impl Drains {
         }
     }
 
-    /// Whether the call that has taken a request just now finds its files and its buffer; else they are found when it starts.
-    pub fn finds_file(&self, request: &Member) -> bool
+    /// Whether the call that has taken a request just now, which could start or not, finds its files and its buffer; else they are found when it starts.
+    pub fn finds_file(&self, request: &Member, may_start: bool) -> bool
         ensures { (log : List Drainage) → KeepsDrains log self.now
-            → result ≡ finds_file log request.now }
+            → result ≡ finds_file log request.now may_start }
     {
-        self.outstanding == 0 && !request.is_linked
+        self.outstanding == 0 && !request.is_linked && may_start
     }
 
-    /// Whether a completion may be posted that belongs to no end of a request, where so many positions are staged and not taken.
-    pub fn may_post(&self, staged: u64) -> bool
-        ensures { (log : List Drainage) → KeepsDrains log self.now → result ≡ may_post log staged }
+    /// Whether a completion may be posted that belongs to no end of a request, where so many positions are staged and not taken, in a ring by Linux's rules or by the manual pages'.
+    pub fn may_post(&self, staged: u64, linux: bool) -> bool
+        ensures { (log : List Drainage) → KeepsDrains log self.now
+            → result ≡ may_post log staged linux }
     {
-        self.outstanding == 0 && staged == 0
+        (linux || self.outstanding == 0) && staged == 0
     }
 }

@@ -1,7 +1,7 @@
 //! What of a request's result is a success to the links behind it, and what is shown of one that the core ends by itself.
 
 ghost use Rattle.std.specs.Prelude.{◌≡◌};
-ghost use Rattle.uring_enter.specs.Outcomes.{cuts, is_success, is_whole, success_of_entry, wants_whole, looks_for_running, shown_of};
+ghost use Rattle.uring_enter.specs.Outcomes.{cuts, is_success, is_whole, success_of_entry, wants_whole, looks_for_running, looks_for_next, may_have_found, shown_of};
 
 use crate::needs::{is_of_sockets, is_splice, is_transfer};
 use crate::submission::Submission;
@@ -144,7 +144,7 @@ pub struct EndedEarly {
     /// It is a cancel.
     pub is_cancel: bool,
 
-    /// That has found a request which runs, and which it could cancel.
+    /// That has found a request which runs or could start, and which it could cancel.
     pub has_cancelled: bool,
 
     /// It is a timeout that is linked behind a request.
@@ -161,11 +161,25 @@ pub fn looks_for_running(is_cancel: bool, res: i32) -> bool
     is_cancel && res == -114
 }
 
+/// Whether a cancel that the core has ended so looks for a request which hasn't started and could, in a ring by Linux's rules or by the manual pages'.
+pub fn looks_for_next(is_cancel: bool, res: i32, linux: bool) -> bool
+    ensures { result ≡ looks_for_next is_cancel res linux }
+{
+    linux && is_cancel && res == -2
+}
+
+/// Whether a cancel that the core has ended so may have found one all the same.
+fn may_have_found(is_cancel: bool, res: i32) -> bool
+    ensures { result ≡ may_have_found is_cancel res }
+{
+    is_cancel && (res == -114 || res == -2)
+}
+
 /// What is shown of a request that the core has ended with this result.
 pub fn shown_of(request: EndedEarly, res: i32) -> i32
     ensures { result ≡ shown_of request res }
 {
-    if looks_for_running(request.is_cancel, res) && request.has_cancelled {
+    if may_have_found(request.is_cancel, res) && request.has_cancelled {
         0
     } else if request.is_faulty && res == -22 {
         request.fault

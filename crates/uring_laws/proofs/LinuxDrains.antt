@@ -1,10 +1,10 @@
 -- By Linux's rules what isn't deferred waits for no drain: whoever may start has nobody before it that a drain puts there. By what has happened, one submission call, start or end after the other.
-use Rattle.std.proofs.Common.{◌≡◌, ℕ, suc, ◌+◌, ◌-◌, ◌<◌, ◌≤◌, ℤ, min, max, length, Bool, true, false, not, ◌&&◌, ◌||◌, List, [], ◌∷◌, refl, sym, ◌∙◌, ap, subst, arith, inl, inr, length-append}
+use Rattle.std.proofs.Common.{◌≡◌, ℕ, suc, ◌+◌, ◌-◌, ◌<◌, ◌≤◌, ℤ, min, max, length, Bool, true, false, not, ◌&&◌, ◌||◌, ◌==◌, List, [], ◌∷◌, refl, sym, ◌∙◌, ap, subst, arith, inl, inr, length-append}
 use Rattle.std.specs.Prelude.{if◌then◌else◌, nat_le, nat_lt}
-use Rattle.std.proofs.lemmas.Bool.{cases_lt, cases_Bool, both_ways, and_left, and_right, and_from, and_parts, or_left, or_cases, or_parts, or_from, not-true, not-false, le-leb, leb-true, ltb-true, ltb-false, false_from_ne_true}
+use Rattle.std.proofs.lemmas.Bool.{cases_lt, cases_Bool, eq-eqb, ne_eqb, lt-ltb, both_ways, and_left, and_right, and_from, and_parts, or_left, or_right, or_cases, or_parts, or_from, not-true, not-false, le-leb, leb-true, ltb-true, ltb-false, false_from_ne_true}
 use Rattle.uring_entry.specs.Layout.{Sqe}
 use Rattle.uring_entry.specs.Requests as manual
-use Rattle.uring_entry.specs.Requests.{Requests, entry_of, is_linked, is_drain, is_last, is_joined, is_in_group, some_member, is_draining, has_started, has_ended, is_outstanding}
+use Rattle.uring_entry.specs.Requests.{Requests, entry_of, is_linked, is_drain, is_last, is_joined, is_in_group, has_started, has_ended, is_outstanding}
 use Rattle.uring_entry.proofs.BelowLemmas.{some_below_none, some_below_some, some_below_in, some_below_out}
 use Rattle.uring_entry.proofs.RequestLemmas.{is_joined_no, is_joined_yes, entry_of_accepted_at}
 use Rattle.uring_entry.proofs.GroupEvents.{is_last_cut, is_last_cut_last}
@@ -16,8 +16,9 @@ use Rattle.uring_linux.proofs.WindowEvents.{last_accepted, last_kept}
 use Rattle.uring_linux.proofs.Deferring.{not_alone}
 use Rattle.uring_linux.proofs.Standings.{fine_let_in}
 use Rattle.uring_linux.proofs.Reaching.{IsSettled, accepted_settled, all_between}
-use Rattle.uring_laws.proofs.LinuxGroups.{IsTold, AreTold, told_higher, told_push, told_still, pushed_new, pushed_old, gone_calm, left_calm}
-use Rattle.uring_laws.proofs.LinuxKept.{HasDrain, Waits, KeepsGroups, accepted_keeps, cut_keeps, started_keeps, ended_keeps, WaitForNone, RingDrains, IsDrained, more_waits, more_ring, more_told}
+use Rattle.uring_laws.specs.LinuxLaws.{is_first, owes_drain, may_take, is_owed_by, takes_drain, drains}
+use Rattle.uring_laws.proofs.LinuxGroups.{marks, IsTold, AreTold, told_higher, told_push, told_still, pushed_new, pushed_old, gone_calm, left_calm}
+use Rattle.uring_laws.proofs.LinuxKept.{HasDrain, Waits, KeepsGroups, accepted_keeps, cut_keeps, started_keeps, ended_keeps, WaitForNone, RingDrains, IsOwed, IsDrained, more_waits, more_ring, more_told}
 
 -- Whoever goes on waits for nobody that hasn't ended.
 
@@ -59,8 +60,9 @@ record IsAmid (r : Requests) (d : Drains) : Type 0 where
   told : AreTold r 0 d.deferred d.from
   waits : WaitForNone r d.from d.deferred
   ring : RingDrains r d
-  group : d.group ≡ false → (k : ℕ) → d.from ≤ k → k < length r.accepted → has_fault r k ≡ false → is_drain (entry_of r k) ≡ false
+  group : d.group ≡ false → (k : ℕ) → d.from ≤ k → k < length r.accepted → has_fault r k ≡ false → marks r k ≡ false
   on : d.ring ≡ false → d.group ≡ false
+  owed : IsOwed r d
 
 module _ (r : Requests) (d : Drains) (i : IsAmid r d) where
   joined_new : (m n : ℕ) → d.from ≤ m → n < length r.accepted → is_joined r m n ≡ true
@@ -85,10 +87,9 @@ module _ (r : Requests) (d : Drains) (i : IsAmid r d) where
   ]
 
   -- in a group without a fault that isn't told to drain nobody drains
-  calm_new : (n : ℕ) → d.group ≡ false → d.from ≤ n → n < length r.accepted → is_in_faulty_group r n ≡ false → is_draining r n ≡ false
-  unfolding some_member
+  calm_new : (n : ℕ) → d.group ≡ false → d.from ≤ n → n < length r.accepted → is_in_faulty_group r n ≡ false → drains r n ≡ false
   calm_new n still low high right =
-      some_below_none (λ m. is_in_group r m n && is_drain (entry_of r m)) (length r.accepted)
+      some_below_none (λ m. is_in_group r m n && marks r m) (length r.accepted)
       (λ m lt. elim (cases_lt m d.from) [
         | inl before ↦ and_left _ _ (is_joined_no r (min m n) (max m n) (d.from - 1) (omega (arith, before, low)) (omega (arith, before, low)) (i.begins (d.from - 1) (omega (arith, before))))
         | inr past ↦ and_right _ _ (i.group still m past lt (right_new n m low high past lt right))
@@ -176,6 +177,7 @@ module _ (r : Requests) (d : Drains) (i : IsAmid r d) where
       ring = some_ring;
       group = λ still k le lt. absurd (omega (arith, le, lt));
       on = λ off. refl;
+      owed = i.owed;
     }
     go false e =
         let p = or_parts (not d.ring) (is_faulty_from r d.from) e in
@@ -188,9 +190,17 @@ module _ (r : Requests) (d : Drains) (i : IsAmid r d) where
           ring = λ off m lt other. let q = ring_off d.ring d.group (after_going_on r all) (not-false _ p.0) off in none_left (is_alone r all) refl p.1 q.0 q.1 m lt other;
           group = λ still k le lt. absurd (omega (arith, le, lt));
           on = λ off. refl;
+          owed = i.owed;
         }
 
 -- An entry is accepted.
+
+-- a drain is owed behind an entry, if the entry owes one, or one was owed and it may not take that
+owed_on : (first was let_in granted : Bool) → (first ≡ false → (was || granted) ≡ true)
+    → (first ≡ true → (was && not let_in) ≡ true)
+    → (if first then was && not let_in else was || granted) ≡ true
+owed_on true was let_in granted off on = on refl
+owed_on false was let_in granted off on = off refl
 
 accepted_drained : (l : LinuxRequests) (e : Sqe) → IsSettled l → IsDrained l.requests l.drains
     → IsDrained (with_accepted l e).requests (with_accepted l e).drains
@@ -220,7 +230,39 @@ accepted_drained l e s i = go (is_linked e) refl where
     and_true false g = refl
   drain_if drain false e f = absurd (let g : false ≡ true = f in cc)
 
-  group : d.group ≡ false → (k : ℕ) → d.from ≤ k → k < length r.accepted → has_fault r k ≡ false → is_drain (entry_of r k) ≡ false
+  -- the entry is the first of its group exactly if a group was accepted right before it
+  first_is : (l.drains.from == last) ≡ is_first r last
+  first_is = elim (cases_lt l.drains.from last) [
+    | inl before ↦
+        ne_eqb l.drains.from last (λ same. omega (arith, before, same))
+        ∙ sym (ap not (some_below_some (λ k. is_joined r k last) last (last - 1) (omega (arith, before))
+        (is_joined_yes r (last - 1) last (λ k le lt. last_accepted l.requests e k lt ∙ i.amid k (omega (arith, before, le)) lt))))
+    | inr past ↦
+        (let low = i.low in eq-eqb l.drains.from last (omega (arith, low, past)))
+        ∙ sym (ap not (some_below_none (λ k. is_joined r k last) last
+        (λ k lt. is_joined_no r k last (last - 1) (omega (arith, lt)) (omega (arith, lt)) (keeps.cut (last - 1) (omega (arith, lt)) (i.begins (last - 1) (let low = i.low in omega (arith, low, past, lt)))))))
+  ]
+
+  -- a drain was owed that the entry takes
+  was_owed : takes_drain r last ≡ true → l.drains.owed ≡ true
+  was_owed takes =
+      let found = some_below_in (is_owed_by r last) last (and_parts (may_take r last) _ takes).1 in
+      let k : ℕ = found.0 in
+      let within : k < last = found.1 in
+      let parts = and_parts (owes_drain r k) _ found.2 in
+      i.owed k within (sym (keeps.owe k within) ∙ parts.0)
+      (λ f past lt. sym (keeps.take f lt) ∙ and_false (nat_lt k f) (may_take r f) (lt-ltb k f past) (some_below_out (λ j. nat_lt k j && may_take r j) last (not-true _ parts.1) f lt))
+    where
+      and_false : (a b : Bool) → a ≡ true → (a && b) ≡ false → b ≡ false
+      and_false true b is e = e
+      and_false false b is e = absurd (let f : false ≡ true = is in cc)
+
+  takes_none : (l.drains.owed && ((l.drains.from == last) && is_let_in r last)) ≡ false → takes_drain r last ≡ false
+  takes_none none = false_from_ne_true (takes_drain r last) (λ takes.
+      let may = and_parts (is_first r last) (is_let_in r last) (and_parts (may_take r last) _ takes).0 in
+      both_ways (l.drains.owed && ((l.drains.from == last) && is_let_in r last)) none (and_from _ _ (was_owed takes) (and_from _ _ (first_is ∙ may.0) may.1)))
+
+  group : d.group ≡ false → (k : ℕ) → d.from ≤ k → k < length r.accepted → has_fault r k ≡ false → marks r k ≡ false
   group still k le lt fine =
       let p = or_parts l.drains.group _ still in
       let q = or_parts (is_granted_drain r last) _ p.1 in
@@ -228,8 +270,32 @@ accepted_drained l e s i = go (is_linked e) refl where
         | inl before ↦ keeps.drain k before ∙ i.group p.0 k le before (sym (keeps.fault k before) ∙ fine)
         | inr past ↦
             let same : last ≡ k = omega (arith, past, lt, more) in
-            subst (λ j. has_fault r j ≡ false → is_drain (entry_of r j) ≡ false) same (λ right. drain_if (is_drain (entry_of r last)) (is_let_in r last) q.0 (fine_let_in r last right)) fine
+            subst (λ j. has_fault r j ≡ false → marks r j ≡ false) same
+            (λ right. or_from _ _ (drain_if (is_drain (entry_of r last)) (is_let_in r last) q.0 (fine_let_in r last right)) (takes_none q.1)) fine
       ]
+
+  owed : IsOwed r d
+  owed k lt owes none = owed_on (l.drains.from == last) l.drains.owed (is_let_in r last) (is_granted_drain r last)
+      (λ other. elim (cases_lt k last) [
+        | inl before ↦ or_left _ _ (still before)
+        | inr past ↦ (let same : k ≡ last = omega (arith, past, lt, more) in or_right l.drains.owed _ (and_parts (is_granted_drain r last) _ (subst (λ j. owes_drain r j ≡ true) same owes)).0)
+      ])
+      (λ first. elim (cases_lt k last) [
+        | inl before ↦ and_from _ _ (still before) (ap not (let_out first before))
+        | inr past ↦
+            let same : k ≡ last = omega (arith, past, lt, more) in
+            absurd (both_ways (is_first r last) (not-true _ (and_parts (is_granted_drain r last) _ (subst (λ j. owes_drain r j ≡ true) same owes)).1) (sym first_is ∙ first))
+      ])
+    where
+      still : k < last → l.drains.owed ≡ true
+      still before = i.owed k before (sym (keeps.owe k before) ∙ owes) (λ f past low. sym (keeps.take f low) ∙ none f past (omega (arith, low, more)))
+
+      let_out : (l.drains.from == last) ≡ true → k < last → is_let_in r last ≡ false
+      let_out first before = and_by (is_first r last) (is_let_in r last) (sym first_is ∙ first) (none last before (omega (arith, more)))
+        where
+          and_by : (a b : Bool) → a ≡ true → (a && b) ≡ false → b ≡ false
+          and_by true b is e = e
+          and_by false b is e = absurd (let f : false ≡ true = is in cc)
 
   on_by : (a b x : Bool) → (a ≡ false → b ≡ false) → (a || x) ≡ false → (b || x) ≡ false
   on_by a b x so off = let p = or_parts a x off in or_from _ _ (so p.0) p.1
@@ -256,6 +322,7 @@ accepted_drained l e s i = go (is_linked e) refl where
     ring = ring;
     group = group;
     on = on;
+    owed = owed;
   }
   go false free = group_drained r d (record {
     some = let low = i.low in omega (arith, low, more);
@@ -267,6 +334,7 @@ accepted_drained l e s i = go (is_linked e) refl where
     ring = ring;
     group = group;
     on = on;
+    owed = owed;
   })
 
 entries_drained : (l : LinuxRequests) (entries : List Sqe) → IsSettled l → IsDrained l.requests l.drains
@@ -289,6 +357,12 @@ cut_drained l i = go (nat_lt l.drains.from (length l.requests.accepted)) refl wh
   begins : (k : ℕ) → suc k ≡ l.drains.from → is_last r k ≡ true
   begins k is = last_kept l.requests k (i.begins k is)
 
+  group : l.drains.group ≡ false → (k : ℕ) → l.drains.from ≤ k → k < length r.accepted → has_fault r k ≡ false → marks r k ≡ false
+  group still k le lt fine = keeps.drain k lt ∙ i.group still k le lt fine
+
+  owed : IsOwed r l.drains
+  owed k lt owes none = i.owed k lt (sym (keeps.owe k lt) ∙ owes) (λ f past low. sym (keeps.take f low) ∙ none f past low)
+
   go : (b : Bool) → nat_lt l.drains.from (length l.requests.accepted) ≡ b → IsDrained r (if b then with_group r l.drains else l.drains)
   go true e = group_drained r l.drains (record {
     some = ltb-true _ _ e;
@@ -298,8 +372,9 @@ cut_drained l i = go (nat_lt l.drains.from (length l.requests.accepted)) refl wh
     told = more_told l.requests r l.drains keeps i;
     waits = more_waits l.requests r l.drains keeps i;
     ring = more_ring l.requests r l.drains keeps i;
-    group = i.group;
+    group = group;
     on = i.on;
+    owed = owed;
   })
   go false e =
       let past : length l.requests.accepted ≤ l.drains.from = ltb-false _ _ e in
@@ -310,8 +385,9 @@ cut_drained l i = go (nat_lt l.drains.from (length l.requests.accepted)) refl wh
         told = more_told l.requests r l.drains keeps i;
         waits = more_waits l.requests r l.drains keeps i;
         ring = more_ring l.requests r l.drains keeps i;
-        group = i.group;
+        group = group;
         on = i.on;
+        owed = owed;
       }
 
 -- A request starts or ends, between calls.
@@ -328,8 +404,9 @@ start_drained l n i =
       told = more_told l.requests q l.drains keeps i;
       waits = more_waits l.requests q l.drains keeps i;
       ring = more_ring l.requests q l.drains keeps i;
-      group = i.group;
+      group = λ still k le lt fine. keeps.drain k lt ∙ i.group still k le lt fine;
       on = i.on;
+      owed = λ k lt owes none. i.owed k lt (sym (keeps.owe k lt) ∙ owes) (λ f past low. sym (keeps.take f low) ∙ none f past low);
     }
 
 end_drained : (l : LinuxRequests) (n : ℕ) (res : ℤ) (bytes : List ℕ) → IsDrained l.requests l.drains
@@ -350,8 +427,9 @@ end_drained l n res bytes i =
         | inr never ↦ waits k m lt under apart never right w
       ];
       ring = more_ring l.requests q l.drains keeps i;
-      group = i.group;
+      group = λ still k le lt fine. keeps.drain k lt ∙ i.group still k le lt fine;
       on = i.on;
+      owed = λ k lt owes none. i.owed k lt (sym (keeps.owe k lt) ∙ owes) (λ f past low. sym (keeps.take f low) ∙ none f past low);
     }
 
 -- Whatever happened.
@@ -366,6 +444,7 @@ nothing_drained = record {
   ring = λ off m lt. absurd (omega (arith, lt));
   group = λ still k le lt. absurd (omega (arith, lt));
   on = λ off. refl;
+  owed = λ k lt. absurd (omega (arith, lt));
 }
 
 all_drained : (happened : List Happening) → MayHaveHappened happened

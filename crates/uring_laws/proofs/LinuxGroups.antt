@@ -1,19 +1,24 @@
 -- Groups that a drain holds back: where they stand, whether their members ask to drain, and who goes on first.
-use Rattle.std.proofs.Common.{◌≡◌, ℕ, suc, ◌-◌, ◌<◌, ◌≤◌, min, max, length, Bool, true, false, ◌&&◌, List, [], ◌∷◌, ◌++◌, refl, ap, arith, inl, inr, ◌⊎◌}
+use Rattle.std.proofs.Common.{◌≡◌, ℕ, suc, ◌-◌, ◌<◌, ◌≤◌, min, max, length, Bool, true, false, ◌&&◌, ◌||◌, List, [], ◌∷◌, ◌++◌, refl, ap, arith, inl, inr, ◌⊎◌}
 use Rattle.std.specs.Prelude.{if◌then◌else◌}
 use Rattle.std.proofs.lemmas.Bool.{cases_lt, both_ways, and_left, and_right, and_from, and_parts, or_left, or_right, or_cases, lt-ltb, le-leb, leb-true, ltb-true, false_from_ne_true}
-use Rattle.uring_entry.specs.Requests.{Requests, entry_of, is_drain, is_last, is_joined, is_in_group, some_member, is_draining}
+use Rattle.uring_entry.specs.Requests.{Requests, entry_of, is_drain, is_last, is_joined, is_in_group}
 use Rattle.uring_entry.proofs.BelowLemmas.{some_below_none}
 use Rattle.uring_entry.proofs.RequestLemmas.{is_joined_yes, is_joined_no}
 use Rattle.uring_linux.specs.declared.deferred.Deferred.{Deferred}
 use Rattle.uring_linux.specs.Drains.{is_among, is_in_some, from_drain, still_deferred}
+use Rattle.uring_laws.specs.LinuxLaws.{takes_drain, drains}
 
--- one group of the requests, of which no member asks to drain unless it is told to drain
+-- whether n makes its group drain: it asks to, or takes a drain that is owed
+abbrev pub marks : Requests → ℕ → Bool
+marks r n = is_drain (entry_of r n) || takes_drain r n
+
+-- one group of the requests, of which no member makes it drain unless it is told to drain
 pub record IsTold (r : Requests) (g : Deferred) : Type 0 where
   pub begins : (k : ℕ) → suc k ≡ g.from → is_last r k ≡ true
   pub ends : (k : ℕ) → suc k ≡ g.end → is_last r k ≡ true
   pub one : (k : ℕ) → g.from ≤ k → suc k < g.end → is_last r k ≡ false
-  pub told : g.drains ≡ false → (k : ℕ) → g.from ≤ k → k < g.end → is_drain (entry_of r k) ≡ false
+  pub told : g.drains ≡ false → (k : ℕ) → g.from ≤ k → k < g.end → marks r k ≡ false
 
 -- such groups, one behind the other, from one number on and before another
 abbrev pub AreTold : Requests → ℕ → List Deferred → ℕ → Type 0
@@ -108,10 +113,9 @@ joined_told r g m n is low high = is_joined_yes r m n (λ k le lt. is.one k (ome
 
 -- in a group that isn't told to drain nobody drains
 calm : (r : Requests) (g : Deferred) (n : ℕ) → IsTold r g → g.drains ≡ false → g.from ≤ n → n < g.end
-    → is_draining r n ≡ false
-unfolding some_member
+    → drains r n ≡ false
 calm r g n is still low high =
-    some_below_none (λ m. is_in_group r m n && is_drain (entry_of r m)) (length r.accepted)
+    some_below_none (λ m. is_in_group r m n && marks r m) (length r.accepted)
     (λ m lt. elim (cases_lt m g.from) [
       | inl before ↦ and_left _ _ (is_joined_no r (min m n) (max m n) (g.from - 1) (omega (arith, before, low)) (omega (arith, before, low)) (is.begins (g.from - 1) (omega (arith, before))))
       | inr past ↦ elim (cases_lt m g.end) [
@@ -161,10 +165,10 @@ still_fewer true (g ∷ rest) k e = go g.drains e where
 
 -- whoever stands before the first group that drains doesn't drain, and whoever stands before it does so too
 drain_calm : (r : Requests) (low : ℕ) (xs : List Deferred) (high n : ℕ) → AreTold r low xs high
-    → is_in_some xs n ≡ true → is_in_some (from_drain xs) n ≡ false → is_draining r n ≡ false
+    → is_in_some xs n ≡ true → is_in_some (from_drain xs) n ≡ false → drains r n ≡ false
 drain_calm r low [] high n t here gone = absurd (let f : false ≡ true = here in cc)
 drain_calm r low (g ∷ rest) high n t here gone = go g.drains refl gone (drain_calm r g.end rest high n t.3) where
-  go : (b : Bool) → g.drains ≡ b → is_in_some (if b then g ∷ rest else from_drain rest) n ≡ false → (is_in_some rest n ≡ true → is_in_some (from_drain rest) n ≡ false → is_draining r n ≡ false) → is_draining r n ≡ false
+  go : (b : Bool) → g.drains ≡ b → is_in_some (if b then g ∷ rest else from_drain rest) n ≡ false → (is_in_some rest n ≡ true → is_in_some (from_drain rest) n ≡ false → drains r n ≡ false) → drains r n ≡ false
   go true is out later_calm = absurd (both_ways (is_in_some (g ∷ rest) n) out here)
   go false is out later_calm = elim (or_cases (is_among n g) (is_in_some rest n) here) [
     | inl among ↦ (let p = among_tells n g among in calm r g n t.2 is p.0 p.1)
@@ -197,7 +201,7 @@ drain_gone r low (g ∷ rest) high n m t here gone there lt = go g.drains gone (
 -- Whoever goes on, if all that is outstanding is deferred, doesn't drain if someone before it is deferred that isn't of its group, and that one doesn't drain either.
 pub gone_calm : (r : Requests) (low : ℕ) (xs : List Deferred) (high n m : ℕ) → AreTold r low xs high
     → is_in_some xs n ≡ true → is_in_some (still_deferred true xs) n ≡ false → is_in_some xs m ≡ true
-    → m < n → is_joined r m n ≡ false → (is_draining r n ≡ false) × (is_draining r m ≡ false)
+    → m < n → is_joined r m n ≡ false → (drains r n ≡ false) × (drains r m ≡ false)
 gone_calm r low [] high n m t here gone there lt apart = absurd (let f : false ≡ true = here in cc)
 gone_calm r low (g ∷ rest) high n m t here gone there lt apart = go g.drains refl gone where
   -- both in the first group is out of the question
@@ -209,7 +213,7 @@ gone_calm r low (g ∷ rest) high n m t here gone there lt apart = go g.drains r
         | inr later ↦ (let past : g.end ≤ m = told_above r g.end rest high m t.3 later in let end : n < g.end = p.1 in omega (arith, past, end, lt))
       ]
 
-  go : (b : Bool) → g.drains ≡ b → is_in_some (if b then rest else from_drain rest) n ≡ false → (is_draining r n ≡ false) × (is_draining r m ≡ false)
+  go : (b : Bool) → g.drains ≡ b → is_in_some (if b then rest else from_drain rest) n ≡ false → (drains r n ≡ false) × (drains r m ≡ false)
   go true is out = elim (or_cases (is_among n g) (is_in_some rest n) here) [
     | inl among ↦ absurd (first among)
     | inr later ↦ absurd (both_ways (is_in_some rest n) out later)
@@ -227,13 +231,13 @@ gone_calm r low (g ∷ rest) high n m t here gone there lt apart = go g.drains r
 
 -- If the last group isn't told to drain, and none stays deferred, none of them drains.
 none_drain : (r : Requests) (low : ℕ) (xs : List Deferred) (high k : ℕ) → AreTold r low xs high
-    → from_drain xs ≡ [] → is_in_some xs k ≡ true → is_draining r k ≡ false
+    → from_drain xs ≡ [] → is_in_some xs k ≡ true → drains r k ≡ false
 none_drain r low xs high k t none here =
     drain_calm r low xs high k t here (ap (λ ys. is_in_some ys k) none)
 
 pub left_calm : (r : Requests) (low : ℕ) (xs : List Deferred) (g : Deferred) (high k : ℕ)
     → AreTold r low (xs ++ g ∷ []) high → g.drains ≡ false → still_deferred true (xs ++ g ∷ []) ≡ []
-    → is_in_some (xs ++ g ∷ []) k ≡ true → is_draining r k ≡ false
+    → is_in_some (xs ++ g ∷ []) k ≡ true → drains r k ≡ false
 left_calm r low [] g high k t is none here = elim (or_cases (is_among k g) false here) [
   | inl among ↦ (let p = among_tells k g among in calm r g k t.2 is p.0 p.1)
   | inr empty ↦ absurd (let f : false ≡ true = empty in cc)
@@ -243,7 +247,7 @@ left_calm r low (x ∷ rest) g high k t is none here = go x.drains refl none whe
   some [] e = cc
   some (y ∷ ys) e = cc
 
-  go : (b : Bool) → x.drains ≡ b → (if b then rest ++ g ∷ [] else from_drain (rest ++ g ∷ [])) ≡ [] → is_draining r k ≡ false
+  go : (b : Bool) → x.drains ≡ b → (if b then rest ++ g ∷ [] else from_drain (rest ++ g ∷ [])) ≡ [] → drains r k ≡ false
   go true told e = absurd (some rest e)
   go false told e = elim (or_cases (is_among k x) (is_in_some (rest ++ g ∷ []) k) here) [
     | inl among ↦ (let p = among_tells k x among in calm r x k t.2 told p.0 p.1)

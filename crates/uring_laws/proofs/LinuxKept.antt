@@ -1,29 +1,30 @@
 -- Of groups that drain by Linux's rules: what is so of the requests whatever happened, and stays as more is accepted behind them.
 use Rattle.std.proofs.Common.{◌≡◌, ℕ, suc, ◌-◌, ◌<◌, ◌≤◌, ℤ, min, max, length, true, false, not, ◌&&◌, ◌||◌, ◌==◌, List, [], ◌∷◌, refl, sym, ◌∙◌, ap, ap₂, arith, ◌⊎◌, inl, inr, length-append}
-use Rattle.std.specs.Prelude.{nat_le}
+use Rattle.std.specs.Prelude.{nat_le, nat_lt}
 use Rattle.std.proofs.lemmas.Bool.{cases_lt, both_ways, and_from, and_parts}
 use Rattle.uring_entry.specs.Layout.{Sqe}
 use Rattle.uring_entry.specs.Preparation.{is_faulty}
 use Rattle.uring_entry.specs.Requests as manual
-use Rattle.uring_entry.specs.Requests.{Requests, entry_of, is_linked, is_drain, is_last, is_joined, is_in_group, some_member, is_draining, has_started, has_ended, is_outstanding}
+use Rattle.uring_entry.specs.Requests.{Requests, entry_of, is_linked, is_drain, is_last, is_joined, is_in_group, has_started, has_ended, is_outstanding}
 use Rattle.uring_entry.proofs.BelowLemmas.{some_below_none, some_below_some, some_below_in, some_below_out, some_below_same}
 use Rattle.uring_entry.proofs.RequestLemmas.{is_joined_no}
 use Rattle.uring_entry.proofs.GroupEvents.{entry_same, is_last_cut}
 use Rattle.uring_linux.specs.declared.deferred.Deferred.{Deferred}
 use Rattle.uring_linux.specs.Drains.{Drains, is_in_some}
-use Rattle.uring_linux.specs.LinuxRequests.{has_fault, is_refused_drain, is_in_faulty_group}
+use Rattle.uring_linux.specs.LinuxRequests.{is_past, is_let_in, has_fault, is_refused_drain, is_in_faulty_group}
 use Rattle.uring_linux.proofs.WindowEvents.{refused_accepted, last_accepted, last_kept}
 use Rattle.uring_core.proofs.ListCounts.{any_kept}
-use Rattle.uring_laws.proofs.LinuxGroups.{IsTold, AreTold, told_kept}
+use Rattle.uring_laws.specs.LinuxLaws.{is_first, owes_drain, may_take, is_owed_by, drains}
+use Rattle.uring_laws.proofs.LinuxGroups.{marks, IsTold, AreTold, told_kept}
 
 -- n's group drains, and has no fault
 pub record HasDrain (r : Requests) (n : ℕ) : Type 0 where
-  pub drains : is_draining r n ≡ true
+  pub drains : drains r n ≡ true
   pub right : is_in_faulty_group r n ≡ false
 
 -- n's group waits for m's: it drains, or m's does
 abbrev pub Waits : Requests → ℕ → ℕ → Type 0
-Waits r n m = (is_draining r n ≡ true) ⊎ HasDrain r m
+Waits r n m = (drains r n ≡ true) ⊎ HasDrain r m
 
 -- Requests that more was accepted behind.
 
@@ -32,7 +33,9 @@ pub record KeepsGroups (r q : Requests) : Type 0 where
   pub count : length r.accepted ≤ length q.accepted
   pub last : (k : ℕ) → suc k < length r.accepted → is_last q k ≡ is_last r k
   pub cut : (k : ℕ) → k < length r.accepted → is_last r k ≡ true → is_last q k ≡ true
-  pub drain : (k : ℕ) → k < length r.accepted → is_drain (entry_of q k) ≡ is_drain (entry_of r k)
+  pub drain : (k : ℕ) → k < length r.accepted → marks q k ≡ marks r k
+  pub take : (k : ℕ) → k < length r.accepted → may_take q k ≡ may_take r k
+  pub owe : (k : ℕ) → k < length r.accepted → owes_drain q k ≡ owes_drain r k
   pub fault : (k : ℕ) → k < length r.accepted → has_fault q k ≡ has_fault r k
   pub ended : (k : ℕ) → has_ended r k ≡ true → has_ended q k ≡ true
 
@@ -51,15 +54,14 @@ module _ (r q : Requests) (same : KeepsGroups r q) where
       ∙ some_below_out (λ j. is_in_group q j n && has_fault q j) (length q.accepted) e m (omega (arith, low, more)))
 
   -- a whole group, up to an end that was there before, drains only if it did
-  draining_kept : (n end : ℕ) → end ≤ length r.accepted → n < end → ((k : ℕ) → suc k ≡ end → is_last r k ≡ true) → is_draining q n ≡ true → is_draining r n ≡ true
-  unfolding some_member
+  draining_kept : (n end : ℕ) → end ≤ length r.accepted → n < end → ((k : ℕ) → suc k ≡ end → is_last r k ≡ true) → drains q n ≡ true → drains r n ≡ true
   draining_kept n end within lt ends e =
-      let found = some_below_in (λ m. is_in_group q m n && is_drain (entry_of q m)) (length q.accepted) e in
+      let found = some_below_in (λ m. is_in_group q m n && marks q m) (length q.accepted) e in
       let m : ℕ = found.0 in
-      let parts = and_parts (is_in_group q m n) (is_drain (entry_of q m)) found.2 in
+      let parts = and_parts (is_in_group q m n) (marks q m) found.2 in
       elim (cases_lt m end) [
         | inl low ↦
-            some_below_some (λ j. is_in_group r j n && is_drain (entry_of r j)) (length r.accepted) m (omega (arith, low, within))
+            some_below_some (λ j. is_in_group r j n && marks r j) (length r.accepted) m (omega (arith, low, within))
             (and_from _ _ (sym (joined_kept (min m n) (max m n) (omega (arith, low, lt, within))) ∙ parts.0) (sym (same.drain m (omega (arith, low, within))) ∙ parts.1))
         | inr past ↦
             absurd (both_ways (is_in_group q m n) (is_joined_no q (min m n) (max m n) (end - 1) (omega (arith, past, lt)) (omega (arith, past, lt)) (same.cut (end - 1) (omega (arith, lt, within)) (ends (end - 1) (omega (arith, lt))))) parts.0)
@@ -73,43 +75,105 @@ module _ (r q : Requests) (same : KeepsGroups r q) where
     told = λ still k le lt. same.drain k (omega (arith, lt, within)) ∙ is.told still k le lt;
   }
 
+-- the same starts of groups, and the same drains and fresh entries up to n: then n takes, owes and makes its group drain as it did
+module _ (r q : Requests) (n : ℕ) (last : (k : ℕ) → k < n → is_last q k ≡ is_last r k)
+    (let_in : (k : ℕ) → k ≤ n → is_let_in q k ≡ is_let_in r k)
+    (drain : (k : ℕ) → k ≤ n → is_drain (entry_of q k) ≡ is_drain (entry_of r k)) where
+  joined_same : (m k : ℕ) → k ≤ n → is_joined q m k ≡ is_joined r m k
+  unfolding is_joined
+  joined_same m k le =
+      ap not (some_below_same (λ j. nat_le m j && is_last q j) (λ j. nat_le m j && is_last r j) k (λ j low. ap (λ b. nat_le m j && b) (last j (omega (arith, low, le)))))
+
+  first_same : (k : ℕ) → k ≤ n → is_first q k ≡ is_first r k
+  first_same k le = ap not (some_below_same (λ j. is_joined q j k) (λ j. is_joined r j k) k (λ j low. joined_same j k le))
+
+  take_same : (k : ℕ) → k ≤ n → may_take q k ≡ may_take r k
+  take_same k le = ap₂ (λ x y. x && y) (first_same k le) (let_in k le)
+
+  owe_same : (k : ℕ) → k ≤ n → owes_drain q k ≡ owes_drain r k
+  owe_same k le = ap₂ (λ x y. x && not y) (ap₂ (λ x y. x && y) (drain k le) (let_in k le)) (first_same k le)
+
+  owed_same : (k : ℕ) → k < n → is_owed_by q n k ≡ is_owed_by r n k
+  owed_same k lt =
+      ap₂ (λ x y. x && not y) (owe_same k (omega (arith, lt)))
+      (some_below_same (λ f. nat_lt k f && may_take q f) (λ f. nat_lt k f && may_take r f) n (λ f low. ap (λ b. nat_lt k f && b) (take_same f (omega (arith, low)))))
+
+  marks_same : marks q n ≡ marks r n
+  marks_same =
+      ap₂ (λ x y. x || y) (drain n (omega arith))
+      (ap₂ (λ x y. x && y) (take_same n (omega arith)) (some_below_same (is_owed_by q n) (is_owed_by r n) n owed_same))
+
+  takes_as_before : may_take q n ≡ may_take r n
+  takes_as_before = take_same n (omega arith)
+
+  owes_as_before : owes_drain q n ≡ owes_drain r n
+  owes_as_before = owe_same n (omega arith)
+
+let_in_accepted : (r : Requests) (e : Sqe) (k : ℕ) → k < length r.accepted
+    → is_let_in (manual.with_accepted r e) k ≡ is_let_in r k
+let_in_accepted r e k lt =
+    ap₂ (λ x y. x && not y) (entry_same r e is_past k lt) (refused_accepted r e k lt)
+
 pub accepted_keeps : (r : Requests) (e : Sqe) → KeepsGroups r (manual.with_accepted r e)
 accepted_keeps r e = record {
   count = let more = length-append r.accepted (e ∷ []) in omega (arith, more);
   last = λ k lt. last_accepted r e k (omega (arith, lt));
   cut = λ k lt is. last_accepted r e k lt ∙ is;
-  drain = λ k lt. entry_same r e is_drain k lt;
+  drain = λ k lt. marks_same r q k (last k lt) (let_in k lt) (drain k lt);
+  take = λ k lt. takes_as_before r q k (last k lt) (let_in k lt) (drain k lt);
+  owe = λ k lt. owes_as_before r q k (last k lt) (let_in k lt) (drain k lt);
   fault = λ k lt. ap (λ b. b || is_refused_drain (manual.with_accepted r e) k) (entry_same r e is_faulty k lt)
       ∙ ap (λ b. is_faulty (entry_of r k) || b) (refused_accepted r e k lt);
   ended = λ k is. is;
-}
+} where
+  q : Requests
+  q = manual.with_accepted r e
+
+  last : (n : ℕ) → n < length r.accepted → (k : ℕ) → k < n → is_last q k ≡ is_last r k
+  last n lt k low = last_accepted r e k (omega (arith, lt, low))
+
+  let_in : (n : ℕ) → n < length r.accepted → (k : ℕ) → k ≤ n → is_let_in q k ≡ is_let_in r k
+  let_in n lt k le = let_in_accepted r e k (omega (arith, lt, le))
+
+  drain : (n : ℕ) → n < length r.accepted → (k : ℕ) → k ≤ n → is_drain (entry_of q k) ≡ is_drain (entry_of r k)
+  drain n lt k le = entry_same r e is_drain k (omega (arith, lt, le))
 
 pub cut_keeps : (r : Requests) → KeepsGroups r (manual.with_cut r)
 cut_keeps r = record {
   count = omega arith;
   last = λ k lt. is_last_cut r k (λ e. absurd (omega (arith, e, lt)));
   cut = λ k lt is. last_kept r k is;
-  drain = λ k lt. refl;
+  drain = λ k lt. marks_same r (manual.with_cut r) k (last k lt) (λ j le. refl) (λ j le. refl);
+  take = λ k lt. takes_as_before r (manual.with_cut r) k (last k lt) (λ j le. refl) (λ j le. refl);
+  owe = λ k lt. owes_as_before r (manual.with_cut r) k (last k lt) (λ j le. refl) (λ j le. refl);
   fault = λ k lt. refl;
   ended = λ k is. is;
-}
+} where
+  last : (n : ℕ) → n < length r.accepted → (k : ℕ) → k < n → is_last (manual.with_cut r) k ≡ is_last r k
+  last n lt k low = is_last_cut r k (λ e. absurd (omega (arith, e, lt, low)))
 
 pub started_keeps : (r : Requests) (n : ℕ) → KeepsGroups r (manual.with_started r n)
+unfolding is_joined
 started_keeps r n = record {
   count = omega arith;
   last = λ k lt. refl;
   cut = λ k lt is. is;
   drain = λ k lt. refl;
+  take = λ k lt. refl;
+  owe = λ k lt. refl;
   fault = λ k lt. refl;
   ended = λ k is. is;
 }
 
 pub ended_keeps : (r : Requests) (n : ℕ) (res : ℤ) (bytes : List ℕ) → KeepsGroups r (manual.with_ended r n res bytes)
+unfolding is_joined
 ended_keeps r n res bytes = record {
   count = omega arith;
   last = λ k lt. refl;
   cut = λ k lt is. is;
   drain = λ k lt. refl;
+  take = λ k lt. refl;
+  owe = λ k lt. refl;
   fault = λ k lt. refl;
   ended = λ k is. any_kept (λ e. e.number == k) r.ended _ is;
 }
@@ -125,6 +189,11 @@ WaitForNone r from xs = (n m : ℕ) → n < from → m < n → is_joined r m n �
 abbrev pub RingDrains : Requests → Drains → Type 0
 RingDrains r d = d.ring ≡ false → (m : ℕ) → m < d.from → HasDrain r m → has_ended r m ≡ true
 
+-- what is owed and wasn't taken still is
+abbrev pub IsOwed : Requests → Drains → Type 0
+IsOwed r d = (k : ℕ) → k < length r.accepted → owes_drain r k ≡ true
+    → ((f : ℕ) → k < f → f < length r.accepted → may_take r f ≡ false) → d.owed ≡ true
+
 pub record IsDrained (r : Requests) (d : Drains) : Type 0 where
   pub low : d.from ≤ length r.accepted
   pub begins : (k : ℕ) → suc k ≡ d.from → is_last r k ≡ true
@@ -132,8 +201,9 @@ pub record IsDrained (r : Requests) (d : Drains) : Type 0 where
   pub told : AreTold r 0 d.deferred d.from
   pub waits : WaitForNone r d.from d.deferred
   pub ring : RingDrains r d
-  pub group : d.group ≡ false → (k : ℕ) → d.from ≤ k → k < length r.accepted → has_fault r k ≡ false → is_drain (entry_of r k) ≡ false
+  pub group : d.group ≡ false → (k : ℕ) → d.from ≤ k → k < length r.accepted → has_fault r k ≡ false → marks r k ≡ false
   pub on : d.ring ≡ false → d.group ≡ false
+  pub owed : IsOwed r d
 
 -- the same once more was accepted, of what stood before
 module _ (r q : Requests) (d : Drains) (same : KeepsGroups r q) (i : IsDrained r d) where

@@ -11,7 +11,7 @@ use Rattle.uring_entry.specs.Setup.{Setup}
 use Rattle.uring_entry.specs.declared.errno.TheConstants.{ENOENT, EALREADY, ECANCELED}
 use Rattle.uring_entry.specs.Preparation.{is_cancel_all}
 use Rattle.uring_entry.specs.Submission.{entries_of, places_from}
-use Rattle.uring_entry.specs.Requests.{Requests, Ending, entry_of, has_started, has_ended, is_joined, is_draining, is_outstanding, least_of}
+use Rattle.uring_entry.specs.Requests.{Requests, Ending, entry_of, has_started, has_ended, is_joined, is_outstanding, least_of}
 use Rattle.uring_linux.specs.Happenings.{Happening, made_by, MayHaveHappened}
 use Rattle.uring_linux.specs.LinuxRequests.{LinuxRequests, is_in_faulty_group, is_doomed, doomed_result, cancel_result, found_by, is_deferred}
 use Rattle.uring_core.specs.World.{World, requests_of, happens, taking_of, taking_entry_of, ending_of}
@@ -29,7 +29,7 @@ use Rattle.uring_core.proofs.Issuable.{issue_goes}
 use Rattle.uring_entry.proofs.BelowLemmas.{least_below_out}
 use Rattle.uring_linux.specs.Laws.{GoesOn}
 use Rattle.uring_linux.proofs.GoingOn.{goes_on_from}
-use Rattle.uring_laws.specs.LinuxLaws.{DoomedNeverRun, DoomedStayDoomed, CancelledWereDoomed, MembersGoInOrder, IsStart, DeferredDontStart, waits_for, DrainsHold, LeastFreeCanGoOn, LeastFreeGoesOn, CancelsDoomNobody}
+use Rattle.uring_laws.specs.LinuxLaws.{DoomedNeverRun, DoomedStayDoomed, CancelledWereDoomed, MembersGoInOrder, IsStart, DeferredDontStart, drains, waits_for, DrainsHold, LeastFreeCanGoOn, LeastFreeGoesOn, CancelsDoomNobody}
 use Rattle.uring_laws.proofs.ToldRequests.{tells_requests}
 use Rattle.uring_laws.proofs.Growth.{grows, event_grows, then_grows, lawful_before}
 use Rattle.uring_laws.proofs.OrderLaws.{refused_no_end, refused_no_run}
@@ -215,7 +215,7 @@ none_waited l n m so lt under starts w = elim (cases_Bool (is_joined l.requests 
   | inl joined ↦ turn_first l.requests n starts.turn m under joined
   | inr apart ↦
       let right : is_in_faulty_group l.requests n ≡ false = (or_parts (is_in_faulty_group l.requests n) _ starts.spared).0 in
-      let why : Waits l.requests n m = elim (waits_apart (is_joined l.requests m n) (is_draining l.requests n) (is_draining l.requests m) (is_in_faulty_group l.requests m) apart w) [
+      let why : Waits l.requests n m = elim (waits_apart (is_joined l.requests m n) (drains l.requests n) (drains l.requests m) (is_in_faulty_group l.requests m) apart w) [
         | inl drains ↦ inl drains
         | inr other ↦ inr (record { drains = other.0; right = other.1 })
       ] in

@@ -1,9 +1,10 @@
 -- What holds of every lawful history of a ring that keeps requests by Linux's rules. docs/PROTOCOL.md tells these, in the section By Linux's rules.
-use Rattle.std.specs.Prelude.{◌≡◌, ℕ, ◌<◌, neg_ℤ, Bool, true, false, not, ◌&&◌, ◌||◌, List, [], ◌∷◌, ◌++◌, length, Some, slice_get, ◌⊎◌}
+use Rattle.std.specs.Prelude.{◌≡◌, ℕ, ◌<◌, neg_ℤ, Bool, true, false, not, ◌&&◌, ◌||◌, nat_lt, List, [], ◌∷◌, ◌++◌, length, Some, slice_get, ◌⊎◌}
 use Rattle.uring_entry.specs.Setup.{Setup}
-use Rattle.uring_entry.specs.Requests.{Requests, Ending, is_joined, is_draining, is_outstanding, is_running}
+use Rattle.uring_entry.specs.Below.{some_below}
+use Rattle.uring_entry.specs.Requests.{Requests, Ending, entry_of, is_drain, is_joined, is_in_group, is_outstanding, is_running}
 use Rattle.uring_entry.specs.declared.errno.TheConstants.{ECANCELED}
-use Rattle.uring_linux.specs.LinuxRequests.{is_in_faulty_group, is_doomed, doomed_result, is_deferred}
+use Rattle.uring_linux.specs.LinuxRequests.{is_let_in, is_granted_drain, is_in_faulty_group, is_doomed, doomed_result, is_deferred}
 use Rattle.uring_linux.specs.LinuxWhy.{least_free_of}
 use Rattle.uring_core.specs.World.{World, requests_of}
 use Rattle.uring_core.specs.StepAnswers.{IsEnded, IsIssued, issue_answer}
@@ -50,10 +51,35 @@ DeferredDontStart g = (after before : History) (n : ℕ) (a : Answer)
     → IsLawfulApart g (after ++ (step.Issue n, a) ∷ before) → IsStart (world g before).requests n a
     → is_deferred (requests_of (world g before)) n ≡ false
 
--- whether n waits for m, a request before it: they are members of one group, or n's group drains, or m's does and has no fault. A group drains if some member asks to
+-- whether n is the first of its group
+abbrev pub is_first : Requests → ℕ → Bool
+is_first r n = not (some_below (λ k. is_joined r k n) n)
+
+-- whether n owes a drain to the next group: it drains, and isn't the first of its own
+abbrev pub owes_drain : Requests → ℕ → Bool
+owes_drain r n = is_granted_drain r n && not (is_first r n)
+
+-- whether n may take a drain that is owed: it is the first of its group, and let in
+abbrev pub may_take : Requests → ℕ → Bool
+may_take r n = is_first r n && is_let_in r n
+
+-- whether n may take a drain that k owes: nobody between them may
+abbrev pub is_owed_by : Requests → ℕ → ℕ → Bool
+is_owed_by r n k = owes_drain r k && not (some_below (λ f. nat_lt k f && may_take r f) n)
+
+-- whether n takes a drain that one before it owes
+abbrev pub takes_drain : Requests → ℕ → Bool
+takes_drain r n = may_take r n && some_below (is_owed_by r n) n
+
+-- whether n's group drains: a member asks to, or takes a drain that is owed
+abbrev pub drains : Requests → ℕ → Bool
+drains r n =
+    some_below (λ m. is_in_group r m n && (is_drain (entry_of r m) || takes_drain r m)) (length r.accepted)
+
+-- whether n waits for m, a request before it: they are members of one group, or n's group drains, or m's does and has no fault
 abbrev pub waits_for : Requests → ℕ → ℕ → Bool
 waits_for r n m =
-    is_joined r m n || is_draining r n || (is_draining r m && not (is_in_faulty_group r m))
+    is_joined r m n || drains r n || (drains r m && not (is_in_faulty_group r m))
 
 -- Links and drains: when a request starts, each earlier one that it waits for has ended, once.
 abbrev pub DrainsHold : Setup → Type 0

@@ -1,13 +1,14 @@
 -- What the definitions say of a member, from its group.
-use Rattle.std.proofs.Common.{◌≡◌, ℕ, ◌<◌, ◌≤◌, length, not, ◌&&◌, leb, Option, Some, None, is_some, refl, sym, ◌∙◌, ap, arith, inl, inr}
+use Rattle.std.proofs.Common.{◌≡◌, ℕ, ◌-◌, ◌<◌, ◌≤◌, length, false, not, ◌&&◌, leb, Option, Some, None, is_some, refl, sym, ◌∙◌, ap, subst, arith, inl, inr}
 use Rattle.std.specs.Prelude.{if◌then◌else◌}
-use Rattle.std.proofs.lemmas.Bool.{cases_lt, and_left, and_right, le-leb, lt-leb, lt-ltb, le-ltb}
+use Rattle.std.proofs.lemmas.Bool.{cases_lt, and_left, and_right, and_from, le-leb, lt-leb, lt-ltb, le-ltb}
 use Rattle.std.proofs.Math.Bool.{and-true}
-use Rattle.uring_entry.specs.Requests.{Requests, has_ended, is_joined, is_in_group}
+use Rattle.uring_entry.specs.Requests.{Requests, has_ended, is_last, is_joined, is_in_group}
 use Rattle.uring_entry.specs.Groups.{IsGroup, first_member, is_before, first_broken}
 use Rattle.uring_entry.specs.Why.{failed_member_of}
-use Rattle.uring_entry.proofs.BelowLemmas.{some_below_same, some_below_between, least_below_none, least_below_some, is_some_least_below}
+use Rattle.uring_entry.proofs.BelowLemmas.{some_below_some, some_below_same, some_below_between, least_below_none, least_below_some, is_some_least_below}
 use Rattle.uring_entry.proofs.GroupLemmas.{joined_member, in_group_member}
+use Rattle.uring_entry.proofs.RequestLemmas.{is_joined_yes}
 use Rattle.uring_entry.proofs.WhyLemmas.{failed_member_before, failed_member_none}
 use Rattle.uring_linux.specs.LinuxRequests.{has_fault, is_in_faulty_group, is_in_turn, keeps_back, first_of}
 use Rattle.uring_linux.specs.Members.{if_before}
@@ -20,6 +21,15 @@ turn_is r from end n g high lt =
     (some_below_same (keeps_back r n) (λ m. leb from m && not (has_ended r m)) n
     (λ m low. ap (λ b. b && not (has_ended r m)) (joined_member r from end m n g high lt (omega arith)))
     ∙ sym (is_some_least_below (λ m. leb from m && not (has_ended r m)) n))
+
+-- whoever stands right behind a member that hasn't ended isn't in turn
+pub not_in_turn : (r : Requests) (n : ℕ) → 0 < n → is_last r (n - 1) ≡ false → has_ended r (n - 1) ≡ false
+    → is_in_turn r n ≡ false
+unfolding is_in_turn
+not_in_turn r n some amid going =
+    ap not
+    (some_below_some (keeps_back r n) n (n - 1) (omega (arith, some))
+    (and_from _ _ (is_joined_yes r (n - 1) n (λ k le lt. subst (λ j. is_last r j ≡ false) (omega (arith, le, lt, some)) amid)) (ap not going)))
 
 pub faulty_is : (r : Requests) (from end n : ℕ) → IsGroup r from end → from ≤ n → n < end
     → is_in_faulty_group r n ≡ is_some (first_member (has_fault r) from end)

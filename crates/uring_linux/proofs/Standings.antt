@@ -232,6 +232,16 @@ gone_issuable s d b room between x l n e g lt =
     let h = shown s d b room between l (subst (λ (y : LinuxDispatch). ShowsRequests y l) (sym e) g) in
     and_left _ _ (and_right _ _ (ap not (h.gone n lt)))
 
+-- who isn't outstanding, or runs, can't be issued
+pub busy_waits : (a b c : Bool) → (b && c) ≡ false → ((a && b) && c) ≡ false
+busy_waits true b c e = e
+busy_waits false b c e = refl
+
+pub busy_issuable : (a b c : Bool) → (a && b) ≡ false → false ≡ (a && (b && c))
+busy_issuable true true c e = absurd (let f : true ≡ false = e in cc)
+busy_issuable true false c e = refl
+busy_issuable false b c e = refl
+
 -- Counts.
 
 pub next_count : (p : ℕ → Bool) (n : ℕ) → count_below p (n + 1) ≡ count_below p n + one_if (p n)

@@ -36,6 +36,9 @@ impl LinuxDispatch {
         if request.is_running {
             return Issued::Running;
         }
+        if self.window.is_right_behind(n) {
+            return Issued::NotReady;
+        }
         let span = self.window.span_of(n);
         if !self.window.is_in_turn(n, span) {
             return Issued::NotReady;

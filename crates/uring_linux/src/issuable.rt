@@ -65,6 +65,9 @@ impl LinuxDispatch {
     fn is_issuable(&self, n: u64) -> bool
         ensures { (l : LinuxRequests) → ShowsRequests self.now l → result ≡ spec.is_issuable l n }
     {
+        if !self.window.is_idle(n) {
+            return false;
+        }
         match self.answer(n) {
             Issued::Run(_) | Issued::Ended(_, _) => true,
             Issued::NotReady | Issued::Running | Issued::Unknown => false,

@@ -73,6 +73,20 @@ impl Window {
         }
     }
 
+    /// Whether `n` stands right behind a member of its group that hasn't ended, so that it isn't its turn. It looks at that one alone.
+    pub(crate) fn is_right_behind(&self, n: u64) -> bool
+        requires { IsWithin self.now n }
+        ensures { (r : Requests) → Shows self.now r → result ≡ true → linux.is_in_turn r n ≡ false }
+    {
+        if n <= self.first() {
+            return false;
+        }
+        if self.is_last(n - 1) {
+            return false;
+        }
+        self.passes(Test::Unended, n - 1)
+    }
+
     /// The first member of the group before `n` that hasn't ended.
     pub(crate) fn keeper(&self, n: u64, span: Span) -> Option<u64>
         ensures { (r : Requests) → Shows self.now r → IsSpan self.now r n span.from span.end

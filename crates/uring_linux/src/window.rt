@@ -1,8 +1,8 @@
 //! The requests that are kept, by their numbers, and searches among them.
 
-ghost use Rattle.std.specs.Prelude.{◌≡◌, ◌≢◌, ℕ, ◌+◌, ◌-◌, ◌^◌, ◌<◌, ◌≤◌, length, true, false, [], Some, None, option_copied, drop, slice_get, slice_set, ◌∷◌, ◌++◌, OnOk, OnErr, IsOk};
+ghost use Rattle.std.specs.Prelude.{◌≡◌, ◌≢◌, not, ◌&&◌, ℕ, ◌+◌, ◌-◌, ◌^◌, ◌<◌, ◌≤◌, length, true, false, [], Some, None, option_copied, drop, slice_get, slice_set, ◌∷◌, ◌++◌, OnOk, OnErr, IsOk};
 ghost use Rattle.std.specs.VecDeque.{deque_len, deque_capacity};
-ghost use Rattle.uring_entry.specs.Requests.{Requests, entry_of, is_last, with_cut};
+ghost use Rattle.uring_entry.specs.Requests.{Requests, entry_of, is_last, is_outstanding, is_running, with_cut};
 ghost use Rattle.uring_entry.specs.Flags.{skip_success};
 ghost use Rattle.uring_entry.specs.Layout.{has};
 ghost use Rattle.uring_entry.specs.Groups.{first_member};
@@ -126,6 +126,17 @@ impl Window {
         }
     }
 
+    /// Whether request `n`, any number, is kept, and neither runs nor has ended.
+    pub(crate) fn is_idle(&self, n: u64) -> bool
+        ensures { (r : Requests) → Shows self.now r → result ≡ false
+            → (is_outstanding r n && not (is_running r n)) ≡ false }
+    {
+        match self.get(n) {
+            Some(request) => is_idle(request),
+            None => false,
+        }
+    }
+
     /// The least of these numbers that passes a test.
     pub(crate) fn first_with(&self, test: Test, from: u64, end: u64) -> Option<u64>
         ensures first { (r : Requests) → Shows self.now r → self.now.first ≤ from → end ≤ end_of self.now
@@ -243,6 +254,13 @@ impl Window {
             None => true,
         }
     }
+}
+
+/// Whether a request neither runs nor has ended.
+fn is_idle(request: &Request) -> bool
+    ensures { result ≡ (not request.now.has_ended && not request.now.is_running) }
+{
+    !request.has_ended && !request.is_running
 }
 
 /// Whether a request passes a test.

@@ -9,7 +9,7 @@ use Rattle.clap.specs.declared.parser.matches.ArgMatches.TheViews.{out-ArgMatche
 use Rattle.uring_entry.specs.Setup.{Setup}
 use Rattle.uring_options.specs.declared.answers.Options.{Options}
 use Rattle.uring_options.specs.declared.answers.Options.TheVariants.{Explain, Graph, Timeline, Page, Json, Check, CheckEarly, CheckPage, CheckJson, Play, Shared}
-use Rattle.uring_options.specs.CommandLine.{Gives, uring, Explains, Checks, Plays, Numbers, IsCheckedOver, IsGiven, AreWorkers, IsSetupOver, IsTracedOver, IsRunOver}
+use Rattle.uring_options.specs.CommandLine.{Gives, uring, Explains, Checks, Plays, Numbers, IsCheckedOver, IsGiven, AreWorkers, IsPlayedOver, IsSetupOver, IsTracedOver, IsRunOver}
 use Rattle.uring_options.proofs.CommandOptions.{uring_is_simple}
 
 -- ---- the command
@@ -58,6 +58,14 @@ traced_over rows n s t over stops linux stop given is =
         subst (IsGiven rows (codes "stop")) (ap (λ (u : Setup). u.stops) (sym is)) stop,
         subst (IsGiven rows (codes "linux")) (ap (λ (u : Setup). u.linux) (sym is)) given,
       ),
+    )
+
+pub played_setup : (rows : List Row) (n : Numbers) (s t : Setup) → IsSetupOver n s → (linux : Bool)
+    → IsGiven rows (codes "linux") linux → t ≡ record s { linux = linux } → IsPlayedOver rows n t
+played_setup rows n s t over linux given is =
+    let base : s ≡ record t { linux = false } = ap (λ b. record s { linux = b }) over.manual ∙ ap (λ (u : Setup). record u { linux = false }) (sym is) in (
+      subst (IsSetupOver n) base over,
+      subst (IsGiven rows (codes "linux")) (ap (λ (u : Setup). u.linux) (sym is)) given,
     )
 
 -- what is explained over it, as the options of the pictures say
@@ -121,7 +129,7 @@ early_over rows n s o plain false most over given gives others is =
 
 -- what is played over it, as the option for shared words says
 pub played_over : (rows : List Row) (n : Numbers) (s : Setup) (workers : ℕ) (o : Options) (shared : Bool)
-    → IsSetupOver n s → AreWorkers rows workers → IsGiven rows (codes "shared") shared
+    → IsPlayedOver rows n s → AreWorkers rows workers → IsGiven rows (codes "shared") shared
     → o ≡ (if shared then Shared s workers else Play s workers) → IsRunOver Plays rows n o
 played_over rows n s workers o true over count given is =
     subst (IsRunOver Plays rows n) (sym is) (refl, over, count, given)

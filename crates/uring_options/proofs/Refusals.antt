@@ -104,8 +104,10 @@ not_both words (CheckPage s) (n, writes, over) small =
     not_over words n (plain_of s) writes over.1.0.0 small
 not_both words (CheckJson s) (n, writes, over) small =
     not_over words n (plain_of s) writes over.1.0.0 small
-not_both words (Play s workers) (n, writes, over) small = not_over words n s writes over.1 small
-not_both words (Shared s workers) (n, writes, over) small = not_over words n s writes over.1 small
+not_both words (Play s workers) (n, writes, over) small =
+    not_over words n (record s { linux = false }) writes over.1.0 small
+not_both words (Shared s workers) (n, writes, over) small =
+    not_over words n (record s { linux = false }) writes over.1.0 small
 not_both words (Crash s file unit at seed is_count is_all most is_holds is_each) (n, writes, over) small =
     not_over words n (plain_of s) writes over.1.0 small
 not_both words (Outcomes s sorted contents crash unit most line never always) (n, writes, over) small =

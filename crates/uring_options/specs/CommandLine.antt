@@ -54,7 +54,7 @@ own_options Explains = flag (codes "stop") ∷ flag (codes "linux") ∷ flag (co
 own_options Checks = flag (codes "stop") ∷ flag (codes "linux") ∷ flag (codes "all") ∷ flag (codes "apart")
     ∷ flag (codes "results") ∷ flag (codes "page") ∷ flag (codes "json")
     ∷ flag (codes "early-effects") ∷ number (codes "most") 1 4294967295 ∷ []
-own_options Plays = number (codes "workers") 1 8 ∷ flag (codes "shared") ∷ []
+own_options Plays = flag (codes "linux") ∷ number (codes "workers") 1 8 ∷ flag (codes "shared") ∷ []
 own_options Crashes = flag (codes "stop") ∷ flag (codes "linux") ∷ number (codes "file") 0 63
     ∷ number (codes "unit") 1 65536 ∷ number (codes "at") 0 4294967295
     ∷ number (codes "seed") 0 4294967295 ∷ flag (codes "count") ∷ flag (codes "all")
@@ -212,6 +212,11 @@ AskForSetup rows s =
 abbrev pub IsTracedOver : List Row → Numbers → Setup → Type 0
 IsTracedOver rows n s = IsSetupOver n (plain_of s) × AskForSetup rows s
 
+-- the set-up of these numbers, whose rules are Linux's exactly if `--linux` is given; its calls go on
+abbrev pub IsPlayedOver : List Row → Numbers → Setup → Type 0
+IsPlayedOver rows n s =
+    IsSetupOver n (record s { linux = false }) × IsGiven rows (codes "linux") s.linux
+
 -- a check tells its verdict: if it is asked for that alone, or neither `--page` nor `--json` is given
 abbrev pub TellsVerdict : List Row → Bool → Type 0
 TellsVerdict rows true = Unit {0}
@@ -253,9 +258,9 @@ IsRunOver run rows n (CheckPage s) = (run ≡ Checks) × IsCheckedOver rows n s 
 IsRunOver run rows n (CheckJson s) = (run ≡ Checks) × IsCheckedOver rows n s × IsDrawnCheck rows
     × IsGiven rows (codes "page") false × IsGiven rows (codes "json") true
 IsRunOver run rows n (Play s workers) =
-    (run ≡ Plays) × IsSetupOver n s × AreWorkers rows workers × IsGiven rows (codes "shared") false
+    (run ≡ Plays) × IsPlayedOver rows n s × AreWorkers rows workers × IsGiven rows (codes "shared") false
 IsRunOver run rows n (Shared s workers) =
-    (run ≡ Plays) × IsSetupOver n s × AreWorkers rows workers × IsGiven rows (codes "shared") true
+    (run ≡ Plays) × IsPlayedOver rows n s × AreWorkers rows workers × IsGiven rows (codes "shared") true
 IsRunOver run rows n (Crash s file unit at seed is_count is_all most is_holds is_each) =
     (run ≡ Crashes) × IsTracedOver rows n s
     × IsNumberOr rows (codes "file") 0 63 0 file × IsNumberOr rows (codes "unit") 1 65536 1 unit

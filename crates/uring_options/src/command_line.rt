@@ -3,7 +3,7 @@
 ghost use Rattle.std.specs.Prelude.{◌≡◌, ◌↔◌, ◌≤◌, ℕ, List, Some, codes, [], ◌∷◌, IfOk, IfErr, IsErrOf, IsErrAnd, ◌||◌, false, if◌then◌else◌};
 ghost use Rattle.clap.specs.Words.{FailsBy, HasMatchesOf, fault_of, found_of, kind_of, rows_of, subcommand_of};
 ghost use Rattle.clap.specs.Walk.{Text, texts};
-ghost use Rattle.uring_options.specs.CommandLine.{uring, Run, flag, number, setup_options, Gives, IsWithin, Numbers, AreInRange, GivesNumbers, AreWorkers, IsNumberOr, IsSetupOver, IsGiven, IsTracedOver, IsTooSmall, AskFor, AskForTooSmall, IsWords, IsMemory, IsFaultOf};
+ghost use Rattle.uring_options.specs.CommandLine.{uring, Run, flag, number, setup_options, Gives, IsWithin, Numbers, AreInRange, GivesNumbers, AreWorkers, IsNumberOr, IsSetupOver, IsGiven, IsPlayedOver, IsTracedOver, IsTooSmall, AskFor, AskForTooSmall, IsWords, IsMemory, IsFaultOf};
 ghost use Rattle.uring_options.specs.OptionRows.{TakesOption, TakesOptions, TakesFor, TakesNamed, IsSmallFor, Answers, AnswersNamed};
 
 use crate::answers::{Options, OptionsFault};
@@ -31,7 +31,7 @@ const DEFAULT_FILE: u32 = 0;
 /// Bytes of a unit if the command line doesn't say.
 const DEFAULT_UNIT: u32 = 1;
 
-/// Reads a command line, whose first word is the program's name: `uring`, or `uring trace`, `uring explain`, `uring check`, `uring play`, `uring crash`, `uring outcomes` or `uring fill` with options for the entries of the submission ring (`--sq`, 1 to 4,096, else 4) and of the completion ring (`--cq`, 1 to 8,192, else twice as many), for the files (`--files`, 1 to 64, else 2) and for the word at which both rings begin (`--start`, 32 bits, else 0). A play takes one more for its workers (`--workers`, 1 to 8, else 2) and one by which its application and dispatcher share words (`--shared`, else they have lanes), and the others but outcomes one by which submission calls stop behind an entry with a fault (`--stop`, else they go on) and one by which requests are kept by Linux's rules (`--linux`, else by the manual pages'). A trace takes one by which its steps are written too (`--echo`) and one by which the first bad line ends it (`--strict`), an explained trace four for what is written in place of the answers (`--graph`, `--timeline`, `--page` and `--json`, of which the first in this order counts), and a check one by which all wrong lines are told (`--all`), one by which ends may be any (`--apart`), one by which they may be any that operations give (`--results`), and two for what is written in place of the verdict (`--page`, which goes before `--json`; with `--all`, `--apart` or `--results` the verdict is written), and one by which operations may take effect at any moment between issue and finish (`--early-effects`, with which all of these count for nothing), in so many moves at most (`--most`, 1 to 2^32 - 1). A crash takes one for its file (`--file`, 0 to 63, else 0), one for its unit (`--unit`, 1 to 65,536 bytes, else 1), one for the line behind which the power fails (`--at`, 32 bits, else the last), one for the seed of an image (`--seed`, 32 bits, else the least is left), two for what is asked of all images (`--count` and `--all`), one for the most images that are listed (`--most`, 1 to 2^32 - 1), one by which it is asked if each has some bytes (`--holds`), and one by which it is asked behind each line (`--each`). Outcomes take one by which completions are sorted (`--results`), one by which files follow (`--contents`), one by which it is what a power failure may show (`--crash`), one for its unit (`--unit`, as of a crash), one for the most paths that are taken (`--most`, 1 to 2^32 - 1), one for the outcome of which a history is written (`--explain`, the same), and two for what is claimed of lines (`--never` and `--always`). A fill takes one for the most histories that are looked at (`--most`, the same). Our own rule.
+/// Reads a command line, whose first word is the program's name: `uring`, or `uring trace`, `uring explain`, `uring check`, `uring play`, `uring crash`, `uring outcomes` or `uring fill` with options for the entries of the submission ring (`--sq`, 1 to 4,096, else 4) and of the completion ring (`--cq`, 1 to 8,192, else twice as many), for the files (`--files`, 1 to 64, else 2) and for the word at which both rings begin (`--start`, 32 bits, else 0). A play takes one more for its workers (`--workers`, 1 to 8, else 2) and one by which its application and dispatcher share words (`--shared`, else they have lanes), and the others but outcomes one by which submission calls stop behind an entry with a fault (`--stop`, else they go on). All but outcomes take one by which requests are kept by Linux's rules (`--linux`, else by the manual pages'). A trace takes one by which its steps are written too (`--echo`) and one by which the first bad line ends it (`--strict`), an explained trace four for what is written in place of the answers (`--graph`, `--timeline`, `--page` and `--json`, of which the first in this order counts), and a check one by which all wrong lines are told (`--all`), one by which ends may be any (`--apart`), one by which they may be any that operations give (`--results`), and two for what is written in place of the verdict (`--page`, which goes before `--json`; with `--all`, `--apart` or `--results` the verdict is written), and one by which operations may take effect at any moment between issue and finish (`--early-effects`, with which all of these count for nothing), in so many moves at most (`--most`, 1 to 2^32 - 1). A crash takes one for its file (`--file`, 0 to 63, else 0), one for its unit (`--unit`, 1 to 65,536 bytes, else 1), one for the line behind which the power fails (`--at`, 32 bits, else the last), one for the seed of an image (`--seed`, 32 bits, else the least is left), two for what is asked of all images (`--count` and `--all`), one for the most images that are listed (`--most`, 1 to 2^32 - 1), one by which it is asked if each has some bytes (`--holds`), and one by which it is asked behind each line (`--each`). Outcomes take one by which completions are sorted (`--results`), one by which files follow (`--contents`), one by which it is what a power failure may show (`--crash`), one for its unit (`--unit`, as of a crash), one for the most paths that are taken (`--most`, 1 to 2^32 - 1), one for the outcome of which a history is written (`--explain`, the same), and two for what is claimed of lines (`--never` and `--always`). A fill takes one for the most histories that are looked at (`--most`, the same). Our own rule.
 ///
 /// `Words` comes for a fault of the words, a number out of its range among them, for a call for help, and if memory is refused. `Small` comes if there is none, and the options give a completion ring that is smaller after rounding than the submission ring. Numbers may have a leading `+` or leading zeros.
 pub fn options<'a>(alloc: Global, args: &'a [&'a str]) -> Result<Options, OptionsFault>
@@ -214,7 +214,7 @@ fn played(matches: &ArgMatches<'_>) -> Result<Options, OptionsFault>
     requires { TakesFor Run.Plays (rows_of (found_of matches.now)) }
     ensures { Answers Run.Plays (rows_of (found_of matches.now)) result }
 {
-    let setup = setup_of(matches)?;
+    let setup = played_setup_of(matches)?;
     let workers = workers_of(matches);
     let shared = is_given(matches, "shared");
     Ok(played_over(setup, workers, shared))
@@ -328,6 +328,20 @@ fn traced_setup_of(matches: &ArgMatches<'_>) -> Result<Setup, OptionsFault>
     let stops = is_given(matches, "stop");
     let is_linux = is_given(matches, "linux");
     Ok(linux_if(stopping_if(setup, stops), is_linux))
+}
+
+/// The set-up that the options of `uring play` give.
+fn played_setup_of(matches: &ArgMatches<'_>) -> Result<Setup, OptionsFault>
+    requires setup { TakesOptions (rows_of (found_of matches.now)) setup_options }
+    requires linux { TakesOption (rows_of (found_of matches.now)) (flag (codes "linux")) }
+    ensures ok { IfOk result
+        (λ s. (n : Numbers) × GivesNumbers (rows_of (found_of matches.now)) n
+        × IsPlayedOver (rows_of (found_of matches.now)) n s) }
+    ensures err { IfErr result (IsSmallFor (rows_of (found_of matches.now))) }
+{
+    let setup = setup_of(matches)?;
+    let is_linux = is_given(matches, "linux");
+    Ok(linux_if(setup, is_linux))
 }
 
 /// The set-up, whose calls stop if that is asked for.

@@ -59,7 +59,7 @@ static PLAY: CommandRow = CommandRow {
     name: "play",
     about: "Read calls from standard input, play them in threads, and write their completions",
     after_help: ITEMS,
-    options: &[SQ, CQ, FILES, START, WORKERS, SHARED],
+    options: &[SQ, CQ, FILES, START, LINUX, WORKERS, SHARED],
 };
 
 /// `uring crash`.

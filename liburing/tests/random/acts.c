@@ -32,8 +32,42 @@ static bool was_found_before(const struct model *model, const struct request *ca
     return false;
 }
 
+/* What a cancel is to find by Linux's rules: what has started, which all does that can; no cancel, and nothing that is doomed. */
+static bool is_to_be_found(const struct model *model, const struct request *target)
+{
+    bool is_cancel = target->action->code == IORING_OP_ASYNC_CANCEL;
+    return can_start(model, target) && !is_cancel && !target->is_doomed && !target->is_cancelled && !may_have_been_cancelled(model, target);
+}
+
+/* A cancel of one by Linux's rules. */
+static void cancel_by_linux(struct model *model, const struct request *cancel, int32_t res)
+{
+    struct request *target = NULL;
+    for (struct request *request = model->requests; request < model->requests + model->count; request++)
+        if (request != cancel && request->index == cancel->action->target && !request->is_ended && !request->is_faulty)
+            target = request;
+    if (res == -ENOENT) {
+        if (target && is_to_be_found(model, target))
+            force(model, target, "isn't found by a cancel");
+        return;
+    }
+    if ((res != 0 && res != -EALREADY) || !target)
+        wrong(model, "cancel %u ends with %" PRId32 ", and %s", cancel->index, res, target ? "has a target" : "has no target");
+    force_before(model, target);
+    if (target->is_doomed)
+        return;
+    bool is_waiting_kind = can_wait(model, target);
+    if (res == -EALREADY ? is_waiting_kind || is_in_order(model) : is_in_order(model) && target < cancel && !is_waiting_kind)
+        wrong(model, "cancel %u ends with %" PRId32 ", and entry %u %s", cancel->index, res, target->index, is_waiting_kind ? "waits" : "has ended in order");
+    target->is_cancelled |= res == 0;
+}
+
 void cancel(struct model *model, const struct request *cancel, int32_t res)
 {
+    if (model->is_linux) {
+        cancel_by_linux(model, cancel, res);
+        return;
+    }
     struct request *target = target_of(model, cancel);
     if (!target && res == 0 && was_found_before(model, cancel))
         return;
@@ -105,6 +139,8 @@ static struct model *receiver_of(const struct model *model, const struct request
 
 bool has_drains(const struct model *model)
 {
+    if (model->is_linux)
+        return false;
     for (uint32_t i = 0; i < model->count; i++)
         if (!model->requests[i].is_ended && model->has_drain[model->requests[i].group])
             return true;

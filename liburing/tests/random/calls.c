@@ -129,7 +129,7 @@ static void judge_flags(struct model *model)
         wrong(model, "flags %#" PRIx32 " are shown", call->flags);
     if (call->flags == 0)
         for (struct request *request = model->requests; request < model->requests + model->count; request++)
-            if (!request->is_ended && !(request->action->flags & IOSQE_CQE_SKIP_SUCCESS))
+            if (!request->is_ended && !(request->action->flags & IOSQE_CQE_SKIP_SUCCESS) && !request->is_silent)
                 wrong(model, "entry %u is outstanding, and no flag says so", request->index);
     if (call->flags & IORING_SQ_CQ_OVERFLOW && !is_any_outstanding(model))
         wrong(model, "a completion has overflowed, and none is to come");
@@ -138,10 +138,10 @@ static void judge_flags(struct model *model)
 }
 
 /* Whether a request can certainly go on without waiting. Beside a read that waits for its pipe, time is real; whether one that is linked
- * behind a skipped success has begun isn't known. */
+ * behind a skipped success has begun, or one that is silent has ended, isn't known. */
 static bool can_go_on(const struct model *model, const struct request *request)
 {
-    if (request->is_ended || request->action->flags & IOSQE_CQE_SKIP_SUCCESS || !can_start(model, request))
+    if (request->is_ended || request->is_silent || request->action->flags & IOSQE_CQE_SKIP_SUCCESS || !can_start(model, request))
         return false;
     bool is_timeout = request->action->code == IORING_OP_TIMEOUT;
     return !is_blocked(model, request) && !(is_timeout && has_pipe_reads(model, false));

@@ -6,6 +6,9 @@
 #include <stdio.h>
 #include <string.h>
 
+/* Of a ring that no completion overflows. */
+enum { MOST_COMPLETIONS = 512 };
+
 static uint64_t state;
 
 /* A generator of 64 bits whose state is a counter (splitmix64). */
@@ -268,6 +271,8 @@ static void choose_ring(struct program *program, struct ring_options *ring)
         ring->completions = (uint16_t)(2 * ring->entries + below(4) - (one_in(2) ? ring->entries : 0));
     if (ring->completions && ring->completions < ring->entries)
         ring->completions = 0;
+    if (program->has_drains && !program->is_manual)
+        ring->completions = MOST_COMPLETIONS;
     ring->flags = (one_in(2) ? flags[0] : 0) | (one_in(8) ? flags[1] : 0) | (one_in(8) ? flags[2] : 0);
     /* In the layer this one changes nothing: here it says that the ring's entries read and write pipes. */
     if (!program->is_plain && one_in(3))
@@ -298,6 +303,8 @@ void generate(struct program *program, uint64_t seed)
     memset(program, 0, sizeof *program);
     state = seed * 0x2545f4914f6cdd1du + 1;
     program->seed = seed;
+    program->is_manual = seed % 3 == 0;
+    program->has_drains = seed % 2 == 0;
     program->is_plain = one_in(5);
     if (one_in(3))
         strcpy(program->policy, one_in(2) ? "lazy" : "order");

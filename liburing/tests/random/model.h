@@ -40,6 +40,8 @@ struct request {
     bool is_cancelled;                  /* a cancel found it running, or its timeout did */
     bool may_be_found_again;            /* by another cancel */
     bool is_faulty;
+    bool is_refused;                    /* a drain in a ring that has skipped success */
+    bool is_silent;                     /* doomed, and posts nothing: by Linux's rules */
     bool is_loose;                      /* its file was found when it was accepted */
     int32_t failure;                    /* with which it ends however it is carried out, or 0 */
     bool has_fired, may_have_fired;     /* of a linked timeout: in a call that shows nothing of it */
@@ -71,6 +73,10 @@ struct model {
     struct request requests[MOST_ACTIONS];
     uint32_t count;
     bool has_drain[MOST_ACTIONS], has_fault[MOST_ACTIONS];     /* of groups */
+    bool is_linux;                      /* Linux's rules: */
+    bool is_deferred[MOST_ACTIONS];     /* groups that are held back, and whether one drains as those behind see it, */
+    bool drains[MOST_ACTIONS];
+    bool is_draining, owes_drain, has_skipped;  /* and how the ring stands */
     uint32_t group_count;
     int32_t published[MOST_ACTIONS];    /* an action for each position, or negative: its word names no slot */
     uint32_t published_count, taken, dropped;
@@ -142,6 +148,25 @@ bool is_timeout(const struct request *request);
 void force(struct model *model, struct request *request, const char *why);
 void force_before(struct model *model, const struct request *request);
 
+/* ---- linux.c: what Linux's rules make of drains and of ends ---- */
+
+/* An entry's operation and its flags are known: whatever other fault it has, its drain and its skip count. */
+bool counts(const struct action *action);
+
+/* An entry was accepted, the first of its group or not; and its group was. */
+void note_flags(struct model *model, struct request *request, bool is_first);
+void note_group(struct model *model, uint16_t group);
+
+/* Deferred groups go on that may. */
+void let_deferred_go_on(struct model *model);
+
+/* Doom the members of a group with a fault, or those behind one that failed. */
+void doom_group(struct model *model, uint16_t group);
+void doom_behind(struct model *model, const struct request *failed);
+
+/* Whether the failure of a request is told to the core behind a hard link: a linked timeout ends its chain behind it. */
+bool is_before_last_timeout(const struct model *model, const struct request *request);
+
 /* A timeout that is linked behind it may have cancelled it, unseen. */
 bool may_have_been_cancelled(const struct model *model, const struct request *request);
 
@@ -155,7 +180,7 @@ void cancel(struct model *model, const struct request *cancel, int32_t res);
 void remove_one(struct model *model, const struct request *removal, int32_t res);
 void send_one(struct model *model, const struct request *request, int32_t res);
 
-/* Whether one that drains, or a member of its chain, is outstanding; and whether a message is to be seen. */
+/* Whether one that drains, or a member of its chain, is outstanding, so that messages wait: by Linux's rules none does; and whether a message is to be seen. */
 bool has_drains(const struct model *model);
 bool has_due_messages(const struct model *model);
 

@@ -120,7 +120,7 @@ static void print_action(FILE *out, const struct action *action)
 void print_program(FILE *out, const struct program *program)
 {
     static const char *const kinds[] = {"", "EIO", "ENOSPC", "SHORT"};
-    fprintf(out, "seed %" PRIu64 ": policy %s, %s", program->seed, program->policy, program->is_ends ? "ends" : "events");
+    fprintf(out, "seed %" PRIu64 ": policy %s, %s, by the %s rules", program->seed, program->policy, program->is_ends ? "ends" : "events", program->is_manual ? "manual pages'" : "kernel's");
     fprintf(out, "%s%s", program->is_plain ? ", plain" : "", program->is_threaded ? ", a thread for each ring" : "");
     if (program->fault_rate)
         fprintf(out, ", faults one in %u", program->fault_rate);
@@ -146,6 +146,7 @@ void set_environment(const struct program *program)
     char text[128] = "";
     setenv("WULGACH_POLICY", program->policy, 1);
     setenv("WULGACH_CHOOSE", program->is_ends ? "ends" : "events", 1);
+    setenv("WULGACH_PROFILE", program->is_manual ? "manual" : "linux", 1);
     for (int i = 0; i < program->fault_count; i++) {
         const struct fault *fault = &program->faults[i];
         snprintf(text + strlen(text), sizeof text - strlen(text), "%s%u:%u=%s", i ? "," : "", fault->ring, fault->number, kinds[fault->kind]);

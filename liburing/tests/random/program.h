@@ -98,6 +98,8 @@ struct program {
     char policy[32];
     bool is_ends;           /* one choice for issuing and finishing */
     bool is_plain;          /* it asks for no more than the kernel promises */
+    bool is_manual;         /* its rings go by the manual pages' rules, and not by Linux's */
+    bool has_drains;        /* by Linux's rules: drains that aren't refused */
     bool is_threaded;       /* each ring is used by a thread of its own */
     bool has_messages;      /* rings send messages to one another */
     uint16_t fault_rate;

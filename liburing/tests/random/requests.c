@@ -48,9 +48,22 @@ static void accept_one(struct model *model, unsigned index, bool is_behind)
         model->group_count++;
     uint16_t group = (uint16_t)(model->group_count - 1);
     bool is_fault = is_faulty(model, action, is_behind);
-    model->requests[model->count++] = (struct request){.action = action, .index = (uint16_t)index, .group = group, .since = -1, .is_faulty = is_fault, .failure = failure_of(model, action, index)};
+    struct request *request = &model->requests[model->count++];
+    *request = (struct request){.action = action, .index = (uint16_t)index, .group = group, .since = -1, .is_faulty = is_fault, .failure = failure_of(model, action, index)};
     model->has_drain[group] |= (action->flags & IOSQE_IO_DRAIN) != 0;
-    model->has_fault[group] |= is_fault;
+    if (model->is_linux)
+        note_flags(model, request, !is_behind);
+    model->has_fault[group] |= request->is_faulty;
+}
+
+/* The last entry's group was accepted. */
+static void end_group(struct model *model)
+{
+    uint16_t group = model->requests[model->count - 1].group;
+    if (model->is_linux)
+        note_group(model, group);
+    if (model->is_linux && model->has_fault[group])
+        doom_group(model, group);
 }
 
 /* All members of a group with a fault are doomed. */
@@ -78,7 +91,7 @@ static void note_loose(struct model *model, uint32_t first)
         bool is_first = i == 0 || model->requests[i - 1].group != request->group;
         has_drain |= !request->is_ended && model->has_drain[request->group];
         if (i >= first)
-            request->is_loose = is_first && !has_drain;
+            request->is_loose = is_first && !has_drain && can_start(model, request);
     }
 }
 
@@ -95,10 +108,15 @@ void take(struct model *model, uint32_t to_submit)
         const struct action *action = &model->program->actions[index];
         accept_one(model, (unsigned)index, is_behind);
         is_behind = action->flags & LINKS;
+        if (!is_behind)
+            end_group(model);
         if (model->requests[model->count - 1].is_faulty && !is_all && !is_behind)
             break;
     }
-    doom_faulty(model, first);
+    if (is_behind)
+        end_group(model);
+    if (!model->is_linux)
+        doom_faulty(model, first);
     note_loose(model, first);
     note_starts(model);
     model->call->accepted = model->count - first;
@@ -112,16 +130,23 @@ static bool waits_for(const struct model *model, const struct request *request, 
 {
     if (other->is_ended || other >= request || (model->is_kernel && other->action->code == IORING_OP_LINK_TIMEOUT))
         return false;
+    if (model->is_linux)
+        return other->group == request->group;
     bool is_drain = model->has_drain[other->group] && !(model->is_kernel && model->has_fault[other->group]);
     return other->group == request->group || is_drain || model->has_drain[request->group];
 }
 
-bool can_start(const struct model *model, const struct request *request)
+static bool is_in_turn(const struct model *model, const struct request *request)
 {
     for (const struct request *other = model->requests; other < request; other++)
         if (waits_for(model, request, other))
             return false;
     return true;
+}
+
+bool can_start(const struct model *model, const struct request *request)
+{
+    return is_in_turn(model, request) && !model->is_deferred[request->group];
 }
 
 bool is_stream(const struct model *model, const struct request *request)
@@ -170,7 +195,7 @@ uint32_t count_awaited(const struct model *model)
 {
     uint32_t count = 0;
     for (uint32_t i = 0; i < model->count; i++)
-        count += !model->requests[i].is_ended && !is_skipping(&model->requests[i]);
+        count += !model->requests[i].is_ended && !is_skipping(&model->requests[i]) && !model->requests[i].is_silent;
     return count;
 }
 
@@ -226,9 +251,27 @@ static void end(struct model *model, struct request *request, bool is_success)
 {
     request->is_ended = true;
     bool is_soft = (request->action->flags & LINKS) == IOSQE_IO_LINK;
-    for (struct request *later = request + 1; is_soft && !is_success && later < model->requests + model->count; later++)
+    if (is_soft && !is_success && model->is_linux && !is_before_last_timeout(model, request))
+        doom_behind(model, request);
+    for (struct request *later = request + 1; is_soft && !is_success && !model->is_linux && later < model->requests + model->count; later++)
         later->is_doomed |= later->group == request->group;
+    if (model->is_linux)
+        let_deferred_go_on(model);
     note_starts(model);
+}
+
+/* What keeps a deferred group back has ended unseen. */
+static void force_on(struct model *model, const struct request *request)
+{
+    struct request *other = model->requests;
+    while (model->is_deferred[request->group] && !request->is_doomed) {
+        while (other < model->requests + model->count && (other->is_ended || model->is_deferred[other->group]))
+            other++;
+        if (other == model->requests + model->count)
+            wrong(model, "entry %u has ended, and is deferred", request->index);
+        force(model, other, "keeps one back that has ended");
+        other = model->requests;
+    }
 }
 
 void force_before(struct model *model, const struct request *request)
@@ -236,12 +279,17 @@ void force_before(struct model *model, const struct request *request)
     for (struct request *other = model->requests; other < request; other++)
         if (waits_for(model, request, other))
             force(model, other, "is waited for by one that has ended");
+    force_on(model, request);
 }
 
 /* A request must have ended by now: so it succeeded unseen. */
 void force(struct model *model, struct request *request, const char *why)
 {
     force_before(model, request);
+    if (request->is_silent) {
+        end(model, request, false);
+        return;
+    }
     if (!is_skipping(request) || request->is_doomed)
         wrong(model, "entry %u %s, and hasn't ended", request->index, why);
     end(model, request, carry_out(model, request, success_of(request)));
@@ -259,7 +307,9 @@ static bool can_end(const struct model *model, const struct request *request)
 {
     if (request->is_ended)
         return false;
-    return request->is_doomed || (can_start(model, request) && !is_timeout(request) && !is_blocked(model, request) && !may_have_been_cancelled(model, request));
+    if (request->is_doomed)
+        return !model->is_linux || is_in_turn(model, request);
+    return (can_start(model, request) && !is_timeout(request) && !is_blocked(model, request) && !may_have_been_cancelled(model, request));
 }
 
 void expect_stuck(struct model *model, const char *what)
@@ -296,8 +346,14 @@ static struct request *outstanding(struct model *model, uint64_t user_data)
 static void end_doomed(struct model *model, struct request *request, int32_t res)
 {
     int32_t wanted = request->has_fired ? -ETIME : -ECANCELED;
-    if (request->is_faulty)
+    if (request->is_refused)
+        wanted = -EOPNOTSUPP;
+    else if (request->is_faulty)
         wanted = request->action->flaw == BAD_POINTER ? -EFAULT : -EINVAL;
+    if (model->is_linux)
+        force_before(model, request);
+    if (request->is_silent)
+        wrong(model, "entry %u ends with a completion, and is to be silent", request->index);
     if (res != wanted)
         wrong(model, "entry %u ends with %" PRId32 ", and is to end with %" PRId32, request->index, res, wanted);
     end(model, request, false);

@@ -29,12 +29,27 @@ static uint32_t count_pending(const struct world *world)
     return world->model.published_count - world->model.taken;
 }
 
+/* By Linux's rules what is deferred depends on what has ended. So a ring that drains shows all: no entry is published whose success would be
+ * skipped behind a drain; nor one that drains, if a completion could overflow, unless it is refused. */
+static bool hides(const struct world *world, const struct action *action)
+{
+    bool has_skipped = action->flags & IOSQE_CQE_SKIP_SUCCESS && counts(action), has_drained = false;
+    for (uint32_t i = 0; i < world->model.published_count; i++) {
+        int32_t index = world->model.published[i];
+        const struct action *before = index >= 0 ? &world->program->actions[index] : NULL;
+        has_drained |= before && before->flags & IOSQE_IO_DRAIN;
+        has_skipped |= before && before->flags & IOSQE_CQE_SKIP_SUCCESS && counts(before);
+    }
+    bool is_unknown_drain = action->flags & IOSQE_IO_DRAIN && !has_skipped && !world->program->has_drains;
+    return !world->program->is_manual && (is_unknown_drain || (action->flags & IOSQE_CQE_SKIP_SUCCESS && world->program->has_drains && has_drained));
+}
+
 static void put(struct world *world, unsigned index, bool is_entry)
 {
     struct model *model = &world->model;
     const struct action *action = &world->program->actions[index];
     uint32_t position = model->published_count, size = model->sq_entries;
-    if (count_pending(world) >= size || position >= MOST_ACTIONS)
+    if (count_pending(world) >= size || position >= MOST_ACTIONS || (is_entry && hides(world, action)))
         return;
     model->published[position] = is_entry ? (int32_t)index : -1;
     world->slots[position] = -1;

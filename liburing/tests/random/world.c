@@ -115,7 +115,7 @@ void make_world_ring(struct world *world)
     int result = open_ring(&world->ring, way, options->entries, options->completions, options->flags);
     struct model *model = &world->model;
     memset(model, 0, sizeof *model);
-    *model = (struct model){.program = world->program, .ring = world->index, .is_kernel = world->is_kernel, .things = &world->things, .data = world->data, .provided = world->provided[0]};
+    *model = (struct model){.program = world->program, .ring = world->index, .is_kernel = world->is_kernel, .is_linux = !world->is_kernel && !world->program->is_manual, .things = &world->things, .data = world->data, .provided = world->provided[0]};
     if (result < 0)
         wrong(model, "set-up ends with %d", result);
     model->layer_index = rings_made++;

@@ -172,8 +172,9 @@ fn silent_members(alloc: Global) -> Result<Option<usize>, Fail> {
     two(&mut dispatch, Sqe::nop(3, LINK | SKIP), Sqe::nop(4, 0))?;
     let running = starts(&mut dispatch, 2);
     let failed = matches!(dispatch.end_running(2, -5), Some(Posts::Completion(3)));
+    let told = dispatch.would_post(3, -125) == Some(false) && dispatch.would_post(2, -5).is_none();
     let cancelled = ends(&mut dispatch, 3, -125, false);
-    Ok(first_false(&[head, silent, running, failed, cancelled]))
+    Ok(first_false(&[head, silent, running, failed, told, cancelled]))
 }
 
 /// Whether this request waits for that one, for this reason.

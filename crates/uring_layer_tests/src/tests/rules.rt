@@ -10,6 +10,8 @@ use uring_rules::{Found, Issued, Posts, Rules};
 
 const LINK: u8 = 4;
 
+const SKIP: u8 = 64;
+
 /// Whether the issue of this request starts it.
 fn starts(rules: &mut Rules, n: u64) -> bool
     requires { IsTrue rules.old.is_between_calls }
@@ -102,6 +104,25 @@ fn cancelled_chain(alloc: Global, is_linux: bool) -> Result<Option<usize>, Fail>
     Ok(first_false(&[
         started, counted, found, cancels, told, runs, ended, last, kind,
     ]))
+}
+
+/// A chain whose head asks to skip, and fails: by the manual pages' rules the member behind it posts, and by Linux's it doesn't.
+fn failed_chain(alloc: Global, is_linux: bool) -> Result<Option<usize>, Fail> {
+    let mut rules = Rules::new(alloc, is_linux);
+    rules.reserve(2)?;
+    rules.accept_call(&[Sqe::nop(1, LINK | SKIP), Sqe::nop(2, 0)]);
+    let started = starts(&mut rules, 0);
+    let own = rules.would_post(0, -5) == Some(true) && rules.would_post(0, 0) == Some(false);
+    let failed = rules.end_running(0, -5).is_some();
+    let behind = rules.would_post(1, -125) == Some(!is_linux);
+    let ended = rules.would_post(0, -5).is_none();
+    Ok(first_false(&[started, own, failed, behind, ended]))
+}
+
+#[test]
+fn behind_a_failure(rt: HostRuntime) -> Result<(), Fail> {
+    check_done(&rt, failed_chain(rt.alloc(), false))?;
+    check_done(&rt, failed_chain(rt.alloc(), true))
 }
 
 #[test]

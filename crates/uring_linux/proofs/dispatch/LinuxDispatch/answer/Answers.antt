@@ -30,6 +30,18 @@ returns-then-request-2-clause-issued c = λ l g.
 pub span_of-span-requires : goal.span_of-span-requires
 span_of-span-requires c = at_within _ c.args.n c.in-Some.request (sym c.in-Some.ensures)
 
+pub is_right_behind-requires : goal.is_right_behind-requires
+is_right_behind-requires c = at_within _ c.args.n c.in-Some.request (sym c.in-Some.ensures)
+
+pub returns-then-is_right_behind-clause-issued : goal.returns-then-is_right_behind-clause-issued
+returns-then-is_right_behind-clause-issued c = λ l g.
+    let h = shown c.self.inside.window c.self.inside.drains c.self.inside.has_skipped c.self.inside.room c.self.inside.is_between_calls l (subst (λ (d : LinuxDispatch). ShowsRequests d l) (sym c.self.view_is) g) in
+    let here = sym c.in-Some.ensures in
+    let t = h.told c.args.n c.in-Some.request here in
+    sym
+    (asked l c.args.n true false false _ _ (outstanding_going _ _ l.requests c.args.n h here c.if-request.false) (sym t.running ∙ c.if-request-2.false)
+    (c.is_right_behind.ensures l.requests h c.if-is_right_behind.true) refl refl)
+
 pub returns-then-not-is_in_turn-clause-issued : goal.returns-then-not-is_in_turn-clause-issued
 returns-then-not-is_in_turn-clause-issued c = λ l g.
     let h = shown c.self.inside.window c.self.inside.drains c.self.inside.has_skipped c.self.inside.room c.self.inside.is_between_calls l (subst (λ (d : LinuxDispatch). ShowsRequests d l) (sym c.self.view_is) g) in

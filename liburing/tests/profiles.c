@@ -1,0 +1,289 @@
+/* The rules in which Linux differs from the manual pages, under each profile, which WULGACH_PROFILE says. All hold under every policy; and
+ * Linux's on a real ring, if the kernel gives one and it is built for that.
+ */
+#define _GNU_SOURCE
+#include "engines.h"
+
+enum { NO_OPERATION = 99 };
+
+static struct ring ring;
+static int ends[2];     /* of a pipe */
+static char byte;
+
+static void begin(unsigned flags)
+{
+    check(pipe(ends) == 0);
+    make_ring(&ring, 16, 0, flags);
+}
+
+static void stop(void)
+{
+    check(enter(&ring, 0, 0, IORING_ENTER_GETEVENTS) == 0 && count_ready(&ring) == 0);
+    close_ring(&ring);
+    close(ends[0]);
+    close(ends[1]);
+}
+
+/* A read that waits until the pipe is written to. */
+static void put_waiting(uint64_t user_data, uint8_t flags)
+{
+    put_transfer(&ring, IORING_OP_READ, user_data, flags, ends[0], &byte, 1, 0);
+}
+
+static void put_failing(uint64_t user_data, uint8_t flags)
+{
+    put(&ring, IORING_OP_FSYNC, user_data, flags)->fd = -1;
+}
+
+static void submit(unsigned count)
+{
+    check(enter(&ring, count, 0, 0) == (long)count);
+}
+
+/* What can go on has, and no other completions than these have come, in this order. */
+static void expect(unsigned count, const struct completion *wanted)
+{
+    check(count == 0 || enter(&ring, 0, count, IORING_ENTER_GETEVENTS) == 0);
+    for (int i = 0; i < 8; i++)
+        check(enter(&ring, 0, 0, IORING_ENTER_GETEVENTS) == 0);
+    check(count_ready(&ring) == count);
+    for (unsigned i = 0; i < count; i++) {
+        struct completion found = reap(&ring);
+        check(found.user_data == wanted[i].user_data && found.res == wanted[i].res);
+    }
+}
+
+#define EXPECT(...) expect(sizeof((struct completion[]){__VA_ARGS__}) / sizeof(struct completion), (struct completion[]){__VA_ARGS__})
+
+static void feed(void)
+{
+    check(write(ends[1], "x", 1) == 1);
+}
+
+/* A drain in a ring that has skipped success is refused, and ends the call of a ring that stops. */
+static void test_refused_drain(void)
+{
+    for (int goes_on = 0; goes_on < 2; goes_on++) {
+        begin(goes_on ? IORING_SETUP_SUBMIT_ALL : 0);
+        put(&ring, IORING_OP_NOP, 0, IOSQE_CQE_SKIP_SUCCESS);
+        put(&ring, IORING_OP_NOP, 1, IOSQE_IO_DRAIN);
+        put(&ring, IORING_OP_NOP, 2, 0);
+        check(enter(&ring, 3, 0, 0) == (is_by_manual() || goes_on ? 3 : 2));
+        if (!is_by_manual() && !goes_on)
+            submit(1);
+        int32_t results[3];
+        reap_all(&ring, 2, results);
+        check(results[1] == (is_by_manual() ? 0 : -EOPNOTSUPP) && results[2] == 0);
+        /* With a fault of its own too: that of an operation comes first. */
+        put(&ring, NO_OPERATION, 0, IOSQE_IO_DRAIN);
+        put(&ring, IORING_OP_NOP, 1, IOSQE_IO_DRAIN | IOSQE_IO_LINK)->ioprio = 0x9000;
+        put(&ring, IORING_OP_NOP, 2, 0);
+        check(enter(&ring, 3, 0, 0) == (goes_on ? 3 : 1));
+        if (!goes_on)
+            submit(2);
+        reap_all(&ring, 3, results);
+        check(results[0] == -EINVAL && results[1] == (is_by_manual() ? -EINVAL : -EOPNOTSUPP) && results[2] == -ECANCELED);
+        stop();
+    }
+}
+
+/* Behind a member that fails and skips success the others post nothing; nor does the fault behind a first one that skips. */
+static void test_silent_members(void)
+{
+    begin(0);
+    put_failing(0, IOSQE_IO_LINK | IOSQE_CQE_SKIP_SUCCESS);
+    put(&ring, IORING_OP_NOP, 1, IOSQE_IO_LINK);
+    put(&ring, IORING_OP_NOP, 2, 0);
+    submit(3);
+    if (is_by_manual()) {
+        int32_t results[3];
+        reap_all(&ring, 3, results);
+        check(results[0] == -EBADF && results[1] == -ECANCELED && results[2] == -ECANCELED);
+    } else {
+        EXPECT({0, -EBADF});
+    }
+    put(&ring, IORING_OP_NOP, 0, IOSQE_IO_LINK | IOSQE_CQE_SKIP_SUCCESS);
+    put(&ring, NO_OPERATION, 1, 0);
+    submit(2);
+    if (is_by_manual()) {
+        int32_t results[2];
+        reap_all(&ring, 2, results);
+        check(results[0] == -ECANCELED && results[1] == -EINVAL);
+    } else {
+        EXPECT({0, -ECANCELED});
+    }
+    stop();
+}
+
+/* One that is cancelled, or has a fault, ends once those before it have. */
+static void test_doomed_in_their_turn(void)
+{
+    begin(IORING_SETUP_SUBMIT_ALL);
+    for (int round = 0; round < 4; round++) {
+        put_waiting(0, IOSQE_IO_LINK);
+        put(&ring, IORING_OP_NOP, 1, IOSQE_IO_LINK);
+        put(&ring, NO_OPERATION, 2, 0);
+        submit(3);
+        if (!is_by_manual()) {
+            EXPECT({0, -ECANCELED}, {1, -ECANCELED}, {2, -EINVAL});
+            continue;
+        }
+        int32_t results[3];
+        reap_all(&ring, 3, results);
+        check(results[0] == -ECANCELED && results[1] == -ECANCELED && results[2] == -EINVAL);
+    }
+    stop();
+}
+
+/* A cancel finds what waits, whether or not it was begun; by Linux's rules nothing that a link holds back, or a drain up to the cancel's own end. */
+static void test_cancels(void)
+{
+    int32_t results[3];
+    begin(0);
+    put_waiting(0, 0);
+    put(&ring, IORING_OP_ASYNC_CANCEL, 1, 0)->addr = 0;
+    submit(2);
+    reap_all(&ring, 2, results);
+    check(results[0] == -ECANCELED && results[1] == 0);
+    put_waiting(0, IOSQE_IO_LINK);
+    put(&ring, IORING_OP_NOP, 1, 0);
+    put(&ring, IORING_OP_ASYNC_CANCEL, 2, 0)->addr = 1;
+    submit(3);
+    if (is_by_manual()) {
+        reap_all(&ring, 2, results);
+        check(results[1] == -ECANCELED && results[2] == 0);
+        feed();
+        EXPECT({0, 1});
+    } else {
+        EXPECT({2, -ENOENT});
+        feed();
+        EXPECT({0, 1}, {1, 0});
+    }
+    put(&ring, IORING_OP_ASYNC_CANCEL, 0, 0)->addr = 1;
+    put(&ring, IORING_OP_NOP, 1, IOSQE_IO_DRAIN);
+    submit(2);
+    reap_all(&ring, 2, results);
+    check(is_by_manual() ? results[0] == 0 && results[1] == -ECANCELED : results[0] == -ENOENT && results[1] == 0);
+    stop();
+}
+
+/* By Linux's rules a later request waits for what was accepted beside a drain, and behind a drain that isn't the first of its chain. */
+static void test_drains(void)
+{
+    begin(0);
+    put(&ring, IORING_OP_NOP, 0, IOSQE_IO_DRAIN);
+    put_waiting(1, 0);
+    submit(2);
+    EXPECT({0, 0});
+    put(&ring, IORING_OP_NOP, 2, 0);
+    submit(1);
+    if (is_by_manual())
+        EXPECT({2, 0});
+    feed();
+    if (is_by_manual())
+        EXPECT({1, 1});
+    else
+        EXPECT({1, 1}, {2, 0});
+    put(&ring, IORING_OP_NOP, 0, IOSQE_IO_LINK);
+    put(&ring, IORING_OP_NOP, 1, IOSQE_IO_DRAIN);
+    submit(2);
+    EXPECT({0, 0}, {1, 0});
+    put_waiting(2, 0);
+    submit(1);
+    put(&ring, IORING_OP_NOP, 3, 0);
+    submit(1);
+    if (is_by_manual())
+        EXPECT({3, 0});
+    feed();
+    if (is_by_manual())
+        EXPECT({2, 1});
+    else
+        EXPECT({2, 1}, {3, 0});
+    stop();
+}
+
+static void send_to_ring(struct ring *other)
+{
+    struct io_uring_sqe *message = put(other, IORING_OP_MSG_RING, 0, 0);
+    message->fd = ring.fd;
+    message->len = 7;
+    message->off = 5;
+    check(result_of_one(other, 1) == 0);
+}
+
+/* A completion that belongs to no end of a request waits for no drain by Linux's rules, and takes none that is owed. */
+static void test_messages_beside_drains(void)
+{
+    struct ring other;
+    begin(0);
+    make_ring(&other, 4, 0, 0);
+    put_waiting(0, 0);
+    put(&ring, IORING_OP_NOP, 1, IOSQE_IO_DRAIN);
+    submit(2);
+    send_to_ring(&other);
+    if (!is_by_manual())
+        EXPECT({5, 7});
+    feed();
+    if (is_by_manual())
+        EXPECT({0, 1}, {1, 0}, {5, 7});
+    else
+        EXPECT({0, 1}, {1, 0});
+    put(&ring, IORING_OP_NOP, 0, IOSQE_IO_LINK);
+    put(&ring, IORING_OP_NOP, 1, IOSQE_IO_DRAIN);
+    submit(2);
+    EXPECT({0, 0}, {1, 0});
+    send_to_ring(&other);
+    EXPECT({5, 7});
+    put_waiting(2, 0);
+    submit(1);
+    put(&ring, IORING_OP_NOP, 3, 0);
+    submit(1);
+    if (is_by_manual())
+        EXPECT({3, 0});
+    feed();
+    if (is_by_manual())
+        EXPECT({2, 1});
+    else
+        EXPECT({2, 1}, {3, 0});
+    close_ring(&other);
+    stop();
+}
+
+/* By Linux's rules a linked timeout posts as its own flags say, whatever those of its request. */
+static void test_linked_timeouts(void)
+{
+    struct __kernel_timespec time = {.tv_nsec = 1000};
+    for (int skips = 0; skips < 4; skips++) {
+        int32_t results[2] = {0};
+        bool is_silent = !is_by_manual() && skips & 2;
+        begin(0);
+        put_waiting(0, IOSQE_IO_LINK | (skips & 1 ? IOSQE_CQE_SKIP_SUCCESS : 0));
+        put_transfer(&ring, IORING_OP_LINK_TIMEOUT, 1, skips & 2 ? IOSQE_CQE_SKIP_SUCCESS : 0, -1, &time, 1, 0);
+        submit(2);
+        reap_all(&ring, is_silent ? 1 : 2, results);
+        check(results[0] == -ECANCELED && results[1] == (is_silent ? 0 : -ETIME));
+        stop();
+    }
+}
+
+int main(int count, char **words)
+{
+    static const struct named tests[] = {
+        {"refused drain", test_refused_drain},
+        {"silent members", test_silent_members},
+        {"doomed in their turn", test_doomed_in_their_turn},
+        {"cancels", test_cancels},
+        {"drains", test_drains},
+        {"messages beside drains", test_messages_beside_drains},
+        {"linked timeouts", test_linked_timeouts},
+    };
+#ifdef IS_ALSO_REAL
+    long fd = set_up(1, &ring.params);
+    if (fd < 0) {
+        puts("profiles: this kernel makes no rings");
+        return 0;
+    }
+    close((int)fd);
+#endif
+    return run_tests(tests, sizeof tests / sizeof *tests, count > 1 ? words[1] : NULL);
+}
