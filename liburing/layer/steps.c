@@ -186,7 +186,16 @@ uint64_t next_issuable(struct ring *ring, uint64_t from)
     return wulgach_core_next_issuable(&ring->core, from, &number) == 0 ? number : UINT64_MAX;
 }
 
+/* By what the core says of this request alone. */
+static bool may_go_on(struct ring *ring, uint64_t number)
+{
+    struct wulgach_why why;
+    demand(wulgach_core_why(&ring->core, number, &why) == 0, "the core doesn't say how a request stands");
+    return why.kind == WULGACH_MAY_START || why.kind == WULGACH_DOOMED;
+}
+
 bool can_issue(struct ring *ring, uint64_t number)
 {
-    return next_issuable(ring, number) == number;
+    /* (by Linux's rules the core looks at one after the other for the next) */
+    return ring->is_linux ? may_go_on(ring, number) : next_issuable(ring, number) == number;
 }
