@@ -11,8 +11,8 @@
 
 #include <inttypes.h>
 
-/* The ways of a choice: which stands where is the library's. Of those that can be issued few are listed behind those that can be finished, or
- * all by Linux's rules; of many only their number is known, and each is asked for by its place. */
+/* The ways of a choice: which stands where is the library's. Of those that can be issued few are listed behind those that can be finished;
+ * of many only their number is known, and each is asked for by its place. */
 struct ways {
     struct wulgach_ways of;
     uint32_t listed;        /* how many requests stand in ring->ways */
@@ -30,28 +30,10 @@ static uint32_t list_ready(struct ring *ring)
     return count;
 }
 
-/* Lists those that can be issued behind so many ways, by Linux's rules, and says how many are listed then. Members of a chain go on in order, so
- * of each only the first that hasn't ended is asked about: a core by these rules looks at all members of a chain for each that it is asked of. */
-static uint32_t list_firsts(struct ring *ring, uint32_t listed)
-{
-    const struct requests *requests = &ring->requests;
-    for (size_t i = 0; i < requests->count; i++) {
-        struct request *request = requests->rows[i];
-        bool is_first = i == 0 || requests->rows[i - 1]->member.chain != request->member.chain;
-        if (is_first && !request->course.has_started && can_issue(ring, request->number))
-            ring->ways[listed++] = request;
-    }
-    return listed;
-}
-
 /* The first of them is what is first in order. */
 static struct ways ways_of(struct ring *ring, bool may_return)
 {
     uint32_t ready = list_ready(ring), listed = ready;
-    if (ring->is_linux) {
-        listed = list_firsts(ring, ready);
-        return (struct ways){{ready, listed - ready, may_return}, listed};
-    }
     uint64_t number = next_issuable(ring, 0);
     for (; number != UINT64_MAX && listed < ready + FEW; number = next_issuable(ring, number + 1))
         ring->ways[listed++] = request_of(&ring->requests, number);
