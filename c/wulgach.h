@@ -81,7 +81,7 @@ struct wulgach_setup {
     uint32_t files; /* files of a machine: 1 to 64. A core has none, and its set-up may hold any number here */
     uint32_t start; /* the index word at which both rings begin: any 32 bits */
     bool has_cq;    /* whether cq is asked for; else the completion ring is twice the submission ring */
-    bool stops;     /* whether a submission call ends behind an entry with a fault, also one with a link flag, and leaves the rest to later calls; else it goes on */
+    bool stops;     /* whether a submission call ends behind an entry with a fault, also one with a link flag, or where Linux's rules end it, and leaves the rest to later calls; else it goes on */
     bool linux_rules; /* whether requests are kept by Linux's rules, as 6.18 was seen to, where they differ from the manual pages'; else by the manual pages' */
 };
 
@@ -214,7 +214,7 @@ enum wulgach_why_kind {
     WULGACH_MAY_START = 6       /* it may start */
 };
 
-/* What dooms a request: the first of these that does. */
+/* What dooms a request: the first of these that does, but that a refused drain goes before all. */
 enum wulgach_doom {
     WULGACH_OWN_FAULT = 1,    /* its own entry has a fault: fault is an enum wulgach_fault */
     WULGACH_FAULT_OF = 2,     /* request number, the least member of its group with a fault */
@@ -356,12 +356,13 @@ int32_t wulgach_core_least(struct wulgach_core *core, uint64_t *number);
  * 20 ns a call. */
 int32_t wulgach_core_next_issuable(struct wulgach_core *core, uint64_t from, uint64_t *number);
 
-/* Writes how many requests can be issued. It looks once at each 64 numbers from the least outstanding one on. */
+/* Writes how many requests can be issued. By the manual pages' rules it looks once at each 64 numbers from the least outstanding one on, by
+ * Linux's at one after the other. */
 int32_t wulgach_core_issuable(struct wulgach_core *core, uint64_t *count);
 
 /* Writes request index, from 0, of those that can be issued, in the order of their numbers: with an index below their count, one
- * of them chosen at random isn't refused. -2 exactly past the last. It looks once at each 64 numbers from the least outstanding
- * one on, up to the one it finds. */
+ * of them chosen at random isn't refused. -2 exactly past the last. It looks at numbers as the count does, up to the one
+ * it finds. */
 int32_t wulgach_core_nth_issuable(struct wulgach_core *core, uint64_t index, uint64_t *number);
 
 /* Writes why request number, any number, stands as it does. Whoever asks why of the request that another waits for, and again of the one that this one waits for, is told of one that runs or can be issued. It takes as long however many requests are outstanding. */

@@ -35,8 +35,9 @@ void wulgach_needs_of(const struct wulgach_submission *entry, struct wulgach_nee
 uint64_t wulgach_advised_length(const struct wulgach_submission *entry);
 
 /* Whether the call that has taken a request just now finds its files and its buffer: nothing links it, nothing that drains is outstanding,
- * itself among that, and it could start. Those of another are found when it starts, and may be what those before it open. */
-bool wulgach_drains_find_file(const struct wulgach_drains *drains, const struct wulgach_member *request, bool may_start);
+ * itself among that, unless the ring goes by Linux's rules, and it could start. Those of another are found when it starts, and may be what
+ * those before it open. */
+bool wulgach_drains_find_file(const struct wulgach_drains *drains, const struct wulgach_member *request, bool linux_rules, bool may_start);
 
 /* ---- whether it may have to wait for its descriptor ---- */
 

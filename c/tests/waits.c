@@ -40,9 +40,9 @@ static void find_files(void)
     struct wulgach_drains drains;
     struct wulgach_member first = {.number = 4, .chain = 4}, second = {.number = 5, .chain = 4, .is_linked = true};
     wulgach_drains_begin(&drains);
-    demand(wulgach_drains_find_file(&drains, &first, true) && !wulgach_drains_find_file(&drains, &first, false) && !wulgach_drains_find_file(&drains, &second, true), "behind a link");
+    demand(wulgach_drains_find_file(&drains, &first, false, true) && !wulgach_drains_find_file(&drains, &first, false, false) && !wulgach_drains_find_file(&drains, &second, false, true), "behind a link");
     wulgach_drains_accept(&drains, 1, true);
-    demand(!wulgach_drains_find_file(&drains, &first, true), "behind a drain");
+    demand(!wulgach_drains_find_file(&drains, &first, false, true) && wulgach_drains_find_file(&drains, &first, true, true), "behind a drain");
 }
 
 /* What a request is on a descriptor of which all is known. */

@@ -121,7 +121,7 @@ static void note_chains(struct ring *ring, size_t first)
             end++;
         mark_draining(ring, first, end);
         for (size_t i = first; i < end; i++)
-            if (wulgach_drains_find_file(&ring->drains, &rows[i]->member, may_start(ring, rows[i])))
+            if (wulgach_drains_find_file(&ring->drains, &rows[i]->member, ring->is_linux, may_start(ring, rows[i])))
                 assign(ring, rows[i]);
     }
 }

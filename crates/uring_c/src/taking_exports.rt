@@ -139,10 +139,11 @@ pub extern "C" fn wulgach_drains_may_post(drains: &Drains, staged: u64, linux: b
 pub extern "C" fn wulgach_drains_find_file(
     drains: &Drains,
     request: &Member,
+    linux: bool,
     may_start: bool,
 ) -> bool
     ensures { (log : List Drainage) → KeepsDrains log drains.now
-        → result ≡ finds_file log request.now may_start }
+        → result ≡ finds_file log request.now linux may_start }
 {
-    drains.finds_file(request, may_start)
+    drains.finds_file(request, linux, may_start)
 }

@@ -43,11 +43,11 @@ impl Drains {
     }
 
     /// Whether the call that has taken a request just now, which could start or not, finds its files and its buffer; else they are found when it starts.
-    pub fn finds_file(&self, request: &Member, may_start: bool) -> bool
+    pub fn finds_file(&self, request: &Member, linux: bool, may_start: bool) -> bool
         ensures { (log : List Drainage) → KeepsDrains log self.now
-            → result ≡ finds_file log request.now may_start }
+            → result ≡ finds_file log request.now linux may_start }
     {
-        self.outstanding == 0 && !request.is_linked && may_start
+        (linux || self.outstanding == 0) && !request.is_linked && may_start
     }
 
     /// Whether a completion may be posted that belongs to no end of a request, where so many positions are staged and not taken, in a ring by Linux's rules or by the manual pages'.

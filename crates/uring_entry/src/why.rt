@@ -24,7 +24,7 @@ pub enum Why {
     MayStart,
 }
 
-/// What dooms a request: the first of these that does. io_uring_enter(2), CQE ERRORS, IOSQE_IO_LINK and IORING_OP_ASYNC_CANCEL; their order is our own rule.
+/// What dooms a request: the first of these that does, but that `RefusedDrain` goes before all. io_uring_enter(2), CQE ERRORS, IOSQE_IO_LINK and IORING_OP_ASYNC_CANCEL; their order is our own rule.
 #[derive(Clone, Copy, Debug, PartialEq, Eq)]
 pub enum Doom {
     /// Its own entry has this fault, and none that is told before it.
@@ -55,6 +55,6 @@ pub enum Since {
     /// The later one's group drains.
     OwnDrains,
 
-    /// The later one's group is deferred, by Linux's rules: until nothing else is outstanding. docs/PROTOCOL.md, Drains.
+    /// The later one's group is deferred, by Linux's rules: until all that isn't deferred has ended. docs/PROTOCOL.md, Drains.
     Deferred,
 }

@@ -15,7 +15,7 @@ pub record HasNone (g : Setup) (seen : List Event) (place : ℕ) : Type 0 where
   pub none : (h : History) → IsFilling g seen h → ⊥
   pub furthest : (h : History) → IsPart g seen h → length (seen_in h) ≤ place
 
--- What a search may return: a history that shows exactly what was seen; or that there is none, with one that comes as far as any does; or that it gave up, with one that came furthest by then.
+-- What a search may return: a history that shows exactly what was seen; or that there is none, with one that comes as far as any does; or that it gave up, with one that it had come to.
 abbrev pub IsFound : Setup → List Event → Filled → Type 0
 IsFound g seen (Whole events) = IsFilling g seen (history_of events.items)
 IsFound g seen (Nothing reach) =

@@ -29,7 +29,7 @@ pub enum Filled {
     /// There is none, and no history shows more of the steps that were seen than this one.
     Nothing(Reach),
 
-    /// The search gave up. This history came furthest by then.
+    /// The search gave up. It had come as far as this history.
     GaveUp(Reach),
 }
 

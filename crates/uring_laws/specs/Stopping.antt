@@ -1,4 +1,4 @@
--- Where submission calls end, by the events: in a ring that stops behind an entry with a fault, and in one that goes on.
+-- Where submission calls end, by the events: in a ring that stops, and in one that goes on.
 use Rattle.std.specs.Prelude.{◌≡◌, ◌↔◌, ℕ, true, false, ◌⊎◌, take, count_by, Some, is_some}
 use Rattle.uring_entry.specs.Setup.{Setup}
 use Rattle.uring_core.specs.StepAnswers.{take_answer, end_answer}

@@ -162,7 +162,7 @@ abbrev pub IsIssue : Event → Type 0
 IsIssue (step.Issue n, a) = Unit {0}
 IsIssue _ = ⊥
 
--- Two ends of which one is that of a doomed request, as it is issued, change places if one posts nothing, and the doomed were doomed before both.
+-- Two ends of which one is that of a doomed request, as it is issued, change places if one posts nothing, and the doomed could end before both: they were doomed, and by Linux's rules in their turn.
 abbrev pub DoomedEndsChange : Setup → Type 0
 DoomedEndsChange g = (h : History) (m n : ℕ) (d e : Event) → Ends g.linux (world g h).requests m d
     → Ends g.linux (world g h).requests n e → IsIssue d ⊎ IsIssue e

@@ -22,7 +22,7 @@ pub fn deferred_dont_start()
     ensures { (g : Setup) → g.linux ≡ true → IsWithinLimits g → DeferredDontStart g }
 {}
 
-/// What starts has waited for what links and drains put before it: each earlier member of its group, everything before a group that drains, and each group before it that drains and has no fault. All of these have ended, once. A group drains if a member asks to, or its first takes the drain that one before it owes.
+/// What starts has waited at least for these that links and drains put before it: each earlier member of its group, everything before a group that drains, and each group before it that drains and has no fault. All of these have ended, once. A group drains if a member asks to, or its first takes the drain that one before it owes.
 pub fn drains_hold()
     ensures { (g : Setup) → g.linux ≡ true → IsWithinLimits g → DrainsHold g }
 {}

@@ -25,7 +25,7 @@ pub fn finishes_change_places()
     ensures { (g : Setup) → FinishesChange g }
 {}
 
-/// The end of a doomed request, as it is issued, changes places with another such end, and with the end of a running request, if one posts nothing and the doomed were doomed before both.
+/// The end of a doomed request, as it is issued, changes places with another such end, and with the end of a running request, if one posts nothing and each could end before the other.
 pub fn doomed_ends_change_places()
     ensures { (g : Setup) → DoomedEndsChange g }
 {}

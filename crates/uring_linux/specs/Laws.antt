@@ -26,7 +26,7 @@ pub record GoesOn (l : LinuxRequests) : Type 0 where
   pub least : least_free_of l ≡ Some number
   pub goes : (is_running l.requests number ≡ true) ⊎ (is_issuable l number ≡ true)
 
--- With something outstanding, not all of it is deferred, and the least request that isn't runs or can be issued: nothing waits for ever.
+-- With something outstanding, not all of it is deferred, and the least request that isn't runs or can be issued.
 abbrev pub LeastFreeGoesOn : Type 0
 LeastFreeGoesOn = (happened : List Happening) (n : ℕ) → MayHaveHappened happened
     → least_of (made_by happened).requests ≡ Some n → GoesOn (made_by happened)

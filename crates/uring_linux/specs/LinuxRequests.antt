@@ -1,4 +1,4 @@
--- The requests of a ring as Linux 6.18 keeps them, where it differs from the manual pages. Requests, groups and links are those of uring_entry's Requests. Each rule here was seen of the kernel, but for what says that it is our own; docs/PROTOCOL.md has them side by side with the manual pages', in the section By Linux's rules.
+-- The requests of a ring as Linux 6.18 keeps them, where it differs from the manual pages. Requests, groups and links are those of uring_entry's Requests. Each rule here was seen of the kernel, but for what says that it is our own; which entries are faulty and which flags are refused is the core's own rule (uring_entry's Preparation). docs/PROTOCOL.md has them side by side with the manual pages', in the section By Linux's rules.
 use Rattle.std.specs.Prelude.{ℕ, ◌+◌, ℤ, pos, neg_ℤ, Bool, true, false, not, ◌&&◌, ◌||◌, ◌==◌, nat_lt, nat_le, List, length, Option, Some, None, is_some, if◌then◌else◌}
 use Rattle.uring_entry.specs.declared.errno.TheConstants.{ENOENT, EINVAL, EOPNOTSUPP, EALREADY, ECANCELED}
 use Rattle.uring_entry.specs.Flags.{skip_success}
@@ -25,7 +25,7 @@ no_request = record { requests = manual.no_request; drains = no_drains }
 
 -- Faults, and what counts of flags.
 
--- Linux looks at an entry's operation and flags first. Where one of these is refused, it comes no further: such an entry neither drains, nor does its skip count. With another fault an entry drains all the same, and its skip counts.
+-- Linux looks at an entry's operation and flags first. Where one of these is refused, it comes no further: such an entry doesn't drain, and has no drain refused behind it, though it asks to skip. With another fault an entry drains all the same, and drains behind it are refused if it asks to skip. Who posts goes by the flag alone.
 abbrev pub is_seen_first : Fault → Bool
 is_seen_first Flags = true
 is_seen_first Opcode = true

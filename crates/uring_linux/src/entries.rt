@@ -16,14 +16,14 @@ pub(crate) fn is_past(entry: &Sqe) -> bool
     }
 }
 
-/// Whether an entry asks for skipped success, which counts whatever else is wrong with it if its operation and its flags aren't refused.
+/// Whether an entry asks for skipped success and comes past the first look, so that the ring refuses drains from then on, whatever else is wrong with the entry.
 pub fn asks_to_skip(entry: &Sqe) -> bool
     ensures { result ≡ linux.asks_to_skip entry.now }
 {
     entry.has(SqeFlags::CQE_SKIP_SUCCESS) && is_past(entry)
 }
 
-/// Whether an entry asks to drain, which counts likewise.
+/// Whether an entry asks to drain and comes past the first look, so that it drains or is refused as a drain, whatever else is wrong with it.
 pub fn asks_to_drain(entry: &Sqe) -> bool
     ensures { result ≡ linux.asks_to_drain entry.now }
 {

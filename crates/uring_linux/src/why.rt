@@ -17,7 +17,7 @@ use crate::window::Window;
 use uring_entry::{Doom, Since, Why, prepare};
 
 impl LinuxDispatch {
-    /// Why request `n`, any number, stands as it does: what dooms it in its turn, or the least request that it waits for, with the first reason in the order of `Doom` or `Since`. A member of a group waits for the first before it that hasn't ended, doomed or not; a deferred group waits for the least outstanding request that isn't deferred. Our own rule.
+    /// Why request `n`, any number, stands as it does: what dooms it in its turn, or the least request that it waits for, with the first reason in the order of `Doom`, a refused drain before all, or of `Since`. A member of a group waits for the first before it that hasn't ended, doomed or not; a deferred group waits for the least outstanding request that isn't deferred. Our own rule.
     pub fn why(&self, n: u64) -> Why
         requires { IsTrue self.now.is_between_calls }
         ensures { (l : LinuxRequests) → ShowsRequests self.now l → result ≡ why_of l n }

@@ -126,7 +126,7 @@ impl Window {
         }
     }
 
-    /// Whether request `n`, any number, is kept, and neither runs nor has ended.
+    /// Whether request `n`, any number, is kept, and neither runs nor has ended. Where it says no it can't be issued.
     pub(crate) fn is_idle(&self, n: u64) -> bool
         ensures { (r : Requests) → Shows self.now r → result ≡ false
             → (is_outstanding r n && not (is_running r n)) ≡ false }

@@ -135,7 +135,7 @@ impl Machine {
         })
     }
 
-    /// How many requests can be issued. It looks once at each 64 numbers from the least outstanding one on.
+    /// How many requests can be issued. By the manual pages' rules it looks once at each 64 numbers from the least outstanding one on, by Linux's at one after the other.
     pub fn issuable_count(&self) -> u64 {
         let mut count = 0;
         // SAFETY: as in `counts`.
@@ -143,7 +143,7 @@ impl Machine {
         count
     }
 
-    /// The request at this index, from 0, of those that can be issued, in the order of their numbers: `None` exactly past the last. So a random index below `issuable_count` chooses one that isn't refused. It looks once at each 64 numbers from the least outstanding one on, up to the one it finds.
+    /// The request at this index, from 0, of those that can be issued, in the order of their numbers: `None` exactly past the last. So a random index below `issuable_count` chooses one that isn't refused. It looks at numbers as the count does, up to the one it finds.
     pub fn nth_issuable(&self, index: u64) -> Option<u64> {
         // SAFETY: as in `counts`.
         found(0, |number| unsafe {

@@ -22,7 +22,7 @@ pub enum Why {
     MayStart,
 }
 
-/// What dooms a request: the first of these that does.
+/// What dooms a request: the first of these that does, but that a refused drain goes before all.
 #[derive(Clone, Copy, Debug, PartialEq, Eq)]
 pub enum Doom {
     /// Its own entry has this fault, and none that is told before it.
