@@ -13,7 +13,7 @@ DIFFERENCES = {
     "file position is served": "a read or write at offset 2^64 - 1, which means the file position in the pages.",
     "files have another limit": "The kernel writes up to the limit,",
     "drain beside skipped success": "The kernel refuses a drain with -95 (EOPNOTSUPP) once a ring has used skipped success",
-    "a cancel takes back": "Our own are that a cancel takes nothing back, since no read waits here; that a cancel of all ends with 0; and that of several requests a cancel finds the least.",
+    "a cancel takes back": "Our own are that a cancel takes nothing back, since no read waits here; that a cancel of all ends with 0; that of several requests a cancel finds the least; and which entries are faulty and which flags are refused, as told above.",
     "a cancel finds itself": "Such a cancel may also find itself, and end with -114.",
 }
 
