@@ -1,4 +1,4 @@
--- No call stops in a ring that goes on.
+-- Behind no entry a call stops in a ring that goes on, and behind no word by the manual pages' rules.
 use Rattle.std.proofs.Common.{◌≡◌, Bool, true, false, ◌&&◌, if◌then◌else◌, ap}
 use Rattle.uring_entry.specs.Setup.{Setup}
 use Rattle.uring_entry.specs.Layout.{Sqe}
@@ -13,5 +13,5 @@ goes_on g has_skipped e goes = by g.linux
     by true = ap (λ b. b && stops_linux has_skipped e) goes
     by false = ap (λ b. b && is_faulty e) goes
 
-pub word_goes_on : (g : Setup) → g.stops ≡ false → stops_at_word g ≡ false
-word_goes_on g goes = ap (λ b. b && g.linux) goes
+pub word_goes_on : (g : Setup) → g.linux ≡ false → stops_at_word g ≡ false
+word_goes_on g manual = manual

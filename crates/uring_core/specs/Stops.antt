@@ -1,4 +1,4 @@
--- Where a submission call ends before all its positions are taken, in a ring whose calls stop. io_uring_setup(2), IORING_SETUP_SUBMIT_ALL; what Linux 6.18 was seen to do is told in docs/PROTOCOL.md, By Linux's rules.
+-- Where a submission call ends before all its positions are taken: behind entries in a ring whose calls stop, and behind a bad word by Linux's rules in any ring. io_uring_setup(2), IORING_SETUP_SUBMIT_ALL; what Linux 6.18 was seen to do is told in docs/PROTOCOL.md, By Linux's rules.
 use Rattle.std.specs.Prelude.{ℕ, ◌+◌, Bool, not, ◌&&◌, ◌||◌, List, take, Option, Some, None, if◌then◌else◌}
 use Rattle.std.specs.List.{list_any}
 use Rattle.uring_entry.specs.Setup.{Setup}
@@ -34,6 +34,6 @@ stops_linux has_skipped e =
 abbrev pub stops_behind : Setup → (has_skipped : Bool) → Sqe → Bool
 stops_behind g has_skipped e = if g.linux then g.stops && stops_linux has_skipped e else stops_at g e
 
--- whether a call stops behind a word that names no slot, as it does by Linux's rules
+-- whether a call stops behind a word that names no slot, as it does by Linux's rules, also in a ring that goes on
 abbrev pub stops_at_word : Setup → Bool
-stops_at_word g = g.stops && g.linux
+stops_at_word g = g.linux

@@ -40,7 +40,7 @@ pub(crate) fn stop_at_word(sq: &mut Sq, setup: Setup)
     ensures { (g : Setup) (l : Submission) → ShowsSubmission g sq.old l
         → ShowsSubmission g sq.new (with_stopped (stops_at_word setup) l) }
 {
-    stop_if(sq, setup.stops() && setup.is_linux());
+    stop_if(sq, setup.is_linux());
 }
 
 /// Whether a call of this set-up stops behind this entry, if it or an entry taken before asks for skipped success, or none does.

@@ -39,13 +39,13 @@ at_start g t recorded = record {
 }
 
 pub amid_call : (g : Setup) (old new : Recording) (calls : List (List Published)) (call : List Published)
-    → g.stops ≡ false → GoesThrough g.sq call → (amid : IsAmid g old calls)
+    → g.stops ≡ false → g.linux ≡ false → GoesThrough g.sq call → (amid : IsAmid g old calls)
     → HasMade g new amid.history (call_steps call) → IsAmid g new (calls ++ call ∷ [])
-amid_call g old new calls call goes goes_in amid m =
+amid_call g old new calls call goes manual goes_in amid m =
     record {
       history = m.after;
       recorded = m.recorded;
-      between = call_made g goes amid.history m.after calls call amid.between goes_in m.made;
+      between = call_made g goes manual amid.history m.after calls call amid.between goes_in m.made;
     }
 
 pub amid_issue : (g : Setup) (old new : Recording) (n : ℕ) (calls : List (List Published)) → (amid : IsAmid g old calls)

@@ -16,7 +16,7 @@ use Rattle.uring_core.specs.declared.step.Step.TheVariants as step
 use Rattle.uring_core.specs.declared.answer.Answer.{Answer}
 use Rattle.uring_core.specs.declared.answer.Answer.TheVariants as answer
 use Rattle.uring_laws.specs.Standing.{Stands, with_item, with_items, in_call, after_call, item_steps}
-use Rattle.uring_laws.proofs.Standing.{slot_filled, word_staged, tail_publishes, items_published, call_opens, position_taken, call_closes}
+use Rattle.uring_laws.proofs.Standing.{slot_filled, word_staged, tail_publishes, items_published, call_opens, next_taken, call_closes}
 use Rattle.uring_moves.specs.Outcomes.{items_in}
 use Rattle.uring_moves.specs.Laws.{GoesThrough}
 use Rattle.uring_moves.proofs.ItemLists.{items_more}
@@ -80,16 +80,16 @@ items_go_in g (with_entry entry ∷ later) h after w words slot at stands low fe
 
 -- The positions.
 
-takes_in : (g : Setup) → g.stops ≡ false → (w : World) (count k done : ℕ) (h after : History)
+takes_in : (g : Setup) → g.stops ≡ false → g.linux ≡ false → (w : World) (count k done : ℕ) (h after : History)
     → Stands w.submission [] count → done + k ≡ count → world g h ≡ in_call w count done
     → MadeAfter g h (take_steps k) after → world g after ≡ in_call w count count
-takes_in g goes w count zero done h after s many at made =
+takes_in g goes manual w count zero done h after s many at made =
     let all : done ≡ count = omega arith in
     ap (world g) made ∙ (at ∙ ap (in_call w count) all)
-takes_in g goes w count (suc k) done h after s many at made =
+takes_in g goes manual w count (suc k) done h after s many at made =
     let a : Answer = made.0 in
-    let one = position_taken g goes w count count done a s (omega arith) (omega arith) (subst (λ v. CalledForApart g v step.Take a) at made.1) in
-    takes_in g goes w count k (done + 1) ((step.Take, a) ∷ h) after s (omega arith) (ap (λ v. taking g v a) at ∙ one.1) made.3
+    let one = next_taken g goes manual w count count done a s (omega arith) (omega arith) (subst (λ v. CalledForApart g v step.Take a) at made.1) in
+    takes_in g goes manual w count k (done + 1) ((step.Take, a) ∷ h) after s (omega arith) (ap (λ v. taking g v a) at ∙ one.1) made.3
 
 -- A whole call.
 
@@ -128,10 +128,10 @@ after_it g w calls call b goes_in stands =
       none_reaped = b.none_reaped;
     }
 
-pub call_made : (g : Setup) → g.stops ≡ false → (h after : History) (calls : List (List Published)) (call : List Published)
+pub call_made : (g : Setup) → g.stops ≡ false → g.linux ≡ false → (h after : History) (calls : List (List Published)) (call : List Published)
     → Between (world g h) calls → GoesThrough g.sq call → MadeAfter g h (call_steps call) after
     → Between (world g after) (calls ++ call ∷ [])
-call_made g goes h after calls call b goes_in made =
+call_made g goes manual h after calls call b goes_in made =
     let w : World = world g h in
     let n : ℕ = length call in
     let few : n ≤ g.sq = goes_in.few in
@@ -151,7 +151,7 @@ call_made g goes h after calls call b goes_in made =
     let h3 : History = (step.Begin n, a3) ∷ h2 in
     let at3 : world g h3 ≡ in_call w2 n 0 = ap (λ v. beginning v n a3) at2 ∙ (ap (beginning w2 n) is3 ∙ opened.1) in
     let s4 = split_made g h3 after (take_steps n) ((step.End ∷ []) ++ (step.LoadHead ∷ [])) made2.3 in
-    let took : world g s4.0 ≡ in_call w2 n n = takes_in g goes w2 n n 0 h3 s4.0 waits (omega arith) at3 s4.1 in
+    let took : world g s4.0 ≡ in_call w2 n n = takes_in g goes manual w2 n n 0 h3 s4.0 waits (omega arith) at3 s4.1 in
     let a5 : Answer = s4.2.0 in
     let a6 : Answer = s4.2.3.0 in
     let closed = call_closes g w2 n n 0 a5 a6 waits (omega arith) (subst (λ v. CalledForApart g v step.End a5) took s4.2.1) in

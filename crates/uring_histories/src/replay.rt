@@ -35,6 +35,9 @@ pub(crate) fn replayed(
     if setup.stops() {
         return Err(RecordingFault::Astray);
     }
+    if setup.is_linux() {
+        return Err(RecordingFault::Astray);
+    }
     let mut recording = Recording::new(alloc, setup)?;
     match play(&mut recording, alloc, setup, calls, texts, moves, ending) {
         Ok(()) => Ok(text_of(recording)),
@@ -65,6 +68,7 @@ fn play(
     ending: &Ending,
 ) -> Result<(), RecordingFault>
     requires goes_on { setup.now.stops ≡ false }
+    requires manual { setup.now.linux ≡ false }
     requires begun { IsAmid setup.now recording.old [] }
     ensures { OnOk result
         (IsHistoryOf setup.now (published_in calls.now) ending.now (string_bytes recording.new.text)) }
@@ -110,6 +114,7 @@ fn make_moves(
     moves: &[Move],
 ) -> Result<(), RecordingFault>
     requires goes_on { setup.now.stops ≡ false }
+    requires manual { setup.now.linux ≡ false }
     requires begun { IsAmid setup.now recording.old [] }
     ensures { OnOk result (IsAmid setup.now recording.new (published_in calls.now)) }
 {
@@ -134,6 +139,7 @@ fn make_move(
     next: Move,
 ) -> Result<(), RecordingFault>
     requires goes_on { setup.now.stops ≡ false }
+    requires manual { setup.now.linux ≡ false }
     requires amid { IsAmid setup.now recording.old (published_in (take done.old calls.now)) }
     ensures { OnOk result
         (IsAmid setup.now recording.new (published_in (take done.new calls.now))) }
@@ -171,6 +177,7 @@ fn accept_next(
     done: &mut usize,
 ) -> Result<(), RecordingFault>
     requires goes_on { setup.now.stops ≡ false }
+    requires manual { setup.now.linux ≡ false }
     requires amid { IsAmid setup.now recording.old (published_in (take done.old calls.now)) }
     ensures { OnOk result
         (IsAmid setup.now recording.new (published_in (take done.new calls.now))) }
@@ -201,6 +208,7 @@ fn accept(
     texts: &[String],
 ) -> Result<(), RecordingFault>
     requires goes_on { setup.now.stops ≡ false }
+    requires manual { setup.now.linux ≡ false }
     ensures { (calls : List (List Published)) → IsAmid setup.now recording.old calls
         → OnOk result (IsAmid setup.now recording.new (calls ++ all_published_as items.now ∷ [])) }
 {

@@ -2,7 +2,7 @@
 -- Each from the answer that is called for, with `Stands` for what the definitions test; no history is needed.
 -- Stable: other crates may import what is pub.
 use Rattle.std.proofs.Common.{◌≡◌, ℕ, ◌+◌, ◌-◌, ◌<◌, ◌≤◌, Bool, true, false, List, [], ◌∷◌, ◌++◌, length, map, drop, get_or, Option, Some, None, is_some, slice_get, if◌then◌else◌, refl, sym, subst, ap, ap₂, ◌∙◌, ◌⊎◌, inl, inr, arith, append_assoc, append-nil}
-use Rattle.std.specs.Prelude.{All, ◌&&◌, ◌==◌, nat_le}
+use Rattle.std.specs.Prelude.{All, not, ◌&&◌, ◌==◌, nat_le}
 use Rattle.std.specs.List.{list_any}
 use Rattle.std.proofs.Math.ListN.{drop_of_length-le}
 use Rattle.std.proofs.lemmas.Bool.{ne_eqb, eq-eqb, lt-leb, lt-ltb, le-ltb}
@@ -15,12 +15,13 @@ use Rattle.uring_entry.specs.Layout.{Sqe}
 use Rattle.uring_entry.specs.Preparation.{is_faulty}
 use Rattle.uring_entry.specs.Submission.{Submission, Place, place_of, taken, staged, is_busy, is_full, with_closed, call_length, Published, with_entry, bad_word, item_of, IsItem}
 use Rattle.uring_core.specs.World.{World, happens, taking, ending, ending_of}
-use Rattle.uring_core.specs.StepAnswers.{OrAgain, is_spent, place_answer, entry_answer}
-use Rattle.uring_laws.specs.Standing.{Stands, FreeSlotIsFilled, WordIsStaged, TailPublishes, with_item, with_items, ItemsArePublished, in_call, CallOpens, PositionIsTaken, CallCloses}
+use Rattle.uring_core.specs.StepAnswers.{CalledForApart, OrAgain, is_spent, place_answer, entry_answer}
+use Rattle.uring_core.specs.Stops.{stops_at_word}
+use Rattle.uring_laws.specs.Standing.{Stands, FreeSlotIsFilled, WordIsStaged, TailPublishes, with_item, with_items, ItemsArePublished, in_call, CallOpens, ends_behind, PositionIsTaken, CallCloses}
 use Rattle.uring_core.specs.declared.step.Step.TheVariants as step
 use Rattle.uring_core.specs.declared.answer.Answer.{Answer}
 use Rattle.uring_core.specs.declared.answer.Answer.TheVariants as answer
-use Rattle.uring_core.proofs.NoStops.{goes_on, word_goes_on}
+use Rattle.uring_core.proofs.NoStops.{goes_on}
 
 -- Filling and staging.
 
@@ -62,12 +63,12 @@ tail_publishes g l words s =
 -- The items, once they are published.
 
 -- the words that are staged for items
-abbrev words_of : ℕ → List Published → List ℕ
+abbrev pub words_of : ℕ → List Published → List ℕ
 words_of slot [] = []
 words_of slot (with_entry entry ∷ later) = slot ∷ words_of (slot + 1) later
 words_of slot (bad_word word ∷ later) = word ∷ words_of (slot + 1) later
 
-items_fresh : (l : Submission) (slot : ℕ) (items : List Published)
+pub items_fresh : (l : Submission) (slot : ℕ) (items : List Published)
     → (with_items l slot items).fresh ≡ l.fresh ++ words_of slot items
 items_fresh l slot [] = sym (append-nil l.fresh)
 items_fresh l slot (with_entry entry ∷ later) = items_fresh (with_item l slot (with_entry entry)) (slot + 1) later ∙ append_assoc l.fresh (slot ∷ []) (words_of (slot + 1) later)
@@ -143,12 +144,12 @@ call_opens g w count asked a s is_open few called =
       by_spent false e told = inl told
 
 -- a position was taken, whatever its word
-took_place : (g : Setup) (w : World) (count done : ℕ) (entry : Option Sqe) (a : Answer)
+took_entry : (g : Setup) (w : World) (count done : ℕ) (word : ℕ) (entry : Option Sqe) (a : Answer)
     → g.stops ≡ false → a ≡ entry_answer entry
-    → taking g (in_call w count done) a ≡ in_call w count (done + 1)
-took_place g w count done None a goes is =
-    ap (taking g (in_call w count done)) is ∙ ap (λ b. in_call w (if b then done + 1 else count) (done + 1)) (word_goes_on g goes)
-took_place g w count done (Some entry) a goes is =
+    → taking g (in_call w count done) a
+    ≡ in_call w (if ends_behind g (Some (record { word = word; entry = entry })) then done + 1 else count) (done + 1)
+took_entry g w count done word None a goes is = ap (taking g (in_call w count done)) is
+took_entry g w count done word (Some entry) a goes is =
     ap (taking g (in_call w count done)) is ∙ ap (λ b. in_call w (if b then done + 1 else count) (done + 1)) (goes_on g _ entry goes)
 
 pub position_taken : (g : Setup) → PositionIsTaken g
@@ -157,8 +158,28 @@ position_taken g goes w count asked done a s few low called =
     let at : ℕ = taken l + done in
     let within : at < length l.published = omega (arith, s.waiting) in
     let place : Place = get_or l.published at (record { word = 0; entry = None }) in
+    let is : slice_get l.published at ≡ Some place = slice_get-get_or l.published at _ within in
     let told : a ≡ place_answer (slice_get l.published at) = called ∙ ap (λ b. if b then answer.NoMore else place_answer (slice_get l.published at)) (ne_eqb done asked (λ same. omega arith)) in
-    (told, took_place g w asked done place.entry a goes (told ∙ ap place_answer (slice_get-get_or l.published at _ within)))
+    (told, took_entry g w asked done place.word place.entry a goes (told ∙ ap place_answer is) ∙ ap (λ p. in_call w (if ends_behind g p then done + 1 else asked) (done + 1)) (sym is))
+
+-- by the manual pages' rules no position ends a call there
+ends_none : (g : Setup) (place : Option Place) → g.linux ≡ false → ends_behind g place ≡ false
+ends_none g None manual = refl
+ends_none g (Some place) manual = by place.entry
+  where
+    by : (entry : Option Sqe) → (not (is_some entry) && stops_at_word g) ≡ false
+    by None = manual
+    by (Some entry) = refl
+
+-- so each is one of as many as before
+pub next_taken : (g : Setup) → g.stops ≡ false → g.linux ≡ false → (w : World) (count asked done : ℕ) (a : Answer)
+    → Stands w.submission [] count → asked ≤ count → done < asked
+    → CalledForApart g (in_call w asked done) step.Take a
+    → (a ≡ place_answer (slice_get w.submission.published (taken w.submission + done)))
+    × (happens g (in_call w asked done) step.Take a ≡ in_call w asked (done + 1))
+next_taken g goes manual w count asked done a s few low called =
+    let one = position_taken g goes w count asked done a s few low called in
+    (one.0, one.1 ∙ ap (λ b. in_call w (if b then done + 1 else asked) (done + 1)) (ends_none g _ manual))
 
 closes : (g : Setup) (w : World) (count : ℕ) (few : Bool) (accepted missed head : ℕ) (a : Answer)
     → few ≡ false

@@ -1,7 +1,8 @@
 -- The laws of where submission calls end: from the open call as it is read off the history, and by induction over it.
 use Rattle.std.proofs.Common.{◌≡◌, ◌↔◌, ℕ, ◌+◌, ◌≤◌, ◌<◌, Bool, true, false, ◌&&◌, cond, eqb, nat_lt, List, [], ◌∷◌, ◌++◌, length, take, count_by, Option, Some, None, is_some, unwrap_or, slice_get, if◌then◌else◌, ◌⊎◌, inl, inr, refl, sym, subst, ap, ap₂, ◌∙◌, arith, append-nil}
-use Rattle.std.proofs.lemmas.Bool.{eqb-true, eqb-false, ltb-true, ltb-false}
+use Rattle.std.proofs.lemmas.Bool.{eqb-true, eqb-false, ltb-true, ltb-false, cases_Bool}
 use Rattle.std.proofs.lemmas.List.{length_push, take_at}
+use Rattle.std.proofs.lemmas.List.Sums.{sum_by-cons}
 use Rattle.std.proofs.lemmas.Option.{slice_get-get_or}
 use Rattle.uring_entry.specs.Setup.{Setup}
 use Rattle.uring_entry.specs.Layout.{Sqe}
@@ -12,14 +13,14 @@ use Rattle.uring_core.specs.StepAnswers.{entry_answer, place_answer, take_answer
 use Rattle.uring_core.specs.Histories.{History, world, IsLawfulApart}
 use Rattle.uring_core.specs.Events.{opened_by, closes_call}
 use Rattle.uring_laws.specs.Direct.{told, taken_since, has_stopped, open_count}
-use Rattle.uring_laws.specs.Stopping.{EndsThere, OpenCallEndsThere, CallsTakeAll}
+use Rattle.uring_laws.specs.Stopping.{EndsThere, OpenCallEndsThere, CallsTakeAll, drops_word}
 use Rattle.uring_core.specs.declared.step.Step.{Step}
 use Rattle.uring_core.specs.declared.step.Step.TheVariants as step
 use Rattle.uring_core.specs.declared.answer.Answer.{Answer}
 use Rattle.uring_core.specs.declared.answer.Answer.TheVariants as answer
 use Rattle.uring_core.proofs.SubmissionMoves.{SubmissionMove, stays, begins, takes, drops, closes, submission_move}
 use Rattle.uring_core.proofs.SoundRings.{open_count as positions_open}
-use Rattle.uring_core.specs.Stops.{open_taken}
+use Rattle.uring_core.specs.Stops.{open_taken, stops_at_word}
 use Rattle.uring_core.proofs.NoStops.{goes_on, word_goes_on}
 use Rattle.uring_core.proofs.Sound.{sound_of}
 use Rattle.uring_laws.proofs.DirectSubmission.{IsOpened, direct_submission}
@@ -113,47 +114,60 @@ pub record TakesAll (h : History) (w : World) : Type 0 where
   pub opened : told opened_by h ≡ w.submission.calls ++ open_counts w.submission.call
   pub closed : count_by closes_call h ≡ length w.submission.calls
 
+-- a word that was dropped ended no call
+word_passed : (g : Setup) (h : History) → (g.linux ≡ true → count_by drops_word ((step.Take, answer.Dropped) ∷ h) ≡ 0)
+    → stops_at_word g ≡ false
+word_passed g h none =
+    elim (cases_Bool g.linux) [
+      | inl linux ↦ absurd (omega (arith, none linux, sum_by-cons (λ e. cond (drops_word e) 1 0) (step.Take, answer.Dropped) h))
+      | inr manual ↦ word_goes_on g manual
+    ]
+
 all_kept : (g : Setup) (h : History) (s : Step) (a : Answer) (v : World) → g.stops ≡ false
+    → (g.linux ≡ true → count_by drops_word ((s, a) ∷ h) ≡ 0)
     → SubmissionMove g (world g h) s a v → TakesAll h (world g h) → TakesAll ((s, a) ∷ h) v
-all_kept g h s a v goes (stays _ _ r c is_closed off left) i = record {
+all_kept g h s a v goes none (stays _ _ r c is_closed off left) i = record {
   opened = told_same opened_by (s, a) h off.opens ∙ i.opened;
   closed = count_same closes_call (s, a) h off.closes ∙ i.closed;
 }
-all_kept g h s a v goes (begins count is_open no_call unspent) i =
+all_kept g h s a v goes none (begins count is_open no_call unspent) i =
     let l = (world g h).submission in
     record {
       opened = ap (λ xs. xs ++ call_length l count ∷ []) (i.opened ∙ ap (λ o. l.calls ++ open_counts o) no_call ∙ append-nil l.calls);
       closed = count_same closes_call (step.Begin count, answer.Call (call_length l count)) h refl ∙ i.closed;
     }
-all_kept g h s a v goes (takes entry call place opened left at valid) i =
+all_kept g h s a v goes none (takes entry call place opened left at valid) i =
     let l = (world g h).submission in
     record {
       opened = i.opened ∙ ap (λ o. l.calls ++ open_counts o) opened ∙ ap (λ b. l.calls ++ (if b then call.taken + 1 else call.count) ∷ []) (sym (goes_on g _ entry goes));
       closed = count_same closes_call (step.Take, answer.Entry entry) h refl ∙ i.closed;
     }
-all_kept g h s a v goes (drops call place opened left at invalid) i =
+all_kept g h s a v goes none (drops call place opened left at invalid) i =
     let l = (world g h).submission in
     record {
-      opened = i.opened ∙ ap (λ o. l.calls ++ open_counts o) opened ∙ ap (λ b. l.calls ++ (if b then call.taken + 1 else call.count) ∷ []) (sym (word_goes_on g goes));
+      opened = i.opened ∙ ap (λ o. l.calls ++ open_counts o) opened ∙ ap (λ b. l.calls ++ (if b then call.taken + 1 else call.count) ∷ []) (sym (word_passed g h none));
       closed = count_same closes_call (step.Take, answer.Dropped) h refl ∙ i.closed;
     }
-all_kept g h s a v goes (closes accepted missed head call opened all counted) i =
+all_kept g h s a v goes none (closes accepted missed head call opened all counted) i =
     let l = (world g h).submission in
     record {
       opened = i.opened ∙ ap (λ o. l.calls ++ open_counts o) opened ∙ sym (append-nil (l.calls ++ call.count ∷ []));
       closed = count_more closes_call (step.End, answer.Taken accepted missed head) h refl ∙ omega (arith, i.closed, length_push l.calls call.count);
     }
-all_kept g h s a v goes _ i = record {
+all_kept g h s a v goes none _ i = record {
   opened = i.opened;
   closed = count_same closes_call (s, a) h refl ∙ i.closed;
 }
 
-all_taken : (g : Setup) (h : History) → g.stops ≡ false → IsLawfulApart g h → TakesAll h (world g h)
-all_taken g [] goes lawful = record { opened = refl; closed = refl }
-all_taken g ((s, a) ∷ before) goes lawful = all_kept g before s a _ goes (submission_move g s a before lawful) (all_taken g before goes lawful.1)
+all_taken : (g : Setup) (h : History) → g.stops ≡ false → (g.linux ≡ true → count_by drops_word h ≡ 0)
+    → IsLawfulApart g h → TakesAll h (world g h)
+all_taken g [] goes none lawful = record { opened = refl; closed = refl }
+all_taken g ((s, a) ∷ before) goes none lawful =
+    let none_before : g.linux ≡ true → count_by drops_word before ≡ 0 = λ linux. omega (arith, none linux, sum_by-cons (λ e. cond (drops_word e) 1 0) (s, a) before) in
+    all_kept g before s a _ goes none (submission_move g s a before lawful) (all_taken g before goes none_before lawful.1)
 
 pub calls_take_all : (g : Setup) → CallsTakeAll g
-calls_take_all g h goes lawful =
-    let i = all_taken g h goes lawful in
+calls_take_all g h goes none lawful =
+    let i = all_taken g h goes none lawful in
     let l = (world g h).submission in
     sym (direct_submission g h lawful).calls ∙ sym (ap₂ (λ n xs. take n xs) i.closed i.opened ∙ take_at l.calls (open_counts l.call) (length l.calls) refl)

@@ -1,12 +1,13 @@
 -- The submission ring as it stands between calls: what the application fills, stages and publishes, and what a call then takes, without a refusal.
-use Rattle.std.specs.Prelude.{◌≡◌, ℕ, ◌+◌, ◌<◌, ◌≤◌, false, true, List, [], ◌∷◌, ◌++◌, length, Some, None, All, ◌⊎◌, slice_get}
+use Rattle.std.specs.Prelude.{◌≡◌, ℕ, ◌+◌, ◌<◌, ◌≤◌, Bool, false, true, not, ◌&&◌, List, [], ◌∷◌, ◌++◌, length, Option, Some, None, is_some, All, ◌⊎◌, slice_get, if◌then◌else◌}
 use Rattle.std.specs.List.{zip}
 use Rattle.uring_entry.specs.Setup.{Setup}
 use Rattle.uring_entry.specs.IndexWords.{word_of}
 use Rattle.uring_entry.specs.Layout.{Sqe}
-use Rattle.uring_entry.specs.Submission.{Submission, taken, with_filled, with_staged, with_published, with_head_loaded, with_closed, entries_from, Published, with_entry, bad_word, published_items, IsItem}
+use Rattle.uring_entry.specs.Submission.{Submission, Place, taken, with_filled, with_staged, with_published, with_head_loaded, with_closed, entries_from, Published, with_entry, bad_word, published_items, IsItem}
 use Rattle.uring_entry.specs.Requests.{with_call}
 use Rattle.uring_rules.specs.Rules.{drains_called}
+use Rattle.uring_core.specs.Stops.{stops_at_word}
 use Rattle.uring_core.specs.World.{World, requests_of, happens}
 use Rattle.uring_core.specs.StepAnswers.{CalledForApart, OrAgain, is_spent, place_answer}
 use Rattle.uring_core.specs.Histories.{History, world, history_of, IsLawfulApart}
@@ -71,13 +72,19 @@ CallOpens g = (w : World) (count asked : ℕ) (a : Answer) → Stands w.submissi
     → (OrAgain (answer.Call asked) a ⊎ ((a ≡ answer.Spent) × (is_spent w asked ≡ true)))
     × (happens g w (step.Begin asked) (answer.Call asked) ≡ in_call w asked 0)
 
--- in a ring that doesn't stop it takes its positions one by one, whatever their words and entries
+-- whether a call ends behind this position in a ring that goes on: by Linux's rules behind a word that names no slot
+abbrev pub ends_behind : Setup → Option Place → Bool
+ends_behind g None = false
+ends_behind g (Some place) = not (is_some place.entry) && stops_at_word g
+
+-- in a ring that goes on it takes its positions one by one, whatever their words and entries, and has no more than those taken once one ends it
 abbrev pub PositionIsTaken : Setup → Type 0
 PositionIsTaken g = g.stops ≡ false → (w : World) (count asked done : ℕ) (a : Answer)
     → Stands w.submission [] count → asked ≤ count → done < asked
     → CalledForApart g (in_call w asked done) step.Take a
     → (a ≡ place_answer (slice_get w.submission.published (taken w.submission + done)))
-    × (happens g (in_call w asked done) step.Take a ≡ in_call w asked (done + 1))
+    × (happens g (in_call w asked done) step.Take a
+    ≡ in_call w (if ends_behind g (slice_get w.submission.published (taken w.submission + done)) then done + 1 else asked) (done + 1))
 
 -- the world after such a call, once the application has loaded the head
 abbrev pub after_call : Setup → World → ℕ → World

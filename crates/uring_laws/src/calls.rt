@@ -16,14 +16,14 @@ pub fn empty_ring_takes_a_whole_call()
     ensures { (g : Setup) → TakesWholeCall g }
 {}
 
-/// The call of the positions that wait opens if the ring isn't closed, memory is there and the numbers aren't spent. In a ring that goes on it takes each of them and closes, and once the application has loaded the head the ring stands as before, with those positions taken.
+/// The call of the positions that wait opens if the ring isn't closed, memory is there and the numbers aren't spent. In a ring that goes on it takes each of them, by Linux's rules up to the first whose word names no slot, and closes; and once the application has loaded the head the ring stands as before, with those positions taken.
 pub fn waiting_call_is_taken()
     ensures opens { (g : Setup) → CallOpens g }
     ensures takes { (g : Setup) → PositionIsTaken g }
     ensures closes { (g : Setup) → CallCloses g }
 {}
 
-/// An open call takes no more exactly if it took all positions that it opened with, or, in a ring that stops, one behind which it stops: by the manual pages' rules an entry with a fault; and exactly then it may close. In a ring that goes on, each call that closed took all positions that it opened with.
+/// An open call takes no more exactly if it took all positions that it opened with, or one behind which it stops: by the manual pages' rules an entry with a fault in a ring that stops; and exactly then it may close. In a ring that goes on, each call that closed took all positions that it opened with, by Linux's rules if no word was dropped.
 pub fn calls_end_there()
     ensures there { (g : Setup) → OpenCallEndsThere g }
     ensures all { (g : Setup) → CallsTakeAll g }

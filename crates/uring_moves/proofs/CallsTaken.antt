@@ -14,7 +14,7 @@ use Rattle.uring_core.specs.declared.step.Step.TheVariants as step
 use Rattle.uring_core.specs.declared.answer.Answer.{Answer}
 use Rattle.uring_core.specs.declared.answer.Answer.TheVariants as answer
 use Rattle.uring_laws.specs.Standing.{Stands, with_items, in_call, after_call}
-use Rattle.uring_laws.proofs.Standing.{slot_filled, word_staged, tail_publishes, call_opens, position_taken, call_closes}
+use Rattle.uring_laws.proofs.Standing.{slot_filled, word_staged, tail_publishes, call_opens, next_taken, call_closes}
 use Rattle.uring_moves.specs.Recorded.{with_event}
 use Rattle.uring_moves.specs.declared.move_of_calls.Move.{Move}
 use Rattle.uring_moves.specs.declared.move_of_calls.Move.TheVariants as move
@@ -101,14 +101,14 @@ not_again (Some place) e = by_entry place.entry e where
   by_entry None f = cc
   by_entry (Some x) f = cc
 
-takes_on : {moves : List Move} (g : Setup) → g.stops ≡ false → (w : World) (files : List FileContents) (count done : ℕ)
+takes_on : {moves : List Move} (g : Setup) → g.stops ≡ false → g.linux ≡ false → (w : World) (files : List FileContents) (count done : ℕ)
     → Reaches g (in_call w count 0) files moves → Stands w.submission [] count → done ≤ count
     → Reaches g (in_call w count done) files moves
-takes_on g goes w files count zero there s few = there
-takes_on {moves} g goes w files count (suc done) there s few =
-    let before : Reaches g (in_call w count done) files moves = takes_on g goes w files count done there s (omega arith) in
+takes_on g goes manual w files count zero there s few = there
+takes_on {moves} g goes manual w files count (suc done) there s few =
+    let before : Reaches g (in_call w count done) files moves = takes_on g goes manual w files count done there s (omega arith) in
     let a : Answer = take_answer (in_call w count done) in
-    let one = position_taken g goes w count count done a s (omega arith) (omega arith) refl in
+    let one = next_taken g goes manual w count count done a s (omega arith) (omega arith) refl in
     let next : done + 1 ≡ suc done = omega arith in
     as_well g (happens g (in_call w count done) step.Take a) (in_call w count (suc done)) files (one.1 ∙ ap (in_call w count) next)
     (step_on g (in_call w count done) files step.Take a before tt refl (λ e. not_again _ (sym one.0 ∙ e)))
@@ -149,10 +149,10 @@ pub record CallIsTaken (g : Setup) (w : World) (files : List FileContents) (move
   pub stands : Stands (after_call g (with_call_published g w items) (length items)).submission [] 0
   pub waits : Stands (with_call_published g w items).submission [] (length items)
 
-pub call_is_taken : {moves : List Move} (g : Setup) → g.stops ≡ false → (w : World) (files : List FileContents) (items : List Published)
+pub call_is_taken : {moves : List Move} (g : Setup) → g.stops ≡ false → g.linux ≡ false → (w : World) (files : List FileContents) (items : List Published)
     → Reaches g w files moves → Stands w.submission [] 0 → w.is_closed ≡ false
     → is_spent w (length items) ≡ false → length items ≤ g.sq → CallIsTaken g w files moves items
-call_is_taken {moves} g goes w files items there s is_open unspent few =
+call_is_taken {moves} g goes manual w files items there s is_open unspent few =
     let inside = items_go_in g items w files [] 0 there s (omega arith) (omega arith) in
     let w1 : World = in_world w 0 items in
     let w2 : World = with_call_published g w items in
@@ -160,7 +160,7 @@ call_is_taken {moves} g goes w files items there s is_open unspent few =
     let many : length inside.staged_then ≡ length items = omega (arith, inside.many) in
     let waits : Stands w2.submission [] (length items) = subst (λ n. Stands w2.submission [] n) many (tail_publishes g w1.submission inside.staged_then inside.stands) in
     let begun : Reaches g (in_call w2 (length items) 0) files moves = call_begins g w2 files (length items) stored waits is_open unspent in
-    let took : Reaches g (in_call w2 (length items) (length items)) files moves = takes_on g goes w2 files (length items) (length items) begun waits (omega arith) in
+    let took : Reaches g (in_call w2 (length items) (length items)) files moves = takes_on g goes manual w2 files (length items) (length items) begun waits (omega arith) in
     let closed = call_ends g w2 files (length items) took waits in
     record {
       reaches = closed.0;

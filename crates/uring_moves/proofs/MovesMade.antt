@@ -62,13 +62,13 @@ pub record Between (g : Setup) (w : World) (files : List FileContents) (done : L
 
 -- A call.
 
-call_made : {moves : List Move} (g : Setup) → g.stops ≡ false → (w : World) (files : List FileContents) (done : List (List Published)) (call : List Published)
+call_made : {moves : List Move} (g : Setup) → g.stops ≡ false → g.linux ≡ false → (w : World) (files : List FileContents) (done : List (List Published)) (call : List Published)
     → Between g w files done moves → GoesThrough g.sq call
     → length w.requests.accepted + length call ≤ 2 ^ 63 - 1
     → Between g (after_call g (with_call_published g w call) (length call)) files (done ++ call ∷ []) (moves ++ move.Accept ∷ [])
     × (entries_from (with_call_published g w call).submission (length call) ≡ entries_in call)
-call_made g goes w files done call b goes_in room =
-    let t = call_is_taken g goes w files call b.reaches b.stands b.is_open (le-ltb (2 ^ 63 - 1) (length w.requests.accepted + length call) room) goes_in.few in
+call_made g goes manual w files done call b goes_in room =
+    let t = call_is_taken g goes manual w files call b.reaches b.stands b.is_open (le-ltb (2 ^ 63 - 1) (length w.requests.accepted + length call) room) goes_in.few in
     let w2 : World = with_call_published g w call in
     let now : published_items w2.submission ≡ items_in done ++ call = items_published w.submission g.sq call b.stands.fresh goes_in.few goes_in.are_items ∙ ap (λ xs. xs ++ call) b.published in
     let same_calls : w2.submission.calls ≡ w.submission.calls = calls_keep w.submission 0 call in
@@ -187,12 +187,12 @@ AreMade g calls last moves =
     → length w.requests.accepted + length (items_in rest) ≤ 2 ^ 63 - 1
     → after_moves (moment_of w files (map entries_in rest)) moves ≡ Some last → Made g calls last (before ++ moves)
 
-accept_made : (g : Setup) → g.stops ≡ false → (calls : List (List Published)) (last : Moment) (later : List Move)
+accept_made : (g : Setup) → g.stops ≡ false → g.linux ≡ false → (calls : List (List Published)) (last : Moment) (later : List Move)
     → AreMade g calls last later → AreMade g calls last (move.Accept ∷ later)
-accept_made g goes calls last later next w files done [] before split b fit room leads = absurd cc
-accept_made g goes calls last later next w files done (call ∷ rest) before split b fit room leads =
+accept_made g goes manual calls last later next w files done [] before split b fit room leads = absurd cc
+accept_made g goes manual calls last later next w files done (call ∷ rest) before split b fit room leads =
     let many : length (items_in (call ∷ rest)) ≡ length call + length (items_in rest) = length-append call (items_in rest) in
-    let made = call_made g goes w files done call b (All-head (GoesThrough g.sq) call rest fit) (omega (arith, room, many)) in
+    let made = call_made g goes manual w files done call b (All-head (GoesThrough g.sq) call rest fit) (omega (arith, room, many)) in
     let w2 : World = with_call_published g w call in
     let v : World = after_call g w2 (length call) in
     let same : length (entries_from w2.submission (length call)) ≡ length (entries_in call) = ap length made.1 in
@@ -248,6 +248,6 @@ moves_made g goes calls last [] = λ w files done rest before split b fit room l
   shows = ap (λ o. unwrap_or o last) leads;
   split = split;
 }
-moves_made g goes calls last (move.Accept ∷ later) = accept_made (by_manual g) goes calls last later (moves_made g goes calls last later)
+moves_made g goes calls last (move.Accept ∷ later) = accept_made (by_manual g) goes refl calls last later (moves_made g goes calls last later)
 moves_made g goes calls last (move.Issue n ∷ later) = issue_step g calls last n later (moves_made g goes calls last later)
 moves_made g goes calls last (move.Finish n ∷ later) = finish_step g calls last n later (moves_made g goes calls last later)

@@ -1,15 +1,24 @@
 -- How the steps of a submission call are answered, and what they make: from the laws of the call of the positions that wait.
-use Rattle.std.proofs.Common.{◌≡◌, ℕ, ◌+◌, ◌<◌, false, true, [], refl, sym, subst, ap, ◌∙◌, inl, inr, arith}
+use Rattle.std.proofs.Common.{◌≡◌, ℕ, zero, suc, ◌+◌, ◌-◌, ◌<◌, ◌≤◌, false, true, Bool, List, [], ◌∷◌, length, drop, get_or, Option, Some, None, if◌then◌else◌, refl, sym, subst, ap, ap₂, ◌∙◌, inl, inr, arith}
+use Rattle.std.proofs.Math.ListN.{drop_of_length-le}
+use Rattle.std.proofs.lemmas.List.{drop_more}
+use Rattle.std.proofs.lemmas.List.Sums.{sum_by_push}
+use Rattle.std.proofs.lemmas.Option.{slice_get-get_or}
 use Rattle.uring_core.specs.World.{World, happens, beginning}
-use Rattle.uring_core.specs.StepAnswers.{CalledForApart, is_spent}
+use Rattle.uring_core.specs.StepAnswers.{CalledForApart, is_spent, place_answer}
 use Rattle.uring_entry.specs.Setup.{Setup}
-use Rattle.uring_laws.specs.Standing.{Stands, in_call, after_call}
+use Rattle.uring_entry.specs.Layout.{Sqe}
+use Rattle.uring_entry.specs.Submission.{Submission, Place, taken}
+use Rattle.uring_laws.specs.Standing.{Stands, in_call, after_call, ends_behind}
 use Rattle.uring_laws.proofs.Standing.{call_opens, call_closes, position_taken}
 use Rattle.uring_core.specs.declared.step.Step.TheVariants as step
 use Rattle.uring_core.specs.declared.answer.Answer.{Answer}
 use Rattle.uring_core.specs.declared.answer.Answer.TheVariants as answer
+use Rattle.uring_threads.specs.Calls.{calls_behind, calls_left, ends_of}
 use Rattle.uring_threads.specs.Kept.{Kept, now, Grows}
-use Rattle.uring_threads.specs.Tallies.{Appends, none_counted, call_counted}
+use Rattle.uring_threads.specs.Taking.{IsFirst}
+use Rattle.uring_threads.specs.Tallies.{Appends, none_counted, calls_counted}
+use Rattle.uring_threads.specs.declared.calls.CallMade.TheVariants as made
 use Rattle.uring_threads.proofs.TraceSteps.{grown, appends_one, appends_then}
 
 -- a Begin is answered in one of three ways
@@ -34,14 +43,6 @@ begun_spent a count x s not_closed called is =
       | inr spent ↦ spent.1
     ]
 
--- a position was taken
-pub took_now : (a b : Kept) (w : World) (count done : ℕ) (x : Answer) → a.setup.stops ≡ false
-    → Stands w.submission [] count → done < count → now a ≡ in_call w count done
-    → Grows a b (step.Take, x) → CalledForApart a.setup (now a) step.Take x
-    → now b ≡ in_call w count (done + 1)
-took_now a b w count done x goes s low at g called =
-    grown a b step.Take x g ∙ ap (λ v. happens a.setup v step.Take x) at ∙ (position_taken a.setup goes w count count done x s (omega arith) low (subst (λ v. CalledForApart a.setup v step.Take x) at called)).1
-
 -- the call opened
 pub opened_now : (a b : Kept) (count n : ℕ) (x : Answer) → Stands (now a).submission [] count
     → (now a).is_closed ≡ false → x ≡ answer.Call n → Grows a b (step.Begin count, x)
@@ -49,21 +50,129 @@ pub opened_now : (a b : Kept) (count n : ℕ) (x : Answer) → Stands (now a).su
 opened_now a b count n x s not_closed is g called =
     grown a b (step.Begin count) x g ∙ ap (beginning (now a) count) is ∙ (call_opens a.setup (now a) count count x s not_closed (omega arith) called).1
 
--- it took all positions that waited, and closed, and the head was loaded
-pub closed_now : (a t e b : Kept) (count : ℕ) (y z : Answer) → Stands (now a).submission [] count
-    → now t ≡ in_call (now a) count count → Grows t e (step.End, y)
+-- the world apart from the call that is open
+abbrev pub between_calls : World → World
+between_calls w = record w { submission = record w.submission { call = None } }
+
+-- it stands, so many positions waiting
+pub between_stands : (v w : World) (count done : ℕ) → v ≡ in_call w count done → Stands w.submission [] count
+    → Stands (between_calls v).submission [] count
+between_stands v w count done at s =
+    subst (λ (u : World). Stands (between_calls u).submission [] count) (sym at) (record { fresh = s.fresh; call = refl; head = s.head; waiting = s.waiting })
+
+-- A position that an open call took, of this set-up: what it was, and what is left behind it.
+pub record TookNext (b : Kept) (g : Setup) (w : World) (count done : ℕ) (x : Answer) : Type 0 where
+  pub place : Place
+  pub answer : x ≡ place_answer (Some place)
+  pub next : drop (taken w.submission + done) w.submission.published
+      ≡ place ∷ drop (taken w.submission + (done + 1)) w.submission.published
+  pub world : now b ≡ in_call w (if ends_behind g (Some place) then done + 1 else count) (done + 1)
+
+took_next : (a b : Kept) (w : World) (count done : ℕ) (x : Answer) → a.setup.stops ≡ false
+    → Stands (between_calls w).submission [] count → done < count → now a ≡ in_call w count done
+    → Grows a b (step.Take, x) → CalledForApart a.setup (now a) step.Take x
+    → TookNext b a.setup w count done x
+took_next a b w count done x goes s low at g called =
+    let l : Submission = w.submission in
+    let within : taken l + done < length l.published = omega (arith, s.waiting) in
+    let place : Place = get_or l.published (taken l + done) (record { word = 0; entry = None }) in
+    let is = slice_get-get_or l.published (taken l + done) (record { word = 0; entry = None }) within in
+    let one = position_taken a.setup goes (between_calls w) count count done x s (omega arith) low (subst (λ v. CalledForApart a.setup v step.Take x) at called) in
+    record {
+      place = place;
+      answer = one.0 ∙ ap place_answer is;
+      next = drop_more l.published (taken l + done) (record { word = 0; entry = None }) within ∙ ap (λ n. place ∷ drop n l.published) (omega arith);
+      world = grown a b step.Take x g ∙ ap (λ v. happens a.setup v step.Take x) at ∙ one.1 ∙ ap (λ p. in_call w (if ends_behind a.setup p then done + 1 else count) (done + 1)) is;
+    }
+
+-- it took it of the positions that waited as the call opened
+pub took_of : (a k b : Kept) (w : World) (count done : ℕ) (x : Answer) → a.setup.stops ≡ false
+    → k.setup ≡ a.setup → Stands w.submission [] count → now a ≡ in_call w count 0 → done < count
+    → now k ≡ in_call (now a) count done → Grows k b (step.Take, x)
+    → CalledForApart k.setup (now k) step.Take x → TookNext b a.setup (now a) count done x
+took_of a k b w count done x goes same s opened low at g called =
+    subst (λ (u : Setup). TookNext b u (now a) count done x) same
+    (took_next k b (now a) count done x (ap (λ (u : Setup). u.stops) same ∙ goes) (between_stands (now a) w count 0 opened s) low at g called)
+
+-- whether the call ends behind it, as the code tests it
+pub ends_as : (b : Kept) (g s : Setup) (w : World) (count done : ℕ) (x : Answer) (ended is : Bool) → s ≡ g
+    → ((place : Place) → x ≡ place_answer (Some place) → ended ≡ ends_behind s (Some place))
+    → ended ≡ is → (t : TookNext b g w count done x) → ends_behind g (Some t.place) ≡ is
+ends_as b g s w count done x ended is same tests e t =
+    ap (λ u. ends_behind u (Some t.place)) (sym same) ∙ sym (tests t.place t.answer) ∙ e
+
+-- what is left of a list of places, seen from one place of it
+ends_next : (g : Setup) (before after : List Place) (place : Place) (done : ℕ) (ends : Bool) (calls : List ℕ)
+    → before ≡ place ∷ after → ends_behind g (Some place) ≡ ends
+    → calls_behind (ends_of g before) done ≡ calls → calls_behind (ends ∷ ends_of g after) done ≡ calls
+ends_next g before after place done ends calls is e at = ap (λ b. calls_behind (b ∷ ends_of g after) done) (sym e) ∙ ap (λ xs. calls_behind (ends_of g xs) done) (sym is) ∙ at
+
+-- the call ends behind it
+pub ended_there : (g : Setup) (before after : List Place) (place : Place) (done : ℕ) (calls : List ℕ)
+    → before ≡ place ∷ after → ends_behind g (Some place) ≡ true
+    → calls_behind (ends_of g before) done ≡ calls
+    → calls ≡ (done + 1) ∷ calls_behind (ends_of g after) 0
+unfolding calls_behind
+ended_there g before after place done calls is e at =
+    sym (ends_next g before after place done true calls is e at) ∙ ap (λ n. n ∷ calls_behind (ends_of g after) 0) (omega arith)
+
+-- or goes on
+pub gone_on : (g : Setup) (before after : List Place) (place : Place) (done : ℕ) (calls : List ℕ)
+    → before ≡ place ∷ after → ends_behind g (Some place) ≡ false
+    → calls_behind (ends_of g before) done ≡ calls
+    → calls_behind (ends_of g after) (done + 1) ≡ calls
+unfolding calls_behind
+gone_on g before after place done calls is e at =
+    ap (calls_behind (ends_of g after)) (omega arith) ∙ ends_next g before after place done false calls is e at
+
+-- or took all
+pub all_taken : (g : Setup) (left : List Place) (count : ℕ) (calls : List ℕ) → 0 < count → left ≡ []
+    → calls_behind (ends_of g left) count ≡ calls → calls ≡ count ∷ calls_behind (ends_of g left) 0
+unfolding calls_behind
+all_taken g left zero calls some none at = absurd (omega (arith, some))
+all_taken g left (suc count) calls some none at =
+    sym at ∙ ap (λ xs. calls_behind (ends_of g xs) (suc count)) none ∙ ap (λ xs. suc count ∷ calls_behind (ends_of g xs) 0) (sym none)
+
+-- none is left behind as many as waited
+pub none_behind : (w : World) (count : ℕ) → Stands (between_calls w).submission [] count
+    → drop (taken w.submission + count) w.submission.published ≡ []
+none_behind w count s = drop_of_length-le w.submission.published (let q = s.waiting in omega arith)
+
+-- it took so many positions and closed, and the head was loaded
+pub closed_now : (a t e b : Kept) (count n : ℕ) (y z : Answer) → Stands (now a).submission [] count
+    → n ≤ count → now t ≡ in_call (now a) n n → Grows t e (step.End, y)
     → CalledForApart t.setup (now t) step.End y → Grows e b (step.LoadHead, z)
-    → t.setup ≡ a.setup → now b ≡ after_call a.setup (now a) count
-closed_now a t e b count y z s at end called load same =
+    → t.setup ≡ a.setup → now b ≡ after_call a.setup (now a) n
+closed_now a t e b count n y z s few at end called load same =
     grown e b step.LoadHead z load
     ∙ ap (λ w. happens t.setup w step.LoadHead z) (grown t e step.End y end ∙ ap (λ w. happens t.setup w step.End y) at)
-    ∙ (call_closes t.setup (now a) count count 0 y z s (omega arith) (subst (λ w. CalledForApart t.setup w step.End y) at called)).0
-    ∙ ap (λ (g : Setup). after_call g (now a) count) same
+    ∙ (call_closes t.setup (now a) count n (count - n) y z s (omega arith) (subst (λ w. CalledForApart t.setup w step.End y) at called)).0
+    ∙ ap (λ (g : Setup). after_call g (now a) n) same
+
+-- which was the first of the calls that were left
+pub first_made : (g : Setup) (w v : World) (count n : ℕ) → Stands w.submission [] count → 0 < n → n ≤ count
+    → calls_left g w.submission
+    ≡ n ∷ calls_behind (ends_of g (drop (taken w.submission + n) w.submission.published)) 0
+    → v ≡ after_call g w n → IsFirst g w.submission v.submission count (made.Taken n)
+first_made g w v count n s some few first is =
+    let l : Submission = w.submission in
+    let more : taken (after_call g w n).submission ≡ taken l + n = sum_by_push (λ x. x) l.calls n in
+    subst (λ (u : World). IsFirst g w.submission u.submission count (made.Taken n)) (sym is)
+    (some, few, first ∙ ap (λ k. n ∷ calls_behind (ends_of g (drop k l.published)) 0) (sym more), record { fresh = s.fresh; call = refl; head = refl; waiting = omega (arith, s.waiting, more) })
+
+-- as it was said of the world in which it had opened
+pub opened_first : (g : Setup) (w o v : World) (count n : ℕ) → o ≡ in_call w count 0
+    → Stands w.submission [] count → 0 < n → n ≤ count
+    → calls_left g o.submission
+    ≡ n ∷ calls_behind (ends_of g (drop (taken o.submission + n) o.submission.published)) 0
+    → v ≡ after_call g w n → IsFirst g w.submission v.submission count (made.Taken n)
+opened_first g w o v count n at s some few first is =
+    first_made g w v count n s some few (subst (λ (u : World). calls_left g u.submission ≡ n ∷ calls_behind (ends_of g (drop (taken u.submission + n) u.submission.published)) 0) at first) is
 
 -- what a call that opened appends
 pub call_counts : (a o t e b : Kept) (count : ℕ) (x y z : Answer) → Grows a o (step.Begin count, x)
     → Appends o t none_counted → Grows t e (step.End, y) → Grows e b (step.LoadHead, z)
-    → Appends a b call_counted
+    → Appends a b (calls_counted 1)
 call_counts a o t e b count x y z begin take end load =
     let last : Appends t b none_counted = appends_then t e b none_counted none_counted none_counted (appends_one t e (step.End, y) none_counted end refl refl) (appends_one e b (step.LoadHead, z) none_counted load refl refl) refl in
-    appends_then a o b call_counted none_counted call_counted (appends_one a o (step.Begin count, x) call_counted begin refl refl) (appends_then o t b none_counted none_counted none_counted take last refl) refl
+    appends_then a o b (calls_counted 1) none_counted (calls_counted 1) (appends_one a o (step.Begin count, x) (calls_counted 1) begin refl refl) (appends_then o t b none_counted none_counted none_counted take last refl) refl

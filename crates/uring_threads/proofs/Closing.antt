@@ -27,18 +27,17 @@ pub once_stays : (a b : Kept) (t : Tally) (i : Intake) → Appends a b t → t.c
 once_stays a b t i p none once =
     ap (count_by closes_ring) p.trace ∙ closes_append a.trace p.events ∙ ap (λ n. count_by closes_ring a.trace + n) (ap (λ (u : Tally). u.closes) p.tally ∙ none) ∙ omega arith ∙ once
 
--- a call was begun
-not_shut : (a : Kept) (count : _) (b : Begun) → ClosesOnce a intake.Ready
-    → ClosesOnce a (intake_after count b)
-not_shut a count begun.Taken once = once
-not_shut a count begun.Again once = once
-not_shut a count begun.Spent once = once
+-- calls were begun
+not_shut : (a : Kept) (b : Begun) → ClosesOnce a intake.Ready → ClosesOnce a (intake_after b)
+not_shut a begun.Taken once = once
+not_shut a (begun.Again count) once = once
+not_shut a (begun.Spent count) once = once
 
-pub once_begun : (a b : Kept) (t : Tally) (i : Intake) (count : _) (x : Begun) → Appends a b t
+pub once_begun : (a b : Kept) (t : Tally) (i : Intake) (x : Begun) → Appends a b t
     → t.closes ≡ 0 → (ClosesOnce a i → ClosesOnce a intake.Ready) → ClosesOnce a i
-    → ClosesOnce b (intake_after count x)
-once_begun a b t i count x p none ready once =
-    not_shut b count x (once_stays a b t intake.Ready p none (ready once))
+    → ClosesOnce b (intake_after x)
+once_begun a b t i x p none ready once =
+    not_shut b x (once_stays a b t intake.Ready p none (ready once))
 
 -- the close mark was pulled
 pub once_shut : (a b : Kept) (x : Answer) → Grows a b (step.Close, x) → ClosesOnce a intake.Ready

@@ -1,18 +1,8 @@
 -- A call that memory isn't refused to waits for none.
 use Rattle.std.proofs.Common.{◌≡◌, ℕ, false, refl}
-use Rattle.uring_threads.specs.Taking.{intake_after}
 use Rattle.uring_threads.specs.Turns.{awaits_memory}
-use Rattle.uring_threads.specs.declared.calls.Begun.{Begun}
-use Rattle.uring_threads.specs.declared.calls.Begun.TheVariants as begun
 use Rattle.uring_threads.specs.declared.intake.Intake.{Intake}
 use Rattle.uring_threads.specs.declared.intake.Intake.TheVariants as intake
-
--- a call that was begun, unless memory was refused
-pub begun_waits_not : (count : ℕ) (b : Begun) → (b ≡ begun.Again → ⊥)
-    → awaits_memory (intake_after count b) ≡ false
-begun_waits_not count begun.Taken never = refl
-begun_waits_not count begun.Again never = absurd (never refl)
-begun_waits_not count begun.Spent never = refl
 
 -- an intake in any state but that of waiting
 pub waits_not : (i : Intake) → ((count : ℕ) → i ≡ intake.Waiting count → ⊥)

@@ -1,6 +1,8 @@
 pub mod TraceSteps
 pub mod ItemSteps
 pub mod CallSteps
+mod CallsMade
+mod BegunRows
 pub mod IssueSteps
 pub mod Tying
 pub mod Dealing

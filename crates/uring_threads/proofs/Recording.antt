@@ -1,8 +1,10 @@
 -- What each event adds to the steps of the trace, and how rows of steps add up.
-use Rattle.std.proofs.Common.{◌≡◌, ℕ, ◌+◌, ◌<◌, Bool, true, false, not, cond, List, [], ◌∷◌, ◌++◌, map, take, length, count_by, inl, get_or, replicate, zero, suc, refl, sym, subst, ap, ◌∙◌, arith, append_assoc, append-nil}
+use Rattle.std.proofs.Common.{◌≡◌, ℕ, ◌+◌, ◌<◌, Bool, true, false, not, cond, List, [], ◌∷◌, ◌++◌, map, take, length, count_by, inl, get_or, replicate, sum, zero, suc, refl, sym, subst, ap, ap₂, ◌∙◌, arith, append_assoc, append-nil}
 use Rattle.std.specs.Prelude.{Result, IfOk}
 use Rattle.std.proofs.lemmas.List.{append_cancel_left, map-append, replicate_more, take_more, length-take-le}
-use Rattle.std.proofs.lemmas.List.Sums.{sum_by-append}
+use Rattle.std.proofs.lemmas.List.Sums.{sum_by-append, sum_by-cons, sum_by_push}
+use Rattle.uring_entry.specs.Setup.{Setup}
+use Rattle.uring_entry.specs.Submission.{Submission}
 use Rattle.uring_core.specs.Histories.{Event}
 use Rattle.uring_core.specs.declared.step.Step.{Step}
 use Rattle.uring_core.specs.declared.step.Step.TheVariants as step
@@ -11,11 +13,11 @@ use Rattle.uring_ports.specs.declared.item.Item.{Item}
 use Rattle.uring_ports.specs.declared.pulled.Pulled.{Pulled}
 use Rattle.uring_ports.specs.declared.pulled.Pulled.TheVariants as pulled
 use Rattle.uring_ports.specs.Ports.{Put, Pulls}
-use Rattle.uring_threads.specs.EventRows.{step_of, steps_of, Records, item_row, items_row, begin_row, call_row, delivery_row, AreOfTurn, IsAgain, IsPulled, IsTaken, RecordsIntake, RecordsFinishes, RecordsIssues, RecordsTurn}
-use Rattle.uring_threads.specs.Kept.{Kept, Grows, IsUnmoved}
-use Rattle.uring_threads.specs.declared.calls.Begun.{Begun}
+use Rattle.uring_threads.specs.EventRows.{step_of, steps_of, Records, item_row, items_row, call_row, delivery_row, AreOfTurn, IsAgain, IsPulled, IsTaken, RecordsIntake, RecordsFinishes, RecordsIssues, RecordsTurn}
+use Rattle.uring_threads.specs.Calls.{calls_row, refused_row}
+use Rattle.uring_threads.specs.Kept.{Kept, now, Grows, IsUnmoved}
 use Rattle.uring_threads.specs.Tallies.{Tally, Appends, finishes_counted, issues_counted, is_refused, issues_request, takes_result}
-use Rattle.uring_threads.specs.declared.calls.Begun.TheVariants as begun
+use Rattle.uring_threads.specs.declared.calls.CallMade.TheVariants as made
 use Rattle.uring_threads.specs.declared.intake.Intake.{Intake}
 use Rattle.uring_threads.specs.declared.intake.Intake.TheVariants as intake
 use Rattle.uring_threads.specs.declared.turns.Turn.{Turn}
@@ -57,25 +59,55 @@ items_recorded a b c items i slot item at within is p q =
     (records_then a b c (items_row 0 (take i items)) (item_row slot item) p q
     ∙ ap (λ zs. steps_of a ++ zs) (ap (λ s. items_row 0 (take i items) ++ item_row s item) many ∙ sym (items_row_snoc 0 (take i items) item)))
 
--- a call that opened: it took all its positions, closed, and the application loaded the head
-pub call_recorded : (a b c d e : Kept) (n : ℕ) (x y z : Answer) → Grows a b (step.Begin n, x)
+-- a call that opened: it took positions, closed, and the application loaded the head
+pub call_recorded : (a b c d e : Kept) (count n : ℕ) (x y z : Answer) → Grows a b (step.Begin count, x)
     → Records b c (replicate n step.Take) → Grows c d (step.End, y)
     → Grows d e (step.LoadHead, z)
-    → Records a e (begin_row n begun.Taken)
-call_recorded a b c d e n x y z g p h k =
-    records_then a b e (step.Begin n ∷ []) (replicate n step.Take ++ step.End ∷ step.LoadHead ∷ []) (records_one a b (step.Begin n) x g)
+    → Records a e (call_row count (made.Taken n))
+call_recorded a b c d e count n x y z g p h k =
+    records_then a b e (step.Begin count ∷ []) (replicate n step.Take ++ step.End ∷ step.LoadHead ∷ []) (records_one a b (step.Begin count) x g)
     (records_then b c e (replicate n step.Take) (step.End ∷ step.LoadHead ∷ []) p
     (records_then c d e (step.End ∷ []) (step.LoadHead ∷ []) (records_one c d step.End y h) (records_one d e step.LoadHead z k)))
 
--- a call that was put and begun
-pub put_recorded : (a b c d : Kept) (items : List Item) (begun : Begun) (x : Answer)
-    → Records a b (items_row 0 items)
+-- one call more was made
+calls_row_snoc : (done : List ℕ) (n : ℕ) (left : List ℕ)
+    → calls_row (done ++ n ∷ []) left ≡ calls_row done (n ∷ left) ++ call_row (n + sum left) (made.Taken n)
+unfolding calls_row
+calls_row_snoc [] n left = ap (λ k. step.Begin k ∷ replicate n step.Take ++ step.End ∷ step.LoadHead ∷ []) (omega arith)
+calls_row_snoc (first ∷ more) n left =
+    ap₂ (λ k later. step.Begin k ∷ replicate first step.Take ++ step.End ∷ step.LoadHead ∷ later) (omega (arith, sum_by_push (λ x. x) more n, sum_by-cons (λ x. x) n left)) (calls_row_snoc more n left)
+    ∙ ap (λ zs. step.Begin (first + (sum more + sum (n ∷ left))) ∷ zs) (sym (append_assoc (replicate first step.Take) (step.End ∷ step.LoadHead ∷ calls_row more (n ∷ left)) (call_row (n + sum left) (made.Taken n))))
+
+pub call_more : (a b c : Kept) (done : List ℕ) (n : ℕ) (left calls : List ℕ) (count : ℕ)
+    → Records a b (calls_row done calls) → calls ≡ n ∷ left → sum calls ≡ count
+    → Records b c (call_row count (made.Taken n))
+    → Records a c (calls_row (done ++ n ∷ []) left)
+call_more a b c done n left calls count p is many q =
+    records_then a b c (calls_row done (n ∷ left)) (call_row (n + sum left) (made.Taken n)) (p ∙ ap (λ ns. steps_of a ++ calls_row done ns) is)
+    (subst (λ k. Records b c (call_row k (made.Taken n))) (sym many ∙ ap sum is ∙ sum_by-cons (λ x. x) n left ∙ omega arith) q)
+    ∙ ap (λ zs. steps_of a ++ zs) (sym (calls_row_snoc done n left))
+
+-- and the next didn't open
+pub call_refused : (a b c : Kept) (done calls : List ℕ) (count : ℕ) → 0 < count → sum calls ≡ count
+    → Records a b (calls_row done calls) → Records b c (step.Begin count ∷ [])
+    → Records a c (calls_row done calls ++ refused_row calls)
+unfolding refused_row
+call_refused a b c done [] count some many p q = absurd (omega (arith, some, many))
+call_refused a b c done (n ∷ later) count some many p q =
+    records_then a b c (calls_row done (n ∷ later)) (step.Begin (n + sum later) ∷ []) p
+    (subst (λ k. Records b c (step.Begin k ∷ [])) (sym many ∙ sum_by-cons (λ x. x) n later ∙ omega arith) q)
+
+-- items that were put and published
+pub put_recorded : (a b c : Kept) (items : List Item) (x : Answer) → Records a b (items_row 0 items)
     → Grows b c (step.StoreTail, x)
-    → Records c d (begin_row (length items) begun)
-    → Records a d (call_row items begun)
-put_recorded a b c d items begun x p g q =
-    records_then a b d (items_row 0 items) (step.StoreTail ∷ begin_row (length items) begun) p
-    (records_then b c d (step.StoreTail ∷ []) (begin_row (length items) begun) (records_one b c step.StoreTail x g) q)
+    → Records a c (items_row 0 items ++ step.StoreTail ∷ [])
+put_recorded a b c items x p g = records_then a b c (items_row 0 items) (step.StoreTail ∷ []) p (records_one b c step.StoreTail x g)
+
+-- and the calls that took them
+pub taken_recorded : (a b c : Kept) (items : List Item) (begun : List Step)
+    → Records a b (items_row 0 items ++ step.StoreTail ∷ []) → Records b c begun
+    → Records a c (items_row 0 items ++ step.StoreTail ∷ begun)
+taken_recorded a b c items begun p q = records_then a b c (items_row 0 items ++ step.StoreTail ∷ []) begun p q ∙ ap (λ zs. steps_of a ++ zs) (append_assoc (items_row 0 items) (step.StoreTail ∷ []) begun)
 
 -- completions that were delivered, one or more
 pub delivery_recorded : (a b c d e f : Kept) (n : ℕ) (x y z : Answer) → 0 < n → IsUnmoved a b
@@ -106,34 +138,36 @@ pub issues_more : (a b c d : Kept) (n : ℕ) → RecordsIssues a b → IsUnmoved
 issues_more a b c d n p u q = issues_then a b d p (n ∷ [], records_then b c d [] (step.Issue n ∷ []) (records_none b c u) q)
 
 -- nothing was begun again, and nothing was pulled
-pub none_again : (i : Intake) → IsAgain i []
-none_again intake.Ready = refl
-none_again (intake.Waiting count) = inl refl
-none_again (intake.Spent count) = refl
-none_again intake.Closed = refl
+pub none_again : (g : Setup) (l : Submission) (i : Intake) → IsAgain g l i []
+none_again g l intake.Ready = refl
+none_again g l (intake.Waiting count) = inl refl
+none_again g l (intake.Spent count) = refl
+none_again g l intake.Closed = refl
 
-pub none_pulled : (size : ℕ) (put : Put) → IsPulled size put put []
-none_pulled size put = (pulled.Nothing, [], (refl, refl), refl)
+pub none_pulled : (g : Setup) (put : Put) → IsPulled g put put []
+none_pulled g put = (pulled.Nothing, [], (refl, refl), refl)
 
 -- what was pulled was taken
-pub pulled_as : (from size : ℕ) (before after : Put) (what : Pulled) (items taken : List Item) (steps : List Step)
-    → from ≡ size → taken ≡ items → Pulls from before what items after → IsTaken what taken steps
-    → IsPulled size before after steps
-pulled_as from size before after what items taken steps sizes same p t =
-    (what, items, subst (λ n. Pulls n before what items after) sizes p, subst (λ xs. IsTaken what xs steps) same t)
+pub pulled_as : (from : ℕ) (g : Setup) (before after : Put) (what : Pulled) (items taken : List Item) (steps : List Step)
+    → from ≡ g.sq → taken ≡ items → Pulls from before what items after → IsTaken g what taken steps
+    → IsPulled g before after steps
+pulled_as from g before after what items taken steps sizes same p t =
+    (what, items, subst (λ n. Pulls n before what items after) sizes p, subst (λ xs. IsTaken g what xs steps) same t)
 
 -- what waited, and what was pulled behind it
 pub intake_recorded : (a b c : Kept) (i : Intake) (before after : Put) (xs ys : List Step)
-    → IsAgain i xs → IsPulled a.setup.sq before after ys → Records a b xs → Records b c ys
+    → IsAgain a.setup (now a).submission i xs → IsPulled a.setup before after ys → Records a b xs
+    → Records b c ys
     → RecordsIntake a c i before after
 intake_recorded a b c i before after xs ys again pulled p q =
     record { again = xs; pulled = ys; is_again = again; is_pulled = pulled; row = records_then a b c xs ys p q }
 
 -- what waited, and nothing behind it
 pub again_recorded : (a b : Kept) (i : Intake) (put : Put)
-    → (steps : List Step) × IsAgain i steps × Records a b steps → RecordsIntake a b i put put
+    → (steps : List Step) × IsAgain a.setup (now a).submission i steps × Records a b steps
+    → RecordsIntake a b i put put
 again_recorded a b i put r =
-    record { again = r.0; pulled = []; is_again = r.1; is_pulled = none_pulled a.setup.sq put; row = r.2 ∙ ap (λ zs. steps_of a ++ zs) (sym (append-nil r.0)) }
+    record { again = r.0; pulled = []; is_again = r.1; is_pulled = none_pulled a.setup put; row = r.2 ∙ ap (λ zs. steps_of a ++ zs) (sym (append-nil r.0)) }
 
 -- no event at all
 pub records_nothing : (a : Kept) → Records a a []

@@ -1,5 +1,5 @@
 -- What is reported once all ends are settled, from what ties them to the trace.
-use Rattle.std.proofs.Common.{◌≡◌, ◌↔◌, ℕ, ℤ, zero, suc, ◌+◌, ◌<◌, ◌≤◌, ◌==◌, Bool, Some, true, false, List, [], ◌∷◌, ◌++◌, length, map, take, drop, sum, get_or, All, count_by, if◌then◌else◌, refl, sym, subst, ap, ap₂, ◌∙◌, arith, inl, inr, append_assoc, append-nil, length-drop}
+use Rattle.std.proofs.Common.{◌≡◌, ◌↔◌, ℕ, ℤ, zero, suc, ◌+◌, ◌<◌, ◌≤◌, ◌==◌, Bool, Some, true, false, List, [], ◌∷◌, ◌++◌, length, map, flat_map, take, drop, get_or, All, count_by, if◌then◌else◌, refl, sym, subst, ap, ap₂, ◌∙◌, arith, inl, inr, append_assoc, append-nil, length-drop}
 use Rattle.std.specs.List.{list_any}
 use Rattle.std.proofs.Math.Seq.{drop-append_seam, take-append_seam}
 use Rattle.std.proofs.lemmas.Bool.{or_cases, or_left, or_right}
@@ -25,6 +25,9 @@ use Rattle.uring_entry.specs.Submission.{Submission, taken, published_items, IsI
 use Rattle.uring_core.specs.Histories.{Event, world, history_of}
 use Rattle.uring_core.specs.World.{World, with_end_of}
 use Rattle.uring_core.proofs.Following.{history_of_snoc}
+use Rattle.uring_laws.specs.Standing.{Stands}
+use mathlib.Core.List.{IsPrefix}
+use Rattle.uring_threads.specs.Calls.{calls_of, calls_left}
 use Rattle.uring_threads.specs.Delivered.{OnlyPosts}
 use Rattle.uring_threads.specs.Turns.{IsDelivered, Tied, ClosesOnce, waiting_in, is_shut}
 use Rattle.uring_threads.specs.Kernel.{Kernel, IsKernel}
@@ -40,6 +43,7 @@ use Rattle.uring_threads.specs.declared.intake.Intake.TheVariants as intake
 use Rattle.uring_workers.specs.declared.job.Job.{Job}
 use Rattle.uring_workers.specs.declared.job.JobResult.{JobResult}
 use Rattle.uring_workers.specs.declared.work_lanes.WorkLanes.{WorkLanes}
+use Rattle.uring_threads.proofs.CallsMade.{none_left}
 use Rattle.uring_threads.proofs.Closing.{closes_append}
 use Rattle.uring_threads.proofs.Posting.{posts_none, posts_then, end_posts}
 use Rattle.uring_threads.proofs.SameEnds.{together_same}
@@ -66,39 +70,41 @@ posts_only k lanes workers r setup trace =
 
 -- What the application submitted.
 
-module _ (size : ℕ) (w : World) (put pulled : Put) (i : Intake) (r : Report) (t : Tied size w pulled i) (posts : OnlyPosts w (left_by r)) (leaves : LeavesItems put pulled r.unsent) where
-  pub publishes : AreItems size (items_of_calls put.calls) → PublishesItems put r
+module _ (g : Setup) (w : World) (put pulled : Put) (i : Intake) (r : Report) (same : r.setup ≡ g) (t : Tied g w pulled i) (posts : OnlyPosts w (left_by r)) (leaves : LeavesItems put pulled r.unsent) where
+  pub publishes : AreItems g.sq (items_of_calls put.calls) → PublishesItems put r
   publishes good =
       let cut : items_of_calls put.calls ≡ items_of_calls pulled.calls ++ items_of_calls leaves.rest = ap items_of_calls (sym leaves.calls) ∙ flat_map-append (λ (call : List _). call) pulled.calls leaves.rest in
       let whole : all_published_as (items_of_calls put.calls) ≡ all_published_as (items_of_calls pulled.calls) ++ all_published_as (items_of_calls leaves.rest) = ap all_published_as cut ∙ map-append published_as (items_of_calls pulled.calls) (items_of_calls leaves.rest) in
       ap (λ l. published_items l ++ all_published_as r.unsent) posts.submission
-      ∙ ap (λ ps. ps ++ all_published_as r.unsent) (t.published (all_first (IsItem size) (all_published_as (items_of_calls pulled.calls)) (all_published_as (items_of_calls leaves.rest)) (subst (All (IsItem size)) whole good)))
+      ∙ ap (λ ps. ps ++ all_published_as r.unsent) (t.published (all_first (IsItem g.sq) (all_published_as (items_of_calls pulled.calls)) (all_published_as (items_of_calls leaves.rest)) (subst (All (IsItem g.sq)) whole good)))
       ∙ ap (λ items. all_published_as (items_of_calls pulled.calls) ++ all_published_as items) leaves.items
       ∙ sym whole
 
   pub begins_calls : BeginsCalls put r
-  begins_calls = (
-    waiting_in i ++ map length leaves.rest,
-    ap (λ (l : Submission). l.calls ++ (waiting_in i ++ map length leaves.rest)) posts.submission
-        ∙ sym (append_assoc w.submission.calls (waiting_in i) (map length leaves.rest))
-        ∙ ap (λ ns. ns ++ map length leaves.rest) t.calls
-        ∙ sym (map-append length pulled.calls leaves.rest)
-        ∙ ap (map length) leaves.calls,
+  begins_calls = subst (λ (s : Setup). IsPrefix (left_by r).submission.calls (flat_map (calls_of s) put.calls)) (sym same) (
+    calls_left g w.submission ++ flat_map (calls_of g) leaves.rest,
+    ap (λ (l : Submission). l.calls ++ (calls_left g w.submission ++ flat_map (calls_of g) leaves.rest)) posts.submission
+        ∙ sym (append_assoc w.submission.calls (calls_left g w.submission) (flat_map (calls_of g) leaves.rest))
+        ∙ ap (λ ns. ns ++ flat_map (calls_of g) leaves.rest) t.calls
+        ∙ sym (flat_map-append (calls_of g) pulled.calls leaves.rest)
+        ∙ ap (flat_map (calls_of g)) leaves.calls,
   )
 
   pub closes_all : ClosesOnlyAllTaken put r
   closes_all = λ closed.
       let pulled_closed : pulled.closed ≡ true = sym t.closed ∙ sym posts.is_closed ∙ closed in
-      let none : waiting_in i ≡ [] = none_behind i (t.shut ∙ pulled_closed) in
+      let none : waiting_in i ≡ 0 = none_behind i (t.shut ∙ pulled_closed) in
+      let stands : Stands w.submission [] 0 = subst (Stands w.submission []) none t.stands in
       let last = leaves.closed pulled_closed in
       let calls : pulled.calls ≡ put.calls = sym (append-nil pulled.calls) ∙ ap (λ rest. pulled.calls ++ rest) (sym last.1) ∙ leaves.calls in
       record {
         closed = last.0;
         unsent = leaves.items ∙ ap items_of_calls last.1;
-        calls = ap (λ (l : Submission). l.calls) posts.submission ∙ sym (append-nil w.submission.calls) ∙ ap (λ ns. w.submission.calls ++ ns) (sym none) ∙ t.calls ∙ ap (map length) calls;
-        taken = ap taken posts.submission ∙ omega (arith, t.stands.waiting, ap sum none) ∙ ap (λ (l : Submission). length l.published) (sym posts.submission);
+        calls = ap (λ (l : Submission). l.calls) posts.submission ∙ sym (append-nil w.submission.calls) ∙ ap (λ ns. w.submission.calls ++ ns) (sym (none_left g w.submission stands)) ∙ t.calls ∙ ap (flat_map (calls_of g)) calls
+            ∙ ap (λ (s : Setup). flat_map (calls_of s) put.calls) (sym same);
+        taken = ap taken posts.submission ∙ omega (arith, stands.waiting) ∙ ap (λ (l : Submission). length l.published) (sym posts.submission);
       } where
-        none_behind : (i : Intake) → is_shut i ≡ true → waiting_in i ≡ []
+        none_behind : (i : Intake) → is_shut i ≡ true → waiting_in i ≡ 0
         none_behind intake.Ready shut = refl
         none_behind (intake.Waiting count) shut = absurd (let f : false ≡ true = shut in cc)
         none_behind (intake.Spent count) shut = absurd (let f : false ≡ true = shut in cc)
@@ -115,10 +121,10 @@ no_close rs = sym (times_counts closes_ring (map finish_of rs)) ∙ none rs wher
 abbrev one_if : Bool → ℕ
 one_if b = if b then 1 else 0
 
-pub has_one_close : (size : ℕ) (k : Kept) (pulled : Put) (i : Intake) (lanes : List WorkLanes) (workers : List Worker) (r : Report)
-    → Tied size (now k) pulled i → ClosesOnce k i → OnlyPosts (now k) (left_by r)
+pub has_one_close : (g : Setup) (k : Kept) (pulled : Put) (i : Intake) (lanes : List WorkLanes) (workers : List Worker) (r : Report)
+    → Tied g (now k) pulled i → ClosesOnce k i → OnlyPosts (now k) (left_by r)
     → FinishesAll k.trace lanes workers r → HasOneClose r
-has_one_close size k pulled i lanes workers r t once posts trace =
+has_one_close g k pulled i lanes workers r t once posts trace =
     ap (count_by closes_ring) trace ∙ closes_append k.trace (map finish_of (all_waiting lanes workers))
     ∙ omega (arith, no_close (all_waiting lanes workers)) ∙ once ∙ ap one_if (t.shut ∙ sym t.closed ∙ sym posts.is_closed)
 

@@ -1,5 +1,5 @@
 -- The dispatcher's ties stay through the parts of a turn, and their tallies add up.
-use Rattle.std.proofs.Common.{◌≡◌, ℕ, List, [], ◌++◌, sum, refl, sym, subst, ap, ap₂, ◌∙◌, arith}
+use Rattle.std.proofs.Common.{◌≡◌, ℕ, List, [], ◌++◌, refl, sym, subst, ap, ap₂, ◌∙◌, arith}
 use Rattle.std.specs.Prelude.{◌⊎◌, ◌+◌, ◌-◌, ◌^◌, length, nat_lt, None, Result, Ok, Err, IfOk, OnOk}
 use Rattle.uring_entry.specs.Requests.{Requests}
 use Rattle.uring_entry.specs.Setup.{Setup}
@@ -18,6 +18,7 @@ use Rattle.uring_threads.specs.Kernel.{Kernel, IsKernel}
 use Rattle.uring_threads.specs.Served.{HasServed}
 use Rattle.uring_threads.specs.Taking.{TakesIn}
 use Rattle.uring_threads.specs.Tallies.{Tally, Appends, both, none_counted, issues_counted, finishes_counted, reaps_counted}
+use Rattle.uring_threads.specs.Calls.{calls_left}
 use Rattle.uring_threads.specs.Turns.{AreTies, Counts, IsDelivered, IsGivenUpAsSpent, Tied, ClosesOnce, waiting_in}
 use Rattle.uring_threads.specs.declared.intake.Intake.{Intake}
 use Rattle.uring_threads.specs.declared.intake.Intake.TheVariants as intake
@@ -29,12 +30,12 @@ use Rattle.uring_threads.proofs.TraceSteps.{unmoved_now, appends_none, appends_t
 
 -- a call or the close mark was taken in
 pub ties_taken : (a b : Kept) (pulled later : Put) (delivered : List Cqe) (i j : Intake) (lanes : List WorkLanes) (n : ℕ)
-    → AreTies a pulled delivered i lanes → TakesIn a b n → Tied a.setup.sq (now b) later j
+    → AreTies a pulled delivered i lanes → TakesIn a b n → Tied a.setup (now b) later j
     → (ClosesOnce a i → ClosesOnce b j) → (now b).completions ≡ (now a).completions
     → AreTies b later delivered j lanes
 ties_taken a b pulled later delivered i j lanes n t p tied once same =
     record {
-      tied = subst (λ (g : Setup). Tied g.sq (now b) later j) (sym p.appends.setup) tied;
+      tied = subst (λ (g : Setup). Tied g (now b) later j) (sym p.appends.setup) tied;
       once = once t.once;
       delivered = subst (λ l. IsDelivered l delivered) (sym same) t.delivered;
       carried = carried_stays a b lanes (quiet_stays a b _ p.appends refl refl) t.carried;
@@ -55,11 +56,11 @@ pub ties_posted : (a b : Kept) (pulled : Put) (delivered : List Cqe) (i : Intake
     → HaveCarried b later → AreTies b pulled delivered i later
 ties_posted a b pulled delivered i lanes later t s p closes posts carried =
     record {
-      tied = subst (λ (g : Setup). Tied g.sq (now b) pulled i) (sym p.setup)
+      tied = subst (λ (g : Setup). Tied g (now b) pulled i) (sym p.setup)
           (record {
             published = λ good. ap (λ l. published_items l) posts.submission ∙ s.tied.published good;
-            calls = ap (λ (l : Submission). l.calls ++ waiting_in i) posts.submission ∙ s.tied.calls;
-            stands = subst (λ l. Stands l [] (sum (waiting_in i))) (sym posts.submission) s.tied.stands;
+            calls = ap (λ (l : Submission). l.calls ++ calls_left a.setup l) posts.submission ∙ s.tied.calls;
+            stands = subst (λ l. Stands l [] (waiting_in i)) (sym posts.submission) s.tied.stands;
             spent = given_up_stays (now a) (now b) i posts.accepted s.tied.spent;
             closed = posts.is_closed ∙ s.tied.closed;
             shut = s.tied.shut;
@@ -76,11 +77,11 @@ pub ties_delivered : (a b : Kept) (pulled : Put) (before delivered : List Cqe) (
     → IsDelivered (now b).completions delivered → AreTies b pulled delivered i lanes
 ties_delivered a b pulled before delivered i lanes t s p issues finishes closes keeps now_delivered =
     record {
-      tied = subst (λ (g : Setup). Tied g.sq (now b) pulled i) (sym p.setup)
+      tied = subst (λ (g : Setup). Tied g (now b) pulled i) (sym p.setup)
           (record {
             published = λ good. ap (λ l. published_items l) keeps.submission ∙ s.tied.published good;
-            calls = ap (λ (l : Submission). l.calls ++ waiting_in i) keeps.submission ∙ s.tied.calls;
-            stands = subst (λ l. Stands l [] (sum (waiting_in i))) (sym keeps.submission) s.tied.stands;
+            calls = ap (λ (l : Submission). l.calls ++ calls_left a.setup l) keeps.submission ∙ s.tied.calls;
+            stands = subst (λ l. Stands l [] (waiting_in i)) (sym keeps.submission) s.tied.stands;
             spent = given_up_stays (now a) (now b) i (ap (λ (r : Requests). r.accepted) keeps.requests) s.tied.spent;
             closed = keeps.is_closed ∙ s.tied.closed;
             shut = s.tied.shut;
@@ -115,7 +116,7 @@ counts_all a b c d e popped finished issued delivered p q q_idle r r_idle s s_id
 
 -- the ties before a delivery: a call was taken in, results were, and requests were issued
 pub ties_worked : (a b c d : Kept) (pulled later : Put) (before delivered : List Cqe) (i j : Intake) (lanes collected issued : List WorkLanes) (n : ℕ) (t u : Tally)
-    → AreTies a pulled before i lanes → TakesIn a b n → Tied a.setup.sq (now b) later j
+    → AreTies a pulled before i lanes → TakesIn a b n → Tied a.setup (now b) later j
     → (ClosesOnce a i → ClosesOnce b j) → (now b).completions ≡ (now a).completions
     → delivered ≡ before
     → Appends b c t → t.closes ≡ 0 → OnlyPosts (now b) (now c) → HaveCarried c collected
@@ -145,7 +146,7 @@ kernel_unmoved k kept u is =
       hold = is.hold;
       short = is.short;
       ties = record {
-        tied = subst (λ (g : Setup). Tied g.sq (now kept) k.pulled k.intake) (sym sizes) (subst (λ w. Tied k.kept.setup.sq w k.pulled k.intake) (sym same) is.ties.tied);
+        tied = subst (λ (g : Setup). Tied g (now kept) k.pulled k.intake) (sym sizes) (subst (λ w. Tied k.kept.setup w k.pulled k.intake) (sym same) is.ties.tied);
         once = once_unmoved k.kept kept k.intake u is.ties.once;
         delivered = subst (λ (w : World). IsDelivered w.completions k.reaped) (sym same) is.ties.delivered;
         carried = carried_stays k.kept kept k.lanes (quiet_stays k.kept kept none_counted (appends_none k.kept kept u) refl refl) is.ties.carried;

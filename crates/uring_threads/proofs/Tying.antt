@@ -1,8 +1,8 @@
 -- What was pulled stays tied to the submission ring.
-use Rattle.std.proofs.Common.{◌≡◌, ℕ, ◌+◌, ◌<◌, ◌≤◌, true, false, List, [], ◌∷◌, ◌++◌, length, refl, sym, subst, ap, ◌∙◌, arith, append_assoc, append-nil}
+use Rattle.std.proofs.Common.{◌≡◌, ℕ, ◌+◌, ◌<◌, ◌≤◌, true, false, List, [], ◌∷◌, ◌++◌, length, map, flat_map, refl, sym, subst, ap, ap₂, ◌∙◌, arith, append_assoc, append-nil}
+use Rattle.std.proofs.lemmas.Grind.{flat_map-append}
 use Rattle.std.proofs.lemmas.List.{map-append}
-use Rattle.std.proofs.lemmas.List.Sums.{sum_by_push}
-use Rattle.uring_entry.specs.Submission.{Submission, Published, with_entry, bad_word, IsItem}
+use Rattle.uring_entry.specs.Submission.{Submission, Place, Published, with_entry, bad_word, item_of, IsItem}
 use Rattle.uring_core.specs.World.{World, closing}
 use Rattle.uring_core.specs.StepAnswers.{close_answer, is_spent}
 use Rattle.uring_laws.specs.Standing.{Stands}
@@ -12,9 +12,10 @@ use Rattle.uring_ports.specs.Items.{published_as}
 use Rattle.uring_ports.specs.Ports.{Pulls, with_call, with_close}
 use Rattle.uring_ports.specs.declared.pulled.Pulled.{Pulled}
 use Rattle.uring_ports.specs.declared.item.Item.{Item}
-use Rattle.uring_threads.specs.Rows.{with_begun_as}
-use Rattle.uring_threads.specs.Taking.{intake_after}
-use Rattle.uring_threads.specs.Turns.{Tied}
+use Rattle.uring_threads.specs.Calls.{calls_of, calls_left}
+use Rattle.uring_threads.specs.Taking.{intake_after, HaveMade, HasBegun}
+use Rattle.uring_threads.specs.Turns.{Tied, IsGivenUpAsSpent, is_shut}
+use Rattle.uring_threads.proofs.CallsMade.{items_keep_calls, none_left, published_left, calls_after, published_after, closed_after, completions_after}
 use Rattle.uring_entry.specs.Setup.{Setup}
 use Rattle.uring_core.specs.declared.step.Step.TheVariants as step
 use Rattle.uring_core.specs.declared.answer.Answer.{Answer}
@@ -22,7 +23,7 @@ use Rattle.uring_core.specs.declared.answer.Answer.TheVariants as answer
 use Rattle.uring_threads.specs.Kept.{Kept, IsUnmoved, Grows, now}
 use Rattle.uring_threads.specs.Rows.{with_items_published}
 use Rattle.uring_threads.specs.Taking.{TakesIn}
-use Rattle.uring_threads.specs.Tallies.{Appends, call_counted, whole_call_counted, close_counted}
+use Rattle.uring_threads.specs.Tallies.{Appends, items_counted, close_counted}
 use Rattle.uring_threads.proofs.ItemSteps.{items_stand}
 use Rattle.uring_threads.proofs.TraceSteps.{grown, unmoved_now, appends_none, appends_one, appends_then}
 use Rattle.uring_laws.specs.Standing.{with_item, with_items}
@@ -35,23 +36,35 @@ use Rattle.uring_threads.specs.declared.calls.Begun.TheVariants as begun
 use Rattle.uring_threads.specs.declared.intake.Intake.{Intake}
 use Rattle.uring_threads.specs.declared.intake.Intake.TheVariants as intake
 
--- the call that waited was begun
-pub tied_begun : (g : Setup) (size : ℕ) (w v : World) (put : Put) (count : ℕ) (b : Begun)
-    → Tied size w put (intake.Waiting count) → v ≡ with_begun_as g w count b
-    → (b ≡ begun.Spent → is_spent w count ≡ true) → Tied size v put (intake_after count b)
-tied_begun g size w v put count begun.Taken t e spent =
-    subst (λ u. Tied size u put intake.Ready) (sym e)
-    (record {
-      published = t.published;
-      calls = append-nil (w.submission.calls ++ count ∷ []) ∙ t.calls;
-      stands = record { fresh = t.stands.fresh; call = refl; head = refl; waiting = omega (arith, t.stands.waiting, sum_by_push (λ x. x) w.submission.calls count) };
-      spent = tt;
-      closed = t.closed;
-      shut = t.shut;
-    })
-tied_begun g size w v put count begun.Again t e spent =
-    subst (λ u. Tied size u put (intake.Waiting count)) (sym e) t
-tied_begun g size w v put count begun.Spent t e spent = subst (λ u. Tied size u put (intake.Spent count)) (sym e) (record { published = t.published; calls = t.calls; stands = t.stands; spent = spent refl; closed = t.closed; shut = t.shut })
+-- calls were begun that take what waited
+shut_after : (i : Intake) (b : Begun) (count : ℕ) → i ≡ intake.Waiting count → is_shut i ≡ is_shut (intake_after b)
+shut_after i begun.Taken count is = ap is_shut is
+shut_after i (begun.Again rest) count is = ap is_shut is
+shut_after i (begun.Spent rest) count is = ap is_shut is
+
+given_up : (w : World) (b : Begun) → ((count : ℕ) → b ≡ begun.Spent count → is_spent w count ≡ true)
+    → IsGivenUpAsSpent w (intake_after b)
+given_up w begun.Taken spent = tt
+given_up w (begun.Again count) spent = tt
+given_up w (begun.Spent count) spent = spent count refl
+
+pub tied_begun : (a b : Kept) (put : Put) (count : ℕ) (x : Begun)
+    → Tied a.setup (now a) put (intake.Waiting count) → HasBegun a b x
+    → Tied a.setup (now b) put (intake_after x)
+tied_begun a b put count x t h =
+    let w : World = now a in
+    let m : List ℕ = h.made in
+    record {
+      published = λ good. ap (λ ps. map (λ (p : Place). item_of p.word p.entry) ps) (ap (λ (v : World). v.submission.published) h.have.world ∙ published_after a.setup w m) ∙ t.published good;
+      calls = ap (λ ns. ns ++ calls_left a.setup (now b).submission) (ap (λ (v : World). v.submission.calls) h.have.world ∙ calls_after a.setup w m)
+          ∙ append_assoc w.submission.calls m (calls_left a.setup (now b).submission)
+          ∙ ap (λ ns. w.submission.calls ++ ns) h.have.calls
+          ∙ t.calls;
+      stands = h.have.stands;
+      spent = given_up (now b) x h.spent;
+      closed = ap (λ (v : World). v.is_closed) h.have.world ∙ closed_after a.setup w m ∙ t.closed;
+      shut = sym (shut_after (intake.Waiting count) x count refl) ∙ t.shut;
+    }
 
 -- the items of calls with one more
 items_of_calls_snoc : (calls : List (List Item)) (items : List Item)
@@ -67,50 +80,39 @@ all_last : {X : Type 0} (P : X → Type 0) (xs ys : List X) → All P (xs ++ ys)
 all_last P [] ys all = all
 all_last P (x ∷ xs) ys all = all_last P xs ys (All-tail P x (xs ++ ys) all)
 
--- items that are put leave the calls
-items_keep_calls : (l : Submission) (slot : ℕ) (items : List Published)
-    → (with_items l slot items).calls ≡ l.calls
-items_keep_calls l slot [] = refl
-items_keep_calls l slot (with_entry entry ∷ later) =
-    items_keep_calls (with_item l slot (with_entry entry)) (slot + 1) later
-items_keep_calls l slot (bad_word word ∷ later) =
-    items_keep_calls (with_item l slot (bad_word word)) (slot + 1) later
-
 -- a call was pulled and published, and waits to be begun
-tied_published : (size : ℕ) (w : World) (put : Put) (items : List Item)
-    → Tied size w put intake.Ready → put.closed ≡ false → length items ≤ size
-    → Tied size (with_items_published size w (all_published_as items)) (with_call put items) (intake.Waiting (length items))
-tied_published size w put items t not_closed few =
+pub tied_published : (g : Setup) (w : World) (put : Put) (items : List Item)
+    → Tied g w put intake.Ready → put.closed ≡ false → length items ≤ g.sq
+    → Tied g (with_items_published g.sq w (all_published_as items)) (with_call put items) (intake.Waiting (length items))
+tied_published g w put items t not_closed few =
     let l : Submission = w.submission in
     let shown : List Published = all_published_as items in
     let put_stands = items_stand l 0 shown (record { fresh = refl; call = t.stands.call; head = t.stands.head; waiting = t.stands.waiting }) in
     let many : length (with_items l 0 shown).fresh ≡ length items = omega (arith, put_stands.1, ap length t.stands.fresh, length-map items published_as) in
     let whole : all_published_as (items_of_calls (put.calls ++ items ∷ [])) ≡ all_published_as (items_of_calls put.calls) ++ shown = ap all_published_as (items_of_calls_snoc put.calls items) ∙ map-append published_as (items_of_calls put.calls) items in
+    let before_is : l.calls ≡ flat_map (calls_of g) put.calls = sym (append-nil l.calls) ∙ ap (λ ns. l.calls ++ ns) (sym (none_left g l t.stands)) ∙ t.calls in
     record {
       published = λ good.
           let before : List Published = all_published_as (items_of_calls put.calls) in
-          let all : All (IsItem size) (before ++ shown) = subst (All (IsItem size)) whole good in
-          items_published l size shown t.stands.fresh (omega (arith, few, length-map items published_as)) (all_last (IsItem size) before shown all)
-          ∙ ap (λ xs. xs ++ shown) (t.published (all_first (IsItem size) before shown all)) ∙ sym whole;
-      calls = ap (λ xs. xs ++ length items ∷ []) (items_keep_calls l 0 shown ∙ sym (append-nil l.calls) ∙ t.calls) ∙ sym (map-append length put.calls (items ∷ []));
-      stands = subst (Stands _ []) (many ∙ omega arith) (tail_publishes (record { sq = size; cq = 0; files = 0; start = 0; stops = false; linux = false }) _ _ put_stands.0);
+          let all : All (IsItem g.sq) (before ++ shown) = subst (All (IsItem g.sq)) whole good in
+          items_published l g.sq shown t.stands.fresh (omega (arith, few, length-map items published_as)) (all_last (IsItem g.sq) before shown all)
+          ∙ ap (λ xs. xs ++ shown) (t.published (all_first (IsItem g.sq) before shown all)) ∙ sym whole;
+      calls = ap₂ (λ xs ys. xs ++ ys) (items_keep_calls l 0 shown ∙ before_is) (published_left g l items t.stands.fresh t.stands few ∙ sym (append-nil (calls_of g items))) ∙ sym (flat_map-append (calls_of g) put.calls (items ∷ []));
+      stands = subst (Stands _ []) many (tail_publishes g _ _ put_stands.0);
       spent = tt;
       closed = t.closed;
       shut = sym not_closed;
     }
 
--- a call was pulled, published and begun
-pub tied_pulled : (g : Setup) (size : ℕ) (w v : World) (put after : Put) (items : List Item) (b : Begun)
-    → Tied size w put intake.Ready → put.closed ≡ false → length items ≤ size
-    → after ≡ with_call put items
-    → v ≡ with_begun_as g (with_items_published size w (all_published_as items)) (length items) b
-    → (b ≡ begun.Spent → is_spent w (length items) ≡ true)
-    → Tied size v after (intake_after (length items) b)
-tied_pulled g size w v put after items b t not_closed few pulled e spent =
-    subst (λ p. Tied size v p (intake_after (length items) b)) (sym pulled)
-    (tied_begun g size (with_items_published size w (all_published_as items)) v (with_call put items) (length items) b (tied_published size w put items t not_closed few) e spent)
-
 -- What a row of the intake appends.
+
+pub takes_calls : (a b : Kept) (done : List ℕ) (rest : ℕ) → HaveMade a b done rest → TakesIn a b 0
+takes_calls a b done rest h = record {
+  calls = h.begun;
+  closes = 0;
+  appends = h.appends;
+  idle = λ none. h.idle (omega (arith, none));
+}
 
 pub takes_nothing : (a b : Kept) → IsUnmoved a b → TakesIn a b 0
 takes_nothing a b u = record {
@@ -120,20 +122,12 @@ takes_nothing a b u = record {
   idle = λ none. u.trace;
 }
 
-pub takes_again : (a b : Kept) → Appends a b call_counted → TakesIn a b 0
-takes_again a b p = record {
-  calls = 1;
+pub takes_items : (a b : Kept) (n : ℕ) → 0 < n → Appends a b (items_counted n) → TakesIn a b n
+takes_items a b n some p = record {
+  calls = 0;
   closes = 0;
   appends = p;
-  idle = λ none. absurd (omega (arith, none));
-}
-
-pub takes_call : (a b : Kept) (n : ℕ) → Appends a b (whole_call_counted n) → TakesIn a b n
-takes_call a b n p = record {
-  calls = 1;
-  closes = 0;
-  appends = p;
-  idle = λ none. absurd (omega (arith, none));
+  idle = λ none. absurd (omega (arith, none, some));
 }
 
 pub takes_close : (a b : Kept) → Appends a b close_counted → TakesIn a b 0
@@ -158,8 +152,8 @@ takes_then a b c n m k p q sums =
 -- A row of the intake where nothing happened before but that room was asked for.
 
 pub tied_still : (a r : Kept) (put : Put) (i : Intake) → IsUnmoved a r
-    → Tied a.setup.sq (now a) put i → Tied a.setup.sq (now r) put i
-tied_still a r put i u t = subst (λ w. Tied a.setup.sq w put i) (sym (unmoved_now a r u)) t
+    → Tied a.setup (now a) put i → Tied a.setup (now r) put i
+tied_still a r put i u t = subst (λ w. Tied a.setup w put i) (sym (unmoved_now a r u)) t
 
 pub takes_behind : (a r b : Kept) (n : ℕ) → IsUnmoved a r → TakesIn r b n → TakesIn a b n
 takes_behind a r b n u p = takes_then a r b 0 n n (takes_nothing a r u) p (omega arith)
@@ -168,59 +162,50 @@ pub completions_behind : (a r b : Kept) → IsUnmoved a r → (now b).completion
     → (now b).completions ≡ (now a).completions
 completions_behind a r b u same = same ∙ ap (λ (w : World). w.completions) (unmoved_now a r u)
 
--- the call that waits, as it stands then
+-- what waits, as it stands then
 pub call_waits : (a r : Kept) (put : Put) (count : ℕ) (i : Intake) → IsUnmoved a r
-    → i ≡ intake.Waiting count → Tied a.setup.sq (now a) put i
+    → i ≡ intake.Waiting count → Tied a.setup (now a) put i
     → ((now r).is_closed ≡ false) × Stands (now r).submission [] count
 call_waits a r put count i u waits t =
-    let s : Tied a.setup.sq (now a) put (intake.Waiting count) = subst (Tied a.setup.sq (now a) put) waits t in
-    subst (λ (w : World). (w.is_closed ≡ false) × Stands w.submission [] count) (sym (unmoved_now a r u)) (s.closed ∙ sym s.shut, subst (Stands (now a).submission []) (omega arith) s.stands)
+    let s : Tied a.setup (now a) put (intake.Waiting count) = subst (Tied a.setup (now a) put) waits t in
+    subst (λ (w : World). (w.is_closed ≡ false) × Stands w.submission [] count) (sym (unmoved_now a r u)) (s.closed ∙ sym s.shut, s.stands)
 
 -- and once it was begun again
 pub tied_again : (a r b : Kept) (put : Put) (count : ℕ) (i : Intake) (x : Begun) → IsUnmoved a r
-    → i ≡ intake.Waiting count → now b ≡ with_begun_as r.setup (now r) count x
-    → (x ≡ begun.Spent → is_spent (now r) count ≡ true)
-    → Tied a.setup.sq (now a) put i → Tied a.setup.sq (now b) put (intake_after count x)
-tied_again a r b put count i x u waits e spent t = tied_begun r.setup a.setup.sq (now a) (now b) put count x (subst (Tied a.setup.sq (now a) put) waits t) (e ∙ ap (λ w. with_begun_as r.setup w count x) (unmoved_now a r u)) (λ is. ap (λ w. is_spent w count) (sym (unmoved_now a r u)) ∙ spent is)
+    → i ≡ intake.Waiting count → HasBegun r b x
+    → Tied a.setup (now a) put i → Tied a.setup (now b) put (intake_after x)
+tied_again a r b put count i x u waits h t =
+    subst (λ (g : Setup). Tied g (now b) put (intake_after x)) u.setup
+    (tied_begun r b put count x (subst (λ (g : Setup). Tied g (now r) put (intake.Waiting count)) (sym u.setup) (tied_still a r put (intake.Waiting count) u (subst (Tied a.setup (now a) put) waits t))) h)
 
-pub begun_completions : (g : Setup) (w : World) (count : ℕ) (x : Begun)
-    → (with_begun_as g w count x).completions ≡ w.completions
-begun_completions g w count begun.Taken = refl
-begun_completions g w count begun.Again = refl
-begun_completions g w count begun.Spent = refl
-
-pub again_completions : (a r b : Kept) (count : ℕ) (x : Begun) → IsUnmoved a r
-    → now b ≡ with_begun_as r.setup (now r) count x → (now b).completions ≡ (now a).completions
-again_completions a r b count x u e = completions_behind a r b u (ap (λ (w : World). w.completions) e ∙ begun_completions r.setup (now r) count x)
+pub begun_completions : (a b : Kept) (x : Begun) → HasBegun a b x
+    → (now b).completions ≡ (now a).completions
+begun_completions a b x h = ap (λ (w : World). w.completions) h.have.world ∙ completions_after a.setup (now a) h.made
 
 -- what was pulled
 pub pulled_at : (a r : Kept) (before after : Put) (size : ℕ) (x : Pulled) (items taken : List Item) (i : Intake)
-    → IsUnmoved a r → size ≡ a.setup.sq → taken ≡ items → Tied a.setup.sq (now a) before i
+    → IsUnmoved a r → size ≡ a.setup.sq → taken ≡ items → Tied a.setup (now a) before i
     → Pulls size before x items after
-    → Tied r.setup.sq (now r) before i × Pulls r.setup.sq before x taken after
+    → Tied r.setup (now r) before i × Pulls r.setup.sq before x taken after
 pulled_at a r before after size x items taken i u sizes same t p = (
-  subst (λ (g : Setup). Tied g.sq (now r) before i) (sym u.setup) (tied_still a r before i u t),
+  subst (λ (g : Setup). Tied g (now r) before i) (sym u.setup) (tied_still a r before i u t),
   subst (λ n. Pulls n before x taken after) (sizes ∙ ap (λ (g : Setup). g.sq) (sym u.setup)) (subst (λ xs. Pulls size before x xs after) (sym same) p),
 )
 
 -- What was pulled is taken.
 
-pub tied_taken : (a b : Kept) (before after : Put) (items : List Item) (i : Intake) (x : Begun)
-    → i ≡ intake.Ready
-    → now b
-    ≡ with_begun_as a.setup (with_items_published a.setup.sq (now a) (all_published_as items)) (length items) x
-    → (x ≡ begun.Spent → is_spent (now a) (length items) ≡ true)
-    → Tied a.setup.sq (now a) before i
+pub tied_taken : (a p b : Kept) (before after : Put) (items : List Item) (i : Intake) (x : Begun)
+    → i ≡ intake.Ready → p.setup ≡ a.setup
+    → now p ≡ with_items_published a.setup.sq (now a) (all_published_as items) → HasBegun p b x
+    → Tied a.setup (now a) before i
     → (0 < length items) × (length items ≤ a.setup.sq) × (before.closed ≡ false)
     × (after ≡ with_call before items)
-    → Tied a.setup.sq (now b) after (intake_after (length items) x)
-tied_taken a b before after items i x ready e spent t pulled = tied_pulled a.setup a.setup.sq (now a) (now b) before after items x (subst (Tied a.setup.sq (now a) before) ready t) pulled.2 pulled.1 pulled.3 e spent
-
-pub taken_completions : (a b : Kept) (items : List Item) (x : Begun)
-    → now b
-    ≡ with_begun_as a.setup (with_items_published a.setup.sq (now a) (all_published_as items)) (length items) x
-    → (now b).completions ≡ (now a).completions
-taken_completions a b items x e = ap (λ (w : World). w.completions) e ∙ begun_completions a.setup (with_items_published a.setup.sq (now a) (all_published_as items)) (length items) x
+    → Tied a.setup (now b) after (intake_after x)
+tied_taken a p b before after items i x ready same at h t pulled =
+    let published : Tied p.setup (now p) (with_call before items) (intake.Waiting (length items)) = subst (λ (g : Setup). Tied g (now p) (with_call before items) (intake.Waiting (length items))) (sym same) (subst (λ w. Tied a.setup w (with_call before items) (intake.Waiting (length items))) (sym at)
+    (tied_published a.setup (now a) before items (subst (Tied a.setup (now a) before) ready t) pulled.2 pulled.1)) in
+    subst (λ (g : Setup). Tied g (now b) after (intake_after x)) same
+    (subst (λ q. Tied p.setup (now b) q (intake_after x)) (sym pulled.3) (tied_begun p b (with_call before items) (length items) x published h))
 
 -- the close mark, of a ring that is in no call
 pub closed_world : (a b : Kept) (x : Answer) → Grows a b (step.Close, x) → x ≡ close_answer (now a)
@@ -228,12 +213,12 @@ pub closed_world : (a b : Kept) (x : Answer) → Grows a b (step.Close, x) → x
 closed_world a b x g called between = grown a b step.Close x g ∙ ap (closing (now a)) (called ∙ ap (λ c. if is_some c then answer.InCall else answer.Shut) between)
 
 pub tied_shut : (a b : Kept) (x : Answer) (before after : Put) (i : Intake) → i ≡ intake.Ready
-    → Grows a b (step.Close, x) → x ≡ close_answer (now a) → Tied a.setup.sq (now a) before i
-    → after ≡ with_close before → Tied a.setup.sq (now b) after intake.Closed
+    → Grows a b (step.Close, x) → x ≡ close_answer (now a) → Tied a.setup (now a) before i
+    → after ≡ with_close before → Tied a.setup (now b) after intake.Closed
 tied_shut a b x before after i ready g called tied pulled =
-    let t : Tied a.setup.sq (now a) before intake.Ready = subst (Tied a.setup.sq (now a) before) ready tied in
-    subst (λ w. Tied a.setup.sq w after intake.Closed) (sym (closed_world a b x g called t.stands.call))
-    (subst (λ p. Tied a.setup.sq (record (now a) { is_closed = true }) p intake.Closed) (sym pulled) (record { published = t.published; calls = t.calls; stands = t.stands; spent = tt; closed = refl; shut = refl }))
+    let t : Tied a.setup (now a) before intake.Ready = subst (Tied a.setup (now a) before) ready tied in
+    subst (λ w. Tied a.setup w after intake.Closed) (sym (closed_world a b x g called t.stands.call))
+    (subst (λ p. Tied a.setup (record (now a) { is_closed = true }) p intake.Closed) (sym pulled) (record { published = t.published; calls = t.calls; stands = t.stands; spent = tt; closed = refl; shut = refl }))
 
 -- what that appended
 pub takes_shut : (a b : Kept) (x : Answer) → Grows a b (step.Close, x) → TakesIn a b 0

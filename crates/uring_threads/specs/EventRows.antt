@@ -1,5 +1,7 @@
 -- The rows of steps that the dispatcher records: our own rule.
 use Rattle.std.specs.Prelude.{◌≡◌, ◌⊎◌, ℕ, zero, suc, ◌+◌, List, [], ◌∷◌, ◌++◌, length, map, replicate, Result, IfOk}
+use Rattle.uring_entry.specs.Setup.{Setup}
+use Rattle.uring_entry.specs.Submission.{Submission}
 use Rattle.uring_core.specs.Histories.{Event}
 use Rattle.uring_core.specs.declared.step.Step.{Step}
 use Rattle.uring_core.specs.declared.step.Step.TheVariants as step
@@ -8,9 +10,10 @@ use Rattle.uring_ports.specs.declared.item.Item.TheVariants as item
 use Rattle.uring_ports.specs.declared.pulled.Pulled.{Pulled}
 use Rattle.uring_ports.specs.declared.pulled.Pulled.TheVariants as pulled
 use Rattle.uring_ports.specs.Ports.{Put, Pulls}
-use Rattle.uring_threads.specs.Kept.{Kept}
-use Rattle.uring_threads.specs.declared.calls.Begun.{Begun}
-use Rattle.uring_threads.specs.declared.calls.Begun.TheVariants as begun
+use Rattle.uring_threads.specs.Calls.{AreBegun, calls_of, calls_left}
+use Rattle.uring_threads.specs.Kept.{Kept, now}
+use Rattle.uring_threads.specs.declared.calls.CallMade.{CallMade}
+use Rattle.uring_threads.specs.declared.calls.CallMade.TheVariants as made
 use Rattle.uring_threads.specs.declared.intake.Intake.{Intake}
 use Rattle.uring_threads.specs.declared.intake.Intake.TheVariants as intake
 use Rattle.uring_threads.specs.declared.turns.Turn.{Turn}
@@ -37,16 +40,18 @@ abbrev pub items_row : ℕ → List Item → List Step
 items_row slot [] = []
 items_row slot (x ∷ more) = item_row slot x ++ items_row (slot + 1) more
 
--- A call of so many positions is begun: it opens, takes them all and closes, and the application loads the head; or nothing follows.
-abbrev pub begin_row : ℕ → Begun → List Step
-begin_row count begun.Taken =
-    step.Begin count ∷ replicate count step.Take ++ step.End ∷ step.LoadHead ∷ []
-begin_row count begun.Again = step.Begin count ∷ []
-begin_row count begun.Spent = step.Begin count ∷ []
+-- A call of so many positions is begun: it opens, takes so many, or as many as there are before one ends it, and closes, and the application loads the head; or nothing follows.
+abbrev pub call_row : ℕ → CallMade → List Step
+call_row count (made.Taken taken) =
+    step.Begin count ∷ replicate taken step.Take ++ step.End ∷ step.LoadHead ∷ []
+call_row count made.Again = step.Begin count ∷ []
+call_row count made.Spent = step.Begin count ∷ []
 
--- The items of a call are put and published, and the call is begun.
-abbrev pub call_row : List Item → Begun → List Step
-call_row items begun = items_row 0 items ++ step.StoreTail ∷ begin_row (length items) begun
+-- The items of a call are put and published, and calls are begun that take them.
+pub record AreTaken (g : Setup) (items : List Item) (steps : List Step) : Type 0 where
+  pub begun : List Step
+  pub are_begun : AreBegun (calls_of g items) begun
+  pub row : steps ≡ items_row 0 items ++ step.StoreTail ∷ begun
 
 -- So many completions are delivered: the overflow list is flushed, the tail loaded, each is reaped, and the head stored. Without any, nothing is recorded.
 abbrev pub delivery_row : ℕ → List Step
@@ -54,30 +59,29 @@ delivery_row zero = []
 delivery_row (suc more) =
     step.Flush ∷ step.LoadCqTail ∷ replicate (suc more) step.Reap ++ step.StoreCqHead ∷ []
 
--- The call that waits, if one does, is begun once more, or nothing is.
-abbrev pub IsAgain : Intake → List Step → Type 0
-IsAgain (intake.Waiting count) steps =
-    (steps ≡ []) ⊎ ((begun : Begun) × (steps ≡ begin_row count begun))
-IsAgain _ steps = steps ≡ []
+-- What waits, if something does, is begun once more, or nothing is.
+abbrev pub IsAgain : Setup → Submission → Intake → List Step → Type 0
+IsAgain g l (intake.Waiting count) steps = (steps ≡ []) ⊎ AreBegun (calls_left g l) steps
+IsAgain g l _ steps = steps ≡ []
 
 -- What was pulled is taken: a call is put and begun, or the ring is closed, or nothing is done.
-abbrev pub IsTaken : Pulled → List Item → List Step → Type 0
-IsTaken pulled.Call items steps = (begun : Begun) × (steps ≡ call_row items begun)
-IsTaken pulled.Close items steps = steps ≡ step.Close ∷ []
-IsTaken pulled.Nothing items steps = steps ≡ []
+abbrev pub IsTaken : Setup → Pulled → List Item → List Step → Type 0
+IsTaken g pulled.Call items steps = AreTaken g items steps
+IsTaken g pulled.Close items steps = steps ≡ step.Close ∷ []
+IsTaken g pulled.Nothing items steps = steps ≡ []
 
--- One call was pulled of a ring of this size, or the close mark, or nothing, and that is taken.
-abbrev pub IsPulled : ℕ → Put → Put → List Step → Type 0
-IsPulled size before after steps =
-    (what : Pulled) × (items : List Item) × Pulls size before what items after
-    × IsTaken what items steps
+-- One call was pulled of a ring of this set-up, or the close mark, or nothing, and that is taken.
+abbrev pub IsPulled : Setup → Put → Put → List Step → Type 0
+IsPulled g before after steps =
+    (what : Pulled) × (items : List Item) × Pulls g.sq before what items after
+    × IsTaken g what items steps
 
--- The rows of a turn's first part: the call that waits, and what was pulled behind it.
+-- The rows of a turn's first part: what waits, and what was pulled behind it.
 pub record RecordsIntake (old new : Kept) (i : Intake) (before after : Put) : Type 0 where
   pub again : List Step
   pub pulled : List Step
-  pub is_again : IsAgain i again
-  pub is_pulled : IsPulled old.setup.sq before after pulled
+  pub is_again : IsAgain old.setup (now old).submission i again
+  pub is_pulled : IsPulled old.setup before after pulled
   pub row : Records old new (again ++ pulled)
 
 -- Results are taken in, each by a Finish, and nothing else is recorded.
@@ -94,15 +98,15 @@ pub record AreOfTurn (turn : Turn) (finished issued : List ℕ) (delivered : ℕ
   pub issues : length issued ≡ turn.issued
   pub reaps : delivered ≡ turn.delivered
 
--- The rows of a turn with this answer: the call that waited, if one did, what was pulled, results that are taken in, requests that are issued, and completions that are delivered, as many as the answer says, if it is Ok. Each may be missing, and nothing else is recorded.
+-- The rows of a turn with this answer: what waited, if anything did, what was pulled, results that are taken in, requests that are issued, and completions that are delivered, as many as the answer says, if it is Ok. Each may be missing, and nothing else is recorded.
 pub record RecordsTurn {E : Type 0} (old new : Kept) (i : Intake) (before after : Put) (answer : Result Turn E) : Type 0 where
   pub again : List Step
   pub pulled : List Step
   pub finished : List ℕ
   pub issued : List ℕ
   pub delivered : ℕ
-  pub is_again : IsAgain i again
-  pub is_pulled : IsPulled old.setup.sq before after pulled
+  pub is_again : IsAgain old.setup (now old).submission i again
+  pub is_pulled : IsPulled old.setup before after pulled
   pub row : Records old new
       (again ++ pulled ++ map step.Finish finished ++ map step.Issue issued
       ++ delivery_row delivered)

@@ -4,8 +4,8 @@ use Rattle.uring_entry.specs.Setup.{Setup}
 use Rattle.uring_entry.specs.Submission.{Submission, with_published, Published}
 use Rattle.uring_core.specs.World.{World}
 use Rattle.uring_laws.specs.Standing.{with_item, with_items, after_call}
-use Rattle.uring_threads.specs.declared.calls.Begun.{Begun}
-use Rattle.uring_threads.specs.declared.calls.Begun.TheVariants as begun
+use Rattle.uring_threads.specs.declared.calls.CallMade.{CallMade}
+use Rattle.uring_threads.specs.declared.calls.CallMade.TheVariants as made
 
 -- the world with another submission ring
 abbrev pub on_submission : World → Submission → World
@@ -24,8 +24,8 @@ abbrev pub with_items_published : ℕ → World → List Published → World
 with_items_published size w items =
     on_submission w (with_published size (with_items w.submission 0 items))
 
--- a call of all positions that wait was begun: it took them and closed, or nothing changed
-abbrev pub with_begun_as : Setup → World → ℕ → Begun → World
-with_begun_as g w count begun.Taken = after_call g w count
-with_begun_as g w count begun.Again = w
-with_begun_as g w count begun.Spent = w
+-- a call was begun: it took so many positions and closed, or nothing changed
+abbrev pub with_call_made : Setup → World → CallMade → World
+with_call_made g w (made.Taken taken) = after_call g w taken
+with_call_made g w made.Again = w
+with_call_made g w made.Spent = w

@@ -109,22 +109,11 @@ finishes_counted n = record {
 abbrev pub reaps_counted : ℕ → Tally
 reaps_counted n = record { items = 0; issues = 0; finishes = 0; reaps = n; calls = 0; closes = 0 }
 
-abbrev pub call_counted : Tally
-call_counted = record { items = 0; issues = 0; finishes = 0; reaps = 0; calls = 1; closes = 0 }
+abbrev pub calls_counted : ℕ → Tally
+calls_counted n = record { items = 0; issues = 0; finishes = 0; reaps = 0; calls = n; closes = 0 }
 
 abbrev pub close_counted : Tally
 close_counted = record { items = 0; issues = 0; finishes = 0; reaps = 0; calls = 0; closes = 1 }
-
--- the items of a call, and that it was begun
-abbrev pub whole_call_counted : ℕ → Tally
-whole_call_counted n = record {
-  items = n;
-  issues = 0;
-  finishes = 0;
-  reaps = 0;
-  calls = 1;
-  closes = 0;
-}
 
 -- The trace goes on with events of this tally, behind all others. No result that it takes in, no issue and no reap of them was refused.
 pub record Appends (old new : Kept) (t : Tally) : Type 0 where

@@ -1,13 +1,15 @@
 -- What ties the dispatcher's lists to its trace, and what a turn of it counts.
-use Rattle.std.specs.Prelude.{◌≡◌, ℕ, ◌+◌, Bool, true, false, List, [], ◌∷◌, ◌++◌, length, map, sum, count_by, if◌then◌else◌}
+use Rattle.std.specs.Prelude.{◌≡◌, ℕ, ◌+◌, Bool, true, false, List, [], ◌++◌, length, flat_map, count_by, if◌then◌else◌}
 use Rattle.uring_entry.specs.Completions.{Completions}
 use Rattle.uring_entry.specs.Layout.{Cqe}
+use Rattle.uring_entry.specs.Setup.{Setup}
 use Rattle.uring_entry.specs.Submission.{published_items}
 use Rattle.uring_laws.specs.Standing.{Stands}
 use Rattle.uring_core.specs.StepAnswers.{is_spent}
 use Rattle.uring_core.specs.World.{World}
 use Rattle.uring_ports.specs.Items.{all_published_as, AreItems}
 use Rattle.uring_ports.specs.Ports.{Put, items_of_calls}
+use Rattle.uring_threads.specs.Calls.{calls_of, calls_left}
 use Rattle.uring_threads.specs.Dispatched.{HaveCarried}
 use Rattle.uring_threads.specs.Kept.{Kept, now}
 use Rattle.uring_threads.specs.Tallies.{Appends, closes_ring}
@@ -16,11 +18,11 @@ use Rattle.uring_threads.specs.declared.intake.Intake.TheVariants as intake
 use Rattle.uring_threads.specs.declared.turns.Turn.{Turn}
 use Rattle.uring_workers.specs.declared.work_lanes.WorkLanes.{WorkLanes}
 
--- the length of the call that is published and not taken, if there is one
-abbrev pub waiting_in : Intake → List ℕ
-waiting_in (intake.Waiting count) = count ∷ []
-waiting_in (intake.Spent count) = count ∷ []
-waiting_in _ = []
+-- how many positions are published and not taken
+abbrev pub waiting_in : Intake → ℕ
+waiting_in (intake.Waiting count) = count
+waiting_in (intake.Spent count) = count
+waiting_in _ = 0
 
 -- whether the close mark was pulled
 abbrev pub is_shut : Intake → Bool
@@ -32,12 +34,13 @@ abbrev pub IsGivenUpAsSpent : World → Intake → Type 0
 IsGivenUpAsSpent w (intake.Spent count) = is_spent w count ≡ true
 IsGivenUpAsSpent w _ = Unit {0}
 
--- All that was pulled is in the submission ring: its items, in order, are published, if they are items of a ring of this size; its calls were begun, each as long as it was pulled, but for the last one if that waits or was given up; and the ring is closed once the close mark was pulled. Between calls the ring stands.
-pub record Tied (size : ℕ) (w : World) (pulled : Put) (i : Intake) : Type 0 where
-  pub published : AreItems size (items_of_calls pulled.calls)
+-- All that was pulled is in the submission ring: its items, in order, are published, if they are items of a ring of this size; its calls were begun, each as long as it was pulled, by Linux's rules cut behind each word that names no slot, but for those that wait or were given up; and the ring is closed once the close mark was pulled. Between calls the ring stands.
+pub record Tied (g : Setup) (w : World) (pulled : Put) (i : Intake) : Type 0 where
+  pub published : AreItems g.sq (items_of_calls pulled.calls)
       → published_items w.submission ≡ all_published_as (items_of_calls pulled.calls)
-  pub calls : w.submission.calls ++ waiting_in i ≡ map length pulled.calls
-  pub stands : Stands w.submission [] (sum (waiting_in i))
+  pub calls : w.submission.calls ++ calls_left g w.submission
+      ≡ flat_map (calls_of g) pulled.calls
+  pub stands : Stands w.submission [] (waiting_in i)
   pub spent : IsGivenUpAsSpent w i
   pub closed : w.is_closed ≡ pulled.closed
   pub shut : is_shut i ≡ pulled.closed
@@ -53,7 +56,7 @@ pub record IsDelivered (l : Completions) (delivered : List Cqe) : Type 0 where
 
 -- The trace has all that went through the dispatcher's hands: what it pulled, what it delivered, and what the lanes of its workers carried.
 pub record AreTies (kept : Kept) (pulled : Put) (reaped : List Cqe) (intake : Intake) (lanes : List WorkLanes) : Type 0 where
-  pub tied : Tied kept.setup.sq (now kept) pulled intake
+  pub tied : Tied kept.setup (now kept) pulled intake
   pub once : ClosesOnce kept intake
   pub delivered : IsDelivered (now kept).completions reaped
   pub carried : HaveCarried kept lanes

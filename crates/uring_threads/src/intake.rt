@@ -10,7 +10,7 @@ ghost use Rattle.uring_threads.specs.Turns.{ClosesOnce, Tied};
 ghost use Rattle.uring_threads.specs.Turns as turns;
 ghost use Rattle.uring_threads.specs.declared.intake.Intake.TheVariants.{Ready};
 
-use crate::calls::{Begun, begin_call, take_call};
+use crate::calls::{Begun, begin_calls, publish_items};
 use crate::kept::Kept;
 use std::alloc::AllocError;
 use uring_core::Step;
@@ -23,10 +23,10 @@ pub enum Intake {
     /// All that was pulled is taken: the next call may come.
     Ready,
 
-    /// The last call, of so many positions, is published and was refused memory: it is to be begun again.
+    /// So many positions of what was pulled last are published and wait, since a call was refused memory: it is to be begun again.
     Waiting(u32),
 
-    /// The last call, of so many positions, is published and can't be begun, since the numbers of requests are spent: nothing more is pulled.
+    /// So many positions of what was pulled last are published and wait for ever, since the numbers of requests are spent: nothing more is pulled.
     Spent(u32),
 
     /// The close mark was pulled: nothing more comes.
@@ -34,18 +34,18 @@ pub enum Intake {
 }
 
 impl Intake {
-    /// How it stands after a call of so many positions was begun like this.
-    fn after(count: u32, begun: Begun) -> Intake
-        ensures { result ≡ intake_after count begun }
+    /// How it stands after calls were begun like this.
+    fn after(begun: Begun) -> Intake
+        ensures { result ≡ intake_after begun }
     {
         match begun {
             Begun::Taken => Intake::Ready,
-            Begun::Again => Intake::Waiting(count),
-            Begun::Spent => Intake::Spent(count),
+            Begun::Again(count) => Intake::Waiting(count),
+            Begun::Spent(count) => Intake::Spent(count),
         }
     }
 
-    /// Whether a call that was pulled waits for memory, to be begun again.
+    /// Whether what was pulled waits for memory, to be begun again.
     pub(crate) fn awaits_memory(&self) -> bool
         ensures { result ≡ turns.awaits_memory self.now }
     {
@@ -53,27 +53,27 @@ impl Intake {
     }
 }
 
-/// Begins the call that waits once more, if one does. `AllocError`: the trace had no room, and nothing was done.
+/// Begins what waits once more, if something does. `AllocError`: the trace had no room, and nothing was done.
 fn retry<M: Memory>(memory: &M, kept: &mut Kept, intake: &mut Intake) -> Result<(), AllocError>
-    requires tied { (put : Put) × Tied kept.old.setup.sq (now kept.old) put intake.old }
-    ensures tied { (put : Put) → Tied kept.old.setup.sq (now kept.old) put intake.old
-        → Tied kept.old.setup.sq (now kept.new) put intake.new }
+    requires tied { (put : Put) × Tied kept.old.setup (now kept.old) put intake.old }
+    ensures tied { (put : Put) → Tied kept.old.setup (now kept.old) put intake.old
+        → Tied kept.old.setup (now kept.new) put intake.new }
     ensures completions { (now kept.new).completions ≡ (now kept.old).completions }
     ensures taken { TakesIn kept.old kept.new 0 }
-    ensures row { (steps : List Step) × IsAgain intake.old steps
+    ensures row { (steps : List Step) × IsAgain kept.old.setup (now kept.old).submission intake.old steps
         × Records kept.old kept.new steps }
     ensures once { ClosesOnce kept.old intake.old → ClosesOnce kept.new intake.new }
     ensures granted { ((n : ℕ) → M.grants memory.now n) → IsOk result }
     ensures begun { ((n : ℕ) → M.grants memory.now n) → turns.awaits_memory intake.new ≡ false }
 {
     if let Intake::Waiting(count) = *intake {
-        kept.reserve(memory, count as usize + 3)?;
-        *intake = Intake::after(count, begin_call(memory, kept, count));
+        kept.reserve(memory, 4 * count as usize)?;
+        *intake = Intake::after(begin_calls(memory, kept, count));
     }
     Ok(())
 }
 
-/// Takes what was pulled: publishes and begins the call, or closes the ring. Returns how many items it took. Conditions: no call waits, these are the items of the call that was pulled, and the trace has room for a call of a whole ring.
+/// Takes what was pulled: publishes the call and begins what takes it, or closes the ring. Returns how many items it took. Conditions: no call waits, these are the items of the call that was pulled, and the trace has room for a call of a whole ring.
 fn take_pulled<M: Memory>(
     memory: &M,
     kept: &mut Kept,
@@ -81,17 +81,17 @@ fn take_pulled<M: Memory>(
     intake: &mut Intake,
     pulled: Pulled,
 ) -> u64
-    requires room { length kept.old.trace + 3 * kept.old.setup.sq + 4 ≤ kept.old.room }
+    requires room { length kept.old.trace + 6 * kept.old.setup.sq + 1 ≤ kept.old.room }
     requires ready { intake.old ≡ Ready }
     requires tied { (before : Put) × (after : Put)
-        × Tied kept.old.setup.sq (now kept.old) before intake.old
+        × Tied kept.old.setup (now kept.old) before intake.old
         × Pulls kept.old.setup.sq before pulled items.now after }
-    ensures tied { (before after : Put) → Tied kept.old.setup.sq (now kept.old) before intake.old
+    ensures tied { (before after : Put) → Tied kept.old.setup (now kept.old) before intake.old
         → Pulls kept.old.setup.sq before pulled items.now after
-        → Tied kept.old.setup.sq (now kept.new) after intake.new }
+        → Tied kept.old.setup (now kept.new) after intake.new }
     ensures completions { (now kept.new).completions ≡ (now kept.old).completions }
     ensures taken { TakesIn kept.old kept.new result }
-    ensures row { (steps : List Step) × IsTaken pulled items.now steps
+    ensures row { (steps : List Step) × IsTaken kept.old.setup pulled items.now steps
         × Records kept.old kept.new steps }
     ensures once { ClosesOnce kept.old intake.old → ClosesOnce kept.new intake.new }
     ensures none { result ≡ 0 → intake.new ≡ Ready → pulled ≡ Pulled.Nothing }
@@ -100,8 +100,8 @@ fn take_pulled<M: Memory>(
     kept.is_lawful();
     match pulled {
         Pulled::Call => {
-            let begun = take_call(memory, kept, items);
-            *intake = Intake::after(items.len() as u32, begun);
+            publish_items(kept, items);
+            *intake = Intake::after(begin_calls(memory, kept, items.len() as u32));
             items.len() as u64
         }
         Pulled::Close => {
@@ -113,7 +113,7 @@ fn take_pulled<M: Memory>(
     }
 }
 
-/// Pulls one call, or the close mark, or nothing: publishes and begins the call, or closes the ring. Returns how many items it pulled. `AllocError`: the trace had no room, and nothing was done.
+/// Pulls one call, or the close mark, or nothing: publishes the call and begins what takes it, or closes the ring. Returns how many items it pulled. `AllocError`: the trace had no room, and nothing was done.
 fn pull_call<M: Memory, P: KernelPort>(
     memory: &M,
     kept: &mut Kept,
@@ -123,14 +123,14 @@ fn pull_call<M: Memory, P: KernelPort>(
 ) -> Result<u64, AllocError>
     requires sizes { (P.sizes port.old).sq ≡ kept.old.setup.sq }
     requires items { kept.old.setup.sq ≤ vec_capacity items.old }
-    requires tied { Tied kept.old.setup.sq (now kept.old) (P.pulled port.old) intake.old }
+    requires tied { Tied kept.old.setup (now kept.old) (P.pulled port.old) intake.old }
     requires ready { intake.old ≡ Ready }
-    ensures tied { Tied kept.old.setup.sq (now kept.new) (P.pulled port.new) intake.new }
+    ensures tied { Tied kept.old.setup (now kept.new) (P.pulled port.new) intake.new }
     ensures completions { (now kept.new).completions ≡ (now kept.old).completions }
     ensures taken { IfOk result (λ n. TakesIn kept.old kept.new n) }
     ensures err { OnErr result (TakesIn kept.old kept.new 0) }
     ensures row { (steps : List Step)
-        × IsPulled kept.old.setup.sq (P.pulled port.old) (P.pulled port.new) steps
+        × IsPulled kept.old.setup (P.pulled port.old) (P.pulled port.new) steps
         × Records kept.old kept.new steps }
     ensures once { ClosesOnce kept.old intake.old → ClosesOnce kept.new intake.new }
     ensures most { IfOk result
@@ -145,12 +145,12 @@ fn pull_call<M: Memory, P: KernelPort>(
     ensures begun { ((n : ℕ) → M.grants memory.now n) → turns.awaits_memory intake.new ≡ false }
 {
     let size = kept.setup().sq();
-    kept.reserve(memory, 3 * size as usize + 4)?;
+    kept.reserve(memory, 6 * size as usize + 1)?;
     let pulled = port.pull(items);
     Ok(take_pulled(memory, kept, items, intake, pulled))
 }
 
-/// Begins the call that waits once more, if one does, and pulls one call or the close mark, if none waits then. Returns how many items it pulled; they replace what `items` held.
+/// Begins what waits once more, if something does, and pulls one call or the close mark, if nothing waits then. Returns how many items it pulled; they replace what `items` held.
 ///
 /// `AllocError`: the trace had no room, and nothing was done from there on.
 pub fn take_in<M: Memory, P: KernelPort>(
@@ -162,8 +162,8 @@ pub fn take_in<M: Memory, P: KernelPort>(
 ) -> Result<u64, AllocError>
     requires sizes { (P.sizes port.old).sq ≡ kept.old.setup.sq }
     requires items { kept.old.setup.sq ≤ vec_capacity items.old }
-    requires tied { Tied kept.old.setup.sq (now kept.old) (P.pulled port.old) intake.old }
-    ensures tied { Tied kept.old.setup.sq (now kept.new) (P.pulled port.new) intake.new }
+    requires tied { Tied kept.old.setup (now kept.old) (P.pulled port.old) intake.old }
+    ensures tied { Tied kept.old.setup (now kept.new) (P.pulled port.new) intake.new }
     ensures completions { (now kept.new).completions ≡ (now kept.old).completions }
     ensures taken { IfOk result (λ n. TakesIn kept.old kept.new n) }
     ensures err { OnErr result (TakesIn kept.old kept.new 0) }

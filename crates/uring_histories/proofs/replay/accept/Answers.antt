@@ -12,5 +12,5 @@ returns c = λ calls amid.
     let many : length items ≡ length c.args.items.now = length-map c.args.items.now published_as in
     let goes_in : GoesThrough c.args.setup.now.sq items = record { few = omega arith; are_items = search rules } in
     on_ok_weaker c.submit.result
-    (λ m. amid_call c.args.setup.now c.args.recording.now c.submit.new.recording calls items c.requires.goes_on goes_in amid m)
+    (λ m. amid_call c.args.setup.now c.args.recording.now c.submit.new.recording calls items c.requires.goes_on c.requires.manual goes_in amid m)
     (c.submit.ensures c.args.setup.now amid.history amid.recorded)

@@ -1,6 +1,7 @@
 use Rattle.std.proofs.lemmas.Bool.{false≢true}
 use Rattle.std.proofs.Common.{[], subst, sym, ap, ◌∙◌, arith, length, ◌+◌, ◌*◌}
 use Rattle.uring_entry.specs.Setup.{Setup}
+use Rattle.uring_threads.specs.EventRows.{IsTaken}
 use Rattle.uring_threads.specs.Kept.{now}
 use Rattle.uring_threads.specs.Turns.{Tied, is_shut}
 use Rattle.uring_threads.proofs.Recording.{none_pulled, pulled_as, records_none, records_then}
@@ -30,7 +31,7 @@ returns-clause-tied g c =
     let before = g.P.KernelPort.pulled c.args.port.now in
     let after = g.P.KernelPort.pulled c.pull-pulled.new.self in
     let at = pulled_at c.args.kept.now c.reserve.new.self before after _ c.pull-pulled.result c.pull-pulled.new.items.items c.deref.result.now c.args.intake.now c.reserve.ensures.unmoved c.requires.sizes c.deref.ensures.value c.requires.tied c.pull-pulled.ensures.pulled in
-    subst (λ (s : Setup). Tied s.sq (now c.take_pulled.new.kept) after c.take_pulled.new.intake) c.reserve.ensures.unmoved.setup (c.take_pulled.ensures.tied before after at.0 at.1)
+    subst (λ (s : Setup). Tied s (now c.take_pulled.new.kept) after c.take_pulled.new.intake) c.reserve.ensures.unmoved.setup (c.take_pulled.ensures.tied before after at.0 at.1)
 
 pub returns-clause-completions : goal.returns-clause-completions
 returns-clause-completions g c = completions_behind c.args.kept.now c.reserve.new.self c.take_pulled.new.kept c.reserve.ensures.unmoved c.take_pulled.ensures.completions
@@ -40,12 +41,12 @@ returns-clause-taken g c = takes_behind c.args.kept.now c.reserve.new.self c.tak
 
 pub returns-in_err-reserve-clause-row : goal.returns-in_err-reserve-clause-row
 returns-in_err-reserve-clause-row g c =
-    ([], none_pulled c.args.kept.now.setup.sq (g.P.KernelPort.pulled c.args.port.now), records_none c.args.kept.now c.reserve.new.self c.reserve.ensures.unmoved)
+    ([], none_pulled c.args.kept.now.setup (g.P.KernelPort.pulled c.args.port.now), records_none c.args.kept.now c.reserve.new.self c.reserve.ensures.unmoved)
 
 pub returns-clause-row : goal.returns-clause-row
 returns-clause-row g c =
     let r = c.take_pulled.ensures.row in
-    (r.0, pulled_as _ c.args.kept.now.setup.sq (g.P.KernelPort.pulled c.args.port.now) (g.P.KernelPort.pulled c.pull-pulled.new.self) c.pull-pulled.result c.pull-pulled.new.items.items c.deref.result.now r.0 c.requires.sizes c.deref.ensures.value c.pull-pulled.ensures.pulled r.1, records_then c.args.kept.now c.reserve.new.self c.take_pulled.new.kept [] r.0 (records_none c.args.kept.now c.reserve.new.self c.reserve.ensures.unmoved) r.2)
+    (r.0, pulled_as _ c.args.kept.now.setup (g.P.KernelPort.pulled c.args.port.now) (g.P.KernelPort.pulled c.pull-pulled.new.self) c.pull-pulled.result c.pull-pulled.new.items.items c.deref.result.now r.0 c.requires.sizes c.deref.ensures.value c.pull-pulled.ensures.pulled (subst (λ (s : Setup). IsTaken s c.pull-pulled.result c.deref.result.now r.0) c.reserve.ensures.unmoved.setup r.1), records_then c.args.kept.now c.reserve.new.self c.take_pulled.new.kept [] r.0 (records_none c.args.kept.now c.reserve.new.self c.reserve.ensures.unmoved) r.2)
 
 pub returns-clause-once : goal.returns-clause-once
 returns-clause-once g c = λ once. c.take_pulled.ensures.once (once_unmoved c.args.kept.now c.reserve.new.self c.args.intake.now c.reserve.ensures.unmoved once)
@@ -54,4 +55,4 @@ pub returns-clause-most : goal.returns-clause-most
 returns-clause-most g c = λ ready none. c.pull-pulled.ensures.looked (c.take_pulled.ensures.none none ready) (sym c.requires.tied.shut ∙ ap is_shut c.requires.ready)
 
 pub returns-in_err-reserve-clause-granted : goal.returns-in_err-reserve-clause-granted
-returns-in_err-reserve-clause-granted g c = λ all. absurd (false≢true (c.in_err-reserve.ensures.granted (length c.args.kept.now.trace + (3 * c.sq-size.result + 4)) (all (length c.args.kept.now.trace + (3 * c.sq-size.result + 4))) (omega arith)))
+returns-in_err-reserve-clause-granted g c = λ all. absurd (false≢true (c.in_err-reserve.ensures.granted (length c.args.kept.now.trace + (6 * c.sq-size.result + 1)) (all (length c.args.kept.now.trace + (6 * c.sq-size.result + 1))) (omega arith)))

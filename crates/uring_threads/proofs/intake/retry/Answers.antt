@@ -1,20 +1,21 @@
-use Rattle.uring_threads.proofs.Granting.{begun_waits_not, waits_not}
+use Rattle.uring_threads.proofs.Granting.{waits_not}
 use Rattle.std.proofs.lemmas.Bool.{false≢true}
-use Rattle.std.proofs.Common.{[], inl, inr, refl, sym, subst, arith, length, ◌+◌}
-use Rattle.uring_threads.specs.EventRows.{IsAgain, begin_row}
+use Rattle.std.proofs.Common.{[], inl, inr, refl, sym, subst, ap, ◌∙◌, arith, length, ◌+◌, ◌*◌}
+use Rattle.uring_threads.specs.EventRows.{IsAgain}
 use Rattle.uring_threads.specs.Kept.{now, IsUnmoved}
-use Rattle.uring_threads.specs.Turns.{ClosesOnce, Tied}
-use Rattle.uring_threads.proofs.Recording.{none_again, records_none, records_then}
+use Rattle.uring_threads.specs.Turns.{ClosesOnce, Tied, awaits_memory}
+use Rattle.uring_threads.proofs.Recording.{none_again, records_none}
+use Rattle.uring_threads.proofs.BegunRows.{row_begun}
 use Rattle.uring_threads.proofs.Closing.{once_begun, once_unmoved}
 use Rattle.uring_threads.proofs.TraceSteps.{appends_behind}
-use Rattle.uring_threads.proofs.Tying.{again_completions, call_waits, completions_behind, takes_nothing, takes_again, tied_again, tied_still}
+use Rattle.uring_threads.proofs.Tying.{begun_completions, call_waits, completions_behind, takes_behind, takes_calls, takes_nothing, tied_again, tied_still}
 use Rattle.uring_threads.proofs.intake.retry.Goals as goal
 
-pub begin_call-requires-clause-not_closed : goal.begin_call-requires-clause-not_closed
-begin_call-requires-clause-not_closed g c = (call_waits c.args.kept.now c.reserve.new.self c.requires.tied.0 c.in-Waiting.count c.args.intake.now c.reserve.ensures.unmoved c.in-Waiting.is c.requires.tied.1).0
+pub begin_calls-requires-clause-not_closed : goal.begin_calls-requires-clause-not_closed
+begin_calls-requires-clause-not_closed g c = (call_waits c.args.kept.now c.reserve.new.self c.requires.tied.0 c.in-Waiting.count c.args.intake.now c.reserve.ensures.unmoved c.in-Waiting.is c.requires.tied.1).0
 
-pub begin_call-requires-clause-stands : goal.begin_call-requires-clause-stands
-begin_call-requires-clause-stands g c = (call_waits c.args.kept.now c.reserve.new.self c.requires.tied.0 c.in-Waiting.count c.args.intake.now c.reserve.ensures.unmoved c.in-Waiting.is c.requires.tied.1).1
+pub begin_calls-requires-clause-stands : goal.begin_calls-requires-clause-stands
+begin_calls-requires-clause-stands g c = (call_waits c.args.kept.now c.reserve.new.self c.requires.tied.0 c.in-Waiting.count c.args.intake.now c.reserve.ensures.unmoved c.in-Waiting.is c.requires.tied.1).1
 
 pub returns-in_err-reserve-clause-tied : goal.returns-in_err-reserve-clause-tied
 returns-in_err-reserve-clause-tied g c = λ put. tied_still c.args.kept.now c.reserve.new.self put c.args.intake.now c.reserve.ensures.unmoved
@@ -32,41 +33,40 @@ returns-in_err-reserve-clause-once g c =
 
 pub returns-in_ok-reserve-clause-tied : goal.returns-in_ok-reserve-clause-tied
 returns-in_ok-reserve-clause-tied g c = λ put tied.
-    subst (Tied c.args.kept.now.setup.sq (now c.begin_call.new.kept) put) (sym c.after.ensures)
-    (tied_again c.args.kept.now c.reserve.new.self c.begin_call.new.kept put c.in-Waiting.count c.args.intake.now c.begin_call.result c.reserve.ensures.unmoved c.in-Waiting.is c.begin_call.ensures.world c.begin_call.ensures.spent tied)
+    subst (Tied c.args.kept.now.setup (now c.begin_calls.new.kept) put) (sym c.after.ensures)
+    (tied_again c.args.kept.now c.reserve.new.self c.begin_calls.new.kept put c.in-Waiting.count c.args.intake.now c.begin_calls.result c.reserve.ensures.unmoved c.in-Waiting.is c.begin_calls.ensures.begun tied)
 
 pub returns-in_ok-reserve-clause-completions : goal.returns-in_ok-reserve-clause-completions
-returns-in_ok-reserve-clause-completions g c = again_completions c.args.kept.now c.reserve.new.self c.begin_call.new.kept c.in-Waiting.count c.begin_call.result c.reserve.ensures.unmoved c.begin_call.ensures.world
+returns-in_ok-reserve-clause-completions g c = completions_behind c.args.kept.now c.reserve.new.self c.begin_calls.new.kept c.reserve.ensures.unmoved (begun_completions c.reserve.new.self c.begin_calls.new.kept c.begin_calls.result c.begin_calls.ensures.begun)
 
 pub returns-in_ok-reserve-clause-taken : goal.returns-in_ok-reserve-clause-taken
-returns-in_ok-reserve-clause-taken g c = takes_again c.args.kept.now c.begin_call.new.kept (appends_behind c.args.kept.now c.reserve.new.self c.begin_call.new.kept _ c.reserve.ensures.unmoved c.begin_call.ensures.tally)
+returns-in_ok-reserve-clause-taken g c = takes_behind c.args.kept.now c.reserve.new.self c.begin_calls.new.kept 0 c.reserve.ensures.unmoved (takes_calls c.reserve.new.self c.begin_calls.new.kept c.begin_calls.ensures.begun.made _ c.begin_calls.ensures.begun.have)
 
 pub returns-in_ok-reserve-clause-once : goal.returns-in_ok-reserve-clause-once
 returns-in_ok-reserve-clause-once g c = λ once.
-    subst (ClosesOnce c.begin_call.new.kept) (sym c.after.ensures)
-    (once_begun c.args.kept.now c.begin_call.new.kept _ c.args.intake.now c.in-Waiting.count c.begin_call.result
-    (appends_behind c.args.kept.now c.reserve.new.self c.begin_call.new.kept _ c.reserve.ensures.unmoved c.begin_call.ensures.tally) refl (λ o. subst (ClosesOnce c.args.kept.now) c.in-Waiting.is o) once)
+    subst (ClosesOnce c.begin_calls.new.kept) (sym c.after.ensures)
+    (once_begun c.args.kept.now c.begin_calls.new.kept _ c.args.intake.now c.begin_calls.result
+    (appends_behind c.args.kept.now c.reserve.new.self c.begin_calls.new.kept _ c.reserve.ensures.unmoved c.begin_calls.ensures.begun.have.appends) refl (λ o. subst (ClosesOnce c.args.kept.now) c.in-Waiting.is o) once)
 
 pub returns-in_err-reserve-clause-row : goal.returns-in_err-reserve-clause-row
 returns-in_err-reserve-clause-row g c =
-    ([], subst (λ i. IsAgain i []) (sym c.in-Waiting.is) (inl refl), records_none c.args.kept.now c.reserve.new.self c.reserve.ensures.unmoved)
+    ([], subst (λ i. IsAgain c.args.kept.now.setup (now c.args.kept.now).submission i []) (sym c.in-Waiting.is) (inl refl), records_none c.args.kept.now c.reserve.new.self c.reserve.ensures.unmoved)
 
 pub returns-in_ok-reserve-clause-row : goal.returns-in_ok-reserve-clause-row
 returns-in_ok-reserve-clause-row g c =
-    let row = begin_row c.in-Waiting.count c.begin_call.result in
-    (row, subst (λ i. IsAgain i row) (sym c.in-Waiting.is) (inr (c.begin_call.result, refl)), records_then c.args.kept.now c.reserve.new.self c.begin_call.new.kept [] row (records_none c.args.kept.now c.reserve.new.self c.reserve.ensures.unmoved) c.begin_call.ensures.row)
+    let row = row_begun c.args.kept.now c.reserve.new.self c.begin_calls.new.kept c.begin_calls.result c.reserve.ensures.unmoved c.begin_calls.ensures.begun in
+    (row.0, subst (λ i. IsAgain c.args.kept.now.setup (now c.args.kept.now).submission i row.0) (sym c.in-Waiting.is) (inr row.1), row.2)
 
 pub returns-in_default : goal.returns-in_default
 returns-in_default g c =
     let still : IsUnmoved c.args.kept.now c.args.kept.now = record { trace = refl; room = omega arith; setup = refl } in
-    record { tied = λ put t. t; completions = refl; taken = takes_nothing c.args.kept.now c.args.kept.now still; row = ([], none_again c.args.intake.now, records_none c.args.kept.now c.args.kept.now still); once = λ same. same; granted = λ all. refl; begun = λ all. waits_not c.args.intake.now c.in_default.not-Waiting }
+    record { tied = λ put t. t; completions = refl; taken = takes_nothing c.args.kept.now c.args.kept.now still; row = ([], none_again c.args.kept.now.setup (now c.args.kept.now).submission c.args.intake.now, records_none c.args.kept.now c.args.kept.now still); once = λ same. same; granted = λ all. refl; begun = λ all. waits_not c.args.intake.now c.in_default.not-Waiting }
 
 pub returns-in_err-reserve-clause-granted : goal.returns-in_err-reserve-clause-granted
-returns-in_err-reserve-clause-granted g c = λ all. absurd (false≢true (c.in_err-reserve.ensures.granted (length c.args.kept.now.trace + (c.in-Waiting.count + 3)) (all (length c.args.kept.now.trace + (c.in-Waiting.count + 3))) (omega arith)))
+returns-in_err-reserve-clause-granted g c = λ all. absurd (false≢true (c.in_err-reserve.ensures.granted (length c.args.kept.now.trace + 4 * c.in-Waiting.count) (all (length c.args.kept.now.trace + 4 * c.in-Waiting.count)) (omega arith)))
 
 pub returns-in_err-reserve-clause-begun : goal.returns-in_err-reserve-clause-begun
-returns-in_err-reserve-clause-begun g c = λ all. absurd (false≢true (c.in_err-reserve.ensures.granted (length c.args.kept.now.trace + (c.in-Waiting.count + 3)) (all (length c.args.kept.now.trace + (c.in-Waiting.count + 3))) (omega arith)))
+returns-in_err-reserve-clause-begun g c = λ all. absurd (false≢true (c.in_err-reserve.ensures.granted (length c.args.kept.now.trace + 4 * c.in-Waiting.count) (all (length c.args.kept.now.trace + 4 * c.in-Waiting.count)) (omega arith)))
 
 pub returns-in_ok-reserve-clause-begun : goal.returns-in_ok-reserve-clause-begun
-returns-in_ok-reserve-clause-begun g c = λ all.
-    rw c.after.ensures (begun_waits_not c.in-Waiting.count c.begin_call.result (c.begin_call.ensures.granted all))
+returns-in_ok-reserve-clause-begun g c = λ all. ap awaits_memory c.after.ensures ∙ c.begin_calls.ensures.granted all

@@ -11,7 +11,7 @@ use Rattle.uring_threads.proofs.intake.take_in.Goals as goal
 pub pull_call-requires-clause-tied : goal.pull_call-requires-clause-tied
 pull_call-requires-clause-tied g c =
     let pulled = g.P.KernelPort.pulled c.args.port.now in
-    subst (λ (s : Setup). Tied s.sq (now c.retry.new.kept) pulled c.retry.new.intake) (sym c.retry.ensures.taken.appends.setup) (c.retry.ensures.tied pulled c.requires.tied)
+    subst (λ (s : Setup). Tied s (now c.retry.new.kept) pulled c.retry.new.intake) (sym c.retry.ensures.taken.appends.setup) (c.retry.ensures.tied pulled c.requires.tied)
 
 pub returns-in_err-retry-clause-tied : goal.returns-in_err-retry-clause-tied
 returns-in_err-retry-clause-tied g c =
@@ -22,7 +22,7 @@ returns-in_err-retry-clause-once g c = c.retry.ensures.once
 
 pub returns-in-Ready-clause-tied : goal.returns-in-Ready-clause-tied
 returns-in-Ready-clause-tied g c =
-    subst (λ (s : Setup). Tied s.sq (now c.pull_call.new.kept) (g.P.KernelPort.pulled c.pull_call.new.port) c.pull_call.new.intake) c.retry.ensures.taken.appends.setup c.pull_call.ensures.tied
+    subst (λ (s : Setup). Tied s (now c.pull_call.new.kept) (g.P.KernelPort.pulled c.pull_call.new.port) c.pull_call.new.intake) c.retry.ensures.taken.appends.setup c.pull_call.ensures.tied
 
 pub returns-in-Ready-clause-completions : goal.returns-in-Ready-clause-completions
 returns-in-Ready-clause-completions g c =
@@ -42,7 +42,7 @@ returns-in-Ready-clause-row g c =
     let r = c.retry.ensures.row in
     let q = c.pull_call.ensures.row in
     intake_recorded c.args.kept.now c.retry.new.kept c.pull_call.new.kept c.args.intake.now (g.P.KernelPort.pulled c.args.port.now) (g.P.KernelPort.pulled c.pull_call.new.port) r.0 q.0 r.1
-    (subst (λ (s : Setup). IsPulled s.sq (g.P.KernelPort.pulled c.args.port.now) (g.P.KernelPort.pulled c.pull_call.new.port) q.0) c.retry.ensures.taken.appends.setup q.1) r.2 q.2
+    (subst (λ (s : Setup). IsPulled s (g.P.KernelPort.pulled c.args.port.now) (g.P.KernelPort.pulled c.pull_call.new.port) q.0) c.retry.ensures.taken.appends.setup q.1) r.2 q.2
 
 pub returns-in_default-clause-row : goal.returns-in_default-clause-row
 returns-in_default-clause-row g c = again_recorded c.args.kept.now c.retry.new.kept c.args.intake.now (g.P.KernelPort.pulled c.args.port.now) c.retry.ensures.row

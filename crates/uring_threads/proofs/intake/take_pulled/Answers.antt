@@ -1,46 +1,52 @@
-use Rattle.uring_threads.proofs.Granting.{begun_waits_not}
-use Rattle.std.proofs.Common.{◌∙◌, [], ◌∷◌, length, ap, refl, sum, sym, subst, arith}
+use Rattle.std.proofs.Common.{◌+◌, ◌∙◌, [], ◌∷◌, length, ap, refl, sym, subst, arith}
 use Rattle.uring_laws.specs.Standing.{Stands}
 use Rattle.uring_core.specs.World.{World}
 use Rattle.uring_core.specs.declared.step.Step.TheVariants as step
 use Rattle.uring_ports.specs.Ports.{Pulls}
-use Rattle.uring_threads.specs.EventRows.{IsTaken, call_row}
+use Rattle.uring_threads.specs.EventRows.{IsTaken}
 use Rattle.uring_threads.specs.Kept.{now}
-use Rattle.uring_threads.specs.Turns.{ClosesOnce, Tied, waiting_in}
+use Rattle.uring_threads.specs.Turns.{ClosesOnce, Tied, awaits_memory, waiting_in}
 use Rattle.uring_threads.proofs.Recording.{records_none, records_one}
-use Rattle.uring_threads.proofs.Closing.{once_begun, once_shut}
-use Rattle.uring_threads.proofs.Tying.{closed_world, taken_completions, takes_call, takes_nothing, takes_shut, tied_shut, tied_taken}
+use Rattle.uring_threads.proofs.BegunRows.{row_taken}
+use Rattle.uring_threads.proofs.Closing.{once_begun, once_shut, once_stays}
+use Rattle.uring_threads.proofs.Tying.{begun_completions, closed_world, takes_calls, takes_items, takes_nothing, takes_shut, takes_then, tied_shut, tied_taken}
 use Rattle.uring_threads.proofs.intake.take_pulled.Goals as goal
 
-pub take_call-begun-requires-clause-few : goal.take_call-begun-requires-clause-few
-take_call-begun-requires-clause-few g c =
+pub publish_items-requires-clause-few : goal.publish_items-requires-clause-few
+publish_items-requires-clause-few g c =
     let pulled = subst (λ v. Pulls c.args.kept.now.setup.sq c.requires.tied.0 v c.args.items.now c.requires.tied.1) c.in-Call.is c.requires.tied.3 in
     pulled.1
 
-pub take_call-begun-requires-clause-not_closed : goal.take_call-begun-requires-clause-not_closed
-take_call-begun-requires-clause-not_closed g c =
-    let pulled = subst (λ v. Pulls c.args.kept.now.setup.sq c.requires.tied.0 v c.args.items.now c.requires.tied.1) c.in-Call.is c.requires.tied.3 in
-    c.requires.tied.2.closed ∙ pulled.2
+pub publish_items-requires-clause-stands : goal.publish_items-requires-clause-stands
+publish_items-requires-clause-stands g c = subst (λ i. Stands (now c.args.kept.now).submission [] (waiting_in i)) c.requires.ready c.requires.tied.2.stands
 
-pub take_call-begun-requires-clause-stands : goal.take_call-begun-requires-clause-stands
-take_call-begun-requires-clause-stands g c = subst (λ i. Stands (now c.args.kept.now).submission [] (sum (waiting_in i))) c.requires.ready c.requires.tied.2.stands
+pub begin_calls-requires-clause-not_closed : goal.begin_calls-requires-clause-not_closed
+begin_calls-requires-clause-not_closed g c =
+    let pulled = subst (λ v. Pulls c.args.kept.now.setup.sq c.requires.tied.0 v c.args.items.now c.requires.tied.1) c.in-Call.is c.requires.tied.3 in
+    ap (λ (w : World). w.is_closed) c.publish_items.ensures.world ∙ c.requires.tied.2.closed ∙ pulled.2
 
 pub returns-in-Call-clause-tied : goal.returns-in-Call-clause-tied
 returns-in-Call-clause-tied g c = λ before after tied pulled.
-    subst (Tied c.args.kept.now.setup.sq (now c.take_call-begun.new.kept) after) (sym c.after.ensures)
-    (tied_taken c.args.kept.now c.take_call-begun.new.kept before after c.args.items.now c.args.intake.now c.take_call-begun.result c.requires.ready c.take_call-begun.ensures.world c.take_call-begun.ensures.spent tied
+    subst (Tied c.args.kept.now.setup (now c.begin_calls.new.kept) after) (sym c.after.ensures)
+    (tied_taken c.args.kept.now c.publish_items.new.kept c.begin_calls.new.kept before after c.args.items.now c.args.intake.now c.begin_calls.result c.requires.ready c.publish_items.ensures.tally.setup c.publish_items.ensures.world c.begin_calls.ensures.begun tied
     (subst (λ v. Pulls c.args.kept.now.setup.sq before v c.args.items.now after) c.in-Call.is pulled))
 
 pub returns-in-Call-clause-completions : goal.returns-in-Call-clause-completions
-returns-in-Call-clause-completions g c = taken_completions c.args.kept.now c.take_call-begun.new.kept c.args.items.now c.take_call-begun.result c.take_call-begun.ensures.world
+returns-in-Call-clause-completions g c =
+    begun_completions c.publish_items.new.kept c.begin_calls.new.kept c.begin_calls.result c.begin_calls.ensures.begun ∙ ap (λ (w : World). w.completions) c.publish_items.ensures.world
 
 pub returns-in-Call-clause-taken : goal.returns-in-Call-clause-taken
-returns-in-Call-clause-taken g c = takes_call c.args.kept.now c.take_call-begun.new.kept (length c.args.items.now) c.take_call-begun.ensures.tally
+returns-in-Call-clause-taken g c =
+    let pulled = subst (λ v. Pulls c.args.kept.now.setup.sq c.requires.tied.0 v c.args.items.now c.requires.tied.1) c.in-Call.is c.requires.tied.3 in
+    let n = length c.args.items.now in
+    takes_then c.args.kept.now c.publish_items.new.kept c.begin_calls.new.kept n 0 n (takes_items c.args.kept.now c.publish_items.new.kept n pulled.0 c.publish_items.ensures.tally)
+    (takes_calls c.publish_items.new.kept c.begin_calls.new.kept c.begin_calls.ensures.begun.made _ c.begin_calls.ensures.begun.have) (omega arith)
 
 pub returns-in-Call-clause-once : goal.returns-in-Call-clause-once
 returns-in-Call-clause-once g c = λ once.
-    subst (ClosesOnce c.take_call-begun.new.kept) (sym c.after.ensures)
-    (once_begun c.args.kept.now c.take_call-begun.new.kept _ c.args.intake.now (length c.args.items.now) c.take_call-begun.result c.take_call-begun.ensures.tally refl (λ o. subst (ClosesOnce c.args.kept.now) c.requires.ready o) once)
+    let published = once_stays c.args.kept.now c.publish_items.new.kept _ c.args.intake.now c.publish_items.ensures.tally refl once in
+    subst (ClosesOnce c.begin_calls.new.kept) (sym c.after.ensures)
+    (once_begun c.publish_items.new.kept c.begin_calls.new.kept _ c.args.intake.now c.begin_calls.result c.begin_calls.ensures.begun.have.appends refl (λ o. subst (ClosesOnce c.publish_items.new.kept) c.requires.ready o) published)
 
 pub returns-in-Close-clause-tied : goal.returns-in-Close-clause-tied
 returns-in-Close-clause-tied g c = λ before after tied pulled.
@@ -58,7 +64,7 @@ returns-in-Close-clause-once g c = λ once. once_shut c.args.kept.now c.step_res
 
 pub returns-in-Nothing-clause-tied : goal.returns-in-Nothing-clause-tied
 returns-in-Nothing-clause-tied g c = λ before after tied pulled.
-    subst (λ put. Tied c.args.kept.now.setup.sq (now c.args.kept.now) put c.args.intake.now) (sym (subst (λ v. Pulls c.args.kept.now.setup.sq before v c.args.items.now after) c.in-Nothing.is pulled).1) tied
+    subst (λ put. Tied c.args.kept.now.setup (now c.args.kept.now) put c.args.intake.now) (sym (subst (λ v. Pulls c.args.kept.now.setup.sq before v c.args.items.now after) c.in-Nothing.is pulled).1) tied
 
 pub returns-in-Nothing-clause-completions : goal.returns-in-Nothing-clause-completions
 returns-in-Nothing-clause-completions g c = refl
@@ -68,16 +74,18 @@ returns-in-Nothing-clause-taken g c = takes_nothing c.args.kept.now c.args.kept.
 
 pub returns-in-Call-clause-row : goal.returns-in-Call-clause-row
 returns-in-Call-clause-row g c =
-    let row = call_row c.args.items.now c.take_call-begun.result in
-    (row, subst (λ p. IsTaken p c.args.items.now row) (sym c.in-Call.is) (c.take_call-begun.result, refl), c.take_call-begun.ensures.row)
+    let pulled = subst (λ v. Pulls c.args.kept.now.setup.sq c.requires.tied.0 v c.args.items.now c.requires.tied.1) c.in-Call.is c.requires.tied.3 in
+    let stands : Stands (now c.args.kept.now).submission [] 0 = subst (λ i. Stands (now c.args.kept.now).submission [] (waiting_in i)) c.requires.ready c.requires.tied.2.stands in
+    let row = row_taken c.args.kept.now c.publish_items.new.kept c.begin_calls.new.kept c.args.items.now c.begin_calls.result stands pulled.1 c.publish_items.ensures.tally.setup c.publish_items.ensures.world c.publish_items.ensures.row c.begin_calls.ensures.begun in
+    (row.0, subst (λ p. IsTaken c.args.kept.now.setup p c.args.items.now row.0) (sym c.in-Call.is) row.1, row.2)
 
 pub returns-in-Close-clause-row : goal.returns-in-Close-clause-row
 returns-in-Close-clause-row g c =
-    (step.Close ∷ [], subst (λ p. IsTaken p c.args.items.now (step.Close ∷ [])) (sym c.in-Close.is) refl, records_one c.args.kept.now c.step_reserved.new.self step.Close c.step_reserved.result c.step_reserved.ensures.grows)
+    (step.Close ∷ [], subst (λ p. IsTaken c.args.kept.now.setup p c.args.items.now (step.Close ∷ [])) (sym c.in-Close.is) refl, records_one c.args.kept.now c.step_reserved.new.self step.Close c.step_reserved.result c.step_reserved.ensures.grows)
 
 pub returns-in-Nothing-clause-row : goal.returns-in-Nothing-clause-row
 returns-in-Nothing-clause-row g c =
-    ([], subst (λ p. IsTaken p c.args.items.now []) (sym c.in-Nothing.is) refl, records_none c.args.kept.now c.args.kept.now (record { trace = refl; room = omega arith; setup = refl }))
+    ([], subst (λ p. IsTaken c.args.kept.now.setup p c.args.items.now []) (sym c.in-Nothing.is) refl, records_none c.args.kept.now c.args.kept.now (record { trace = refl; room = omega arith; setup = refl }))
 
 pub returns-in-Nothing-clause-once : goal.returns-in-Nothing-clause-once
 returns-in-Nothing-clause-once g c = λ once. once
@@ -88,5 +96,4 @@ returns-in-Call-clause-none g c = λ none ready.
     absurd (omega (arith, none, pulled.0))
 
 pub returns-in-Call-clause-begun : goal.returns-in-Call-clause-begun
-returns-in-Call-clause-begun g c = λ all.
-    rw c.after.ensures (begun_waits_not (length c.args.items.now) c.take_call-begun.result (c.take_call-begun.ensures.granted all))
+returns-in-Call-clause-begun g c = λ all. ap awaits_memory c.after.ensures ∙ c.begin_calls.ensures.granted all

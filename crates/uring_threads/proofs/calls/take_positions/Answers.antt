@@ -1,0 +1,48 @@
+use Rattle.std.proofs.Common.{◌≡◌, ◌+◌, ◌∷◌, drop, true, false, if◌then◌else◌, refl, ap, subst, ◌∙◌, arith}
+use Rattle.uring_entry.specs.Submission.{Submission, taken}
+use Rattle.uring_laws.specs.Standing.{in_call}
+use Rattle.uring_threads.specs.Calls.{calls_behind, calls_left, ends_of}
+use Rattle.uring_threads.specs.Kept.{now}
+use Rattle.uring_threads.specs.Tallies.{none_counted}
+use Rattle.uring_threads.proofs.CallSteps.{all_taken, between_stands, ended_there, ends_as, gone_on, none_behind, took_of}
+use Rattle.uring_core.specs.declared.step.Step.TheVariants as step
+use Rattle.uring_threads.proofs.Recording.{records_more}
+use Rattle.uring_threads.proofs.TraceSteps.{grown_length, appends_one, appends_then}
+use Rattle.uring_threads.proofs.calls.take_positions.Goals as goal
+
+pub returns-then-is_ended-clause-world : goal.returns-then-is_ended-clause-world
+returns-then-is_ended-clause-world c =
+    let i = c.loop-done.invariant in
+    let t = took_of c.args.kept.now c.loop-done.kept c.step_reserved-answer.new.self c.requires.in_call.0 c.args.count c.loop-done.done c.step_reserved-answer.result c.is_lawful.ensures.goes_on i.tally.setup c.requires.in_call.1 c.requires.in_call.2 c.loop-done-test.true i.world c.step_reserved-answer.ensures.grows c.step_reserved-answer.ensures.called in
+    let e = ends_as c.step_reserved-answer.new.self c.args.kept.now.setup c.setup-setup.result (now c.args.kept.now) c.args.count c.loop-done.done c.step_reserved-answer.result c.is_ended.result true c.setup-setup.ensures.value c.is_ended.ensures c.if-is_ended.true t in
+    t.world ∙ ap (λ b. in_call (now c.args.kept.now) (if b then c.loop-done.done + 1 else c.args.count) (c.loop-done.done + 1)) e
+
+pub returns-then-is_ended-clause-call : goal.returns-then-is_ended-clause-call
+returns-then-is_ended-clause-call c =
+    let i = c.loop-done.invariant in
+    let t = took_of c.args.kept.now c.loop-done.kept c.step_reserved-answer.new.self c.requires.in_call.0 c.args.count c.loop-done.done c.step_reserved-answer.result c.is_lawful.ensures.goes_on i.tally.setup c.requires.in_call.1 c.requires.in_call.2 c.loop-done-test.true i.world c.step_reserved-answer.ensures.grows c.step_reserved-answer.ensures.called in
+    let e = ends_as c.step_reserved-answer.new.self c.args.kept.now.setup c.setup-setup.result (now c.args.kept.now) c.args.count c.loop-done.done c.step_reserved-answer.result c.is_ended.result true c.setup-setup.ensures.value c.is_ended.ensures c.if-is_ended.true t in
+    ended_there c.args.kept.now.setup _ _ t.place c.loop-done.done _ t.next e i.calls
+
+pub loop-done-preserved : goal.loop-done-preserved
+loop-done-preserved c =
+    let i = c.loop-done.invariant in
+    let t = took_of c.args.kept.now c.loop-done.kept c.step_reserved-answer.new.self c.requires.in_call.0 c.args.count c.loop-done.done c.step_reserved-answer.result c.is_lawful.ensures.goes_on i.tally.setup c.requires.in_call.1 c.requires.in_call.2 c.loop-done-test.true i.world c.step_reserved-answer.ensures.grows c.step_reserved-answer.ensures.called in
+    let e = ends_as c.step_reserved-answer.new.self c.args.kept.now.setup c.setup-setup.result (now c.args.kept.now) c.args.count c.loop-done.done c.step_reserved-answer.result c.is_ended.result false c.setup-setup.ensures.value c.is_ended.ensures c.if-is_ended.false t in
+    record {
+      events = omega (arith, i.events, grown_length _ _ _ c.step_reserved-answer.ensures.grows);
+      world = t.world ∙ ap (λ b. in_call (now c.args.kept.now) (if b then c.loop-done.done + 1 else c.args.count) (c.loop-done.done + 1)) e;
+      calls = gone_on c.args.kept.now.setup _ _ t.place c.loop-done.done _ t.next e i.calls;
+      tally = appends_then _ _ _ _ _ _ i.tally (appends_one _ _ _ none_counted c.step_reserved-answer.ensures.grows refl refl) refl;
+      row = records_more c.args.kept.now c.loop-done.kept c.step_reserved-answer.new.self step.Take c.loop-done.done c.step_reserved-answer.result i.row c.step_reserved-answer.ensures.grows;
+    }
+
+pub returns-clause-call : goal.returns-clause-call
+returns-clause-call c =
+    let i = c.loop-done.invariant in
+    let l : Submission = (now c.args.kept.now).submission in
+    let same : c.loop-done.done ≡ c.args.count = omega (arith, c.loop-done.auto.done-end, c.loop-done-test.false) in
+    let stands = between_stands (now c.args.kept.now) c.requires.in_call.0 c.args.count 0 c.requires.in_call.2 c.requires.in_call.1 in
+    let none = ap (λ n. drop (taken l + n) l.published) same ∙ none_behind (now c.args.kept.now) c.args.count stands in
+    subst (λ n. calls_left c.args.kept.now.setup l ≡ n ∷ calls_behind (ends_of c.args.kept.now.setup (drop (taken l + n) l.published)) 0) same
+    (all_taken c.args.kept.now.setup (drop (taken l + c.loop-done.done) l.published) c.loop-done.done (calls_left c.args.kept.now.setup l) (omega (arith, same, c.requires.some)) none i.calls)
