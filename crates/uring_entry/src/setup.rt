@@ -76,7 +76,7 @@ impl Setup {
         })
     }
 
-    /// The same set-up for a ring that stops: a submission call ends behind the first entry with a fault that it takes, whether or not that entry has a link flag, and later calls take what it leaves. io_uring_setup(2), IORING_SETUP_SUBMIT_ALL: a ring without that flag; that an entry with a link flag is no exception is our own rule. By Linux's rules it is one: there a call goes on behind it, and ends behind a bad word and behind a drain that is refused.
+    /// The same set-up for a ring that stops: a submission call ends behind the first entry with a fault that it takes, whether or not that entry has a link flag, and later calls take what it leaves. io_uring_setup(2), IORING_SETUP_SUBMIT_ALL: a ring without that flag; that an entry with a link flag is no exception is our own rule. By Linux's rules it is one: there a call goes on behind it, and ends behind a drain that is refused, and in any ring behind a bad word.
     pub fn stopping(self) -> Setup
         ensures { result ≡ record self { stops = true } }
     {
@@ -86,7 +86,7 @@ impl Setup {
         }
     }
 
-    /// The same set-up for a ring that keeps requests by Linux's rules, as 6.18 was seen to keep them, where they differ from the manual pages': when the doomed end, who waits for a drain and which drain is refused, whom a cancel finds, whose end posts a completion, and where a call of a ring that stops ends. Our own rule; docs/PROTOCOL.md tells the two side by side.
+    /// The same set-up for a ring that keeps requests by Linux's rules, as 6.18 was seen to keep them, where they differ from the manual pages': when the doomed end, who waits for a drain and which drain is refused, whom a cancel finds, whose end posts a completion, and where a call ends. Our own rule; docs/PROTOCOL.md tells the two side by side.
     pub fn linux(self) -> Setup
         ensures { result ≡ record self { linux = true } }
     {
