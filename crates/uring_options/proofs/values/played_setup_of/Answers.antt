@@ -1,6 +1,6 @@
 use Rattle.clap.specs.Words.{found_of, rows_of}
 use Rattle.uring_options.proofs.CommandLine.{played_setup}
-use Rattle.uring_options.proofs.command_line.played_setup_of.Goals as goal
+use Rattle.uring_options.proofs.values.played_setup_of.Goals as goal
 
 pub linux_if-requires : goal.linux_if-requires
 linux_if-requires c = c.in_ok-setup.ensures.ok.2.manual

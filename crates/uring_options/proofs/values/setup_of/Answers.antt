@@ -5,7 +5,7 @@ use Rattle.clap.specs.Words.{found_of, rows_of}
 use Rattle.clap.specs.Walk.{Row, Text}
 use Rattle.uring_options.specs.CommandLine.{Gives, GivesNumbers, IsWithin, number, setup_options}
 use Rattle.uring_options.specs.OptionRows.{TakesOption, TakesOptions}
-use Rattle.uring_options.proofs.command_line.setup_of.Goals as goal
+use Rattle.uring_options.proofs.values.setup_of.Goals as goal
 
 -- the number was read of the option of this name
 abbrev Reads : List Row → Text → Option ℕ → Type 0

@@ -2,7 +2,7 @@ use Rattle.std.proofs.Common.{ap, ◌∙◌}
 use Rattle.clap.specs.Words.{found_of, rows_of}
 use Rattle.uring_entry.specs.Setup.{Setup}
 use Rattle.uring_options.proofs.CommandLine.{traced_over}
-use Rattle.uring_options.proofs.command_line.traced_setup_of.Goals as goal
+use Rattle.uring_options.proofs.values.traced_setup_of.Goals as goal
 
 pub stopping_if-requires : goal.stopping_if-requires
 stopping_if-requires c = c.in_ok-setup.ensures.ok.2.goes_on

@@ -1,7 +1,7 @@
 use Rattle.clap.specs.Words.{found_of}
 use Rattle.std.specs.Str.Parse.{ParsesUnsigned, ExplainsUnsignedError, HasUnsignedDigitsIfOk}
 use Rattle.uring_options.proofs.OptionTexts.{number_given}
-use Rattle.uring_options.proofs.command_line.given_number.Goals as goal
+use Rattle.uring_options.proofs.values.given_number.Goals as goal
 
 pub returns : goal.returns
 returns c =

@@ -1,6 +1,6 @@
 use Rattle.std.proofs.Common.{refl, ap, Err}
 use Rattle.uring_options.proofs.Refusals.{too_small}
-use Rattle.uring_options.proofs.command_line.setup_over.Goals as goal
+use Rattle.uring_options.proofs.values.setup_over.Goals as goal
 
 pub returns-in-Ok-clause-err : goal.returns-in-Ok-clause-err
 returns-in-Ok-clause-err c = tt
