@@ -1,6 +1,6 @@
 use Rattle.std.proofs.Common.{◌≡◌, true, false, sym, ◌∙◌}
 use Rattle.uring_fill.proofs.Adding.{adds_then, issued_there, issued_outstanding, issued_issuable}
-use Rattle.uring_fill.proofs.ends.add_issues.Goals as goal
+use Rattle.uring_fill.proofs.issued.add_issues.Goals as goal
 
 pub returns-then-not-can_issue-clause-all : goal.returns-then-not-can_issue-clause-all
 returns-then-not-can_issue-clause-all c = λ seen h res bytes at p.

@@ -9,7 +9,7 @@ use Rattle.uring_core.specs.declared.answer.Answer.TheVariants as answer
 use Rattle.uring_core.specs.declared.answer.Answer.{Answer}
 use Rattle.uring_fill.proofs.Events.{issue_part}
 use Rattle.uring_fill.proofs.Adding.{adds_one, issued_as}
-use Rattle.uring_fill.proofs.ends.add_told.Goals as goal
+use Rattle.uring_fill.proofs.issued.add_told.Goals as goal
 
 pub returns-in_ok-push-clause-adds : goal.returns-in_ok-push-clause-adds
 returns-in_ok-push-clause-adds c =

@@ -5,7 +5,7 @@ use Rattle.std.proofs.lemmas.Int.{to_z-of_z}
 use Rattle.uring_rules.specs.Rules.{posts}
 use Rattle.uring_core.specs.Histories.{world}
 use Rattle.uring_fill.proofs.Adding.{issued_as, adds_none, adds_then, counts_next}
-use Rattle.uring_fill.proofs.ends.add_counts.Goals as goal
+use Rattle.uring_fill.proofs.issued.add_counts.Goals as goal
 
 pub loop-below-init : goal.loop-below-init
 loop-below-init c = record {

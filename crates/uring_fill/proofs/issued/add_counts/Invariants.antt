@@ -7,7 +7,7 @@ use Rattle.uring_core.specs.Core.{FitsApart}
 use Rattle.uring_core.specs.Histories.{History, world}
 use Rattle.uring_fill.specs.Parts.{Adds}
 use Rattle.uring_fill.proofs.Adding.{issued_as}
-use Rattle.uring_fill.proofs.ends.add_counts.Given as goal
+use Rattle.uring_fill.proofs.issued.add_counts.Given as goal
 
 -- the ends with the numbers so far are there
 abbrev pub invariant-loop-below : goal.invariant-loop-below

@@ -2,7 +2,7 @@ use Rattle.std.proofs.Common.{◌≡◌, false, None}
 use Rattle.uring_rules.specs.Rules.{posts}
 use Rattle.uring_core.specs.Histories.{world}
 use Rattle.uring_fill.proofs.Adding.{adds_then, quiet_there}
-use Rattle.uring_fill.proofs.ends.add_quiet_issues.Goals as goal
+use Rattle.uring_fill.proofs.issued.add_quiet_issues.Goals as goal
 
 pub returns-clause-adds : goal.returns-clause-adds
 returns-clause-adds c = λ wanted.
