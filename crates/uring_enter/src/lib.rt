@@ -17,6 +17,7 @@ mod course_laws;
 mod descriptor;
 mod drains;
 mod enter;
+mod fields;
 mod form;
 mod laws;
 mod layout;

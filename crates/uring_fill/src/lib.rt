@@ -2,6 +2,7 @@
 #![tactic(auto)]
 
 mod ends;
+mod issued;
 mod next;
 mod replay;
 mod search;

@@ -1,35 +1,21 @@
 //! The command line.
 
-ghost use Rattle.std.specs.Prelude.{◌≡◌, ◌↔◌, ◌≤◌, ℕ, List, Some, codes, [], ◌∷◌, IfOk, IfErr, IsErrOf, IsErrAnd, ◌||◌, false, if◌then◌else◌};
+ghost use Rattle.std.specs.Prelude.{◌≡◌, ◌↔◌, List, Some, [], ◌∷◌, IfOk, IfErr, IsErrOf, IsErrAnd, ◌||◌, if◌then◌else◌};
 ghost use Rattle.clap.specs.Words.{FailsBy, HasMatchesOf, fault_of, found_of, kind_of, rows_of, subcommand_of};
 ghost use Rattle.clap.specs.Walk.{Text, texts};
-ghost use Rattle.uring_options.specs.CommandLine.{uring, Run, flag, number, setup_options, Gives, IsWithin, Numbers, AreInRange, GivesNumbers, AreWorkers, IsNumberOr, IsSetupOver, IsGiven, IsPlayedOver, IsTracedOver, IsTooSmall, AskFor, AskForTooSmall, IsWords, IsMemory, IsFaultOf};
-ghost use Rattle.uring_options.specs.OptionRows.{TakesOption, TakesOptions, TakesFor, TakesNamed, IsSmallFor, Answers, AnswersNamed};
+ghost use Rattle.uring_options.specs.CommandLine.{uring, Run, AskFor, AskForTooSmall, IsWords, IsMemory, IsFaultOf};
+ghost use Rattle.uring_options.specs.OptionRows.{TakesFor, TakesNamed, Answers, AnswersNamed};
 
 use crate::answers::{Options, OptionsFault};
 use crate::commands::uring_command;
+use crate::values::{
+    file_of, given_number, is_given, played_setup_of, setup_of, setup_over, traced_setup_of,
+    unit_of, workers_of,
+};
 use clap::ArgMatches;
 use clap::error::ErrorKind;
 use std::alloc::{AllocError, Global};
-use uring_entry::{BadSetup, Setup};
-
-/// Entries of the submission ring if the command line doesn't say.
-const DEFAULT_SQ: u32 = 4;
-
-/// Files if the command line doesn't say.
-const DEFAULT_FILES: u32 = 2;
-
-/// The word at which both rings begin if the command line doesn't say.
-const DEFAULT_START: u32 = 0;
-
-/// Workers of a play if the command line doesn't say.
-const DEFAULT_WORKERS: u32 = 2;
-
-/// The file that a crash is of if the command line doesn't say.
-const DEFAULT_FILE: u32 = 0;
-
-/// Bytes of a unit if the command line doesn't say.
-const DEFAULT_UNIT: u32 = 1;
+use uring_entry::Setup;
 
 /// Reads a command line, whose first word is the program's name: `uring`, or `uring trace`, `uring explain`, `uring check`, `uring play`, `uring crash`, `uring outcomes` or `uring fill` with options for the entries of the submission ring (`--sq`, 1 to 4,096, else 4) and of the completion ring (`--cq`, 1 to 8,192, else twice as many), for the files (`--files`, 1 to 64, else 2) and for the word at which both rings begin (`--start`, 32 bits, else 0). A play takes one more for its workers (`--workers`, 1 to 8, else 2) and one by which its application and dispatcher share words (`--shared`, else they have lanes), and the others but outcomes one by which submission calls stop behind an entry with a fault (`--stop`, else they go on). All but outcomes take one by which requests are kept by Linux's rules (`--linux`, else by the manual pages'). A trace takes one by which its steps are written too (`--echo`) and one by which the first bad line ends it (`--strict`), an explained trace four for what is written in place of the answers (`--graph`, `--timeline`, `--page` and `--json`, of which the first in this order counts), and a check one by which all wrong lines are told (`--all`), one by which ends may be any (`--apart`), one by which they may be any that operations give (`--results`), and two for what is written in place of the verdict (`--page`, which goes before `--json`; with `--all`, `--apart` or `--results` the verdict is written), and one by which operations may take effect at any moment between issue and finish (`--early-effects`, with which all of these count for nothing), in so many moves at most (`--most`, 1 to 2^32 - 1). A crash takes one for its file (`--file`, 0 to 63, else 0), one for its unit (`--unit`, 1 to 65,536 bytes, else 1), one for the line behind which the power fails (`--at`, 32 bits, else the last), one for the seed of an image (`--seed`, 32 bits, else the least is left), two for what is asked of all images (`--count` and `--all`), one for the most images that are listed (`--most`, 1 to 2^32 - 1), one by which it is asked if each has some bytes (`--holds`), and one by which it is asked behind each line (`--each`). Outcomes take one by which completions are sorted (`--results`), one by which files follow (`--contents`), one by which it is what a power failure may show (`--crash`), one for its unit (`--unit`, as of a crash), one for the most paths that are taken (`--most`, 1 to 2^32 - 1), one for the outcome of which a history is written (`--explain`, the same), and two for what is claimed of lines (`--never` and `--always`). A fill takes one for the most histories that are looked at (`--most`, the same). Our own rule.
 ///
@@ -296,131 +282,6 @@ fn filled(matches: &ArgMatches<'_>) -> Result<Options, OptionsFault>
     let setup = traced_setup_of(matches)?;
     let most = given_number(matches, "most");
     Ok(Options::Fill { setup, most })
-}
-
-/// The file that the options of `uring crash` give.
-fn file_of(matches: &ArgMatches<'_>) -> u32
-    requires { TakesOption (rows_of (found_of matches.now)) (number (codes "file") 0 63) }
-    ensures { IsNumberOr (rows_of (found_of matches.now)) (codes "file") 0 63 0 result }
-{
-    given_number(matches, "file").unwrap_or(DEFAULT_FILE)
-}
-
-/// The bytes of a unit that the options of `uring crash` and `uring outcomes` give.
-fn unit_of(matches: &ArgMatches<'_>) -> u32
-    requires { TakesOption (rows_of (found_of matches.now)) (number (codes "unit") 1 65536) }
-    ensures { IsNumberOr (rows_of (found_of matches.now)) (codes "unit") 1 65536 1 result }
-{
-    given_number(matches, "unit").unwrap_or(DEFAULT_UNIT)
-}
-
-/// The set-up that the options of a command give which takes those by which calls stop and by which the rules are Linux's.
-fn traced_setup_of(matches: &ArgMatches<'_>) -> Result<Setup, OptionsFault>
-    requires setup { TakesOptions (rows_of (found_of matches.now)) setup_options }
-    requires stop { TakesOption (rows_of (found_of matches.now)) (flag (codes "stop")) }
-    requires linux { TakesOption (rows_of (found_of matches.now)) (flag (codes "linux")) }
-    ensures ok { IfOk result
-        (λ s. (n : Numbers) × GivesNumbers (rows_of (found_of matches.now)) n
-        × IsTracedOver (rows_of (found_of matches.now)) n s) }
-    ensures err { IfErr result (IsSmallFor (rows_of (found_of matches.now))) }
-{
-    let setup = setup_of(matches)?;
-    let stops = is_given(matches, "stop");
-    let is_linux = is_given(matches, "linux");
-    Ok(linux_if(stopping_if(setup, stops), is_linux))
-}
-
-/// The set-up that the options of `uring play` give.
-fn played_setup_of(matches: &ArgMatches<'_>) -> Result<Setup, OptionsFault>
-    requires setup { TakesOptions (rows_of (found_of matches.now)) setup_options }
-    requires linux { TakesOption (rows_of (found_of matches.now)) (flag (codes "linux")) }
-    ensures ok { IfOk result
-        (λ s. (n : Numbers) × GivesNumbers (rows_of (found_of matches.now)) n
-        × IsPlayedOver (rows_of (found_of matches.now)) n s) }
-    ensures err { IfErr result (IsSmallFor (rows_of (found_of matches.now))) }
-{
-    let setup = setup_of(matches)?;
-    let is_linux = is_given(matches, "linux");
-    Ok(linux_if(setup, is_linux))
-}
-
-/// The set-up, whose calls stop if that is asked for.
-fn stopping_if(setup: Setup, stops: bool) -> Setup
-    requires { setup.stops ≡ false }
-    ensures { result ≡ record setup { stops = stops } }
-{
-    if stops { setup.stopping() } else { setup }
-}
-
-/// The set-up, whose rules are Linux's if that is asked for.
-fn linux_if(setup: Setup, is_linux: bool) -> Setup
-    requires { setup.linux ≡ false }
-    ensures { result ≡ record setup { linux = is_linux } }
-{
-    if is_linux { setup.linux() } else { setup }
-}
-
-/// Whether an option that takes no value is given: clap has taken its text, so that it is one of the two.
-fn is_given(matches: &ArgMatches<'_>, id: &str) -> bool
-    requires { TakesOption (rows_of (found_of matches.now)) (flag id.now) }
-    ensures { IsGiven (rows_of (found_of matches.now)) id.now result }
-{
-    matches.get_flag(id)
-}
-
-/// The set-up of the numbers that the options give.
-fn setup_of(matches: &ArgMatches<'_>) -> Result<Setup, OptionsFault>
-    requires { TakesOptions (rows_of (found_of matches.now)) setup_options }
-    ensures ok { IfOk result
-        (λ s. (n : Numbers) × GivesNumbers (rows_of (found_of matches.now)) n × IsSetupOver n s) }
-    ensures err { IfErr result (IsSmallFor (rows_of (found_of matches.now))) }
-{
-    let sq = given_number(matches, "sq");
-    let cq = given_number(matches, "cq");
-    let files = given_number(matches, "files");
-    let start = given_number(matches, "start");
-    setup_over(sq, cq, files, start)
-}
-
-/// How many workers the options of `uring play` give.
-fn workers_of(matches: &ArgMatches<'_>) -> u32
-    requires { TakesOption (rows_of (found_of matches.now)) (number (codes "workers") 1 8) }
-    ensures { AreWorkers (rows_of (found_of matches.now)) result }
-{
-    given_number(matches, "workers").unwrap_or(DEFAULT_WORKERS)
-}
-
-/// The set-up of these numbers, and of the defaults for those that are absent. It is refused if the completion ring is too small.
-fn setup_over(
-    sq: Option<u32>,
-    cq: Option<u32>,
-    files: Option<u32>,
-    start: Option<u32>,
-) -> Result<Setup, OptionsFault>
-    requires { AreInRange (record { sq = sq; cq = cq; files = files; start = start }) }
-    ensures ok { IfOk result
-        (IsSetupOver (record { sq = sq; cq = cq; files = files; start = start })) }
-    ensures err { IfErr result
-        (λ e. (e ≡ OptionsFault.Small)
-        × IsTooSmall (record { sq = sq; cq = cq; files = files; start = start })) }
-{
-    let sq = sq.unwrap_or(DEFAULT_SQ);
-    let files = files.unwrap_or(DEFAULT_FILES);
-    let start = start.unwrap_or(DEFAULT_START);
-    match Setup::new(sq, cq, files, start) {
-        Ok(setup) => Ok(setup),
-        Err(BadSetup::BadCq) => Err(OptionsFault::Small),
-        Err(BadSetup::BadSq | BadSetup::BadFiles) => unreachable!(),
-    }
-}
-
-/// The number given for an option, if any: clap has taken its text, so that it is one.
-fn given_number(matches: &ArgMatches<'_>, id: &str) -> Option<u32>
-    ensures { (low high : ℕ) → high ≤ 4294967295
-        → TakesOption (rows_of (found_of matches.now)) (number id.now low high)
-        → Gives (rows_of (found_of matches.now)) id.now result × IsWithin low high result }
-{
-    matches.get_one::<u32>(id)
 }
 
 /// The fault of a command line with a word that is no text.

@@ -6,6 +6,7 @@ mod command_line;
 mod commands;
 mod helps;
 mod option_rows;
+mod values;
 
 pub use answers::{Options, OptionsFault};
 pub use command_line::{not_text, options};

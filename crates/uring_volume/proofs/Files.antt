@@ -1,21 +1,21 @@
 -- The list of all images: what may be left of each unit, side by side, for each length.
-use Rattle.std.proofs.Common.{◌≡◌, ◌==◌, ◌+◌, ◌-◌, ◌*◌, ◌/◌, ◌≤◌, ◌<◌, ℕ, zero, suc, min, Bool, true, false, cond, List, [], ◌∷◌, ◌++◌, ◌⊎◌, length, map, get_or, take, drop, refl, sym, subst, ap, ◌∙◌, inl, inr, arith}
+use Rattle.std.proofs.Common.{◌≡◌, ◌==◌, ◌+◌, ◌-◌, ◌*◌, ◌/◌, ◌≤◌, ◌<◌, ℕ, zero, suc, min, true, List, [], ◌∷◌, ◌++◌, length, map, get_or, take, drop, refl, sym, subst, ap, ◌∙◌, inl, inr, arith}
 use Rattle.std.specs.Prelude.{slice_index}
 use Rattle.std.specs.List.{filter}
-use Rattle.std.proofs.lemmas.Bool.{cond-true, cond-false, eq-eqb, ne_eqb}
+use Rattle.std.proofs.lemmas.Bool.{cond-false, ne_eqb}
 use Rattle.std.proofs.lemmas.List.{ext_get_or, length-append, length-take, length-drop, get_or-take, get_or-drop, take-append-drop, get_or_append_left, get_or-append_right, length-map}
 use Rattle.std.proofs.Math.Seq.{take-append_seam, drop-append_seam}
 use Rattle.std.proofs.Math.Nat.{mul-suc, suc-mul, zero-mul, mul_comm, mul-div-le, lt-mul-div-succ, div-lt_iff_lt-mul}
 use Rattle.uring_volume.specs.Writes.{Write}
 use Rattle.uring_volume.specs.Events.{History}
-use Rattle.uring_volume.specs.Images.{IsIn, is_on, byte_over, length_over, MayBeLeft, UnitIsLeft, LengthIsLeft, IsImage}
+use Rattle.uring_volume.specs.Images.{IsIn, is_on, byte_over, MayBeLeft, UnitIsLeft, IsImage}
 use Rattle.uring_volume.specs.Choices.{IsLawful, issued, chosen}
 use Rattle.uring_volume.specs.Listing.{IsEachOnce, AreTheImages}
-use Rattle.uring_volume.specs.Ways.{way, bytes_over, contents_of, bytes_from, unit_contents, joined, fronts, lengths_of, units_in, files_of, images_of}
+use Rattle.uring_volume.specs.Ways.{bytes_over, bytes_from, unit_contents, joined, fronts, lengths_of, units_in, files_of, images_of}
 use Rattle.uring_volume.proofs.Painting.{below_or_from, in_unit}
 use Rattle.uring_volume.proofs.Fitting.{in_left, in_right, in_either, AreApart, apart_filter}
 use Rattle.uring_volume.proofs.Chosen.{issued_apart, in_issued, of_issued, left_of_fit, fit_of_left, on_of, on_into, chosen_left}
-use Rattle.uring_volume.proofs.Walking.{all_over, Gives, of_contents, in_contents, contents_once}
+use Rattle.uring_volume.proofs.Walking.{all_over, of_contents, in_contents, contents_once}
 use Rattle.uring_volume.proofs.Lengths.{IsLength, of_lengths, in_lengths, lengths_once}
 
 -- The bytes of a unit.

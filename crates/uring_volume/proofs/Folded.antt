@@ -1,9 +1,9 @@
 -- What a volume keeps when a write is folded.
-use Rattle.std.proofs.Common.{◌≡◌, ◌==◌, ◌↔◌, ◌+◌, ◌<◌, ◌≤◌, ◌-◌, ℕ, zero, suc, min, max, Bool, true, false, not, ◌&&◌, ◌||◌, cond, List, [], ◌∷◌, ◌++◌, ◌⊎◌, length, get_or, take, reverse, replicate, refl, sym, subst, ap, ◌∙◌, inl, inr, arith}
+use Rattle.std.proofs.Common.{◌≡◌, ◌==◌, ◌+◌, ◌<◌, ◌≤◌, ◌-◌, ℕ, zero, suc, min, max, Bool, true, false, not, ◌&&◌, ◌||◌, List, [], ◌∷◌, ◌++◌, length, get_or, take, reverse, replicate, refl, sym, subst, ap, ◌∙◌, inl, inr, arith}
 use Rattle.std.specs.Prelude.{slice_index, Result, Ok, Err, Option, None, Some, IfSome, IfNone}
 use Rattle.std.specs.declared.alloc.AllocError.{AllocError}
 use Rattle.std.specs.List.{list_any, filter}
-use Rattle.std.proofs.lemmas.Bool.{cases_Bool, both_ways, false_from_ne_true, cond-true, cond-false, cond_both, or_cases, or_from, or_left, or_right, and_from, and_parts, eqb-true, eqb-false, eq-eqb, ne_eqb, not-true, not_from_true, not_from_false, lt-ltb, ltb-true, leb-true, le-leb}
+use Rattle.std.proofs.lemmas.Bool.{cases_Bool, both_ways, false_from_ne_true, cond-true, cond-false, cond_both, or_cases, or_from, or_left, or_right, and_from, and_parts, eqb-true, eqb-false, eq-eqb, ne_eqb, not-true, not_from_false, lt-ltb, ltb-true, leb-true, le-leb}
 use Rattle.std.proofs.lemmas.List.{reverse-append, append-nil, append_assoc, length-append, length-replicate}
 use Rattle.std.proofs.lemmas.List.Elements.{filter-append}
 use Rattle.std.proofs.lemmas.List.Folds.{list_any-append}
@@ -12,17 +12,17 @@ use Rattle.uring_volume.specs.Writes.{Write}
 use Rattle.uring_volume.specs.declared.event.Event.{Event}
 use Rattle.uring_volume.specs.declared.event.Event.TheVariants.{WriteIssued, WriteEnded, SyncIssued, SyncEnded, SyncFailed}
 use Rattle.uring_volume.specs.Events.{History, writes, has_ended, is_before, is_safe}
-use Rattle.uring_volume.specs.Images.{IsIn, is_under, end_of, byte_over, IsImage}
+use Rattle.uring_volume.specs.Images.{IsIn, is_under, end_of, byte_over}
 use Rattle.uring_volume.specs.Choices.{IsLawful, issued}
-use Rattle.uring_volume.specs.Volume.{Volume, but, is_one_of, running_writes, running_syncs, IsNumbered, IsSound, IsHeld}
+use Rattle.uring_volume.specs.Volume.{Volume, but, is_one_of, running_writes, running_syncs, IsSound, IsHeld}
 use Rattle.uring_volume.specs.Folds.{IsFoldable, IsOver, is_of_write, without_write, overlap, is_in_way, can_fold, IsOneFolded, IsFoldedFrom}
 use Rattle.uring_volume.proofs.Painting.{below_or_from}
 use Rattle.uring_volume.proofs.Leaving.{padded}
-use Rattle.uring_volume.proofs.Fitting.{in_left, in_right, lacks}
+use Rattle.uring_volume.proofs.Fitting.{in_left, in_right}
 use Rattle.uring_volume.proofs.Chosen.{in_issued, of_issued, one_number}
-use Rattle.uring_volume.proofs.Numbers.{or_either, is_in_but, one_more}
+use Rattle.uring_volume.proofs.Numbers.{is_in_but, one_more}
 use Rattle.uring_volume.proofs.Puts.{any_is, is_any}
-use Rattle.uring_volume.proofs.Folding.{SameBut, same_later, WritesBut, but_later, in_later, safe_ended, fold_changes_none}
+use Rattle.uring_volume.proofs.Folding.{same_later, but_later, safe_ended, fold_changes_none}
 
 -- The test tells what can be folded.
 

@@ -1,7 +1,7 @@
 -- The lengths that may be left: each is that of the fewest writes, or of the fewest with one more.
-use Rattle.std.proofs.Common.{◌≡◌, ◌==◌, ◌+◌, ◌≤◌, ◌<◌, ℕ, max, Bool, true, false, ◌&&◌, ◌||◌, cond, List, [], ◌∷◌, ◌⊎◌, length, refl, sym, subst, ap, ◌∙◌, inl, inr, arith}
+use Rattle.std.proofs.Common.{◌≡◌, ◌==◌, ◌≤◌, ℕ, max, Bool, true, false, ◌&&◌, ◌||◌, List, [], ◌∷◌, ◌⊎◌, refl, sym, subst, inl, inr, arith}
 use Rattle.std.specs.Prelude.{nat_eq}
-use Rattle.std.specs.List.{list_any, filter}
+use Rattle.std.specs.List.{filter}
 use Rattle.std.proofs.lemmas.Bool.{both_ways, or_cases, or_left, or_right, and_from, and_parts, eqb-true, eq-eqb}
 use Rattle.uring_volume.specs.Writes.{Write}
 use Rattle.uring_volume.specs.Events.{History, has_ended, is_before, is_safe}

@@ -1,16 +1,13 @@
 -- What a volume's calls keep: each write has a number of its own, and the lists of what runs are those of the history.
-use Rattle.std.proofs.Common.{◌≡◌, ◌==◌, ◌<◌, ◌≤◌, ◌+◌, ℕ, Bool, true, false, not, ◌||◌, cond, List, [], ◌∷◌, ◌++◌, ◌⊎◌, length, reverse, refl, sym, subst, ap, ◌∙◌, inl, inr, arith}
-use Rattle.std.specs.List.{list_any, filter}
-use Rattle.std.proofs.lemmas.Bool.{cases_Bool, both_ways, cond-true, cond-false, or_left, or_right, eqb-true, eq-eqb, not_from_true, false_from_ne_true}
+use Rattle.std.proofs.Common.{◌≡◌, ◌==◌, ◌<◌, ◌≤◌, ◌+◌, ℕ, Bool, true, false, not, ◌||◌, List, [], ◌∷◌, ◌++◌, ◌⊎◌, length, reverse, refl, sym, subst, ap, ◌∙◌, inl, inr, arith}
+use Rattle.std.proofs.lemmas.Bool.{cases_Bool, both_ways, cond-true, cond-false, or_left, or_right, eqb-true, false_from_ne_true}
 use Rattle.std.proofs.lemmas.List.{length-reverse}
 use Rattle.std.proofs.lemmas.List.Folds.{list_any-append}
-use Rattle.uring_volume.specs.Writes.{Write}
 use Rattle.uring_volume.specs.declared.event.SyncRange.{SyncRange}
 use Rattle.uring_volume.specs.declared.event.Event.{Event}
-use Rattle.uring_volume.specs.declared.event.Event.TheVariants.{WriteIssued, WriteEnded, SyncIssued, SyncEnded, SyncFailed}
-use Rattle.uring_volume.specs.Events.{History, writes, has_ended}
-use Rattle.uring_volume.specs.Images.{IsIn}
-use Rattle.uring_volume.specs.Volume.{Volume, but, is_one_of, running_writes, running_syncs, with_event, with_write, with_sync, IsNumbered, IsSound, IsHeld, elements_to_begin}
+use Rattle.uring_volume.specs.declared.event.Event.TheVariants.{WriteEnded, SyncEnded, SyncFailed}
+use Rattle.uring_volume.specs.Events.{History, has_ended}
+use Rattle.uring_volume.specs.Volume.{Volume, but, is_one_of, running_writes, running_syncs, with_event, with_write, with_sync, IsHeld, elements_to_begin}
 
 pub or_either : (x y : Bool) → (x || y) ≡ true → (x ≡ true) ⊎ (y ≡ true)
 or_either true y is = inl refl

@@ -1,5 +1,5 @@
 -- Bytes of a file that a write doesn't touch.
-use Rattle.std.proofs.Common.{◌≡◌, ◌<◌, ◌≤◌, ◌+◌, ◌*◌, ◌/◌, ℕ, false, List, ◌++◌, length, get_or, take, drop, ◌⊎◌, ap, ◌∙◌, inl, inr, arith, leb, ltb}
+use Rattle.std.proofs.Common.{◌≡◌, ◌<◌, ◌≤◌, ◌+◌, ◌*◌, ◌/◌, ℕ, false, List, ◌++◌, length, get_or, take, drop, ◌⊎◌, ap, ◌∙◌, inl, inr, arith, ltb}
 use Rattle.std.proofs.Math.Nat.{div-eq_of_lt-le, mul_comm, add-mul, one-mul}
 use Rattle.std.proofs.lemmas.List.{append-nil, take_all, drop_all}
 use Rattle.std.proofs.lemmas.Bool.{cases_Bool, and_from, both_ways, le-leb, lt-ltb, ltb-true, ltb-false}

@@ -1,11 +1,11 @@
 -- The ways through some writes lead to what each list that fits leaves, and to nothing else.
-use Rattle.std.proofs.Common.{◌≡◌, ◌==◌, ◌+◌, ◌≤◌, ◌<◌, ℕ, zero, suc, Bool, true, false, not, ◌&&◌, ◌||◌, cond, List, [], ◌∷◌, ◌++◌, ◌⊎◌, length, refl, sym, subst, ap, ◌∙◌, inl, inr, arith}
+use Rattle.std.proofs.Common.{◌≡◌, ◌≤◌, ◌<◌, ℕ, zero, suc, Bool, false, not, cond, List, [], ◌∷◌, ◌++◌, ◌⊎◌, length, refl, sym, subst, ap, inl, inr, arith}
 use Rattle.std.specs.Prelude.{nat_eq}
-use Rattle.std.specs.List.{list_any, filter}
+use Rattle.std.specs.List.{filter}
 use Rattle.std.specs.Cmp.Lexicographic.{pointwise}
-use Rattle.std.proofs.lemmas.Bool.{cases_Bool, both_ways, false_from_ne_true, cond-true, cond-false, cond_both, eq-eqb}
+use Rattle.std.proofs.lemmas.Bool.{both_ways, false_from_ne_true, cond-false, cond_both, eq-eqb}
 use Rattle.uring_volume.specs.Writes.{Write}
-use Rattle.uring_volume.specs.Events.{History, is_before, is_safe}
+use Rattle.uring_volume.specs.Events.{History, is_safe}
 use Rattle.uring_volume.specs.Images.{IsIn}
 use Rattle.uring_volume.specs.Choices.{waits_for_one, has_safe, named, without}
 use Rattle.uring_volume.specs.Listing.{IsEachOnce}

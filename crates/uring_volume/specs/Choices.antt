@@ -1,8 +1,7 @@
 -- How a choice of numbers leaves an image: for each unit, and for the length, it names the writes that are left, one after the other. Our own structure.
-use Rattle.std.specs.Prelude.{◌≡◌, ℕ, zero, suc, ◌+◌, ◌<◌, ◌/◌, Bool, true, false, not, ◌==◌, List, [], ◌∷◌, ◌++◌, length, slice_index, if◌then◌else◌}
+use Rattle.std.specs.Prelude.{◌≡◌, ℕ, zero, suc, ◌<◌, ◌/◌, Bool, false, not, ◌==◌, List, [], ◌∷◌, ◌++◌, length, slice_index, if◌then◌else◌}
 use Rattle.std.specs.List.{list_any, filter}
 use Rattle.uring_volume.specs.Writes.{Write}
-use Rattle.uring_volume.specs.declared.event.Event.{Event}
 use Rattle.uring_volume.specs.declared.event.Event.TheVariants.{WriteIssued}
 use Rattle.uring_volume.specs.Events.{History, writes, has_ended, is_before, is_safe}
 use Rattle.uring_volume.specs.Images.{IsIn, is_on, byte_over, length_over}

@@ -5,7 +5,7 @@ ghost use Rattle.std.specs.Prelude.{◌≡◌, ◌+◌, ◌<◌, ◌^◌, length
 use std::marker::Model;
 
 /// A write as it was issued. It has a number of its own, by which its end names it, and ends below 2^63.
-#[derive(Debug, Drop)]
+#[derive(Drop)]
 pub struct Piece {
     number: u64,
     off: u64,
@@ -34,7 +34,7 @@ pub enum SyncRange {
 }
 
 /// An event of a file. Writes and syncs are named by numbers.
-#[derive(Debug, Drop)]
+#[derive(Drop)]
 pub enum Event {
     /// A write was issued.
     WriteIssued(Piece),

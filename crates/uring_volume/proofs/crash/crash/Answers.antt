@@ -1,6 +1,5 @@
-use Rattle.std.proofs.Common.{rules, ◌≡◌, ◌≤◌, length, map, reverse, sym, subst, ap, ◌∙◌, arith}
-use Rattle.uring_volume.specs.Choices.{part, chosen, issued, IsLeftBy}
-use Rattle.uring_volume.specs.Images.{length_over}
+use Rattle.std.proofs.Common.{rules, length, map, reverse, sym, subst, ap, ◌∙◌, arith}
+use Rattle.uring_volume.specs.Choices.{chosen, IsLeftBy}
 use Rattle.uring_volume.proofs.ReadBack.{len_grows}
 use Rattle.uring_volume.proofs.Painting.{written_back}
 use Rattle.uring_volume.proofs.Leaving.{left_by}

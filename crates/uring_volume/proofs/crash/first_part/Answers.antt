@@ -1,4 +1,4 @@
-use Rattle.std.proofs.Common.{◌≡◌, ◌≤◌, ◌<◌, ◌+◌, ◌∙◌, ℕ, [], length, drop, ap, add-one, arith}
+use Rattle.std.proofs.Common.{◌+◌, ◌∙◌, length, drop, ap, add-one, arith}
 use Rattle.std.proofs.lemmas.List.{drop_all}
 use Rattle.uring_volume.specs.Choices.{part}
 use Rattle.uring_volume.proofs.Parts.{NoneBelow, part_first, part_later, part_all, part_none, all_behind}

@@ -1,5 +1,4 @@
-use Rattle.std.proofs.Common.{rules, ◌≡◌, true, not, reverse, subst, ap, sym, ◌∙◌}
-use Rattle.std.specs.List.{filter}
+use Rattle.std.proofs.Common.{rules, ◌≡◌, true, not, reverse, subst, ap, ◌∙◌}
 use Rattle.std.proofs.lemmas.Fn.{filter_same}
 use Rattle.uring_volume.specs.Images.{IsIn}
 use Rattle.uring_volume.specs.Choices.{issued}

@@ -1,5 +1,5 @@
-use Rattle.std.proofs.Common.{◌||◌, map, reverse, ◌∙◌}
-use Rattle.uring_volume.specs.Ways.{goes_with, is_needed}
+use Rattle.std.proofs.Common.{map, reverse, ◌∙◌}
+use Rattle.uring_volume.specs.Ways.{is_needed}
 use Rattle.uring_volume.proofs.Seeking.{kept_more, kept_all}
 use Rattle.uring_volume.proofs.listing.least_length.Goals as goal
 

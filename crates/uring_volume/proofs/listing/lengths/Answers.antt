@@ -1,4 +1,4 @@
-use Rattle.std.proofs.Common.{◌+◌, ◌++◌, map, drop, reverse, sym, ap, ◌∙◌}
+use Rattle.std.proofs.Common.{◌+◌, map, drop, reverse, sym, ap, ◌∙◌}
 use Rattle.std.specs.Prelude.{nat_eq}
 use Rattle.uring_volume.specs.Images.{length_over}
 use Rattle.uring_volume.specs.Ways.{put_by, fewest_with, lengths_by}

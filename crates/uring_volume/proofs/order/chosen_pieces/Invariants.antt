@@ -1,4 +1,4 @@
-use Rattle.std.proofs.Common.{◌≡◌, ◌++◌, map, take, drop, reverse}
+use Rattle.std.proofs.Common.{◌≡◌, ◌++◌, map, drop, reverse}
 use Rattle.uring_volume.specs.Choices.{chosen}
 use Rattle.uring_volume.proofs.order.chosen_pieces.Given as goal
 

@@ -1,4 +1,4 @@
-use Rattle.std.proofs.Common.{◌≡◌, ◌-◌, suc, arith, sym, ◌∙◌, ap, subst, false, map, drop, reverse}
+use Rattle.std.proofs.Common.{◌≡◌, ◌-◌, suc, arith, sym, ◌∙◌, subst, false, map, drop, reverse}
 use Rattle.uring_volume.specs.Events.{is_safe}
 use Rattle.uring_volume.specs.Choices.{has_safe}
 use Rattle.uring_volume.proofs.Taking.{last_safe, one_less, none_safe}

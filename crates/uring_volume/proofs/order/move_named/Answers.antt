@@ -1,6 +1,5 @@
-use Rattle.std.proofs.Common.{rules, ◌==◌, ◌++◌, not, map, ap, ◌∙◌, sym}
+use Rattle.std.proofs.Common.{rules, ◌==◌, not, map, ap, ◌∙◌, sym}
 use Rattle.std.proofs.lemmas.Fn.{filter_same}
-use Rattle.uring_volume.specs.Choices.{named}
 use Rattle.uring_volume.proofs.Taking.{filter_of_map}
 use Rattle.uring_volume.proofs.order.move_named.Goals as goal
 

@@ -1,4 +1,4 @@
-use Rattle.std.proofs.Common.{rules, ◌≡◌, ◌≤◌, length, map, reverse, sym, subst, ap, ◌∙◌, arith}
+use Rattle.std.proofs.Common.{rules, ◌≡◌, length, map, reverse, sym, subst, ap, ◌∙◌, arith}
 use Rattle.uring_volume.specs.Volume.{IsShown}
 use Rattle.uring_volume.specs.Images.{length_over}
 use Rattle.uring_volume.proofs.ReadBack.{len_grows}

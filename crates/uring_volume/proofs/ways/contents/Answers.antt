@@ -1,4 +1,4 @@
-use Rattle.std.proofs.Common.{◌≡◌, ◌+◌, suc, [], map, reverse, ap, ◌∙◌, arith}
+use Rattle.std.proofs.Common.{suc, [], map, reverse, ap, ◌∙◌, arith}
 use Rattle.uring_volume.specs.Ways.{way, next_ways, found_at, found_by}
 use Rattle.uring_volume.proofs.ways.contents.Goals as goal
 

@@ -1,4 +1,4 @@
-use Rattle.std.proofs.Common.{◌<◌, length, ap, sym, ◌∙◌}
+use Rattle.std.proofs.Common.{ap, sym, ◌∙◌}
 use Rattle.std.specs.Prelude.{nat_eq}
 use Rattle.std.specs.Cmp.Lexicographic.{pointwise}
 use Rattle.uring_volume.proofs.Seeking.{one_is, none_more}

@@ -1,4 +1,4 @@
-use Rattle.std.proofs.Common.{arith, length}
+use Rattle.std.proofs.Common.{arith}
 use Rattle.uring_volume.proofs.Seeking.{painted}
 use Rattle.uring_volume.proofs.ways.write_at.Goals as goal
 

@@ -1,4 +1,4 @@
-use Rattle.std.proofs.Common.{◌≡◌, ◌≤◌, ◌+◌, length, ◌∷◌, ◌++◌, [], sym, ap, ◌∙◌, refl, reverse, arith}
+use Rattle.std.proofs.Common.{◌≤◌, ◌+◌, length, ◌∷◌, ◌++◌, [], sym, ap, ◌∙◌, refl, reverse, arith}
 use Rattle.uring_volume.specs.Volume.{Volume, with_write}
 use Rattle.uring_volume.specs.declared.event.Event.TheVariants.{WriteIssued}
 use Rattle.uring_volume.proofs.Numbers.{carried, held_write, room_for}

@@ -1,4 +1,4 @@
-use Rattle.std.proofs.Common.{◌≡◌, sym, ◌∙◌, refl, reverse, arith}
+use Rattle.std.proofs.Common.{sym, ◌∙◌, refl, reverse, arith}
 use Rattle.std.proofs.lemmas.Bool.{cond-true}
 use Rattle.uring_volume.specs.Volume.{but, with_event}
 use Rattle.uring_volume.specs.declared.event.Event.TheVariants.{WriteEnded}

@@ -1,9 +1,7 @@
-use Rattle.std.proofs.Common.{◌≡◌, ◌<◌, [], length, reverse, subst, ap, sym, refl, ◌∙◌, arith}
+use Rattle.std.proofs.Common.{◌≡◌, length, subst, ap, sym, ◌∙◌, arith}
 use Rattle.std.specs.Prelude.{Ok}
 use Rattle.std.proofs.lemmas.List.{length-reverse}
-use Rattle.uring_volume.specs.Choices.{IsLawful}
 use Rattle.uring_volume.specs.Volume.{Volume, IsSound}
-use Rattle.uring_volume.specs.Folds.{IsFoldedFrom}
 use Rattle.uring_volume.proofs.Folded.{folded_none, folded_more, none_in_nothing}
 use Rattle.uring_volume.proofs.volume.Volume.fold_in.Goals as goal
 

@@ -1,4 +1,4 @@
-use Rattle.std.proofs.Common.{◌≡◌, ◌<◌, length, reverse, subst, ap, sym, refl, arith}
+use Rattle.std.proofs.Common.{◌<◌, length, reverse, subst, ap, arith}
 use Rattle.uring_volume.specs.Volume.{Volume}
 use Rattle.uring_volume.specs.Folds.{IsFoldedFrom}
 use Rattle.uring_volume.proofs.Folded.{IsResult, made_of, held_result, folded_result, fewer_result, none_result}

@@ -1,5 +1,5 @@
-use Rattle.std.proofs.Common.{◌≡◌, ◌<◌, ◌-◌, ◌^◌, length, map, reverse, subst, refl, arith}
-use Rattle.uring_volume.specs.Volume.{Volume, IsSound}
+use Rattle.std.proofs.Common.{◌-◌, ◌^◌, map, reverse, subst, refl, arith}
+use Rattle.uring_volume.specs.Volume.{IsSound}
 use Rattle.uring_volume.proofs.Crashing.{counted, listed, listed_seen}
 use Rattle.uring_volume.proofs.volume.Volume.images_in.Goals as goal
 
