@@ -1,5 +1,5 @@
 -- A play in which all went through: its trace published all items, and nothing is left.
-use Rattle.std.proofs.Common.{◌≡◌, ℕ, ◌+◌, true, List, [], ◌∷◌, ◌++◌, ◌<◌, get_or, length, map, sum, Option, Some, None, refl, sym, ap, ◌∙◌, subst, arith, append-nil}
+use Rattle.std.proofs.Common.{◌≡◌, ℕ, ◌+◌, true, List, [], ◌∷◌, ◌++◌, ◌<◌, get_or, length, map, flat_map, sum, Option, Some, None, refl, sym, ap, ◌∙◌, subst, arith, append-nil}
 use Rattle.std.specs.Prelude.{unwrap_or}
 use Rattle.std.proofs.lemmas.List.{get_or-map, length-map}
 use Rattle.std.proofs.lemmas.List.Sums.{sum_by_push, sum_by-cons}
@@ -18,6 +18,7 @@ use Rattle.uring_ports.specs.AppEnd.{AppEnd}
 use Rattle.uring_ports.specs.Items.{all_published_as}
 use Rattle.uring_ports.specs.Ports.{Put, items_of_calls}
 use Rattle.uring_ports.specs.declared.item.Item.{Item}
+use Rattle.uring_threads.specs.Calls.{calls_of}
 use Rattle.uring_threads.specs.Kept.{now}
 use Rattle.uring_threads.specs.Kernel.{Kernel, IsIdle}
 use Rattle.uring_threads.specs.Report.{Report, AreTogether, left_by, FinishesAll, PublishesItems, ClosesOnlyAllTaken, DeliversReaped, ReapsPosted, all_waiting}
@@ -88,7 +89,7 @@ over_is_play g calls app kernel workers r completions over all =
     (record {
       lawful = over.lawful;
       published = published;
-      cut = went.calls ∙ ap (map length) calls_are;
+      cut = went.calls ∙ ap (flat_map (calls_of r.setup)) calls_are;
       none_outstanding = over.none_outstanding;
       reaped = reaped;
       none_waits = posted;
