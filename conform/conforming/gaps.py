@@ -1,6 +1,6 @@
 """What a recorder saw, as `uring fill` reads it: a recorded trace without the steps that can't be seen from outside.
 
-By the profile's rules a call is written with the positions that it consumed. By Linux's it is written as several, one for each group, so that steps may stand between them: with the positions that Linux's rules let it consume, which conforming/linux.py says. So what it consumed beyond them, or left of them, no history shows. In a ring that stops the last one asks for all that is left, so that the rules say of it too where it stops.
+By the profile's rules a call is written with the positions that it consumed. By Linux's it is written as several, one for each group, so that steps may stand between them: with the positions that Linux's rules let it consume, which conforming/linux.py says. So what it consumed beyond them, or left of them, no history shows. The last one asks for all that is left, so that the rules say of it too where it ends.
 """
 
 from conforming.linux import Rules, groups_of
@@ -69,7 +69,7 @@ class Written:
             items = event.items[taken : taken + len(group)]
             taken += len(items)
             lines.append([*opened(len(group), items), f"end = taken {len(items)} dropped {self.dropped} head {self.head + taken}"])
-        asked = len(event.offered) - taken if self.is_linux and self.setup.is_stop else sum(map(len, groups[-1:]))
+        asked = len(event.offered) - taken if self.is_linux else sum(map(len, groups[-1:]))
         return [*lines, [*opened(asked, event.items[taken:]), f"end = taken {event.returned - taken} dropped {event.dropped} head {event.head}"]]
 
 

@@ -287,15 +287,16 @@ pub tells_ends : (app : AppEnd) (kernel same : Kernel) (workers : List Worker) (
     → (r.unsent ≡ unsent) × (r.undelivered ≡ undelivered) → TellsEnds app kernel workers r
 tells_ends app kernel same workers kept lanes unsent undelivered r t s is keeps these items completions good setup trace running rests =
     let goes_on : FinishesAll same.kept.trace lanes workers r = subst (λ (k : Kept). FinishesAll k.trace lanes workers r) keeps trace in
-    let posts : OnlyPosts (now same.kept) (left_by r) = posts_only same.kept lanes workers r (setup ∙ ap (λ (k : Kept). k.setup) keeps) goes_on in
+    let of : r.setup ≡ same.kept.setup = setup ∙ ap (λ (k : Kept). k.setup) keeps in
+    let posts : OnlyPosts (now same.kept) (left_by r) = posts_only same.kept lanes workers r of goes_on in
     let left : LeavesItems app.submitted same.pulled r.unsent = subst (LeavesItems app.submitted same.pulled) (sym rests.0) items in
     let size : app.sizes.sq ≡ same.kept.setup.sq = ap (λ (z : Sizes). z.sq) (sym (together_same app kernel same workers s t).sizes) ∙ is.sq in
     let tied = is.ties.tied in
     record {
       running = subst (λ ls. LeavesRunning ls workers r) (these ∙ ap (λ (k : Kernel). k.lanes) s.others) running;
-      items = publishes same.kept.setup.sq (now same.kept) app.submitted same.pulled same.intake r tied posts left (subst (λ n. AreItems n (items_of_calls app.submitted.calls)) size good);
-      calls = begins_calls same.kept.setup.sq (now same.kept) app.submitted same.pulled same.intake r tied posts left;
-      once = has_one_close same.kept.setup.sq same.kept same.pulled same.intake lanes workers r tied is.ties.once posts goes_on;
-      closed = closes_all same.kept.setup.sq (now same.kept) app.submitted same.pulled same.intake r tied posts left;
+      items = publishes same.kept.setup (now same.kept) app.submitted same.pulled same.intake r of tied posts left (subst (λ n. AreItems n (items_of_calls app.submitted.calls)) size good);
+      calls = begins_calls same.kept.setup (now same.kept) app.submitted same.pulled same.intake r of tied posts left;
+      once = has_one_close same.kept.setup same.kept same.pulled same.intake lanes workers r tied is.ties.once posts goes_on;
+      closed = closes_all same.kept.setup (now same.kept) app.submitted same.pulled same.intake r of tied posts left;
       reaped = delivers_reaped (now same.kept) same.reaped app.received r is.ties.delivered posts (subst (LeavesCompletions same.reaped app.received) (sym rests.1) completions);
     }

@@ -1,13 +1,14 @@
 //! Random submissions, in threads and settled at random moments: each trace is what a new machine answers, and the files are that machine's.
 
 use super::dice::Dice;
-use super::ends::{Ends, Ports, new_ends};
+use super::ends::{Ends, Ports, open_ends};
 use super::threads::{Flags, Script};
 use super::told::{Told, settle};
 use std::alloc::{AllocError, Global};
 use std::sync::Wait;
 use std::test::Fail;
 use std::thread::Threads;
+use uring_entry::Setup;
 use uring_threads::{KernelLanes, KernelPort, Open};
 use uring_words::KernelWords;
 
@@ -20,9 +21,11 @@ const SEEDS_IN_THREADS: u64 = 48;
 /// How many calls each of them submits.
 const CALLS: usize = 24;
 
-/// The ends of a seed: with three files, and 1 to 8 workers.
+/// The ends of a seed: with three files, and 1 to 8 workers. A third goes by Linux's rules.
 fn ends_of<K: Ports>(alloc: Global, seed: u64) -> Result<Ends<K, Open>, Fail> {
-    new_ends(alloc, 3, (seed % 8 + 1) as usize)
+    let setup = Setup::new(4, Some(4), 3, 0)?;
+    let setup = if seed % 3 == 0 { setup.linux() } else { setup };
+    open_ends(alloc, &setup, (seed % 8 + 1) as usize)
 }
 
 /// The submissions of a seed, with room for all their completions.
