@@ -16,10 +16,13 @@ impl LinuxDispatch {
         requires { IsTrue self.now.is_between_calls }
         ensures { (l : LinuxRequests) → ShowsRequests self.now l → result ≡ issuable_from l n }
     {
-        for k in self.window.first().max(n)..self.window.end() {
+        let end = self.window.end();
+        let mut k = self.window.first().max(n);
+        while k < end {
             if self.is_issuable(k) {
                 return Some(k);
             }
+            k = self.window.next_behind(k);
         }
         None
     }
@@ -29,9 +32,12 @@ impl LinuxDispatch {
         requires { IsTrue self.now.is_between_calls }
         ensures { (l : LinuxRequests) → ShowsRequests self.now l → result ≡ length (issuables_of l) }
     {
+        let end = self.window.end();
         let mut total = 0;
-        for k in self.window.first()..self.window.end() {
+        let mut k = self.window.first();
+        while k < end {
             total += self.one(k);
+            k = self.window.next_behind(k);
         }
         total
     }
@@ -42,13 +48,16 @@ impl LinuxDispatch {
         ensures { (l : LinuxRequests) → ShowsRequests self.now l
             → result ≡ slice_get (issuables_of l) k }
     {
+        let end = self.window.end();
         let mut left = k;
-        for n in self.window.first()..self.window.end() {
+        let mut n = self.window.first();
+        while n < end {
             let count = self.one(n);
             if left < count {
                 return Some(n);
             }
             left -= count;
+            n = self.window.next_behind(n);
         }
         None
     }
