@@ -55,19 +55,21 @@ member_is s r n q p h here first =
     let low = t.low in
     let w = at_within s n q here in
     let within = w.high in
-    let count = h.count in
-    (same, record {
-      told = told;
-      low = omega arith;
-      high =
-          elim (cases_lt n p.group.end) [
-            | inl inside ↦ inside
-            | inr past ↦
-                absurd
-                (both_ways _ (t.joined (p.group.end - 1) (omega arith) (omega arith))
-                (told.group.ends (p.group.end - 1) (omega arith) (omega arith)))
-          ];
-    })
+    let count = h.count in (
+      same,
+      record {
+        told = told;
+        low = omega arith;
+        high =
+            elim (cases_lt n p.group.end) [
+              | inl inside ↦ inside
+              | inr past ↦
+                  absurd
+                  (both_ways _ (t.joined (p.group.end - 1) (omega arith) (omega arith))
+                  (told.group.ends (p.group.end - 1) (omega arith) (omega arith)))
+            ];
+      },
+    )
 
 -- What is kept of a group is written anew.
 

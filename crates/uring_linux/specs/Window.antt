@@ -7,7 +7,7 @@ use Rattle.uring_entry.specs.Preparation.{is_faulty}
 use Rattle.uring_entry.specs.Requests.{Requests, entry_of, is_linked, is_soft, is_last, is_running, has_started, has_ended, has_failed}
 use Rattle.uring_linux.specs.declared.request.Request.{Request}
 use Rattle.uring_linux.specs.declared.request.Test.{Test}
-use Rattle.uring_linux.specs.declared.request.Test.TheVariants.{Unended, Faulty, Broken, Runs}
+use Rattle.uring_linux.specs.declared.request.Test.TheVariants.{Unended, Faulty, Runs}
 use Rattle.uring_dispatch.specs.Window.{one_if}
 use Rattle.uring_linux.specs.declared.group.Group.{Group}
 use Rattle.uring_linux.specs.Groups.{with_member, TellsGroup, IsGrouped}
@@ -72,14 +72,12 @@ new_request e has_skipped n = record {
 abbrev pub passes : Test → Request → Bool
 passes Unended q = not q.has_ended
 passes Faulty q = q.is_faulty || q.is_refused
-passes Broken q = is_soft q.entry && q.has_failed
 passes (Runs user_data) q = q.is_running && (user_data_of q.entry == user_data)
 
 -- whether a request passes a test
 abbrev pub said : Test → Requests → ℕ → Bool
 said Unended r n = not (has_ended r n)
 said Faulty r n = has_fault r n
-said Broken r n = is_soft (entry_of r n) && has_failed r n
 said (Runs user_data) r n = is_running r n && (user_data_of (entry_of r n) == user_data)
 
 -- what is kept of n is so

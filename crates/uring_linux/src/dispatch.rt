@@ -25,7 +25,7 @@ use uring_memory::Memory;
 
 /// The requests that were accepted, numbered from 0 in the order of their acceptance, with what was made of them, by the rules of Linux 6.18.
 ///
-/// A submission call gives its entries one by one to `accept` and ends with `end_call`; every other call is made between submission calls. It keeps the requests from the first group on of which one is outstanding at a call's end, and searches go over them one after the other.
+/// A submission call gives its entries one by one to `accept` and ends with `end_call`; every other call is made between submission calls. It keeps the requests from the first group on of which one is outstanding at a call's end. The issue and the end of a member look at two members of its group, however long that is; what a cancel finds, and who waits for the deferred groups, is looked for among all, one after the other.
 #[derive(Drop)]
 pub struct LinuxDispatch {
     pub(crate) window: Window,
@@ -244,7 +244,7 @@ impl LinuxDispatch {
         self.window.first_with(Test::Unended, from, end)
     }
 
-    /// The least request that `issue` doesn't refuse, if there is one. It looks at one after the other. Our own rule.
+    /// The least request that `issue` doesn't refuse, if there is one. It looks at two members of each group at most. Our own rule.
     pub fn next(&self) -> Option<u64>
         requires { IsTrue self.now.is_between_calls }
         ensures { (l : LinuxRequests) → ShowsRequests self.now l → result ≡ next_of l }

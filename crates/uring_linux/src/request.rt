@@ -33,9 +33,6 @@ pub(crate) enum Test {
     /// It has a fault.
     Faulty,
 
-    /// It has a soft link, and failed.
-    Broken,
-
     /// It runs, and has this user data.
     Runs(u64),
 }

@@ -270,7 +270,6 @@ pub(crate) fn passes(request: &Request, test: Test) -> bool
     match test {
         Test::Unended => !request.has_ended,
         Test::Faulty => request.is_faulty || request.is_refused,
-        Test::Broken => request.entry.is_soft() && request.has_failed,
         Test::Runs(user_data) => request.is_running && request.entry.user_data() == user_data,
     }
 }
