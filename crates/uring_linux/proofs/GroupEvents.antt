@@ -1,7 +1,7 @@
 -- What each event makes of what is kept of a group.
-use Rattle.std.proofs.Common.{◌≡◌, ◌≢◌, ℕ, suc, ◌+◌, ◌-◌, ◌<◌, ◌≤◌, ℤ, List, length, Bool, true, false, not, ◌&&◌, ◌||◌, ◌==◌, Some, None, refl, sym, ◌∙◌, ap, subst, arith, inl, inr}
+use Rattle.std.proofs.Common.{◌≡◌, ◌≢◌, ℕ, suc, ◌+◌, ◌<◌, ◌≤◌, ℤ, List, length, Bool, true, false, not, ◌&&◌, ◌||◌, ◌==◌, Some, None, sym, ◌∙◌, ap, subst, arith, inl, inr}
 use Rattle.std.specs.Prelude.{if◌then◌else◌}
-use Rattle.std.proofs.lemmas.Bool.{cases_lt, cases_eq, both_ways, eq-eqb, ne_eqb}
+use Rattle.std.proofs.lemmas.Bool.{cases_lt, cases_eq, eq-eqb, ne_eqb}
 use Rattle.uring_entry.specs.Layout.{Sqe}
 use Rattle.uring_entry.specs.Below.{found_or}
 use Rattle.uring_entry.specs.Preparation.{is_faulty}
@@ -14,7 +14,6 @@ use Rattle.uring_entry.proofs.RequestLemmas.{has_ended_other, has_ended_same}
 use Rattle.uring_linux.specs.declared.group.Group.{Group}
 use Rattle.uring_linux.specs.LinuxRequests.{has_fault, is_refused_drain}
 use Rattle.uring_linux.specs.Groups.{TellsGroup, Starts, IsGrouped, IsMember, with_member, with_end}
-use Rattle.uring_linux.specs.Window.{IsNew}
 use Rattle.uring_linux.proofs.WindowEvents.{refused_accepted, last_accepted, last_kept}
 
 -- An entry is accepted.

@@ -1,8 +1,7 @@
 -- What a search may pass over: requests that have ended, and members of a group behind one that hasn't.
-use Rattle.std.proofs.Common.{◌≡◌, ℕ, ◌+◌, ◌-◌, ◌<◌, ◌≤◌, Bool, true, false, not, ◌&&◌, Some, refl, sym, ◌∙◌, ap, arith, inl, inr}
+use Rattle.std.proofs.Common.{◌≡◌, ℕ, ◌+◌, ◌-◌, ◌<◌, ◌≤◌, Bool, true, false, not, ◌&&◌, Some, refl, ◌∙◌, ap, arith, inl, inr}
 use Rattle.std.proofs.lemmas.Bool.{cases_lt, and_left, and_right, and_from, le-leb}
 use Rattle.uring_entry.specs.Below.{count_below}
-use Rattle.uring_entry.specs.Groups.{IsGroup}
 use Rattle.uring_entry.specs.Requests.{Requests, has_ended, is_outstanding}
 use Rattle.uring_entry.proofs.BelowLemmas.{some_below_some}
 use Rattle.uring_entry.proofs.GroupLemmas.{joined_member}

@@ -5,7 +5,7 @@ use Rattle.std.proofs.lemmas.Bool.{lt-ltb, le-ltb}
 use Rattle.std.proofs.lemmas.Option.{slice_get_cases}
 use Rattle.uring_entry.specs.Layout.{user_data_of}
 use Rattle.uring_entry.specs.Preparation.{is_faulty}
-use Rattle.uring_entry.specs.Requests.{Requests, entry_of, is_soft, is_running}
+use Rattle.uring_entry.specs.Requests.{Requests, entry_of, is_running}
 use Rattle.uring_linux.specs.declared.request.Request.{Request}
 use Rattle.uring_linux.specs.declared.request.Test.{Test}
 use Rattle.uring_linux.specs.declared.request.Test.TheVariants.{Unended, Faulty, Runs}

@@ -4,7 +4,7 @@ use Rattle.std.specs.List.{list_any}
 use Rattle.uring_entry.specs.Layout.{Sqe, user_data_of}
 use Rattle.uring_entry.specs.Below.{count_below}
 use Rattle.uring_entry.specs.Preparation.{is_faulty}
-use Rattle.uring_entry.specs.Requests.{Requests, entry_of, is_linked, is_soft, is_last, is_running, has_started, has_ended, has_failed}
+use Rattle.uring_entry.specs.Requests.{Requests, entry_of, is_linked, is_last, is_running, has_started, has_ended, has_failed}
 use Rattle.uring_linux.specs.declared.request.Request.{Request}
 use Rattle.uring_linux.specs.declared.request.Test.{Test}
 use Rattle.uring_linux.specs.declared.request.Test.TheVariants.{Unended, Faulty, Runs}

@@ -1,4 +1,4 @@
-use Rattle.std.proofs.Common.{◌+◌, sym, ◌∙◌, ap, subst, arith, length-set}
+use Rattle.std.proofs.Common.{◌+◌, ◌∙◌, ap, subst, arith, length-set}
 use Rattle.uring_linux.specs.declared.request.Request.{Request}
 use Rattle.uring_linux.specs.Window.{Window, end_of}
 use Rattle.uring_linux.proofs.GroupsShown.{Regroups, finished_shows}

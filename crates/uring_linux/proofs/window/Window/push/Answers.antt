@@ -1,4 +1,4 @@
-use Rattle.std.proofs.Common.{length, refl, sym, ◌∙◌, ap, subst, ◌++◌, ◌∷◌, [], ◌≡◌}
+use Rattle.std.proofs.Common.{length, ◌∙◌, ap, subst, ◌++◌, ◌∷◌, [], ◌≡◌}
 use Rattle.uring_entry.specs.Requests.{with_accepted}
 use Rattle.uring_linux.specs.declared.group.Group.{Group}
 use Rattle.uring_linux.specs.declared.request.Test.TheVariants.{Faulty}
