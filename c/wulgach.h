@@ -357,7 +357,7 @@ int32_t wulgach_core_least(struct wulgach_core *core, uint64_t *number);
 int32_t wulgach_core_next_issuable(struct wulgach_core *core, uint64_t from, uint64_t *number);
 
 /* Writes how many requests can be issued. By the manual pages' rules it looks once at each 64 numbers from the least outstanding one on, by
- * Linux's at one after the other. */
+ * Linux's at two members of each group at most. */
 int32_t wulgach_core_issuable(struct wulgach_core *core, uint64_t *count);
 
 /* Writes request index, from 0, of those that can be issued, in the order of their numbers: with an index below their count, one

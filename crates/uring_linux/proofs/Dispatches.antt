@@ -11,7 +11,7 @@ use Rattle.uring_linux.specs.LinuxRequests.{LinuxRequests, is_past, asks_to_skip
 use Rattle.uring_linux.specs.Window.{Window, new_request, end_of, Tells, Shows}
 use Rattle.uring_linux.specs.LinuxDispatch.{dispatch_of, ShowsRequests}
 use Rattle.uring_linux.proofs.WindowCounts.{unended_shown, running_shown}
-use Rattle.uring_linux.proofs.WindowEvents.{roomed, pushed_shows, skipped_accepted, tells_new, none_shows}
+use Rattle.uring_linux.proofs.WindowEvents.{roomed, skipped_accepted, tells_new, none_shows}
 
 pub dispatch_new : (s : Window) (d : KeptDrains) → s ≡ record { first = 0; items = []; room = 0 }
     → d ≡ record { drains = no_drains; room = 0 }
@@ -30,17 +30,18 @@ taken q d e first second r n t same is at =
     ∙ ap (λ x. with_entry e (e.from == n) x (is_drain q.entry && x)) admits
     ∙ ap (λ x. with_entry e (e.from == n) (is_let_in r n) (is_drain x && is_let_in r n)) t.entry
 
-pub dispatch_accepted : (s t : Window) (d k : KeptDrains) (b c : Bool) (room left : ℕ) (between amid : Bool) (e : Sqe) (q : Request) (l : LinuxRequests) (first : Bool)
-    → ShowsRequests (dispatch_of s d b room between) l → c ≡ (b || asks_to_skip e) → q ≡ new_request e c
-    → t.first ≡ s.first → t.items ≡ s.items ++ q ∷ [] → first ≡ (d.drains.from == end_of s)
+pub dispatch_accepted : (s t : Window) (d k : KeptDrains) (b c : Bool) (room left : ℕ) (between amid : Bool) (e : Sqe) (q : Request) (l : LinuxRequests) (first : Bool) (n : ℕ)
+    → ShowsRequests (dispatch_of s d b room between) l → c ≡ (b || asks_to_skip e) → q ≡ new_request e c n
+    → ((r : Requests) (x : Sqe) → Shows s r → Tells q (manual.with_accepted r x) (length r.accepted)
+    → Shows t (manual.with_accepted r x)) → first ≡ (d.drains.from == end_of s)
     → ((r : Requests) → Shows t r → k.drains ≡ accepted_drains r (is_linked q.entry) (with_request d.drains first q))
     → ShowsRequests (dispatch_of t k c left amid) (with_accepted l e)
-dispatch_accepted s t d k b c room left between amid e q l first h ec eq ef ei is f =
+dispatch_accepted s t d k b c room left between amid e q l first place h ec eq g is f =
     let r = l.requests in
     let n = length r.accepted in
     let skip = ec ∙ skipped_accepted r e b h.held.skipped in
-    let tells = subst (λ x. Tells x (manual.with_accepted r e) n) (sym eq) (tells_new r e c (h.held.window.later n (omega arith)) skip) in
-    let shows = pushed_shows s t q r e ef ei h.held.window tells in
+    let tells = subst (λ x. Tells x (manual.with_accepted r e) n) (sym eq) (tells_new r e c place (h.held.window.later n (omega arith)) skip) in
+    let shows = g r e (roomed s.first s.items 0 s.room r h.held.window) tells in
     let more : length r.accepted + 1 ≡ length (r.accepted ++ e ∷ []) = sym (length-append r.accepted (e ∷ [])) in
     record {
       accepted = shows.count;

@@ -71,6 +71,7 @@ left_shows s t r l over h =
                 sym (h.told k q.0 q.1).last ∙ over.last k q.0 is q.1
           ];
       later = h.later;
+      grouped = λ n q e. let w = at_within t n q e in h.grouped n q (sym (left_at s t n l w.low) ∙ e);
     }
 
 -- The counts.

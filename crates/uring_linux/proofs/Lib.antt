@@ -1,6 +1,9 @@
 pub mod WindowLemmas
 pub mod MemberLemmas
 pub mod WindowEvents
+pub mod GroupEvents
+pub mod GroupsShown
+pub mod PassedOver
 pub mod WindowCounts
 pub mod Dispatches
 pub mod LettingGo

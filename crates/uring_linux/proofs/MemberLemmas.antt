@@ -1,26 +1,42 @@
 -- What the definitions say of a member, from its group.
-use Rattle.std.proofs.Common.{◌≡◌, ℕ, ◌-◌, ◌<◌, ◌≤◌, length, false, not, ◌&&◌, leb, Option, Some, None, is_some, refl, sym, ◌∙◌, ap, subst, arith, inl, inr}
+use Rattle.std.proofs.Common.{◌≡◌, ℕ, ◌-◌, ◌<◌, ◌≤◌, length, Bool, false, not, ◌&&◌, leb, Option, Some, None, is_some, refl, sym, ◌∙◌, ap, subst, arith, inl, inr}
 use Rattle.std.specs.Prelude.{if◌then◌else◌}
 use Rattle.std.proofs.lemmas.Bool.{cases_lt, and_left, and_right, and_from, le-leb, lt-leb, lt-ltb, le-ltb}
 use Rattle.std.proofs.Math.Bool.{and-true}
 use Rattle.uring_entry.specs.Requests.{Requests, has_ended, is_last, is_joined, is_in_group}
 use Rattle.uring_entry.specs.Groups.{IsGroup, first_member, is_before, first_broken}
 use Rattle.uring_entry.specs.Why.{failed_member_of}
-use Rattle.uring_entry.proofs.BelowLemmas.{some_below_some, some_below_same, some_below_between, least_below_none, least_below_some, is_some_least_below}
+use Rattle.uring_entry.specs.Below.{least_below}
+use Rattle.uring_entry.proofs.BelowLemmas.{some_below_some, some_below_same, some_below_between, least_below_none, least_below_some, least_below_same, is_some_least_below}
 use Rattle.uring_entry.proofs.GroupLemmas.{joined_member, in_group_member}
 use Rattle.uring_entry.proofs.RequestLemmas.{is_joined_yes}
 use Rattle.uring_entry.proofs.WhyLemmas.{failed_member_before, failed_member_none}
 use Rattle.uring_linux.specs.LinuxRequests.{has_fault, is_in_faulty_group, is_in_turn, keeps_back, first_of}
-use Rattle.uring_linux.specs.Members.{if_before}
+use Rattle.uring_linux.specs.Groups.{if_before}
 
-pub turn_is : (r : Requests) (from end n : ℕ) → IsGroup r from end → from ≤ n → n < end
-    → is_in_turn r n ≡ not (is_some (first_member (λ m. not (has_ended r m)) from n))
-unfolding is_in_turn first_member
-turn_is r from end n g high lt =
-    ap not
-    (some_below_same (keeps_back r n) (λ m. leb from m && not (has_ended r m)) n
-    (λ m low. ap (λ b. b && not (has_ended r m)) (joined_member r from end m n g high lt (omega arith)))
-    ∙ sym (is_some_least_below (λ m. leb from m && not (has_ended r m)) n))
+-- it is a request's turn if nobody keeps it back
+pub turn_is : (r : Requests) (n : ℕ) → is_in_turn r n ≡ not (is_some (least_below (keeps_back r n) n))
+unfolding is_in_turn
+turn_is r n = ap not (sym (is_some_least_below (keeps_back r n) n))
+
+-- a search that begins later, behind numbers at which the test fails
+pub first_member_later : (p : ℕ → Bool) (from later n : ℕ) → from ≤ later
+    → ((k : ℕ) → from ≤ k → k < later → p k ≡ false)
+    → first_member p later n ≡ first_member p from n
+unfolding first_member
+first_member_later p from later n le fails =
+    least_below_same (λ m. leb later m && p m) (λ m. leb from m && p m) n
+    (λ m low.
+    elim (cases_lt m later) [
+      | inl before ↦
+          and_left _ _ (lt-leb later m before)
+          ∙ sym
+          (elim (cases_lt m from) [
+            | inl under ↦ and_left _ _ (lt-leb from m under)
+            | inr over ↦ and_right _ _ (fails m over before)
+          ])
+      | inr past ↦ ap (λ b. b && p m) (le-leb later m past ∙ sym (le-leb from m (omega arith)))
+    ])
 
 -- whoever stands right behind a member that hasn't ended isn't in turn
 pub not_in_turn : (r : Requests) (n : ℕ) → 0 < n → is_last r (n - 1) ≡ false → has_ended r (n - 1) ≡ false

@@ -26,12 +26,19 @@ use Rattle.uring_linux.specs.Window.{Window, at, end_of, Tells, Shows}
 use Rattle.uring_linux.specs.LinuxDispatch.{LinuxDispatch, dispatch_of, ShowsRequests}
 use Rattle.uring_linux.proofs.WindowLemmas.{not_none}
 use Rattle.uring_linux.proofs.WindowCounts.{unended_shown, running_shown}
-use Rattle.uring_linux.proofs.WindowEvents.{at_within, roomed, started_shows, ended_shows}
+use Rattle.uring_linux.proofs.WindowEvents.{at_within, roomed}
+use Rattle.uring_linux.proofs.GroupsShown.{started_shows}
 
 -- what is kept shows the requests that the dispatcher does
 pub shown : (s : Window) (d : KeptDrains) (b : Bool) (room : ℕ) (between : Bool) (l : LinuxRequests)
     → ShowsRequests (dispatch_of s d b room between) l → Shows s l.requests
 shown s d b room between l h = roomed s.first s.items 0 s.room l.requests h.held.window
+
+-- and by any name of the dispatcher
+pub shown_as : (s : Window) (d : KeptDrains) (b : Bool) (room : ℕ) (between : Bool) (x : LinuxDispatch) (l : LinuxRequests)
+    → dispatch_of s d b room between ≡ x → ShowsRequests x l → Shows s l.requests
+shown_as s d b room between x l e g =
+    shown s d b room between l (subst (λ (y : LinuxDispatch). ShowsRequests y l) (sym e) g)
 
 pub outside_ended : (s : Window) (r : Requests) (n : ℕ) → Shows s r → None ≡ at s n
     → is_outstanding r n ≡ false
@@ -167,14 +174,15 @@ dispatch_started s t d b room left between amid l n q h here going et =
 pub dispatch_ended : (s t : Window) (d k : KeptDrains) (b : Bool) (room left : ℕ) (between amid : Bool) (l : LinuxRequests) (n : ℕ) (q : Request) (res : ℤ) (bytes : List ℕ) (failed : Bool)
     → ShowsRequests (dispatch_of s d b room between) l → at s n ≡ Some q
     → is_outstanding l.requests n ≡ true → failed ≡ not (success.is_success q.entry res)
-    → t ≡ record s { items = set s.items (n - s.first) (record q { is_running = false; has_ended = true; has_failed = failed }) }
+    → ((r : Requests) (x : ℤ) (bs : List ℕ) → Shows s r → has_ended r n ≡ false
+    → failed ≡ not (success.is_success q.entry x) → Shows t (manual.with_ended r n x bs))
     → ((r : Requests) → Shows t r → k.drains ≡ record d.drains { deferred = after_going_on r d.drains.deferred })
     → ShowsRequests (dispatch_of t k b left amid) (with_ended l n res bytes)
-dispatch_ended s t d k b room left between amid l n q res bytes failed h here going ef et f =
+dispatch_ended s t d k b room left between amid l n q res bytes failed h here going ef g f =
     let out = and_parts _ _ going in
     let open_ = not-true _ out.1 in
     let r = manual.with_ended l.requests n res bytes in
-    let shows = subst (λ (x : Window). Shows x r) (sym et) (ended_shows s q l.requests n res bytes failed (shown s d b room between l h) here open_ ef) in
+    let shows = g l.requests res bytes (shown s d b room between l h) open_ ef in
     record {
       accepted = shows.count;
       outstanding = unended_shown t r shows;

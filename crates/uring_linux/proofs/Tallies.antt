@@ -1,5 +1,5 @@
 -- What each event changes in the numbers, and that they stay right.
-use Rattle.std.proofs.Common.{◌≡◌, ℕ, ◌+◌, ◌-◌, ◌<◌, ◌≤◌, length, Bool, true, false, not, ◌&&◌, [], ◌∷◌, ◌++◌, set, Some, None, refl, sym, ◌∙◌, ap, subst, arith, inl, inr, length-append, length-set}
+use Rattle.std.proofs.Common.{◌≡◌, ℕ, ◌+◌, ◌-◌, ◌<◌, ◌≤◌, length, Bool, true, false, not, ◌&&◌, [], set, Some, None, refl, sym, ◌∙◌, ap, subst, arith, inl, inr, length-set}
 use Rattle.std.proofs.Math.Bool.{and-true}
 use Rattle.std.proofs.lemmas.Bool.{cases_Bool, both_ways, not-true}
 use Rattle.uring_entry.specs.Layout.{Sqe}
@@ -8,10 +8,10 @@ use Rattle.uring_dispatch.specs.Window.{one_if}
 use Rattle.uring_linux.specs.declared.request.Request.{Request}
 use Rattle.uring_linux.specs.Drains.{no_drains}
 use Rattle.uring_linux.specs.KeptDrains.{KeptDrains}
-use Rattle.uring_linux.specs.Window.{Window, new_request, at, end_of, is_unended, runs, unended_among, running_among, IsOpen}
+use Rattle.uring_linux.specs.Window.{Window, new_request, at, end_of, is_unended, runs, unended_among, running_among, IsOpen, Lessens}
 use Rattle.uring_linux.specs.LinuxDispatch.{dispatch_of, IsDispatch}
 use Rattle.uring_linux.specs.Counts.{HasAccepted, HasStarted, HasEnded, HasFinished}
-use Rattle.uring_linux.proofs.WindowCounts.{unended_none, running_none, unended_pushed, running_pushed, unended_written, running_written, at_roomed}
+use Rattle.uring_linux.proofs.WindowCounts.{unended_none, running_none, unended_written, running_written, at_roomed}
 
 pub open_from : (s : Window) (n : ℕ) (q : Request) (b : Bool) → IsOpen (record s { room = 0 }) n b
     → at s n ≡ Some q → (q.has_ended ≡ false) × (q.is_running ≡ b)
@@ -43,33 +43,35 @@ new_dispatch s d es ed =
 -- A request is accepted.
 
 pub accepted_counts : (s t : Window) (d k : KeptDrains) (b c : Bool) (room left : ℕ) (between amid : Bool) (e : Sqe) (q : Request)
-    → t.first ≡ s.first → t.items ≡ s.items ++ q ∷ [] → q ≡ new_request e c → left + 1 ≡ room
+    (n : ℕ) → end_of t ≡ end_of s + 1
+    → unended_among t.items ≡ unended_among s.items + one_if (is_unended (Some q))
+    → running_among t.items ≡ running_among s.items + one_if (runs (Some q)) → q ≡ new_request e c n
+    → left + 1 ≡ room
     → HasAccepted (dispatch_of s d b room between) (dispatch_of t k c left amid)
-accepted_counts s t d k b c room left between amid e q first items new is =
-    let long : length t.items ≡ length s.items + 1 = ap length items ∙ length-append s.items (q ∷ []) in
+accepted_counts s t d k b c room left between amid e q n end outstanding running new is =
     record {
-      accepted = omega (arith, first, long);
+      accepted = end;
       outstanding =
-          ap unended_among items ∙ unended_pushed s.items q
+          outstanding
           ∙ ap (λ (x : Request). unended_among s.items + one_if (not x.has_ended)) new;
       running =
           let none : one_if (runs (Some q)) ≡ 0 = ap (λ (x : Request). one_if (x.is_running && not x.has_ended)) new in
-          let more = ap running_among items ∙ running_pushed s.items q in
           omega arith;
       room = is;
     }
 
 pub accepted_dispatch : (s t : Window) (d k : KeptDrains) (o r room left : ℕ) (between c : Bool) (e : Sqe) (q : Request)
-    → IsDispatch s d o r room between → t.first ≡ s.first → t.items ≡ s.items ++ q ∷ []
-    → q ≡ new_request e c → t.room + 1 ≡ s.room → left + 1 ≡ room
+    (n : ℕ) → IsDispatch s d o r room between → t.first ≡ s.first → end_of t ≡ end_of s + 1
+    → unended_among t.items ≡ unended_among s.items + one_if (is_unended (Some q))
+    → running_among t.items ≡ running_among s.items + one_if (runs (Some q)) → q ≡ new_request e c n
+    → t.room + 1 ≡ s.room → left + 1 ≡ room
     → (is_linked q.entry ≡ true → k.room ≡ d.room)
     → (is_linked q.entry ≡ true → k.drains.from ≡ d.drains.from)
     → (is_linked q.entry ≡ false → k.drains.from ≡ end_of t) → d.room ≤ k.room + 1
     → (d.drains.from < end_of t → length d.drains.deferred ≤ d.drains.from → length k.drains.deferred ≤ k.drains.from)
     → IsDispatch t k (o + 1) r left false
-accepted_dispatch s t d k o r room left between c e q i first items new less is same from_same closed less_groups few =
-    let long : length t.items ≡ length s.items + 1 = ap length items ∙ length-append s.items (q ∷ []) in
-    let counted = accepted_counts s t d k false c room left between false e q first items new is in
+accepted_dispatch s t d k o r room left between c e q n i first long outstanding running new less is same from_same closed less_groups few =
+    let counted = accepted_counts s t d k false c room left between false e q n long outstanding running new is in
     let low = i.low in
     let high = i.high in
     let windowed = i.window in
@@ -149,15 +151,7 @@ abbrev Ends : Window → Window → ℕ → Request → Bool → Type 0
 Ends s t n q failed =
     t ≡ record s { items = set s.items (n - s.first) (record q { is_running = false; has_ended = true; has_failed = failed }) }
 
--- what an end changes in what is kept
-record Lessens (s t : Window) (q : Request) : Type 0 where
-  pub end : end_of t ≡ end_of s
-  pub first : t.first ≡ s.first
-  pub room : t.room ≡ s.room
-  pub outstanding : unended_among t.items + 1 ≡ unended_among s.items
-  pub running : running_among t.items + one_if q.is_running ≡ running_among s.items
-
-lessens : (s t : Window) (n : ℕ) (q : Request) (failed : Bool) → at s n ≡ Some q → q.has_ended ≡ false
+pub lessens : (s t : Window) (n : ℕ) (q : Request) (failed : Bool) → at s n ≡ Some q → q.has_ended ≡ false
     → Ends s t n q failed → Lessens s t q
 lessens s t n q failed here open_ et =
     let ended = record q { is_running = false; has_ended = true; has_failed = failed } in
@@ -177,11 +171,10 @@ lessens s t n q failed here open_ et =
       running = omega arith;
     }
 
-pub ended_counts : (s t : Window) (d k : KeptDrains) (b : Bool) (room : ℕ) (between : Bool) (n : ℕ) (q : Request) (failed : Bool)
-    → at s n ≡ Some q → q.has_ended ≡ false → q.is_running ≡ false → Ends s t n q failed
+pub ended_counts : (s t : Window) (d k : KeptDrains) (b : Bool) (room : ℕ) (between : Bool) (q : Request)
+    → q.is_running ≡ false → Lessens s t q
     → HasEnded (dispatch_of s d b room between) (dispatch_of t k b room between)
-ended_counts s t d k b room between n q failed here open_ idle et =
-    let less = lessens s t n q failed here open_ et in
+ended_counts s t d k b room between q idle less =
     let none : one_if q.is_running ≡ 0 = ap one_if idle in
     let runs_same = less.running in
     record {
@@ -192,11 +185,10 @@ ended_counts s t d k b room between n q failed here open_ idle et =
       between = refl;
     }
 
-pub finished_counts : (s t : Window) (d k : KeptDrains) (b : Bool) (room : ℕ) (between : Bool) (n : ℕ) (q : Request) (failed : Bool)
-    → at s n ≡ Some q → q.has_ended ≡ false → q.is_running ≡ true → Ends s t n q failed
+pub finished_counts : (s t : Window) (d k : KeptDrains) (b : Bool) (room : ℕ) (between : Bool) (q : Request)
+    → q.is_running ≡ true → Lessens s t q
     → HasFinished (dispatch_of s d b room between) (dispatch_of t k b room between)
-finished_counts s t d k b room between n q failed here open_ busy et =
-    let less = lessens s t n q failed here open_ et in
+finished_counts s t d k b room between q busy less =
     let one : one_if q.is_running ≡ 1 = ap one_if busy in
     let runs_less = less.running in
     record {
@@ -207,13 +199,12 @@ finished_counts s t d k b room between n q failed here open_ busy et =
       between = refl;
     }
 
-pub ended_dispatch : (s t : Window) (d k : KeptDrains) (o p r u room : ℕ) (between : Bool) (n : ℕ) (q : Request) (failed : Bool)
-    → IsDispatch s d o r room between → at s n ≡ Some q → q.has_ended ≡ false → Ends s t n q failed
+pub ended_dispatch : (s t : Window) (d k : KeptDrains) (o p r u room : ℕ) (between : Bool) (q : Request)
+    → IsDispatch s d o r room between → Lessens s t q
     → k.room ≡ d.room → k.drains.from ≡ d.drains.from
     → length k.drains.deferred ≤ length d.drains.deferred → p + 1 ≡ o → u + one_if q.is_running ≡ r
     → IsDispatch t k p u room between
-ended_dispatch s t d k o p r u room between n q failed i here open_ et spare from fewer less less_running =
-    let l = lessens s t n q failed here open_ et in
+ended_dispatch s t d k o p r u room between q i l spare from fewer less less_running =
     let la = l.outstanding in
     let lb = l.running in
     let end = l.end in

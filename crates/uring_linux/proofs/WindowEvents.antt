@@ -15,6 +15,7 @@ use Rattle.std.proofs.Math.Bool.{or-false}
 use Rattle.uring_entry.proofs.RequestLemmas.{get_or_push_other, entry_of_accepted_at, entry_of_accepted_other, has_failed_unended, has_failed_accepted, has_ended_other, has_ended_same, has_failed_other, has_failed_same, is_running_started_same, is_running_started_other, is_running_ended_same, is_running_ended_other, added_other}
 use Rattle.uring_entry.proofs.GroupEvents.{entry_same, is_last_cut, is_last_cut_last}
 use Rattle.uring_linux.specs.declared.request.Request.{Request}
+use Rattle.uring_linux.specs.Groups.{IsGrouped}
 use Rattle.uring_linux.specs.LinuxRequests.{asks_to_drain, asks_to_skip, has_skipped, is_refused_drain}
 use Rattle.uring_linux.specs.Window.{Window, new_request, at, end_of, Tells, Shows, IsWithin, IsNew}
 use Rattle.uring_linux.proofs.WindowLemmas.{at_low, at_high}
@@ -64,13 +65,13 @@ at_within s n q e =
           record { low = high; high = omega arith }
     ]
 
-at_push_here : (s : Window) (q : Request) (room : ℕ)
+pub at_push_here : (s : Window) (q : Request) (room : ℕ)
     → at (record { first = s.first; items = s.items ++ q ∷ []; room = room }) (end_of s) ≡ Some q
 at_push_here s q room =
     let place : (s.first + length s.items) - s.first ≡ length s.items = omega arith in
     at_high _ (end_of s) (omega arith) ∙ ap (slice_get (s.items ++ q ∷ [])) place ∙ push_here s.items q
 
-at_push_other : (s : Window) (q : Request) (room n : ℕ) → n ≢ end_of s
+pub at_push_other : (s : Window) (q : Request) (room n : ℕ) → n ≢ end_of s
     → at (record { first = s.first; items = s.items ++ q ∷ []; room = room }) n ≡ at s n
 at_push_other s q room n ne =
     elim (cases_lt n s.first) [
@@ -78,20 +79,35 @@ at_push_other s q room n ne =
       | inr high ↦ at_high _ n high ∙ push_other s.items q (n - s.first) (λ e. ne (omega (arith, e))) ∙ sym (at_high s n high)
     ]
 
-at_set_here : (s : Window) (q : Request) (n : ℕ) → IsWithin s n
+pub at_set_here : (s : Window) (q : Request) (n : ℕ) → IsWithin s n
     → at (record s { items = set s.items (n - s.first) q }) n ≡ Some q
 at_set_here s q n w =
     let low = w.low in
     let high = w.high in
     at_high _ n w.low ∙ is_set_here s.items q (n - s.first) (omega arith)
 
-at_set_other : (s : Window) (q : Request) (n k : ℕ) → s.first ≤ n → k ≢ n
+pub at_set_other : (s : Window) (q : Request) (n k : ℕ) → s.first ≤ n → k ≢ n
     → at (record s { items = set s.items (n - s.first) q }) k ≡ at s k
 at_set_other s q n k le ne =
     elim (cases_lt k s.first) [
       | inl low ↦ at_low _ k low ∙ sym (at_low s k low)
       | inr high ↦ at_high _ k high ∙ set_other s.items q (n - s.first) (k - s.first) (λ e. ne (omega (arith, e))) ∙ sym (at_high s k high)
     ]
+
+-- What is kept shows these requests, whatever it says of groups.
+pub record Keeps (s : Window) (r : Requests) : Type 0 where
+  pub count : end_of s ≡ length r.accepted
+  pub told : (n : ℕ) (q : Request) → at s n ≡ Some q → Tells q r n
+  pub gone : (n : ℕ) → n < s.first → has_ended r n ≡ true
+  pub begins : (k : ℕ) → suc k ≡ s.first → is_last r k ≡ true
+  pub later : (n : ℕ) → length r.accepted ≤ n → IsNew r n
+
+pub keeps : (s : Window) (r : Requests) → Shows s r → Keeps s r
+keeps s r h = record { count = h.count; told = h.told; gone = h.gone; begins = h.begins; later = h.later }
+
+pub shows : (s : Window) (r : Requests) → Keeps s r
+    → ((n : ℕ) (q : Request) → at s n ≡ Some q → IsGrouped q.group r n) → Shows s r
+shows s r h grouped = record { count = h.count; told = h.told; gone = h.gone; begins = h.begins; later = h.later; grouped = grouped }
 
 -- An entry is accepted.
 
@@ -120,10 +136,10 @@ tells_accepted q r e k t lt new = record {
   failed = t.failed ∙ sym (has_failed_accepted r e k new.ended);
 }
 
-pub accepted_shows : (s : Window) (q : Request) (room : ℕ) (r : Requests) (e : Sqe) → Shows s r
+pub accepted_keeps : (s : Window) (q : Request) (room : ℕ) (r : Requests) (e : Sqe) → Keeps s r
     → Tells q (with_accepted r e) (length r.accepted)
-    → Shows (record { first = s.first; items = s.items ++ q ∷ []; room = room }) (with_accepted r e)
-accepted_shows s q room r e h t =
+    → Keeps (record { first = s.first; items = s.items ++ q ∷ []; room = room }) (with_accepted r e)
+accepted_keeps s q room r e h t =
     let long = length-append s.items (q ∷ []) in
     let more = length-append r.accepted (e ∷ []) in
     let count = h.count in
@@ -154,9 +170,9 @@ record Follows (r t : Requests) (n : ℕ) : Type 0 where
   pub begins : (k : ℕ) → is_last r k ≡ true → is_last t k ≡ true
   pub later : (k : ℕ) → length r.accepted ≤ k → IsNew r k → IsNew t k
 
-written_shows : (s : Window) (q : Request) (r t : Requests) (n : ℕ) → Shows s r → IsWithin s n
-    → Follows r t n → Tells q t n → Shows (record s { items = set s.items (n - s.first) q }) t
-written_shows s q r t n h w f here =
+written_keeps : (s : Window) (q : Request) (r t : Requests) (n : ℕ) → Keeps s r → IsWithin s n
+    → Follows r t n → Tells q t n → Keeps (record s { items = set s.items (n - s.first) q }) t
+written_keeps s q r t n h w f here =
     let long = length-set s.items (n - s.first) q in
     let count = h.count in
     record {
@@ -186,13 +202,13 @@ tells_started q r n k ne t = record {
   failed = t.failed;
 }
 
-pub started_shows : (s : Window) (q : Request) (r : Requests) (n : ℕ) → Shows s r → at s n ≡ Some q
+pub started_keeps : (s : Window) (q : Request) (r : Requests) (n : ℕ) → Keeps s r → at s n ≡ Some q
     → has_ended r n ≡ false
-    → Shows (record s { items = set s.items (n - s.first) (record q { is_running = true }) }) (with_started r n)
-started_shows s q r n h here going =
+    → Keeps (record s { items = set s.items (n - s.first) (record q { is_running = true }) }) (with_started r n)
+started_keeps s q r n h here going =
     let w = at_within s n q here in
     let t = h.told n q here in
-    written_shows s (record q { is_running = true }) r (with_started r n) n h w
+    written_keeps s (record q { is_running = true }) r (with_started r n) n h w
     (record {
       count = refl;
       others = λ x k ne was. tells_started x r n k ne was;
@@ -229,13 +245,13 @@ tells_ended q r n res bytes k ne t = record {
   failed = t.failed ∙ sym (has_failed_other r n res bytes k ne);
 }
 
-pub ended_shows : (s : Window) (q : Request) (r : Requests) (n : ℕ) (res : ℤ) (bytes : List ℕ) (failed : Bool) → Shows s r
+pub ended_keeps : (s : Window) (q : Request) (r : Requests) (n : ℕ) (res : ℤ) (bytes : List ℕ) (failed : Bool) → Keeps s r
     → at s n ≡ Some q → has_ended r n ≡ false → failed ≡ not (is_success q.entry res)
-    → Shows (record s { items = set s.items (n - s.first) (record q { is_running = false; has_ended = true; has_failed = failed }) }) (with_ended r n res bytes)
-ended_shows s q r n res bytes failed h here going is =
+    → Keeps (record s { items = set s.items (n - s.first) (record q { is_running = false; has_ended = true; has_failed = failed }) }) (with_ended r n res bytes)
+ended_keeps s q r n res bytes failed h here going is =
     let w = at_within s n q here in
     let t = h.told n q here in
-    written_shows s (record q { is_running = false; has_ended = true; has_failed = failed }) r (with_ended r n res bytes) n h w
+    written_keeps s (record q { is_running = false; has_ended = true; has_failed = failed }) r (with_ended r n res bytes) n h w
     (record {
       count = refl;
       others = λ x k ne was. tells_ended x r n res bytes k ne was;
@@ -290,13 +306,13 @@ tells_cut q r k ne t = record {
   failed = t.failed;
 }
 
-pub cut_shows : (s : Window) (q : Request) (r : Requests) (n : ℕ) → Shows s r → at s n ≡ Some q
+pub cut_keeps : (s : Window) (q : Request) (r : Requests) (n : ℕ) → Keeps s r → at s n ≡ Some q
     → n + 1 ≡ end_of s
-    → Shows (record s { items = set s.items (n - s.first) (record q { is_last = true }) }) (with_cut r)
-cut_shows s q r n h here is =
+    → Keeps (record s { items = set s.items (n - s.first) (record q { is_last = true }) }) (with_cut r)
+cut_keeps s q r n h here is =
     let w = at_within s n q here in
     let t = h.told n q here in
-    written_shows s (record q { is_last = true }) r (with_cut r) n h w
+    written_keeps s (record q { is_last = true }) r (with_cut r) n h w
     (record {
       count = refl;
       others = λ x k ne was. tells_cut x r k (λ e. ne (omega (arith, e, is, h.count))) was;
@@ -314,9 +330,9 @@ cut_shows s q r n h here is =
       failed = t.failed;
     })
 
-pub cut_shows_none : (s : Window) (r : Requests) → Shows s r → end_of s ≤ s.first
-    → Shows s (with_cut r)
-cut_shows_none s r h none = record {
+pub cut_keeps_none : (s : Window) (r : Requests) → Keeps s r → end_of s ≤ s.first
+    → Keeps s (with_cut r)
+cut_keeps_none s r h none = record {
   count = h.count;
   told = λ n q is. let w = at_within s n q is in absurd (omega (arith, w.low, w.high, none));
   gone = h.gone;
@@ -330,15 +346,14 @@ pub roomed : (first : ℕ) (items : List Request) (room other : ℕ) (r : Reques
     → Shows (record { first = first; items = items; room = room }) r
     → Shows (record { first = first; items = items; room = other }) r
 unfolding at
-roomed first items room other r h = record { count = h.count; told = h.told; gone = h.gone; begins = h.begins; later = h.later }
-
-pub pushed_shows : (s t : Window) (q : Request) (r : Requests) (e : Sqe) → t.first ≡ s.first
-    → t.items ≡ s.items ++ q ∷ [] → Shows (record s { room = 0 }) r
-    → Tells q (with_accepted r e) (length r.accepted) → Shows t (with_accepted r e)
-pushed_shows s t q r e first items h tells =
-    subst (λ f. Shows (record { first = f; items = t.items; room = t.room }) (with_accepted r e)) (sym first)
-    (subst (λ xs. Shows (record { first = s.first; items = xs; room = t.room }) (with_accepted r e)) (sym items)
-    (accepted_shows (record s { room = 0 }) q t.room r e h tells))
+roomed first items room other r h = record {
+  count = h.count;
+  told = h.told;
+  gone = h.gone;
+  begins = h.begins;
+  later = h.later;
+  grouped = h.grouped;
+}
 
 -- whether skipped success was asked for, behind one more entry
 pub skipped_accepted : (r : Requests) (e : Sqe) (b : Bool)
@@ -353,10 +368,10 @@ skipped_accepted r e b is =
     ∙ ap (λ x. some_below (λ m. asks_to_skip (entry_of (with_accepted r e) m)) (length r.accepted) || asks_to_skip x) (sym (entry_of_accepted_at r e))
     ∙ ap (some_below (λ m. asks_to_skip (entry_of (with_accepted r e) m))) more
 
-pub tells_new : (r : Requests) (e : Sqe) (b : Bool) → IsNew r (length r.accepted)
+pub tells_new : (r : Requests) (e : Sqe) (b : Bool) (n : ℕ) → IsNew r (length r.accepted)
     → b ≡ has_skipped (with_accepted r e) (length r.accepted)
-    → Tells (new_request e b) (with_accepted r e) (length r.accepted)
-tells_new r e b new is =
+    → Tells (new_request e b n) (with_accepted r e) (length r.accepted)
+tells_new r e b n new is =
     let here = sym (entry_of_accepted_at r e) in
     record {
       entry = here;
@@ -377,4 +392,5 @@ none_shows = record {
   gone = λ n lt. absurd (omega arith);
   begins = λ k is. absurd (omega arith);
   later = λ n le. record { started = refl; ended = refl; cut = refl };
+  grouped = λ n q is. let w = at_within (record { first = 0; items = []; room = 0 }) n q is in absurd (omega (arith, w.low, w.high));
 }

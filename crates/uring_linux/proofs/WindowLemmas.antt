@@ -5,10 +5,10 @@ use Rattle.std.proofs.lemmas.Bool.{lt-ltb, le-ltb}
 use Rattle.std.proofs.lemmas.Option.{slice_get_cases}
 use Rattle.uring_entry.specs.Layout.{user_data_of}
 use Rattle.uring_entry.specs.Preparation.{is_faulty}
-use Rattle.uring_entry.specs.Requests.{Requests, entry_of, is_soft, is_running}
+use Rattle.uring_entry.specs.Requests.{Requests, entry_of, is_running}
 use Rattle.uring_linux.specs.declared.request.Request.{Request}
 use Rattle.uring_linux.specs.declared.request.Test.{Test}
-use Rattle.uring_linux.specs.declared.request.Test.TheVariants.{Unended, Faulty, Broken, Runs}
+use Rattle.uring_linux.specs.declared.request.Test.TheVariants.{Unended, Faulty, Runs}
 use Rattle.uring_linux.specs.Window.{Window, at, passes, said, Tells, IsWithin}
 
 pub at_low : (s : Window) (n : ℕ) → n < s.first → at s n ≡ None
@@ -41,6 +41,5 @@ not_none s n w e = let q = kept s n w in let f : None ≡ Some q.0 = e ∙ q.1 i
 pub agrees : (t : Test) (q : Request) (r : Requests) (n : ℕ) → Tells q r n → passes t q ≡ said t r n
 agrees Unended q r n t = ap not t.ended
 agrees Faulty q r n t = ap (λ b. b || q.is_refused) t.faulty ∙ ap (λ b. is_faulty (entry_of r n) || b) t.refused
-agrees Broken q r n t = ap (λ e. is_soft e && q.has_failed) t.entry ∙ ap (λ b. is_soft (entry_of r n) && b) t.failed
 agrees (Runs u) q r n t =
     ap (λ b. b && (user_data_of q.entry == u)) t.running ∙ ap (λ e. is_running r n && (user_data_of e == u)) t.entry

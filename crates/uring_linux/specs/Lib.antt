@@ -5,7 +5,7 @@ pub mod Issuable
 pub mod Happenings
 pub mod Laws
 pub mod Window
-pub mod Members
+pub mod Groups
 pub mod KeptDrains
 pub mod LinuxDispatch
 pub mod LinuxWhy

@@ -1,6 +1,6 @@
 //! What the issue of a request is answered.
 
-ghost use Rattle.std.specs.Prelude.{◌≡◌, ℕ, true, false, Some, None};
+ghost use Rattle.std.specs.Prelude.{◌≡◌, ◌≤◌, ℕ, true, false, Some, None};
 ghost use Rattle.uring_entry.specs.Requests.{Requests, entry_of};
 ghost use Rattle.uring_entry.specs.Preparation.{is_faulty};
 ghost use Rattle.uring_dispatch.specs.declared.answers.Posts.{Posts};
@@ -9,12 +9,12 @@ ghost use Rattle.uring_linux.specs.Issues.{issued, issued_ready, ended_with, pos
 ghost use Rattle.uring_linux.specs.LinuxRequests as linux;
 ghost use Rattle.uring_linux.specs.LinuxRequests.{LinuxRequests};
 ghost use Rattle.uring_linux.specs.LinuxDispatch.{ShowsRequests};
-ghost use Rattle.uring_linux.specs.Members.{IsSpan};
+ghost use Rattle.uring_linux.specs.Groups.{IsMember};
 ghost use Rattle.uring_linux.specs.Window.{Tells, Shows, IsOpen};
 
 use crate::answers::Issued;
 use crate::dispatch::LinuxDispatch;
-use crate::members::Span;
+use crate::group::Group;
 use crate::request::Request;
 use crate::window::Window;
 use uring_dispatch::Posts;
@@ -39,19 +39,19 @@ impl LinuxDispatch {
         if self.window.is_right_behind(n) {
             return Issued::NotReady;
         }
-        let span = self.window.span_of(n);
-        if !self.window.is_in_turn(n, span) {
+        let group = self.window.group_of(&request);
+        if !self.window.is_in_turn(n, group) {
             return Issued::NotReady;
         }
-        if self.window.is_doomed(n, span) {
+        if group.is_doomed(n) {
             return self
                 .window
-                .ended(n, &request, span, doomed_result(&request));
+                .ended(n, &request, group, doomed_result(&request));
         }
         if self.drains.is_deferred(n) {
             return Issued::NotReady;
         }
-        self.window.ready(n, &request, span)
+        self.window.ready(n, &request, group)
     }
 
     /// What the end of request `n` with this result posts, if it runs.
@@ -68,39 +68,39 @@ impl LinuxDispatch {
         if !request.is_running {
             return None;
         }
-        let span = self.window.span_of(n);
-        Some(self.window.posts(n, &request, span, res))
+        let group = self.window.group_of(&request);
+        Some(self.window.posts(n, &request, group, res))
     }
 }
 
 impl Window {
     /// What the end of the kept request `n` posts with this result.
-    fn posts(&self, n: u64, request: &Request, span: Span, res: i32) -> Posts
+    fn posts(&self, n: u64, request: &Request, group: Group, res: i32) -> Posts
         ensures { (r : Requests) → Shows self.now r → Tells request.now r n
-            → IsSpan self.now r n span.from span.end → result ≡ posts_of r n res }
+            → IsMember r n group → self.now.first ≤ group.from → result ≡ posts_of r n res }
     {
-        let breaker = self.breaker(n, span);
+        let breaker = group.breaker(n);
         self.posts_behind(breaker, request, res)
     }
 
     /// The kept request `n` ends as it is issued.
-    fn ended(&self, n: u64, request: &Request, span: Span, res: i32) -> Issued
+    fn ended(&self, n: u64, request: &Request, group: Group, res: i32) -> Issued
         ensures { (r : Requests) → Shows self.now r → Tells request.now r n
-            → IsSpan self.now r n span.from span.end → result ≡ ended_with r n res }
+            → IsMember r n group → self.now.first ≤ group.from → result ≡ ended_with r n res }
     {
-        let posts = self.posts(n, request, span, res);
+        let posts = self.posts(n, request, group, res);
         Issued::Ended(res, posts)
     }
 
     /// The kept request `n` may start.
-    fn ready(&self, n: u64, request: &Request, span: Span) -> Issued
+    fn ready(&self, n: u64, request: &Request, group: Group) -> Issued
         ensures { (r : Requests) → Shows self.now r → Tells request.now r n
-            → IsSpan self.now r n span.from span.end → is_faulty (entry_of r n) ≡ false
+            → IsMember r n group → self.now.first ≤ group.from → is_faulty (entry_of r n) ≡ false
             → result ≡ issued_ready r n }
     {
         if request.entry.opcode() == opcode::ASYNC_CANCEL {
             let res = self.cancel_result(n, &request.entry);
-            return self.ended(n, request, span, res);
+            return self.ended(n, request, group, res);
         }
         match prepare(&request.entry) {
             Ok(op) => Issued::Run(op),

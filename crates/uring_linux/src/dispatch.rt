@@ -14,6 +14,7 @@ ghost use Rattle.uring_linux.specs.LinuxRequests as spec_of;
 use crate::answers::Issued;
 use crate::drains::Drains;
 use crate::entries::{asks_to_drain, asks_to_skip};
+use crate::group::with_member;
 use crate::request::{Request, Test, operation};
 use crate::window::Window;
 use std::alloc::Global;
@@ -24,7 +25,7 @@ use uring_memory::Memory;
 
 /// The requests that were accepted, numbered from 0 in the order of their acceptance, with what was made of them, by the rules of Linux 6.18.
 ///
-/// A submission call gives its entries one by one to `accept` and ends with `end_call`; every other call is made between submission calls. It keeps the requests from the first group on of which one is outstanding at a call's end, and searches go over them one after the other.
+/// A submission call gives its entries one by one to `accept` and ends with `end_call`; every other call is made between submission calls. It keeps the requests from the first group on of which one is outstanding at a call's end. The issue and the end of a member look at two members of its group, however long that is; what a cancel finds, and who waits for the deferred groups, is looked for among all, one after the other.
 #[derive(Drop)]
 pub struct LinuxDispatch {
     pub(crate) window: Window,
@@ -141,8 +142,9 @@ impl LinuxDispatch {
         ensures between { self.new.is_between_calls ≡ false }
     {
         self.has_skipped = has_skipped(self.has_skipped, &entry);
-        let request = new_request(entry, self.has_skipped);
-        let is_first = self.drains.from() == self.window.end();
+        let n = self.window.end();
+        let request = new_request(entry, self.has_skipped, n);
+        let is_first = self.drains.from() == n;
         self.window.push(request);
         self.drains.accept(&self.window, &request, is_first);
         self.outstanding += 1;
@@ -237,12 +239,12 @@ impl LinuxDispatch {
         requires { IsTrue self.now.is_between_calls }
         ensures { (l : LinuxRequests) → ShowsRequests self.now l → result ≡ least_of l.requests }
     {
-        let first = self.window.first();
+        let from = self.window.least();
         let end = self.window.end();
-        self.window.first_with(Test::Unended, first, end)
+        self.window.first_with(Test::Unended, from, end)
     }
 
-    /// The least request that `issue` doesn't refuse, if there is one. It looks at one after the other. Our own rule.
+    /// The least request that `issue` doesn't refuse, if there is one. It looks at two members of each group at most. Our own rule.
     pub fn next(&self) -> Option<u64>
         requires { IsTrue self.now.is_between_calls }
         ensures { (l : LinuxRequests) → ShowsRequests self.now l → result ≡ next_of l }
@@ -297,13 +299,7 @@ impl LinuxDispatch {
     {
         if let Some(request) = self.window.copy(n) {
             let has_failed = !succeeded(&request.entry, res);
-            let ended = Request {
-                is_running: false,
-                has_ended: true,
-                has_failed,
-                ..request
-            };
-            self.window.write(n, ended);
+            self.window.finish(n, request, has_failed);
             self.drains.go_on(&self.window);
             self.outstanding -= 1;
             self.running = less_if(self.running, request.is_running);
@@ -336,19 +332,23 @@ fn is_faulty(entry: &Sqe) -> bool
     }
 }
 
-/// What is kept of a request that is accepted.
-fn new_request(entry: Sqe, has_skipped: bool) -> Request
-    ensures { result ≡ spec.new_request entry has_skipped }
+/// What is kept of request `n` as it is accepted, in a group of its own.
+fn new_request(entry: Sqe, has_skipped: bool, n: u64) -> Request
+    requires { n < 2 ^ 63 }
+    ensures { result ≡ spec.new_request entry has_skipped n }
 {
     let is_draining = asks_to_drain(&entry);
     let is_linked = entry.is_linked();
+    let is_faulty = is_faulty(&entry);
+    let is_refused = is_draining && has_skipped;
     Request {
         entry,
-        is_faulty: is_faulty(&entry),
-        is_refused: is_draining && has_skipped,
+        is_faulty,
+        is_refused,
         is_last: !is_linked,
         is_running: false,
         has_ended: false,
         has_failed: false,
+        group: with_member(None, n, is_faulty || is_refused),
     }
 }

@@ -192,6 +192,9 @@ impl Drains {
         ensures from { self.new.drains.from ≡ self.old.drains.from }
         ensures few { length self.new.drains.deferred ≤ length self.old.drains.deferred }
     {
+        if self.deferred.is_empty() {
+            return;
+        }
         let is_alone = is_alone(&self.deferred, window);
         go_on(&mut self.deferred, is_alone);
     }
@@ -212,7 +215,7 @@ fn has_fault_from(window: &Window, from: u64) -> bool
 fn is_alone(groups: &VecDeque<Deferred>, window: &Window) -> bool
     ensures { (r : Requests) → Shows window.now r → result ≡ linux.is_alone r groups.now.items }
 {
-    for n in window.first()..window.end() {
+    for n in window.least()..window.end() {
         if window.passes(Test::Unended, n) && !is_in_some(groups, n) {
             return false;
         }

@@ -55,7 +55,7 @@ impl Window {
         ensures { (r : Requests) → Shows self.now r → user_data ≡ addr_of (entry_of r n)
             → result ≡ found_by r n }
     {
-        for m in self.first()..self.end() {
+        for m in self.least()..self.end() {
             if m != n && self.passes(Test::Runs(user_data), m) {
                 return Some(m);
             }

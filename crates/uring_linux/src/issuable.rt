@@ -1,4 +1,4 @@
-//! Which requests can be issued: they are looked at one after the other, from the first that is kept on.
+//! Which requests can be issued: of each group that is kept its first member and the least that hasn't ended are looked at.
 
 ghost use Rattle.std.specs.Prelude.{◌≡◌, ◌≤◌, IsTrue, length, slice_get};
 ghost use Rattle.uring_dispatch.specs.Window.{one_if};
@@ -11,44 +11,53 @@ use crate::answers::Issued;
 use crate::dispatch::LinuxDispatch;
 
 impl LinuxDispatch {
-    /// The least request from `n` on, any number, that `issue` doesn't refuse, if there is one: so all of them, in order, from 0 on, each time from the number behind the last. It looks at one after the other. Our own rule.
+    /// The least request from `n` on, any number, that `issue` doesn't refuse, if there is one: so all of them, in order, from 0 on, each time from the number behind the last. It looks at two members of each group at most. Our own rule.
     pub fn next_issuable(&self, n: u64) -> Option<u64>
         requires { IsTrue self.now.is_between_calls }
         ensures { (l : LinuxRequests) → ShowsRequests self.now l → result ≡ issuable_from l n }
     {
-        for k in self.window.first().max(n)..self.window.end() {
+        let end = self.window.end();
+        let mut k = self.window.first().max(n);
+        while k < end {
             if self.is_issuable(k) {
                 return Some(k);
             }
+            k = self.window.next_behind(k);
         }
         None
     }
 
-    /// How many requests `issue` doesn't refuse. It looks at one after the other. Our own rule.
+    /// How many requests `issue` doesn't refuse. It looks at two members of each group at most. Our own rule.
     pub fn issuable(&self) -> u64
         requires { IsTrue self.now.is_between_calls }
         ensures { (l : LinuxRequests) → ShowsRequests self.now l → result ≡ length (issuables_of l) }
     {
+        let end = self.window.end();
         let mut total = 0;
-        for k in self.window.first()..self.window.end() {
+        let mut k = self.window.first();
+        while k < end {
             total += self.one(k);
+            k = self.window.next_behind(k);
         }
         total
     }
 
-    /// Of the requests that `issue` doesn't refuse, in the order of their numbers, the one that comes after `k` others: `Some` exactly if more than `k` can be issued. It looks at one after the other. Our own rule.
+    /// Of the requests that `issue` doesn't refuse, in the order of their numbers, the one that comes after `k` others: `Some` exactly if more than `k` can be issued. It looks at two members of each group at most. Our own rule.
     pub fn nth_issuable(&self, k: u64) -> Option<u64>
         requires { IsTrue self.now.is_between_calls }
         ensures { (l : LinuxRequests) → ShowsRequests self.now l
             → result ≡ slice_get (issuables_of l) k }
     {
+        let end = self.window.end();
         let mut left = k;
-        for n in self.window.first()..self.window.end() {
+        let mut n = self.window.first();
+        while n < end {
             let count = self.one(n);
             if left < count {
                 return Some(n);
             }
             left -= count;
+            n = self.window.next_behind(n);
         }
         None
     }

@@ -8,6 +8,8 @@ mod dispatch;
 mod drains;
 mod entries;
 mod found;
+mod group;
+mod groups;
 mod issuable;
 pub mod laws;
 mod members;

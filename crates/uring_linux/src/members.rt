@@ -1,76 +1,36 @@
-//! Groups among the requests that are kept: which members a group has, whose turn it is, and who is doomed.
+//! The members of a group: whose turn it is, and who is doomed.
 
-ghost use Rattle.std.specs.Prelude.{◌≡◌, ℕ, suc, ◌+◌, ◌<◌, ◌≤◌, ◌^◌, true, false, Some};
+ghost use Rattle.std.specs.Prelude.{◌≡◌, ℕ, ◌<◌, ◌≤◌, true, false, Some};
 ghost use Rattle.uring_entry.specs.Below.{least_below};
-ghost use Rattle.uring_entry.specs.Requests.{Requests, is_last, is_behind_failure};
+ghost use Rattle.uring_entry.specs.Requests.{Requests, is_behind_failure};
 ghost use Rattle.uring_entry.specs.Why.{failed_member_of};
+ghost use Rattle.uring_linux.specs.Groups.{IsMember, if_before};
 ghost use Rattle.uring_linux.specs.LinuxRequests as linux;
 ghost use Rattle.uring_linux.specs.LinuxWhy.{faulty_member_of};
-ghost use Rattle.uring_linux.specs.Window.{end_of, Shows, IsWithin};
-ghost use Rattle.uring_linux.specs.Members.{IsStart, IsEnd, IsSpan, if_before};
+ghost use Rattle.uring_linux.specs.Window.{Shows, IsWithin};
 
+use crate::group::Group;
 use crate::request::Test;
 use crate::window::Window;
 
-/// The members of a group: the numbers from the first on and below the end.
-#[derive(Clone, Copy, Debug, PartialEq, Eq)]
-pub(crate) struct Span {
-    pub(crate) from: u64,
-    pub(crate) end: u64,
-}
-
 impl Window {
-    /// The group of the kept request `n`.
-    pub(crate) fn span_of(&self, n: u64) -> Span
-        requires { IsWithin self.now n }
-        ensures { (r : Requests) → Shows self.now r → IsSpan self.now r n result.from result.end }
-    {
-        Span {
-            from: self.start_of(n),
-            end: self.end_behind(n),
-        }
-    }
-
-    /// The first member of the group of `n`.
-    fn start_of(&self, n: u64) -> u64
-        requires { IsWithin self.now n }
-        ensures { (r : Requests) → Shows self.now r → IsStart self.now r n result }
-    {
-        let mut from = n;
-        while self.first() < from {
-            if self.is_last(from - 1) {
-                return from;
-            }
-            from -= 1;
-        }
-        from
-    }
-
-    /// The number behind the last member of the group of `n`.
-    fn end_behind(&self, n: u64) -> u64
-        requires { IsWithin self.now n }
-        ensures { (r : Requests) → Shows self.now r → IsEnd self.now r n result }
-    {
-        let last = self.end();
-        let mut end = n + 1;
-        while end < last {
-            if self.is_last(end - 1) {
-                return end;
-            }
-            end += 1;
-        }
-        end
-    }
-
     /// Whether every earlier member of the group of `n` has ended.
-    pub(crate) fn is_in_turn(&self, n: u64, span: Span) -> bool
-        ensures { (r : Requests) → Shows self.now r → IsSpan self.now r n span.from span.end
-            → result ≡ linux.is_in_turn r n }
+    pub(crate) fn is_in_turn(&self, n: u64, group: Group) -> bool
+        ensures { (r : Requests) → Shows self.now r → IsMember r n group
+            → self.now.first ≤ group.from → result ≡ linux.is_in_turn r n }
     {
-        match self.first_with(Test::Unended, span.from, n) {
+        match self.keeper(n, group) {
             Some(_) => false,
             None => true,
         }
+    }
+
+    /// The first member of the group before `n` that hasn't ended.
+    pub(crate) fn keeper(&self, n: u64, group: Group) -> Option<u64>
+        ensures { (r : Requests) → Shows self.now r → IsMember r n group
+            → self.now.first ≤ group.from → result ≡ least_below (linux.keeps_back r n) n }
+    {
+        self.first_with(Test::Unended, group.least, n)
     }
 
     /// Whether `n` stands right behind a member of its group that hasn't ended, so that it isn't its turn. It looks at that one alone.
@@ -86,71 +46,60 @@ impl Window {
         }
         self.passes(Test::Unended, n - 1)
     }
+}
 
-    /// The first member of the group before `n` that hasn't ended.
-    pub(crate) fn keeper(&self, n: u64, span: Span) -> Option<u64>
-        ensures { (r : Requests) → Shows self.now r → IsSpan self.now r n span.from span.end
-            → result ≡ least_below (linux.keeps_back r n) n }
+impl Group {
+    /// The first member with a fault.
+    pub(crate) fn faulty(self) -> Option<u64>
+        ensures { (r : Requests) (n : ℕ) → IsMember r n self → result ≡ faulty_member_of r n }
     {
-        self.first_with(Test::Unended, span.from, n)
+        self.fault
     }
 
-    /// The first member of the group with a fault.
-    pub(crate) fn faulty(&self, span: Span) -> Option<u64>
-        ensures { (r : Requests) (n : ℕ) → Shows self.now r
-            → IsSpan self.now r n span.from span.end → result ≡ faulty_member_of r n }
+    /// Whether some member has a fault.
+    fn is_faulty(self) -> bool
+        ensures { (r : Requests) (n : ℕ) → IsMember r n self
+            → result ≡ linux.is_in_faulty_group r n }
     {
-        self.first_with(Test::Faulty, span.from, span.end)
-    }
-
-    /// Whether some member of the group has a fault.
-    pub(crate) fn is_faulty(&self, span: Span) -> bool
-        ensures { (r : Requests) (n : ℕ) → Shows self.now r
-            → IsSpan self.now r n span.from span.end → result ≡ linux.is_in_faulty_group r n }
-    {
-        self.first_with(Test::Faulty, span.from, span.end).is_some()
+        self.fault.is_some()
     }
 
     /// Whether a member before `n` has a soft link and failed.
-    fn is_behind_failure(&self, n: u64, span: Span) -> bool
-        ensures { (r : Requests) → Shows self.now r → IsSpan self.now r n span.from span.end
-            → result ≡ is_behind_failure r n }
+    fn is_behind_failure(self, n: u64) -> bool
+        ensures { (r : Requests) → IsMember r n self → result ≡ is_behind_failure r n }
     {
-        match self.first_with(Test::Broken, span.from, span.end) {
+        match self.broken {
             Some(m) => m < n,
             None => false,
         }
     }
 
-    /// Whether `n` is doomed.
-    pub(crate) fn is_doomed(&self, n: u64, span: Span) -> bool
-        ensures { (r : Requests) → Shows self.now r → IsSpan self.now r n span.from span.end
-            → result ≡ linux.is_doomed r n }
+    /// Whether its member `n` is doomed.
+    pub(crate) fn is_doomed(self, n: u64) -> bool
+        ensures { (r : Requests) → IsMember r n self → result ≡ linux.is_doomed r n }
     {
-        let faulty = self.is_faulty(span);
-        let behind = self.is_behind_failure(n, span);
-        faulty || behind
+        self.is_faulty() || self.is_behind_failure(n)
     }
 
     /// The first member before `n` that has a soft link and failed.
-    pub(crate) fn failed(&self, n: u64, span: Span) -> Option<u64>
-        ensures failed { (r : Requests) → Shows self.now r → IsSpan self.now r n span.from span.end
-            → result ≡ failed_member_of r n }
-        ensures within { (m : ℕ) → result ≡ Some m → (span.from ≤ m) × (m < n) }
+    pub(crate) fn failed(self, n: u64) -> Option<u64>
+        ensures failed { (r : Requests) → IsMember r n self → result ≡ failed_member_of r n }
+        ensures within { (r : Requests) (m : ℕ) → IsMember r n self → result ≡ Some m
+            → (self.from ≤ m) × (m < n) }
     {
-        if_before(self.first_with(Test::Broken, span.from, span.end), n)
+        if_before(self.broken, n)
     }
 
-    /// Whose failure ends `n` as cancelled, if another's does.
-    pub(crate) fn breaker(&self, n: u64, span: Span) -> Option<u64>
-        ensures breaker { (r : Requests) → Shows self.now r → IsSpan self.now r n span.from span.end
-            → result ≡ linux.breaker_of r n }
-        ensures within { (m : ℕ) → result ≡ Some m → (span.from ≤ m) × (m < n) }
+    /// Whose failure ends its member `n` as cancelled, if another's does.
+    pub(crate) fn breaker(self, n: u64) -> Option<u64>
+        ensures breaker { (r : Requests) → IsMember r n self → result ≡ linux.breaker_of r n }
+        ensures within { (r : Requests) (m : ℕ) → IsMember r n self → result ≡ Some m
+            → (self.from ≤ m) × (m < n) }
     {
-        if self.is_faulty(span) {
-            if_before(Some(span.from), n)
+        if self.is_faulty() {
+            if_before(Some(self.from), n)
         } else {
-            self.failed(n, span)
+            self.failed(n)
         }
     }
 }

@@ -22,8 +22,8 @@ impl LinuxDispatch {
         if request.has_ended {
             return None;
         }
-        let span = self.window.span_of(n);
-        let breaker = self.window.breaker(n, span);
+        let group = self.window.group_of(&request);
+        let breaker = group.breaker(n);
         let posts = self.window.posts_behind(breaker, &request, res);
         Some(is_completion(posts))
     }

@@ -3,6 +3,7 @@
 ghost use Rattle.std.specs.Prelude.{◌≡◌};
 ghost use Rattle.uring_entry.specs.Preparation.{operation_of};
 
+use crate::group::Group;
 use uring_entry::{Op, Sqe, opcode};
 
 /// What is kept of one request.
@@ -19,6 +20,8 @@ pub(crate) struct Request {
     pub(crate) has_ended: bool,
     /// Whether it ended without success.
     pub(crate) has_failed: bool,
+    /// Its group, as it stands at the first member; at another, as it stood when that one was accepted.
+    pub(crate) group: Group,
 }
 
 /// What a request is looked at for.
@@ -29,9 +32,6 @@ pub(crate) enum Test {
 
     /// It has a fault.
     Faulty,
-
-    /// It has a soft link, and failed.
-    Broken,
 
     /// It runs, and has this user data.
     Runs(u64),

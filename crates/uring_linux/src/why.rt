@@ -6,12 +6,12 @@ ghost use Rattle.uring_entry.specs.Requests.{Requests};
 ghost use Rattle.uring_linux.specs.LinuxDispatch.{ShowsRequests};
 ghost use Rattle.uring_linux.specs.LinuxRequests.{LinuxRequests, keeps_back};
 ghost use Rattle.uring_linux.specs.LinuxWhy.{why_of, kept_back_by, doom_of, least_free_of};
-ghost use Rattle.uring_linux.specs.Members.{IsSpan};
+ghost use Rattle.uring_linux.specs.Groups.{IsMember};
 ghost use Rattle.uring_linux.specs.Window.{at, Tells, Shows};
 
 use crate::dispatch::LinuxDispatch;
 use crate::drains::Drains;
-use crate::members::Span;
+use crate::group::Group;
 use crate::request::{Request, Test};
 use crate::window::Window;
 use uring_entry::{Doom, Since, Why, prepare};
@@ -62,15 +62,15 @@ impl Window {
         ensures { (l : LinuxRequests) → Shows self.now l.requests → drains.now.drains ≡ l.drains
             → result ≡ kept_back_by l n (least_below (keeps_back l.requests n) n) }
     {
-        let span = self.span_of(n);
-        if let Some(least) = self.keeper(n, span) {
+        let group = self.group_of(request);
+        if let Some(least) = self.keeper(n, group) {
             return Why::Waits {
                 least,
                 since: Since::SameGroup,
             };
         }
-        if self.is_doomed(n, span) {
-            return Why::IsDoomed(self.doom(n, request, span));
+        if group.is_doomed(n) {
+            return Why::IsDoomed(doom(n, request, group));
         }
         if drains.is_deferred(n) {
             return Why::Waits {
@@ -81,33 +81,32 @@ impl Window {
         Why::MayStart
     }
 
-    /// What dooms the kept request `n`, if it is doomed.
-    fn doom(&self, n: u64, request: &Request, span: Span) -> Doom
-        ensures { (r : Requests) → Shows self.now r → Tells request.now r n
-            → IsSpan self.now r n span.from span.end → result ≡ doom_of r n }
-    {
-        if request.is_refused {
-            return Doom::RefusedDrain;
-        }
-        if let Err(fault) = prepare(&request.entry) {
-            return Doom::OwnFault(fault);
-        }
-        match self.faulty(span) {
-            Some(m) => Doom::FaultOf(m),
-            None => Doom::FailureOf(self.failed(n, span).unwrap_or(n)),
-        }
-    }
-
     /// The least outstanding request that isn't deferred.
     fn least_free(&self, drains: &Drains) -> Option<u64>
         ensures { (l : LinuxRequests) → Shows self.now l.requests → drains.now.drains ≡ l.drains
             → result ≡ least_free_of l }
     {
-        for n in self.first()..self.end() {
+        for n in self.least()..self.end() {
             if self.passes(Test::Unended, n) && !drains.is_deferred(n) {
                 return Some(n);
             }
         }
         None
+    }
+}
+
+/// What dooms request `n` of this group, if it is doomed.
+fn doom(n: u64, request: &Request, group: Group) -> Doom
+    ensures { (r : Requests) → Tells request.now r n → IsMember r n group → result ≡ doom_of r n }
+{
+    if request.is_refused {
+        return Doom::RefusedDrain;
+    }
+    if let Err(fault) = prepare(&request.entry) {
+        return Doom::OwnFault(fault);
+    }
+    match group.faulty() {
+        Some(m) => Doom::FaultOf(m),
+        None => Doom::FailureOf(group.failed(n).unwrap_or(n)),
     }
 }

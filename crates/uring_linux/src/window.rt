@@ -151,8 +151,8 @@ impl Window {
         None
     }
 
-    /// Adds a request.
-    pub(crate) fn push(&mut self, request: Request)
+    /// Adds a request, and leaves what is kept of its group.
+    pub(crate) fn append(&mut self, request: Request)
         requires { 0 < self.old.room }
         ensures first { self.new.first ≡ self.old.first }
         ensures items { self.new.items ≡ self.old.items ++ request ∷ [] }
@@ -264,13 +264,12 @@ fn is_idle(request: &Request) -> bool
 }
 
 /// Whether a request passes a test.
-fn passes(request: &Request, test: Test) -> bool
+pub(crate) fn passes(request: &Request, test: Test) -> bool
     ensures { result ≡ passes test request.now }
 {
     match test {
         Test::Unended => !request.has_ended,
         Test::Faulty => request.is_faulty || request.is_refused,
-        Test::Broken => request.entry.is_soft() && request.has_failed,
         Test::Runs(user_data) => request.is_running && request.entry.user_data() == user_data,
     }
 }

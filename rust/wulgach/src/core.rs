@@ -210,7 +210,7 @@ impl Core {
         })
     }
 
-    /// How many requests can be issued. By the manual pages' rules it looks once at each 64 numbers from the least outstanding one on, by Linux's at one after the other.
+    /// How many requests can be issued. By the manual pages' rules it looks once at each 64 numbers from the least outstanding one on, by Linux's at two members of each group at most.
     pub fn issuable_count(&self) -> u64 {
         let mut count = 0;
         // SAFETY: as in `counts`.

@@ -70,7 +70,7 @@ impl Core {
         self.dispatch.next_issuable(number)
     }
 
-    /// How many requests can be issued. By the manual pages' rules it looks once at each 64 numbers from the least outstanding one on, by Linux's at one after the other. It is no step, and so not part of a history.
+    /// How many requests can be issued. By the manual pages' rules it looks once at each 64 numbers from the least outstanding one on, by Linux's at two members of each group at most. It is no step, and so not part of a history.
     pub fn issuable(&self) -> u64
         ensures { (h : History) → FitsApart self.now h
             → result ≡ length (issuables_of self.now.setup.linux (requests_of (world self.now.setup h))) }
@@ -78,7 +78,7 @@ impl Core {
         self.dispatch.issuable()
     }
 
-    /// The request at this place, from 0, among those that can be issued, in the order of their numbers: `Some` exactly if the place is below their count. By the manual pages' rules it looks once at each 64 numbers from the least outstanding one on, by Linux's at one after the other. It is no step, and so not part of a history.
+    /// The request at this place, from 0, among those that can be issued, in the order of their numbers: `Some` exactly if the place is below their count. By the manual pages' rules it looks once at each 64 numbers from the least outstanding one on, by Linux's at two members of each group at most. It is no step, and so not part of a history.
     pub fn nth_issuable(&self, place: u64) -> Option<u64>
         ensures { (h : History) → FitsApart self.now h
             → result ≡ slice_get (issuables_of self.now.setup.linux (requests_of (world self.now.setup h))) place }

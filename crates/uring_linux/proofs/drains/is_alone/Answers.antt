@@ -7,7 +7,7 @@ use Rattle.uring_linux.specs.LinuxRequests.{is_alone}
 use Rattle.uring_linux.proofs.drains.is_alone.Goals as goal
 
 pub loop-n-init : goal.loop-n-init
-loop-n-init c = λ r s k lt. and_left _ _ (ap not (s.gone k (omega arith)))
+loop-n-init c = λ r s k lt. and_left _ _ (ap not (c.least-n.ensures.ended r s k (omega arith)))
 
 pub returns-then-not-is_in_some : goal.returns-then-not-is_in_some
 unfolding is_alone

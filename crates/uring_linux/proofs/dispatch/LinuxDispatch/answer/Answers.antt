@@ -27,9 +27,6 @@ returns-then-request-2-clause-issued c = λ l g.
     let t = h.told c.args.n c.in-Some.request here in
     sym (asked l c.args.n true true _ _ _ (outstanding_going _ _ l.requests c.args.n h here c.if-request.false) (sym t.running ∙ c.if-request-2.true) refl refl refl)
 
-pub span_of-span-requires : goal.span_of-span-requires
-span_of-span-requires c = at_within _ c.args.n c.in-Some.request (sym c.in-Some.ensures)
-
 pub is_right_behind-requires : goal.is_right_behind-requires
 is_right_behind-requires c = at_within _ c.args.n c.in-Some.request (sym c.in-Some.ensures)
 
@@ -47,23 +44,25 @@ returns-then-not-is_in_turn-clause-issued c = λ l g.
     let h = shown c.self.inside.window c.self.inside.drains c.self.inside.has_skipped c.self.inside.room c.self.inside.is_between_calls l (subst (λ (d : LinuxDispatch). ShowsRequests d l) (sym c.self.view_is) g) in
     let here = sym c.in-Some.ensures in
     let t = h.told c.args.n c.in-Some.request here in
-    let m = c.span_of-span.ensures l.requests h in
+    let m = c.group_of-group.ensures.member l.requests c.args.n h here in
+    let kept = c.group_of-group.ensures.kept l.requests c.args.n h here in
     sym
     (asked l c.args.n true false false _ _ (outstanding_going _ _ l.requests c.args.n h here c.if-request.false) (sym t.running ∙ c.if-request-2.false)
-    (sym (c.is_in_turn.ensures l.requests h m) ∙ c.if-not-is_in_turn.true) refl refl)
+    (sym (c.is_in_turn.ensures l.requests h m kept) ∙ c.if-not-is_in_turn.true) refl refl)
 
 pub returns-then-is_doomed-clause-issued : goal.returns-then-is_doomed-clause-issued
 returns-then-is_doomed-clause-issued c = λ l g.
     let h = shown c.self.inside.window c.self.inside.drains c.self.inside.has_skipped c.self.inside.room c.self.inside.is_between_calls l (subst (λ (d : LinuxDispatch). ShowsRequests d l) (sym c.self.view_is) g) in
     let here = sym c.in-Some.ensures in
     let t = h.told c.args.n c.in-Some.request here in
-    let m = c.span_of-span.ensures l.requests h in
+    let m = c.group_of-group.ensures.member l.requests c.args.n h here in
+    let kept = c.group_of-group.ensures.kept l.requests c.args.n h here in
     let ended = rw (to_z-of_z w32 c.doomed_result.result (search rules)) at c.ended.ensures in
-    ended l.requests h t m
+    ended l.requests h t m kept
     ∙ ap (ended_with l.requests c.args.n) (c.doomed_result.ensures l.requests c.args.n t)
     ∙ sym
     (asked l c.args.n true false true true _ (outstanding_going _ _ l.requests c.args.n h here c.if-request.false) (sym t.running ∙ c.if-request-2.false)
-    (sym (c.is_in_turn.ensures l.requests h m) ∙ c.if-not-is_in_turn.false) (sym (c.is_doomed.ensures l.requests h m) ∙ c.if-is_doomed.true) refl)
+    (sym (c.is_in_turn.ensures l.requests h m kept) ∙ c.if-not-is_in_turn.false) (sym (c.is_doomed.ensures l.requests m) ∙ c.if-is_doomed.true) refl)
 
 pub returns-then-is_deferred-clause-issued : goal.returns-then-is_deferred-clause-issued
 returns-then-is_deferred-clause-issued c = λ l g.
@@ -71,10 +70,11 @@ returns-then-is_deferred-clause-issued c = λ l g.
     let h = shown c.self.inside.window c.self.inside.drains c.self.inside.has_skipped c.self.inside.room c.self.inside.is_between_calls l f in
     let here = sym c.in-Some.ensures in
     let t = h.told c.args.n c.in-Some.request here in
-    let m = c.span_of-span.ensures l.requests h in
+    let m = c.group_of-group.ensures.member l.requests c.args.n h here in
+    let kept = c.group_of-group.ensures.kept l.requests c.args.n h here in
     sym
     (asked l c.args.n true false true false true (outstanding_going _ _ l.requests c.args.n h here c.if-request.false) (sym t.running ∙ c.if-request-2.false)
-    (sym (c.is_in_turn.ensures l.requests h m) ∙ c.if-not-is_in_turn.false) (sym (c.is_doomed.ensures l.requests h m) ∙ c.if-is_doomed.false)
+    (sym (c.is_in_turn.ensures l.requests h m kept) ∙ c.if-not-is_in_turn.false) (sym (c.is_doomed.ensures l.requests m) ∙ c.if-is_doomed.false)
     (ap (λ (d : Drains). is_in_some d.deferred c.args.n) (sym f.held.drains) ∙ sym c.is_deferred.ensures ∙ c.if-is_deferred.true))
 
 pub returns-clause-issued : goal.returns-clause-issued
@@ -83,13 +83,14 @@ returns-clause-issued c = λ l g.
     let h = shown c.self.inside.window c.self.inside.drains c.self.inside.has_skipped c.self.inside.room c.self.inside.is_between_calls l f in
     let here = sym c.in-Some.ensures in
     let t = h.told c.args.n c.in-Some.request here in
-    let m = c.span_of-span.ensures l.requests h in
+    let m = c.group_of-group.ensures.member l.requests c.args.n h here in
+    let kept = c.group_of-group.ensures.kept l.requests c.args.n h here in
     let idle = sym t.running ∙ c.if-request-2.false in
-    let free = sym (c.is_doomed.ensures l.requests h m) ∙ c.if-is_doomed.false in
-    c.ready.ensures l.requests h t m (healthy l.requests c.args.n (omega (arith, m.high, m.last, h.count)) free)
+    let free = sym (c.is_doomed.ensures l.requests m) ∙ c.if-is_doomed.false in
+    c.ready.ensures l.requests h t m kept (healthy l.requests c.args.n (omega (arith, m.high, m.told.group.accepted, h.count)) free)
     ∙ sym
     (asked l c.args.n true false true false false (outstanding_going _ _ l.requests c.args.n h here c.if-request.false) idle
-    (sym (c.is_in_turn.ensures l.requests h m) ∙ c.if-not-is_in_turn.false) free
+    (sym (c.is_in_turn.ensures l.requests h m kept) ∙ c.if-not-is_in_turn.false) free
     (ap (λ (d : Drains). is_in_some d.deferred c.args.n) (sym f.held.drains) ∙ sym c.is_deferred.ensures ∙ c.if-is_deferred.false))
 
 pub returns-then-is_doomed-clause-open : goal.returns-then-is_doomed-clause-open

@@ -1,8 +1,14 @@
-use Rattle.std.proofs.Common.{◌≡◌, ℕ, ◌<◌, ◌&&◌, leb, false}
+use Rattle.std.proofs.Common.{◌≡◌, ℕ, ◌-◌, ◌<◌, ◌≤◌, ◌&&◌, leb, false}
 use Rattle.uring_linux.specs.LinuxRequests.{LinuxRequests, is_issuable}
 use Rattle.uring_linux.specs.LinuxDispatch.{ShowsRequests}
 use Rattle.uring_linux.proofs.dispatch.LinuxDispatch.next_issuable.Given as goal
 
 abbrev pub invariant-loop-k : goal.invariant-loop-k
-invariant-loop-k l = (r : LinuxRequests) → ShowsRequests l.self r → (i : ℕ) → i < l.k
-    → (leb l.n i && is_issuable r i) ≡ false
+invariant-loop-k l = record {
+  behind : l.n ≤ l.k;
+  low : l.self.held.window.first ≤ l.k;
+  passed : (r : LinuxRequests) → ShowsRequests l.self r → (i : ℕ) → i < l.k → (leb l.n i && is_issuable r i) ≡ false;
+}
+
+abbrev pub decreases-loop-k : goal.decreases-loop-k
+decreases-loop-k l = l.end - l.k

@@ -1,8 +1,15 @@
-use Rattle.std.proofs.Common.{◌≡◌, ◌+◌}
+use Rattle.std.proofs.Common.{◌≡◌, ◌+◌, ◌-◌, ◌≤◌}
 use Rattle.uring_entry.specs.Below.{count_below}
 use Rattle.uring_linux.specs.LinuxRequests.{LinuxRequests, is_issuable}
 use Rattle.uring_linux.specs.LinuxDispatch.{ShowsRequests}
 use Rattle.uring_linux.proofs.dispatch.LinuxDispatch.nth_issuable.Given as goal
 
 abbrev pub invariant-loop-n : goal.invariant-loop-n
-invariant-loop-n l = (r : LinuxRequests) → ShowsRequests l.self r → l.left + count_below (is_issuable r) l.n ≡ l.k
+invariant-loop-n l = record {
+  low : l.self.held.window.first ≤ l.n;
+  high : (r : LinuxRequests) → ShowsRequests l.self r → l.n ≤ l.end;
+  counted : (r : LinuxRequests) → ShowsRequests l.self r → l.left + count_below (is_issuable r) l.n ≡ l.k;
+}
+
+abbrev pub decreases-loop-n : goal.decreases-loop-n
+decreases-loop-n l = l.end - l.n

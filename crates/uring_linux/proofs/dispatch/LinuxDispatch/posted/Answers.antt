@@ -6,7 +6,6 @@ use Rattle.uring_linux.specs.Issues.{posts_of}
 use Rattle.uring_linux.specs.LinuxDispatch.{LinuxDispatch, ShowsRequests}
 use Rattle.uring_linux.specs.Window.{IsOpen}
 use Rattle.uring_linux.proofs.WindowCounts.{open_at}
-use Rattle.uring_linux.proofs.WindowEvents.{at_within}
 use Rattle.uring_linux.proofs.Standings.{shown, outside_idle}
 use Rattle.uring_linux.proofs.dispatch.LinuxDispatch.posted.Goals as goal
 
@@ -21,15 +20,13 @@ returns-then-not-request-clause-posted c = λ l g.
     let t = h.told c.args.n c.in-Some.request (sym c.in-Some.ensures) in
     sym (ap (λ b. if b then Some (posts_of l.requests c.args.n c.args.res) else None) (sym t.running ∙ c.if-not-request.true))
 
-pub span_of-span-requires : goal.span_of-span-requires
-span_of-span-requires c = at_within _ c.args.n c.in-Some.request (sym c.in-Some.ensures)
-
 pub returns-clause-posted : goal.returns-clause-posted
 returns-clause-posted c = λ l g.
     let h = shown c.self.inside.window c.self.inside.drains c.self.inside.has_skipped c.self.inside.room c.self.inside.is_between_calls l (subst (λ (d : LinuxDispatch). ShowsRequests d l) (sym c.self.view_is) g) in
     let t = h.told c.args.n c.in-Some.request (sym c.in-Some.ensures) in
     let posts = rw (to_z-of_z w32 c.args.res (search rules)) at c.posts.ensures in
-    ap Some (posts l.requests h t (c.span_of-span.ensures l.requests h))
+    let here = sym c.in-Some.ensures in
+    ap Some (posts l.requests h t (c.group_of-group.ensures.member l.requests c.args.n h here) (c.group_of-group.ensures.kept l.requests c.args.n h here))
     ∙ sym (ap (λ b. if b then Some (posts_of l.requests c.args.n c.args.res) else None) (sym t.running ∙ c.if-not-request.false))
 
 pub returns-then-request-clause-posted : goal.returns-then-request-clause-posted

@@ -3,7 +3,7 @@ use Rattle.uring_entry.specs.Requests.{with_cut}
 use Rattle.uring_linux.specs.Window.{Window, unended_among, running_among, Shows}
 use Rattle.uring_linux.proofs.WindowLemmas.{not_none}
 use Rattle.uring_linux.proofs.WindowCounts.{unended_same, running_same}
-use Rattle.uring_linux.proofs.WindowEvents.{cut_shows, cut_shows_none}
+use Rattle.uring_linux.proofs.GroupsShown.{cut_shows, cut_shows_none}
 use Rattle.uring_linux.proofs.window.Window.close.Goals as goal
 
 pub returns-then-end-self-clause-shows : goal.returns-then-end-self-clause-shows

@@ -1,0 +1,200 @@
+-- What each event makes of what is kept of a group.
+use Rattle.std.proofs.Common.{◌≡◌, ◌≢◌, ℕ, suc, ◌+◌, ◌<◌, ◌≤◌, ℤ, List, length, Bool, true, false, not, ◌&&◌, ◌||◌, ◌==◌, Some, None, sym, ◌∙◌, ap, subst, arith, inl, inr}
+use Rattle.std.specs.Prelude.{if◌then◌else◌}
+use Rattle.std.proofs.lemmas.Bool.{cases_lt, cases_eq, eq-eqb, ne_eqb}
+use Rattle.uring_entry.specs.Layout.{Sqe}
+use Rattle.uring_entry.specs.Below.{found_or}
+use Rattle.uring_entry.specs.Preparation.{is_faulty}
+use Rattle.uring_entry.specs.Success.{is_success}
+use Rattle.uring_entry.specs.Requests.{Requests, entry_of, is_last, is_soft, has_ended, with_accepted, with_cut, with_started, with_ended}
+use Rattle.uring_entry.specs.Groups.{IsGroup, first_member, first_broken, earlier_of}
+use Rattle.uring_entry.proofs.GroupEvents.{entry_same, first_member_same, first_member_more, first_member_none, first_broken_accepted, first_broken_more, first_broken_ended, first_broken_elsewhere, group_accepted, group_joined, group_new, group_cut, group_ended, is_last_cut}
+use Rattle.uring_entry.proofs.GroupLemmas.{groups_apart}
+use Rattle.uring_entry.proofs.RequestLemmas.{has_ended_other, has_ended_same}
+use Rattle.uring_linux.specs.declared.group.Group.{Group}
+use Rattle.uring_linux.specs.LinuxRequests.{has_fault, is_refused_drain}
+use Rattle.uring_linux.specs.Groups.{TellsGroup, Starts, IsGrouped, IsMember, with_member, with_end}
+use Rattle.uring_linux.proofs.WindowEvents.{refused_accepted, last_accepted, last_kept}
+
+-- An entry is accepted.
+
+fault_accepted : (r : Requests) (e : Sqe) (k : ℕ) → k < length r.accepted
+    → has_fault (with_accepted r e) k ≡ has_fault r k
+fault_accepted r e k lt =
+    ap (λ b. b || is_refused_drain (with_accepted r e) k) (entry_same r e is_faulty k lt)
+    ∙ ap (λ b. is_faulty (entry_of r k) || b) (refused_accepted r e k lt)
+
+-- behind a group that was closed
+pub told_closed : (g : Group) (r : Requests) (e : Sqe) → TellsGroup g r
+    → ((k : ℕ) → suc k ≡ g.end → is_last r k ≡ true) → has_ended r (length r.accepted) ≡ false
+    → TellsGroup g (with_accepted r e)
+told_closed g r e t closed none =
+    let within = t.group.accepted in
+    record {
+      group = group_accepted r e g.from g.end t.group closed;
+      low = t.low;
+      high = t.high;
+      ended = t.ended;
+      fault = t.fault ∙ sym (first_member_same (has_fault (with_accepted r e)) (has_fault r) g.from g.end (λ m lt. fault_accepted r e m (omega (arith, lt, within))));
+      broken = t.broken ∙ sym (first_broken_accepted r e g.from g.end none within);
+    }
+
+-- into the group that is open
+pub told_joined : (g : Group) (r : Requests) (e : Sqe) (faulty : Bool) → TellsGroup g r
+    → g.end ≡ length r.accepted → ((k : ℕ) → suc k ≡ length r.accepted → is_last r k ≡ false)
+    → has_ended r (length r.accepted) ≡ false → faulty ≡ has_fault (with_accepted r e) (length r.accepted)
+    → TellsGroup (with_member (Some g) (length r.accepted) faulty) (with_accepted r e)
+told_joined g r e faulty t end amid none is =
+    let some = t.group.some in
+    let n = length r.accepted in
+    let le : g.from ≤ n = omega arith in
+    let high = t.high in
+    record {
+      group = group_joined r e g.from (subst (IsGroup r g.from) end t.group) amid;
+      low = t.low;
+      high = omega arith;
+      ended = t.ended;
+      fault =
+          ap (λ o. found_or o faulty n) (t.fault ∙ ap (first_member (has_fault r) g.from) end ∙ sym (first_member_same (has_fault (with_accepted r e)) (has_fault r) g.from n (λ m lt. fault_accepted r e m lt)))
+          ∙ ap (λ b. found_or (first_member (has_fault (with_accepted r e)) g.from n) b n) is
+          ∙ sym (first_member_more (has_fault (with_accepted r e)) g.from n le);
+      broken = t.broken ∙ ap (first_broken r g.from) end ∙ sym (first_broken_more r e g.from none le);
+    }
+
+-- into a new group
+pub told_new : (r : Requests) (e : Sqe) (faulty : Bool)
+    → ((k : ℕ) → suc k ≡ length r.accepted → is_last r k ≡ true)
+    → has_ended r (length r.accepted) ≡ false → faulty ≡ has_fault (with_accepted r e) (length r.accepted)
+    → TellsGroup (with_member None (length r.accepted) faulty) (with_accepted r e)
+told_new r e faulty closed none is =
+    let n = length r.accepted in
+    record {
+      group = group_new r e closed;
+      low = omega arith;
+      high = omega arith;
+      ended = λ k le lt. absurd (omega (arith, le, lt));
+      fault =
+          ap (λ b. found_or None b n) is
+          ∙ ap (λ o. found_or o (has_fault (with_accepted r e) n) n) (sym (first_member_none (has_fault (with_accepted r e)) n))
+          ∙ sym (first_member_more (has_fault (with_accepted r e)) n n (omega arith));
+      broken = sym (first_broken_more r e n none (omega arith) ∙ first_member_none _ n);
+    }
+
+pub starts_accepted : (r : Requests) (e : Sqe) (n from : ℕ) → n < length r.accepted → Starts r n from
+    → Starts (with_accepted r e) n from
+starts_accepted r e n from lt s =
+    let low = s.low in
+    record {
+      low = low;
+      begins = λ k is. last_accepted r e k (omega (arith, is, lt)) ∙ s.begins k is;
+      joined = λ k le under. last_accepted r e k (omega (arith, under, lt)) ∙ s.joined k le under;
+    }
+
+-- A request starts.
+
+pub grouped_started : (g : Group) (r : Requests) (n k : ℕ) → IsGrouped g r k → IsGrouped g (with_started r n) k
+grouped_started g r n k i = record {
+  starts = let s = i.starts in record { low = s.low; begins = s.begins; joined = s.joined };
+  told = λ is.
+      let t = i.told is in
+      let p = t.group in
+      record {
+        group = record { some = p.some; accepted = p.accepted; begins = p.begins; joined = p.joined; ends = p.ends };
+        low = t.low;
+        high = t.high;
+        ended = t.ended;
+        fault = t.fault;
+        broken = t.broken;
+      };
+}
+
+-- A call closes.
+
+pub grouped_cut : (g : Group) (r : Requests) (k : ℕ) → k < length r.accepted → IsGrouped g r k
+    → IsGrouped g (with_cut r) k
+grouped_cut g r k within i = record {
+  starts =
+      let s = i.starts in
+      record {
+        low = s.low;
+        begins = λ j is. last_kept r j (s.begins j is);
+        joined = λ j le lt. is_last_cut r j (λ e. absurd (omega (arith, e, lt, within))) ∙ s.joined j le lt;
+      };
+  told = λ is.
+      let t = i.told is in
+      record { group = group_cut r g.from g.end t.group; low = t.low; high = t.high; ended = t.ended; fault = t.fault; broken = t.broken };
+}
+
+-- A request ends.
+
+ended_stays : (r : Requests) (n : ℕ) (res : ℤ) (bytes : List ℕ) (k : ℕ) → has_ended r k ≡ true
+    → has_ended (with_ended r n res bytes) k ≡ true
+ended_stays r n res bytes k e =
+    elim (cases_eq k n) [
+      | inl same ↦ ap (has_ended (with_ended r n res bytes)) same ∙ has_ended_same r n res bytes
+      | inr other ↦ has_ended_other r n res bytes k other ∙ e
+    ]
+
+-- the least member behind an end
+least_behind : (least n : ℕ) (P : ℕ → Type 0) → (least ≡ n → P (n + 1)) → P least
+    → P (if least == n then n + 1 else least)
+least_behind least n P here other =
+    elim (cases_eq least n) [
+      | inl same ↦ subst P (sym (ap (λ b. if b then n + 1 else least) (eq-eqb least n same))) (here same)
+      | inr apart ↦ subst P (sym (ap (λ b. if b then n + 1 else least) (ne_eqb least n apart))) other
+    ]
+
+pub told_ended : (g : Group) (r : Requests) (n : ℕ) (res : ℤ) (bytes : List ℕ) (breaks : Bool) → IsMember r n g
+    → has_ended r n ≡ false → breaks ≡ (is_soft (entry_of r n) && not (is_success (entry_of r n) res))
+    → TellsGroup (with_end g n breaks) (with_ended r n res bytes)
+told_ended g r n res bytes breaks m going is =
+    let t = m.told in
+    let low = m.low in
+    let high = m.high in
+    let some = t.low in
+    let few = t.high in
+    record {
+      group = group_ended r n res bytes g.from g.end t.group;
+      low = least_behind g.least n (λ x. g.from ≤ x) (λ e. omega arith) t.low;
+      high = least_behind g.least n (λ x. x ≤ g.end) (λ e. omega arith) t.high;
+      ended = least_behind g.least n (λ x. (k : ℕ) → g.from ≤ k → k < x → has_ended (with_ended r n res bytes) k ≡ true)
+          (λ e k le lt.
+          elim (cases_lt k n) [
+            | inl under ↦ ended_stays r n res bytes k (t.ended k le (omega (arith, under, e)))
+            | inr here ↦ ap (has_ended (with_ended r n res bytes)) (omega (arith, lt, here)) ∙ has_ended_same r n res bytes
+          ])
+          (λ k le lt. ended_stays r n res bytes k (t.ended k le lt));
+      fault = t.fault;
+      broken =
+          ap (λ o. earlier_of o breaks n) t.broken ∙ ap (λ b. earlier_of (first_broken r g.from g.end) b n) is
+          ∙ sym (first_broken_ended r n res bytes g.from g.end low high going);
+    }
+
+pub starts_ended : (r : Requests) (n : ℕ) (res : ℤ) (bytes : List ℕ) (k from : ℕ) → Starts r k from
+    → Starts (with_ended r n res bytes) k from
+starts_ended r n res bytes k from s = record { low = s.low; begins = s.begins; joined = s.joined }
+
+-- another group than that of the request that ends
+pub told_elsewhere : (x g : Group) (r : Requests) (n : ℕ) (res : ℤ) (bytes : List ℕ) → IsMember r n g
+    → TellsGroup x r → x.from ≢ g.from → TellsGroup x (with_ended r n res bytes)
+told_elsewhere x g r n res bytes m t apart =
+    let low = m.low in
+    let high = m.high in
+    record {
+      group = group_ended r n res bytes x.from x.end t.group;
+      low = t.low;
+      high = t.high;
+      ended = λ k le lt. ended_stays r n res bytes k (t.ended k le lt);
+      fault = t.fault;
+      broken =
+          t.broken
+          ∙ sym
+          (first_broken_elsewhere r n res bytes x.from x.end
+          (λ k le lt e.
+          elim (cases_lt g.from x.from) [
+            | inl before ↦ groups_apart r g.from g.end x.from x.end g.from m.told.group t.group (omega arith) (omega (arith, low, high)) before (omega (arith, le, e, high))
+            | inr past ↦
+                groups_apart r x.from x.end g.from g.end x.from t.group m.told.group (omega arith) (omega (arith, le, lt)) (grind (arith, past, apart))
+                (omega (arith, lt, e, low))
+          ]));
+    }

@@ -1,0 +1,312 @@
+-- What is kept of groups shows them, whatever happens.
+use Rattle.std.proofs.Common.{◌≡◌, ◌≢◌, ℕ, suc, ◌+◌, ◌-◌, ◌<◌, ◌≤◌, ℤ, List, length, Bool, true, false, not, ◌&&◌, [], ◌∷◌, ◌++◌, set, Option, Some, None, refl, sym, ◌∙◌, ap, subst, arith, inl, inr, length-append}
+use Rattle.std.proofs.lemmas.Bool.{cases_lt, cases_eq, both_ways}
+use Rattle.uring_entry.specs.Layout.{Sqe}
+use Rattle.uring_entry.specs.Success.{is_success}
+use Rattle.uring_entry.specs.Requests.{Requests, entry_of, is_last, is_soft, has_ended, with_accepted, with_cut, with_started, with_ended}
+use Rattle.uring_entry.proofs.GroupLemmas.{groups_apart}
+use Rattle.uring_linux.specs.declared.group.Group.{Group}
+use Rattle.uring_linux.specs.declared.request.Request.{Request}
+use Rattle.uring_linux.specs.LinuxRequests.{has_fault}
+use Rattle.uring_linux.specs.Groups.{TellsGroup, Starts, IsGrouped, IsMember, with_member, with_end}
+use Rattle.uring_linux.specs.Window.{Window, at, end_of, Tells, Shows, IsAmid, IsWithin}
+use Rattle.uring_linux.proofs.WindowLemmas.{kept}
+use Rattle.uring_linux.proofs.WindowEvents.{Keeps, keeps, shows, at_within, at_push_here, at_push_other, at_set_here, at_set_other, accepted_keeps, started_keeps, ended_keeps, cut_keeps, cut_keeps_none}
+use Rattle.uring_linux.proofs.GroupEvents.{told_closed, told_joined, told_new, starts_accepted, grouped_started, grouped_cut, told_ended, starts_ended, told_elsewhere}
+
+-- Where groups begin.
+
+-- the group of a request that is kept is kept whole
+pub kept_from : (s : Window) (r : Requests) (n from : ℕ) → Shows s r → Starts r n from → s.first ≤ n
+    → s.first ≤ from
+kept_from s r n from h t le =
+    elim (cases_lt from s.first) [
+      | inl low ↦ absurd (both_ways _ (t.joined (s.first - 1) (omega arith) (omega arith)) (h.begins (s.first - 1) (omega arith)))
+      | inr high ↦ high
+    ]
+
+-- two members of one group have the same first
+pub same_from : (r : Requests) (n from first : ℕ) → Starts r n from → Starts r from first → first ≡ from
+same_from r n from first t u =
+    let low = u.low in
+    elim (cases_lt first from) [
+      | inl under ↦ absurd (both_ways _ (u.joined (from - 1) (omega arith) (omega arith)) (t.begins (from - 1) (omega arith)))
+      | inr same ↦ omega arith
+    ]
+
+-- the first member of a kept request's group
+pub first_kept : (s : Window) (r : Requests) (n : ℕ) (q : Request) → Shows s r → at s n ≡ Some q
+    → (p : Request) × (at s q.group.from ≡ Some p)
+first_kept s r n q h here =
+    let w = at_within s n q here in
+    let t = (h.grouped n q here).starts in
+    let low = t.low in
+    let high = w.high in
+    kept s q.group.from (record { low = kept_from s r n q.group.from h t w.low; high = omega arith })
+
+pub member_is : (s : Window) (r : Requests) (n : ℕ) (q p : Request) → Shows s r → at s n ≡ Some q
+    → at s q.group.from ≡ Some p → (p.group.from ≡ q.group.from) × IsMember r n p.group
+member_is s r n q p h here first =
+    let t = (h.grouped n q here).starts in
+    let i = h.grouped q.group.from p first in
+    let same = same_from r n q.group.from p.group.from t i.starts in
+    let told = i.told same in
+    let some = told.group.some in
+    let low = t.low in
+    let w = at_within s n q here in
+    let within = w.high in
+    let count = h.count in (
+      same,
+      record {
+        told = told;
+        low = omega arith;
+        high =
+            elim (cases_lt n p.group.end) [
+              | inl inside ↦ inside
+              | inr past ↦
+                  absurd
+                  (both_ways _ (t.joined (p.group.end - 1) (omega arith) (omega arith))
+                  (told.group.ends (p.group.end - 1) (omega arith) (omega arith)))
+            ];
+      },
+    )
+
+-- What is kept of a group is written anew.
+
+-- this is kept of a group now, with its first member
+pub record Regroups (u t : Window) (g : Group) : Type 0 where
+  pub here : (q : Request) → at u g.from ≡ Some q → at t g.from ≡ Some (record q { group = g })
+  pub others : (k : ℕ) → k ≢ g.from → at t k ≡ at u k
+  pub first : t.first ≡ u.first
+  pub end : end_of t ≡ end_of u
+
+retold : (q : Request) (g : Group) (r : Requests) (n : ℕ) → Tells q r n → Tells (record q { group = g }) r n
+retold q g r n t = record {
+  entry = t.entry;
+  faulty = t.faulty;
+  refused = t.refused;
+  last = t.last;
+  running = t.running;
+  ended = t.ended;
+  failed = t.failed;
+}
+
+regrouped_here : (u t : Window) (g : Group) (x : Request) → Regroups u t g → IsWithin u g.from
+    → at t g.from ≡ Some x → (q : Request) × (at u g.from ≡ Some q) × (x ≡ record q { group = g })
+regrouped_here u t g x w inside is =
+    let q = kept u g.from inside in
+    (q.0, q.1, let f : Some x ≡ Some (record q.0 { group = g }) = sym is ∙ w.here q.0 q.1 in cc)
+
+regrouped : (u t : Window) (g : Group) (r : Requests) → Regroups u t g → IsWithin u g.from → Keeps u r
+    → IsGrouped g r g.from
+    → ((k : ℕ) (x : Request) → k ≢ g.from → at u k ≡ Some x → IsGrouped x.group r k) → Shows t r
+regrouped u t g r w inside h here others = record {
+  count = w.end ∙ h.count;
+  told = λ k x is.
+      elim (cases_eq k g.from) [
+        | inl same ↦
+            let q = regrouped_here u t g x w inside (ap (at t) (sym same) ∙ is) in
+            subst (λ y. Tells y r k) (sym q.2) (retold q.0 g r k (h.told k q.0 (ap (at u) same ∙ q.1)))
+        | inr other ↦ h.told k x (sym (w.others k other) ∙ is)
+      ];
+  gone = λ k lt. h.gone k (omega (arith, w.first, lt));
+  begins = λ k is. h.begins k (is ∙ w.first);
+  later = h.later;
+  grouped = λ k x is.
+      elim (cases_eq k g.from) [
+        | inl same ↦
+            let q = regrouped_here u t g x w inside (ap (at t) (sym same) ∙ is) in
+            subst (λ (y : Request). IsGrouped y.group r k) (sym q.2) (subst (IsGrouped g r) (sym same) here)
+        | inr other ↦ others k x other (sym (w.others k other) ∙ is)
+      ];
+}
+
+-- A request is added.
+
+-- a group that the next request doesn't join is closed
+closed_group : (s : Window) (r : Requests) (x : Group) (joins : Option Group) (faulty : Bool) → IsAmid s r joins
+    → TellsGroup x r → x.from ≢ (with_member joins (length r.accepted) faulty).from → (k : ℕ) → suc k ≡ x.end
+    → is_last r k ≡ true
+closed_group s r x None faulty amid t apart k is =
+    elim (cases_lt x.end (length r.accepted)) [
+      | inl low ↦ t.group.ends k is low
+      | inr high ↦ let within = t.group.accepted in amid k (omega arith)
+    ]
+closed_group s r x (Some g) faulty amid t apart k is =
+    elim (cases_lt x.end (length r.accepted)) [
+      | inl low ↦ t.group.ends k is low
+      | inr high ↦
+          let within = t.group.accepted in
+          let some = t.group.some in
+          let going = amid.told.group.some in
+          let end = amid.end in
+          absurd
+          (elim (cases_lt g.from x.from) [
+            | inl before ↦ groups_apart r g.from g.end x.from x.end g.from amid.told.group t.group (omega arith) going before (omega arith)
+            | inr past ↦ groups_apart r x.from x.end g.from g.end x.from t.group amid.told.group (omega arith) some (grind (arith, past, apart)) (omega arith)
+          ])
+    ]
+
+-- what is kept of the group that the next request joins
+joined_told : (s : Window) (r : Requests) (e : Sqe) (joins : Option Group) (faulty : Bool) → IsAmid s r joins
+    → has_ended r (length r.accepted) ≡ false → faulty ≡ has_fault (with_accepted r e) (length r.accepted)
+    → TellsGroup (with_member joins (length r.accepted) faulty) (with_accepted r e)
+joined_told s r e None faulty amid none is = told_new r e faulty amid none is
+joined_told s r e (Some g) faulty amid none is = told_joined g r e faulty amid.told amid.end amid.amid none is
+
+joined_within : (s : Window) (r : Requests) (joins : Option Group) (faulty : Bool) → IsAmid s r joins
+    → end_of s ≡ length r.accepted
+    → (s.first ≤ (with_member joins (length r.accepted) faulty).from)
+    × ((with_member joins (length r.accepted) faulty).from ≤ length r.accepted)
+joined_within s r None faulty amid count = (omega arith, omega arith)
+joined_within s r (Some g) faulty amid count =
+    let some = amid.told.group.some in
+    let end = amid.end in
+    (amid.kept, omega arith)
+
+grouped_first : (g : Group) (r : Requests) → TellsGroup g r → IsGrouped g r g.from
+grouped_first g r t = record {
+  starts = record { low = omega arith; begins = t.group.begins; joined = λ k le lt. absurd (omega (arith, le, lt)) };
+  told = λ e. t;
+}
+
+grouped_last : (g : Group) (r : Requests) (n : ℕ) → TellsGroup g r → g.end ≡ n + 1 → g.from ≢ n
+    → IsGrouped g r n
+grouped_last g r n t end apart =
+    let some = t.group.some in
+    record {
+      starts = record {
+        low = omega arith;
+        begins = t.group.begins;
+        joined = λ k le lt. t.group.joined k le (omega (arith, lt, end));
+      };
+      told = λ e. absurd (apart e);
+    }
+
+joined_end : (joins : Option Group) (n : ℕ) (faulty : Bool) → (with_member joins n faulty).end ≡ n + 1
+joined_end None n faulty = refl
+joined_end (Some g) n faulty = refl
+
+pub pushed_shows : (s u t : Window) (q : Request) (r : Requests) (e : Sqe) (joins : Option Group) (faulty : Bool)
+    → Shows s r → IsAmid s r joins → faulty ≡ has_fault (with_accepted r e) (length r.accepted)
+    → Tells q (with_accepted r e) (length r.accepted)
+    → u.first ≡ s.first → u.items ≡ s.items ++ record q { group = with_member joins (length r.accepted) faulty } ∷ []
+    → Regroups u t (with_member joins (length r.accepted) faulty) → Shows t (with_accepted r e)
+pushed_shows s u t q r e joins faulty h amid is tells ef ei w =
+    let n = length r.accepted in
+    let g = with_member joins n faulty in
+    let x = record q { group = g } in
+    let room = u.room in
+    let v : Window = record { first = s.first; items = s.items ++ x ∷ []; room = room } in
+    let told : TellsGroup g (with_accepted r e) = joined_told s r e joins faulty amid (h.later n (omega arith)).ended is in
+    let within = joined_within s r joins faulty amid h.count in
+    let low : s.first ≤ g.from = within.0 in
+    let high : g.from ≤ n = within.1 in
+    let long = length-append s.items (x ∷ []) in
+    let count = h.count in
+    let all : Keeps v (with_accepted r e) = accepted_keeps s x room r e (keeps s r h) (retold q g (with_accepted r e) n tells) in
+    let turned : Regroups v t g =
+    subst (λ xs. Regroups (record { first = s.first; items = xs; room = room }) t g) ei (subst (λ f. Regroups (record { first = f; items = u.items; room = room }) t g) ef w)
+    in
+    regrouped v t g (with_accepted r e) turned (record { low = low; high = omega arith }) all (grouped_first g (with_accepted r e) told)
+    (λ k y apart there.
+    elim (cases_eq k (end_of s)) [
+      | inl last ↦
+          let same : y ≡ x = let f : Some y ≡ Some x = sym there ∙ ap (at v) last ∙ at_push_here s x room in cc in
+          let place : k ≡ n = last ∙ count in
+          subst (λ (z : Request). IsGrouped z.group (with_accepted r e) k) (sym same)
+          (subst (IsGrouped g (with_accepted r e)) (sym place) (grouped_last g (with_accepted r e) n told (joined_end joins n faulty) (λ f. apart (place ∙ sym f))))
+      | inr other ↦
+          let was : at s k ≡ Some y = sym (at_push_other s x room k other) ∙ there in
+          let inside = (at_within s k y was).high in
+          let i = h.grouped k y was in
+          record {
+            starts = starts_accepted r e k y.group.from (omega arith) i.starts;
+            told = λ first. told_closed y.group r e (i.told first) (closed_group s r y.group joins faulty amid (i.told first) (λ f. apart (sym first ∙ f))) (h.later n (omega arith)).ended;
+          }
+    ])
+
+-- A request is written anew, in the same group.
+
+written_grouped : (s : Window) (q x : Request) (r t : Requests) (n : ℕ) → Shows s r → at s n ≡ Some q
+    → x.group ≡ q.group → ((g : Group) (k : ℕ) → k < length r.accepted → IsGrouped g r k → IsGrouped g t k)
+    → (k : ℕ) (y : Request) → at (record s { items = set s.items (n - s.first) x }) k ≡ Some y
+    → IsGrouped y.group t k
+written_grouped s q x r t n h here same f k y is =
+    let w = at_within s n q here in
+    let count = h.count in
+    elim (cases_eq k n) [
+      | inl place ↦
+          let one : y ≡ x = let g : Some y ≡ Some x = sym is ∙ ap (at _) place ∙ at_set_here s x n w in cc in
+          let high = w.high in
+          subst (λ (z : Request). IsGrouped z.group t k) (sym one)
+          (subst (λ z. IsGrouped z t k) (sym same) (f q.group k (omega arith) (h.grouped k q (ap (at s) place ∙ here))))
+      | inr other ↦
+          let was : at s k ≡ Some y = sym (at_set_other s x n k w.low other) ∙ is in
+          let inside = (at_within s k y was).high in
+          f y.group k (omega arith) (h.grouped k y was)
+    ]
+
+pub started_shows : (s : Window) (q : Request) (r : Requests) (n : ℕ) → Shows s r → at s n ≡ Some q
+    → has_ended r n ≡ false
+    → Shows (record s { items = set s.items (n - s.first) (record q { is_running = true }) }) (with_started r n)
+started_shows s q r n h here going =
+    shows _ (with_started r n) (started_keeps s q r n (keeps s r h) here going)
+    (written_grouped s q (record q { is_running = true }) r (with_started r n) n h here refl (λ g k within i. grouped_started g r n k i))
+
+pub cut_shows : (s : Window) (q : Request) (r : Requests) (n : ℕ) → Shows s r → at s n ≡ Some q
+    → n + 1 ≡ end_of s
+    → Shows (record s { items = set s.items (n - s.first) (record q { is_last = true }) }) (with_cut r)
+cut_shows s q r n h here is =
+    shows _ (with_cut r) (cut_keeps s q r n (keeps s r h) here is)
+    (written_grouped s q (record q { is_last = true }) r (with_cut r) n h here refl (λ g k within i. grouped_cut g r k within i))
+
+pub cut_shows_none : (s : Window) (r : Requests) → Shows s r → end_of s ≤ s.first → Shows s (with_cut r)
+cut_shows_none s r h none =
+    shows s (with_cut r) (cut_keeps_none s r (keeps s r h) none)
+    (λ n q is. let w = at_within s n q is in absurd (omega (arith, w.low, w.high, none)))
+
+-- A request ends.
+
+-- what is kept of a request that ended
+abbrev pub ended_request : Request → Bool → Request
+ended_request q failed = record q { is_running = false; has_ended = true; has_failed = failed }
+
+pub finished_shows : (s u t : Window) (q : Request) (r : Requests) (n : ℕ) (res : ℤ) (bytes : List ℕ) (failed breaks : Bool) (g : Group)
+    → Shows s r → at s n ≡ Some q → has_ended r n ≡ false → failed ≡ not (is_success q.entry res)
+    → breaks ≡ (is_soft q.entry && failed) → IsMember r n g → g.from ≡ q.group.from → s.first ≤ g.from
+    → u ≡ record s { items = set s.items (n - s.first) (ended_request q failed) }
+    → Regroups u t (with_end g n breaks) → Shows t (with_ended r n res bytes)
+finished_shows s u t q r n res bytes failed breaks g h here going is break m same low eu w =
+    let x = ended_request q failed in
+    let after = with_ended r n res bytes in
+    let v : Window = record s { items = set s.items (n - s.first) x } in
+    let inside = at_within s n q here in
+    let entry = (h.told n q here).entry in
+    let all : Keeps v after = ended_keeps s q r n res bytes failed (keeps s r h) here going is in
+    let turned : Regroups v t (with_end g n breaks) = subst (λ (y : Window). Regroups y t (with_end g n breaks)) eu w in
+    let breaks_so : breaks ≡ (is_soft (entry_of r n) && not (is_success (entry_of r n) res)) =
+    break ∙ ap (λ b. is_soft q.entry && b) is ∙ ap (λ e. is_soft e && not (is_success e res)) entry
+    in
+    let told = told_ended g r n res bytes breaks m going breaks_so in
+    let from_low = m.low in
+    let high = inside.high in
+    let count : end_of v ≡ end_of s = all.count ∙ sym h.count in
+    regrouped v t (with_end g n breaks) after turned (record { low = low; high = omega arith }) all (grouped_first (with_end g n breaks) after told)
+    (λ k y apart there.
+    elim (cases_eq k n) [
+      | inl place ↦
+          let one : y ≡ x = let f : Some y ≡ Some x = sym there ∙ ap (at v) place ∙ at_set_here s x n inside in cc in
+          subst (λ (z : Request). IsGrouped z.group after k) (sym one)
+          (record {
+            starts = starts_ended r n res bytes k q.group.from (h.grouped k q (ap (at s) place ∙ here)).starts;
+            told = λ first. absurd (apart (sym first ∙ sym same));
+          })
+      | inr other ↦
+          let was : at s k ≡ Some y = sym (at_set_other s x n k inside.low other) ∙ there in
+          let i = h.grouped k y was in
+          record {
+            starts = starts_ended r n res bytes k y.group.from i.starts;
+            told = λ first. told_elsewhere y.group g r n res bytes m (i.told first) (λ f. apart (sym first ∙ f));
+          }
+    ])

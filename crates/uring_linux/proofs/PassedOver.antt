@@ -1,0 +1,84 @@
+-- What a search may pass over: requests that have ended, and members of a group behind one that hasn't.
+use Rattle.std.proofs.Common.{◌≡◌, ℕ, ◌+◌, ◌-◌, ◌<◌, ◌≤◌, Bool, true, false, not, ◌&&◌, Some, refl, ◌∙◌, ap, arith, inl, inr}
+use Rattle.std.proofs.lemmas.Bool.{cases_lt, and_left, and_right, and_from, le-leb}
+use Rattle.uring_entry.specs.Below.{count_below}
+use Rattle.uring_entry.specs.Requests.{Requests, has_ended, is_outstanding}
+use Rattle.uring_entry.proofs.BelowLemmas.{some_below_some}
+use Rattle.uring_entry.proofs.GroupLemmas.{joined_member}
+use Rattle.uring_dispatch.proofs.Counting.{count_below_zero, count_below_apart}
+use Rattle.uring_linux.specs.declared.group.Group.{Group}
+use Rattle.uring_linux.specs.declared.request.Request.{Request}
+use Rattle.uring_linux.specs.Groups.{TellsGroup, IsMember}
+use Rattle.uring_linux.specs.LinuxRequests.{LinuxRequests, keeps_back, is_in_turn, is_issuable}
+use Rattle.uring_linux.specs.Window.{Window, at, end_of, Shows}
+use Rattle.uring_linux.proofs.GroupsShown.{kept_from}
+
+-- Before the least that is kept of the first group, all have ended.
+
+first_told : (s : Window) (r : Requests) (q : Request) → Shows s r → at s s.first ≡ Some q
+    → (q.group.from ≡ s.first) × TellsGroup q.group r
+first_told s r q h here =
+    let i = h.grouped s.first q here in
+    let low = i.starts.low in
+    let high = kept_from s r s.first q.group.from h i.starts (omega arith) in
+    let same : q.group.from ≡ s.first = omega arith in
+    (same, i.told same)
+
+pub least_ended : (s : Window) (r : Requests) (q : Request) (k : ℕ) → Shows s r → at s s.first ≡ Some q
+    → k < q.group.least → has_ended r k ≡ true
+least_ended s r q k h here lt =
+    elim (cases_lt k s.first) [
+      | inl before ↦ h.gone k before
+      | inr past ↦ let f = first_told s r q h here in let same = f.0 in f.1.ended k (omega arith) lt
+    ]
+
+pub least_within : (s : Window) (r : Requests) (q : Request) → Shows s r → at s s.first ≡ Some q
+    → q.group.least ≤ end_of s
+least_within s r q h here =
+    let f = first_told s r q h here in
+    let t = f.1 in
+    let high = t.high in
+    let within = t.group.accepted in
+    let count = h.count in
+    omega arith
+
+-- Behind a member that hasn't ended, no member is in turn.
+
+pub ended_passed : (r : Requests) (n k : ℕ) (g : Group) → IsMember r n g → n < k → k < g.least
+    → (is_outstanding r k && is_in_turn r k) ≡ false
+ended_passed r n k g m behind lt =
+    let low = m.low in
+    and_left _ _ (and_right _ _ (ap not (m.told.ended k (omega arith) lt)))
+
+pub behind_passed : (r : Requests) (n k : ℕ) (g : Group) → IsMember r n g → has_ended r n ≡ false → n < k
+    → k < g.end → (is_outstanding r k && is_in_turn r k) ≡ false
+unfolding is_in_turn
+behind_passed r n k g m going behind lt =
+    let low = m.low in
+    and_right _ _
+    (ap not
+    (some_below_some (keeps_back r k) k n behind
+    (and_from _ _
+    (joined_member r g.from g.end n k m.told.group (omega arith) lt (omega arith) ∙ le-leb g.from n low)
+    (ap not going))))
+
+-- who isn't in turn, or has ended, can't be issued
+pub passed_issuable : (l : LinuxRequests) (k : ℕ)
+    → (is_outstanding l.requests k && is_in_turn l.requests k) ≡ false → is_issuable l k ≡ false
+passed_issuable l k e = go (is_outstanding l.requests k) _ (is_in_turn l.requests k) _ e
+  where
+    go : (out idle turn goes : Bool) → (out && turn) ≡ false → (out && (idle && (turn && goes))) ≡ false
+    go false idle turn goes e = refl
+    go true false turn goes e = refl
+    go true true false goes e = refl
+    go true true true goes e = absurd (let f : true ≡ false = e in cc)
+
+-- none in between is counted
+pub count_passed : (p : ℕ → Bool) (n m : ℕ) → n < m → ((k : ℕ) → n < k → k < m → p k ≡ false)
+    → count_below p m ≡ count_below p (n + 1)
+count_passed p n m lt none =
+    let gap : (n + 1) + (m - (n + 1)) ≡ m = omega arith in
+    let apart = count_below_apart p (n + 1) (m - (n + 1)) in
+    let zero_ = count_below_zero (λ i. p ((n + 1) + i)) (m - (n + 1)) (λ i low. none ((n + 1) + i) (omega arith) (omega arith)) in
+    let all = ap (count_below p) gap in
+    omega arith
