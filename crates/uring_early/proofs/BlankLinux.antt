@@ -1,16 +1,16 @@
 -- Requests stand as they do by Linux's rules, and so do the drains, whatever bytes they ended with.
-use Rattle.std.proofs.Common.{◌≡◌, ℕ, ◌==◌, ℤ, pos, neg_ℤ, Bool, not, ◌&&◌, ◌||◌, nat_lt, if◌then◌else◌, List, [], ◌∷◌, length, Option, Some, None, is_some, refl, ap, ap₂, ◌∙◌}
+use Rattle.std.proofs.Common.{◌≡◌, ℕ, ◌==◌, ℤ, pos, neg_ℤ, not, ◌&&◌, ◌||◌, if◌then◌else◌, List, length, Option, Some, None, is_some, refl, ap, ap₂, ◌∙◌}
 use Rattle.uring_entry.specs.declared.errno.TheConstants.{ENOENT, EALREADY}
 use Rattle.uring_entry.specs.Layout.{Sqe, addr_of, user_data_of}
 use Rattle.uring_entry.specs.Preparation.{is_cancel_all}
 use Rattle.uring_entry.specs.Requests as manual
-use Rattle.uring_entry.specs.Requests.{Requests, Ending, entry_of, has_ended, is_behind_failure, is_joined, is_linked, is_outstanding, is_running, is_soft, no_bytes}
+use Rattle.uring_entry.specs.Requests.{Requests, Ending, entry_of, is_joined, is_outstanding, is_running, is_soft, no_bytes}
 use Rattle.uring_entry.specs.Why.{failed_member_of, is_failure_before}
-use Rattle.uring_entry.proofs.BelowLemmas.{some_below_same, least_below_same}
-use Rattle.uring_linux.specs.Drains.{Drains, is_in_some, deferred_with, still_deferred, with_deferred, with_ring}
+use Rattle.uring_entry.proofs.BelowLemmas.{least_below_same}
 use Rattle.uring_linux.specs.Happenings.{with_entries}
-use Rattle.uring_linux.specs.LinuxRequests.{LinuxRequests, after_going_on, breaker_of, cancel_result, first_of, found_by, goes_on, is_alone, is_deferred, is_doomed, is_faulty_from, is_found, is_in_faulty_group, is_in_turn, is_issuable, keeps_back, posts_behind, with_accepted, with_cut, with_ended, with_group, with_last_entry}
+use Rattle.uring_linux.specs.LinuxRequests.{LinuxRequests, after_going_on, breaker_of, cancel_result, first_of, found_by, goes_on, is_deferred, is_doomed, is_found, is_in_faulty_group, is_in_turn, is_issuable, posts_behind, with_cut, with_ended}
 use Rattle.uring_linux.specs.declared.deferred.Deferred.{Deferred}
+use Rattle.uring_laws.proofs.AlikeDrains as drains
 use Rattle.uring_early.proofs.BlankRequests.{blank_requests, behind_same, ended_same, ends_same, failed_same, outstanding_same, running_same}
 
 abbrev pub blank_linux : LinuxRequests → LinuxRequests
@@ -28,11 +28,7 @@ module _ (r : Requests) where
   doomed_same n = ap₂ (λ x y. x || y) (faulty_same n) (behind_same r n)
 
   pub turn_same : (n : ℕ) → is_in_turn q n ≡ is_in_turn r n
-  unfolding is_in_turn is_joined
-  turn_same n =
-      ap not
-      (some_below_same (keeps_back q n) (keeps_back r n) n
-      (λ k lt. ap (λ b. is_joined r k n && not b) (ended_same r k)))
+  turn_same n = drains.turn_same r r.started r.cancelled q.ended (ended_same r) n
 
   found_same : (n : ℕ) → found_by q n ≡ found_by r n
   unfolding found_by
@@ -67,49 +63,18 @@ module _ (r : Requests) where
   posts_same n res =
       behind_one (breaker_of q n) n res ∙ ap (λ (o : Option ℕ). posts_behind r o n res) (breaker_same n)
 
-  -- ---- drains
-
-  alone_same : (groups : List Deferred) → is_alone q groups ≡ is_alone r groups
-  unfolding is_alone
-  alone_same groups =
-      ap not
-      (some_below_same (λ k. not (has_ended q k) && not (is_in_some groups k)) (λ k. not (has_ended r k) && not (is_in_some groups k)) (length r.accepted)
-      (λ k lt. ap (λ b. not b && not (is_in_some groups k)) (ended_same r k)))
-
-  pub going_same : (groups : List Deferred) → after_going_on q groups ≡ after_going_on r groups
-  going_same groups = ap (λ b. still_deferred b groups) (alone_same groups)
-
-  faulty_from_same : (from : ℕ) → is_faulty_from q from ≡ is_faulty_from r from
-  unfolding is_faulty_from
-  faulty_from_same from = refl
-
-  pub group_same : (d : Drains) → with_group q d ≡ with_group r d
-  group_same d =
-      ap₂ (λ (b : Bool) (gs : List Deferred). if not d.ring || b then with_deferred d (length r.accepted) d.deferred else with_ring (with_deferred d (length r.accepted) gs) d.group)
-      (faulty_from_same d.from) (going_same (deferred_with d (length r.accepted)))
-
--- ---- what happens to them
-
-accepted_same : (l : LinuxRequests) (e : Sqe) → with_accepted (blank_linux l) e ≡ blank_linux (with_accepted l e)
-accepted_same l e =
-    let r : Requests = manual.with_accepted l.requests e in
-    let d : Drains = with_last_entry r (length l.requests.accepted) l.drains in
-    ap (λ (x : Drains). record { requests = blank_requests r; drains = if is_linked e then d else x }) (group_same r d)
-
-entries_same : (es : List Sqe) (l : LinuxRequests) → with_entries (blank_linux l) es ≡ blank_linux (with_entries l es)
-entries_same [] l = refl
-entries_same (e ∷ es) l =
-    ap (λ (x : LinuxRequests). with_entries x es) (accepted_same l e) ∙ entries_same es (with_accepted l e)
-
-cut_same : (l : LinuxRequests) → with_cut (blank_linux l) ≡ blank_linux (with_cut l)
-cut_same l =
-    let r : Requests = manual.with_cut l.requests in
-    ap (λ (x : Drains). record { requests = blank_requests r; drains = if nat_lt l.drains.from (length r.accepted) then x else l.drains }) (group_same r l.drains)
+-- ---- what happens to the drains, which read of the ends only their numbers
 
 pub called_same : (l : LinuxRequests) (es : List Sqe)
     → (with_cut (with_entries (blank_linux l) es)).drains ≡ (with_cut (with_entries l es)).drains
 called_same l es =
-    ap (λ (x : LinuxRequests). x.drains) (ap with_cut (entries_same es l) ∙ cut_same (with_entries l es))
+    let r : Requests = l.requests in
+    drains.called_same l r.started r.cancelled (blank_requests r).ended (ended_same r) es
+
+going_same : (r : Requests) (groups : List Deferred)
+    → after_going_on (blank_requests r) groups ≡ after_going_on r groups
+going_same r groups =
+    drains.going_same r r.started r.cancelled (blank_requests r).ended (ended_same r) groups
 
 pub ended_drains_same : (l : LinuxRequests) (n : ℕ) (res : ℤ)
     → (with_ended (blank_linux l) n res no_bytes).drains ≡ (with_ended l n res no_bytes).drains
