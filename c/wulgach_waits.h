@@ -91,6 +91,7 @@ uint32_t wulgach_find_kind(const struct wulgach_submission *entry, const struct 
 struct wulgach_standing {
     bool has_to_wait;           /* it was carried out and would have waited, and nothing has ended since */
     bool is_stream;             /* it may have to wait for its descriptor */
+    bool has_found_buffer;      /* of one that takes a provided buffer: it has found one in its group since it started */
 };
 
 /* What is so at a moment, as far as it was asked. */
@@ -112,7 +113,7 @@ enum wulgach_look {
 
 /* Returns whether a request that runs can be finished, or what is asked next (enum wulgach_look). One that would have waited can't until
  * another has ended; one that a cancel has found can; a timeout if its count is reached; another if its completion may be posted, where it
- * goes on, and if its descriptor is ready, or it finds no provided buffer, where it may have to wait. */
+ * goes on, and if its descriptor is ready, where it may have to wait; or if it is to take a provided buffer and has found none. */
 uint32_t wulgach_can_finish(const struct wulgach_standing *standing, const struct wulgach_needs *needs, const struct wulgach_course *course, const struct wulgach_moment *known);
 
 /* How far a request has come. */

@@ -68,15 +68,16 @@ static void look_at_descriptors(void)
 
 static void finish(void)
 {
-    struct wulgach_standing still = {0}, waits = {.has_to_wait = true}, stream = {.is_stream = true};
-    struct wulgach_needs none = {0}, timeout = {.is_timeout = true}, goes_on = {.goes_on = true}, selects = {.selects = true};
+    struct wulgach_standing still = {0}, waits = {.has_to_wait = true}, stream = {.is_stream = true}, found = {.is_stream = true, .has_found_buffer = true};
+    struct wulgach_needs none = {0}, timeout = {.is_timeout = true}, goes_on = {.goes_on = true}, selects = {.selects = true}, shot = {.goes_on = true, .selects = true};
     struct wulgach_course runs = {.has_started = true}, cancelled = {.has_started = true, .is_cancelled = true};
-    struct wulgach_moment unknown = {0}, ready = {.knows_readiness = true, .is_ready = true}, not_ready = {.knows_readiness = true}, counted = {.knows_count = true, .has_counted = true}, no_buffer = {.knows_buffer = true}, no_posting = {.knows_posting = true};
+    struct wulgach_moment unknown = {0}, ready = {.knows_readiness = true, .is_ready = true}, not_ready = {.knows_readiness = true}, counted = {.knows_count = true, .has_counted = true}, no_buffer = {.knows_buffer = true}, no_posting = {.knows_posting = true}, posting = {.knows_posting = true, .may_post = true};
     demand(wulgach_can_finish(&still, &none, &runs, &unknown) == WULGACH_LOOK_FINISHES && wulgach_can_finish(&waits, &none, &cancelled, &unknown) == WULGACH_LOOK_WAITS, "one that would have waited");
     demand(wulgach_can_finish(&stream, &timeout, &cancelled, &unknown) == WULGACH_LOOK_FINISHES, "one that was cancelled");
     demand(wulgach_can_finish(&still, &timeout, &runs, &unknown) == WULGACH_ASK_COUNT && wulgach_can_finish(&still, &timeout, &runs, &counted) == WULGACH_LOOK_FINISHES, "a timeout");
     demand(wulgach_can_finish(&stream, &goes_on, &runs, &unknown) == WULGACH_ASK_POSTING && wulgach_can_finish(&stream, &goes_on, &runs, &no_posting) == WULGACH_LOOK_WAITS, "one that goes on");
-    demand(wulgach_can_finish(&stream, &selects, &runs, &unknown) == WULGACH_ASK_BUFFER && wulgach_can_finish(&stream, &selects, &runs, &no_buffer) == WULGACH_LOOK_FINISHES, "one without a buffer");
+    demand(wulgach_can_finish(&stream, &selects, &runs, &unknown) == WULGACH_ASK_BUFFER && wulgach_can_finish(&stream, &selects, &runs, &no_buffer) == WULGACH_LOOK_FINISHES && wulgach_can_finish(&stream, &shot, &runs, &posting) == WULGACH_ASK_BUFFER, "one without a buffer");
+    demand(wulgach_can_finish(&found, &selects, &runs, &no_buffer) == WULGACH_ASK_READINESS && wulgach_can_finish(&found, &selects, &runs, &not_ready) == WULGACH_LOOK_WAITS && wulgach_can_finish(&found, &shot, &runs, &posting) == WULGACH_ASK_READINESS, "one that has found a buffer");
     demand(wulgach_can_finish(&stream, &none, &runs, &unknown) == WULGACH_ASK_READINESS && wulgach_can_finish(&stream, &none, &runs, &ready) == WULGACH_LOOK_FINISHES && wulgach_can_finish(&stream, &none, &runs, &not_ready) == WULGACH_LOOK_WAITS, "a stream");
 }
 

@@ -62,10 +62,12 @@ bool has_offsets(const struct request *request)
     return (is_read(request) ? preadv(fd, NULL, 0, 0) : pwritev(fd, NULL, 0, 0)) >= 0 || errno != ESPIPE;
 }
 
-bool finds_buffer(struct ring *ring, const struct request *request)
+bool finds_buffer(struct ring *ring, struct request *request)
 {
     struct wulgach_buffer buffer;
-    return find_provided(ring, request->entry.buf_group, &buffer);
+    bool is_found = find_provided(ring, request->entry.buf_group, &buffer);
+    request->standing.has_found_buffer |= is_found;
+    return is_found;
 }
 
 struct pollfd poll_of(const struct request *request)

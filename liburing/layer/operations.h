@@ -32,8 +32,8 @@ bool is_not_to_wait(const struct request *request);
 /* Whether it doesn't wait whatever its descriptor is: it is asked not to, or for nothing. */
 bool is_impatient(const struct request *request);
 
-/* Whether the group of which it takes a provided buffer has one. */
-bool finds_buffer(struct ring *ring, const struct request *request);
+/* Whether the group of which it takes a provided buffer has one. Notes that it has found one. */
+bool finds_buffer(struct ring *ring, struct request *request);
 
 /* Whether its descriptor is ready. */
 bool is_polled(const struct request *request);

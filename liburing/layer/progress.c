@@ -140,8 +140,11 @@ static void start(struct ring *ring, struct request *request)
     note_started(ring, request);
     if (is_poll(request) && request->started == 0)
         request->started = start_poll(request);
-    if (request->standing.is_stream)
-        look_at(ring, request);
+    if (!request->standing.is_stream)
+        return;
+    look_at(ring, request);
+    if (request->needs.selects)
+        finds_buffer(ring, request);
 }
 
 /* Issues a request that can be issued. True if it has started: else it has ended without being carried out. */

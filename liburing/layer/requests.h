@@ -23,7 +23,7 @@ struct request {
     enum mapping mapping;           /* what the core was told of it */
     uint64_t looked_at;             /* of one that may have to wait: the moment at which its descriptor was last looked at, */
     bool is_found_ready;            /* and whether it was ready */
-    struct wulgach_standing standing;   /* whether it would have waited, and nothing has ended since; and whether it may have to wait for a descriptor */
+    struct wulgach_standing standing;   /* whether it would have waited, and nothing has ended since; whether it may have to wait for a descriptor; and whether it has found a provided buffer */
     int32_t fault;                  /* of a refused entry: what it ends with */
     bool is_draining;               /* a member of its chain drains, or it does: those behind wait until all of them have ended */
     struct file *file;              /* the registered file that it is carried out on, if it is one */

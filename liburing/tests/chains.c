@@ -60,13 +60,6 @@ static int64_t lesser(int64_t one, int64_t other)
     return one < other ? one : other;
 }
 
-/* How many times as patient the test is as on a quiet machine. */
-static int patience(void)
-{
-    const char *said = getenv("PATIENCE");
-    return said && atoi(said) > 0 ? atoi(said) : 1;
-}
-
 /* A chain takes at most so many tenths of the time of one of half its length. The least of some rounds counts, since other work on
  * the machine only adds to it; and of more, while it isn't so. */
 static void expect_growth(unsigned length, int64_t tenths, struct beside beside)

@@ -54,7 +54,7 @@ static void test_forks(void)
         pid_t child = fork();
         if (child == 0) {
             struct ring ring;
-            alarm(PATIENCE / 4);
+            alarm((unsigned)(PATIENCE / 4 * patience()));
             make_ring(&ring, 4, 0, 0);
             submit_nop(&ring, 0);
             _exit(wait_for_one(&ring) == 0 ? 0 : 1);
@@ -144,6 +144,6 @@ int main(int count, char **words)
         {"many rings", test_many_rings},
         {"bad addresses", test_bad_addresses},
     };
-    alarm(PATIENCE);
+    alarm((unsigned)(PATIENCE * patience()));
     return run_tests(tests, sizeof tests / sizeof *tests, count > 1 ? words[1] : NULL);
 }

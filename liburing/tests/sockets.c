@@ -156,6 +156,60 @@ static void test_multishot_receive(void)
     close_ring(&ring);
 }
 
+static void provide_one(struct ring *ring, char *at, uint64_t id)
+{
+    struct io_uring_sqe *provide = put_plain(ring, IORING_OP_PROVIDE_BUFFERS, 0, 1);
+    provide->addr = (uintptr_t)at;
+    provide->len = 16;
+    provide->off = id;
+    check(result_of_one(ring, 1) == 0);
+}
+
+static void submit_receive(struct ring *ring, int fd, bool is_multishot)
+{
+    struct io_uring_sqe *entry = put(ring, IORING_OP_RECV, 1, IOSQE_BUFFER_SELECT);
+    entry->fd = fd;
+    entry->ioprio = is_multishot ? IORING_RECV_MULTISHOT : 0;
+    check(enter(ring, 1, 0, 0) == 1);
+}
+
+/* A receive that finds no buffer when it starts ends so. One that has found one waits for its socket, and takes what its group has then: as
+ * on a real ring. */
+static void test_buffers_that_go(void)
+{
+    static char memory[2][16];
+    for (int is_multishot = 0; is_multishot < 2; is_multishot++) {
+        struct ring ring;
+        int ends[2];
+        make_pair(ends);
+        make_ring(&ring, 8, 0, 0);
+        submit_receive(&ring, ends[0], is_multishot);
+        check(wait_for_one(&ring) == -ENOBUFS);
+        provide_one(&ring, memory[0], 0);
+        submit_receive(&ring, ends[0], is_multishot);
+        check(enter_for(&ring, 1, 1000) == -ETIME);
+        put_plain(&ring, IORING_OP_REMOVE_BUFFERS, 0, 1);
+        check(result_of_one(&ring, 1) == 1);
+        check(enter_for(&ring, 1, 1000) == -ETIME);
+        provide_one(&ring, memory[1], 3);
+        check(send(ends[1], "piece", 5, 0) == 5);
+        struct seen found = next_of(&ring);
+        check(found.res == 5 && (found.flags & ~(uint32_t)IORING_CQE_F_MORE) == (IORING_CQE_F_BUFFER | 3 << IORING_CQE_BUFFER_SHIFT));
+        check(memcmp(memory[1], "piece", 5) == 0);
+        provide_one(&ring, memory[0], 0);
+        if (!is_multishot)
+            submit_receive(&ring, ends[0], false);
+        check(enter_for(&ring, 1, 1000) == -ETIME);
+        put_plain(&ring, IORING_OP_REMOVE_BUFFERS, 0, 1);
+        check(result_of_one(&ring, 1) == 1);
+        check(send(ends[1], "piece", 5, 0) == 5);
+        check(wait_for_one(&ring) == -ENOBUFS);
+        close(ends[0]);
+        close(ends[1]);
+        close_ring(&ring);
+    }
+}
+
 /* A receive that is to wait for all breaks its chain if what came was cut, and another doesn't: as on a real ring. */
 static void test_cut_receives(void)
 {
@@ -305,6 +359,7 @@ int main(int count, char **words)
         {"no waiting", test_no_waiting},
         {"all by looks", test_all_by_looks},
         {"multishot receive", test_multishot_receive},
+        {"buffers that go", test_buffers_that_go},
         {"multishot accept", test_multishot_accept},
         {"cut receives", test_cut_receives},
         {"zero copy", test_zero_copy},

@@ -10,6 +10,7 @@ mod ShowingRuns
 mod CancelRuns
 mod CourseRuns
 mod PostingRuns
+mod ReadinessRuns
 mod ChainRuns
 mod WayRuns
 mod DescriptorRuns

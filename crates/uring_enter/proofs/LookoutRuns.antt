@@ -36,24 +36,38 @@ looks_afresh (Moved ∷ newer) earlier same = absurd (omega (arith, no_less newe
 looks_afresh (Opened ∷ newer) earlier same = absurd (omega (arith, no_less newer earlier, same))
 looks_afresh (Ended _ ∷ newer) earlier same = looks_afresh newer earlier same
 
--- what is told of a descriptor and a buffer is the same, and a completion may be posted that might before
-rest : (g s selects mp lp mb lb mr lr : Bool) → (lp ≡ true → mp ≡ true) → lb ≡ mb → lr ≡ mr
-    → (if g && not mp then false else if s then (selects && not g && not mb || mr) else true) ≡ false
-    → (if g && not lp then false else if s then (selects && not g && not lb || lr) else true) ≡ false
-rest true s selects mp false mb lb mr lr posts buffer ready is = refl
-rest true s selects true true mb lb mr lr posts buffer ready is = ap (λ b. if s then b else true) (ap (λ b. selects && false && not b || lr) buffer ∙ ap (λ b. selects && false && not mb || b) ready) ∙ is
-rest true s selects false true mb lb mr lr posts buffer ready is = absurd (false≢true (posts refl))
-rest false s selects mp lp mb lb mr lr posts buffer ready is = ap (λ b. if s then b else true) (ap (λ b. selects && true && not b || lr) buffer ∙ ap (λ b. selects && true && not mb || b) ready) ∙ is
+-- who has found a buffer waits for its descriptor alone
+waits_on : (selects bf mb af lb mr lr : Bool) → (bf || mb ≡ true → af || lb ≡ true) → lr ≡ mr
+    → selects && not bf && not mb || mr ≡ false → selects && not af && not lb || lr ≡ false
+waits_on false bf mb af lb mr lr found ready is = ready ∙ is
+waits_on true true mb true lb mr lr found ready is = ready ∙ is
+waits_on true true mb false true mr lr found ready is = ready ∙ is
+waits_on true true mb false false mr lr found ready is = absurd (false≢true (found refl))
+waits_on true false true true lb mr lr found ready is = ready ∙ is
+waits_on true false true false true mr lr found ready is = ready ∙ is
+waits_on true false true false false mr lr found ready is = absurd (false≢true (found refl))
+waits_on true false false af lb mr lr found ready is = absurd (true≢false is)
 
-none_more : (bw aw k t g s selects mc lc mp lp mb lb mr lr : Bool) → (bw ≡ true → ⊥) → (lc ≡ true → mc ≡ true) → (lp ≡ true → mp ≡ true) → lb ≡ mb → lr ≡ mr
-    → (if bw then false else if k then true else if t then mc else if g && not mp then false else if s then (selects && not g && not mb || mr) else true) ≡ false
-    → (if aw then false else if k then true else if t then lc else if g && not lp then false else if s then (selects && not g && not lb || lr) else true) ≡ false
-none_more bw true k t g s selects mc lc mp lp mb lb mr lr none counts posts buffer ready is = refl
-none_more true false k t g s selects mc lc mp lp mb lb mr lr none counts posts buffer ready is = absurd (none refl)
-none_more false false true t g s selects mc lc mp lp mb lb mr lr none counts posts buffer ready is = absurd (true≢false is)
-none_more false false false true g s selects mc false mp lp mb lb mr lr none counts posts buffer ready is = refl
-none_more false false false true g s selects mc true mp lp mb lb mr lr none counts posts buffer ready is = absurd (true≢false (sym (counts refl) ∙ is))
-none_more false false false false g s selects mc lc mp lp mb lb mr lr none counts posts buffer ready is = rest g s selects mp lp mb lb mr lr posts buffer ready is
+-- what is told of a descriptor is the same, a buffer that was found is found still, and a completion may be posted that might before
+rest : (g s selects mp lp bf mb af lb mr lr : Bool) → (lp ≡ true → mp ≡ true) → (bf || mb ≡ true → af || lb ≡ true) → lr ≡ mr
+    → (if g && not mp then false else if s then (selects && not bf && not mb || mr) else true) ≡ false
+    → (if g && not lp then false else if s then (selects && not af && not lb || lr) else true) ≡ false
+rest true s selects mp false bf mb af lb mr lr posts buffer ready is = refl
+rest true s selects false true bf mb af lb mr lr posts buffer ready is = absurd (false≢true (posts refl))
+rest true true selects true true bf mb af lb mr lr posts buffer ready is = waits_on selects bf mb af lb mr lr buffer ready is
+rest true false selects true true bf mb af lb mr lr posts buffer ready is = is
+rest false true selects mp lp bf mb af lb mr lr posts buffer ready is = waits_on selects bf mb af lb mr lr buffer ready is
+rest false false selects mp lp bf mb af lb mr lr posts buffer ready is = is
+
+none_more : (bw aw k t g s selects mc lc mp lp bf mb af lb mr lr : Bool) → (bw ≡ true → ⊥) → (lc ≡ true → mc ≡ true) → (lp ≡ true → mp ≡ true) → (bf || mb ≡ true → af || lb ≡ true) → lr ≡ mr
+    → (if bw then false else if k then true else if t then mc else if g && not mp then false else if s then (selects && not bf && not mb || mr) else true) ≡ false
+    → (if aw then false else if k then true else if t then lc else if g && not lp then false else if s then (selects && not af && not lb || lr) else true) ≡ false
+none_more bw true k t g s selects mc lc mp lp bf mb af lb mr lr none counts posts buffer ready is = refl
+none_more true false k t g s selects mc lc mp lp bf mb af lb mr lr none counts posts buffer ready is = absurd (none refl)
+none_more false false true t g s selects mc lc mp lp bf mb af lb mr lr none counts posts buffer ready is = absurd (true≢false is)
+none_more false false false true g s selects mc false mp lp bf mb af lb mr lr none counts posts buffer ready is = refl
+none_more false false false true g s selects mc true mp lp bf mb af lb mr lr none counts posts buffer ready is = absurd (true≢false (sym (counts refl) ∙ is))
+none_more false false false false g s selects mc lc mp lp bf mb af lb mr lr none counts posts buffer ready is = rest g s selects mp lp bf mb af lb mr lr posts buffer ready is
 
 unless : {A : Type 0} (b : Bool) → A ⊎ (b ≡ true) → b ≡ false → A
 unless b (inl a) is = a
@@ -79,8 +93,8 @@ end_lets_none log drainages staged linux is_draining end before after n is_cance
     let posts : l.may_post ≡ true → m.may_post ≡ true = λ may.
     is.posted_before ∙ ap (λ b. (linux || b) && staged == 0) none ∙ ap (λ b. b && staged == 0) (or_true linux)
     ∙ both (linux || drains.outstanding (drains.Ended is_draining ∷ drainages) == 0) (staged == 0) (sym is.posted_after ∙ may) in
-    ap (λ b. can_finish record { has_to_wait = after.has_to_wait; is_stream = b } n is_cancelled l) is.stream ∙
-    none_more before.has_to_wait after.has_to_wait is_cancelled n.is_timeout n.goes_on before.is_stream n.selects m.has_counted l.has_counted m.may_post l.may_post m.has_buffer l.has_buffer m.is_ready l.is_ready
+    ap (λ b. can_finish record { has_to_wait = after.has_to_wait; is_stream = b; has_found_buffer = after.has_found_buffer } n is_cancelled l) is.stream ∙
+    none_more before.has_to_wait after.has_to_wait is_cancelled n.is_timeout n.goes_on before.is_stream n.selects m.has_counted l.has_counted m.may_post l.may_post before.has_found_buffer m.has_buffer after.has_found_buffer l.has_buffer m.is_ready l.is_ready
     (λ has. true≢false (sym (is.waits has) ∙ parts.1))
     (λ has. unless end.is_count_reached (is.counted has) others.0)
     posts is.buffer is.ready waits

@@ -93,7 +93,7 @@ pub record KeepsLookout (log : List Happening) (l : Lookout) : Type 0 where
   pub own : l.may_be_own ≡ may_be_own log
   pub changed : l.has_changed ≡ has_changed log
 
--- what becomes of a request that runs and of the moment, where another ends, which drains or doesn't, in a ring by Linux's rules or by the manual pages': which descriptors are ready and which buffers there are is as before, since an end changes neither; a completion may be posted as drains say; and a count is reached that was before, or that this end has reached
+-- what becomes of a request that runs and of the moment, where another ends, which drains or doesn't, in a ring by Linux's rules or by the manual pages': which descriptors are ready is as before, since an end changes none; who has found a buffer has found one still; a completion may be posted as drains say; and a count is reached that was before, or that this end has reached
 pub record IsBehindEnd (log : List Happening) (drainages : List Drainage) (staged : ℕ) (linux is_draining : Bool) (end : EndOfOne)
     (before after : Standing) (m l : Moment) : Type 0 where
   pub told : end.has_drains ≡ not (drains.outstanding drainages == 0)
@@ -102,7 +102,7 @@ pub record IsBehindEnd (log : List Happening) (drainages : List Drainage) (stage
   pub counted : l.has_counted ≡ true → (m.has_counted ≡ true) ⊎ (end.is_count_reached ≡ true)
   pub posted_before : m.may_post ≡ drains.may_post drainages staged linux
   pub posted_after : l.may_post ≡ drains.may_post (drains.Ended is_draining ∷ drainages) staged linux
-  pub buffer : l.has_buffer ≡ m.has_buffer
+  pub buffer : before.has_found_buffer || m.has_buffer ≡ true → after.has_found_buffer || l.has_buffer ≡ true
   pub ready : l.is_ready ≡ m.is_ready
 
 -- an end that isn't told to let others be finished lets none: who couldn't be finished before can't be behind it. So no request is passed over that could go on

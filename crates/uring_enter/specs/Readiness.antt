@@ -12,9 +12,9 @@ use Rattle.uring_enter.specs.declared.ready.Look.TheVariants.{Asks, Waits, Finis
 use Rattle.uring_enter.specs.Clocks.{has_some}
 use Rattle.uring_enter.specs.Needs.{is_transfer, is_of_sockets, is_splice}
 
--- one that goes on waits until its completions can be posted. One that is to take a provided buffer and finds none ends so, whatever its descriptor has; but one that goes on waits for its descriptor
-abbrev pub finds_what_it_wants : Needs → Moment → Bool
-finds_what_it_wants n m = n.selects && not n.goes_on && not m.has_buffer || m.is_ready
+-- one that is to take a provided buffer, and has found none since it started, ends so, whatever its descriptor has. One that has found one waits for its descriptor, whatever becomes of that buffer: it takes what its group has then. So Linux 6.18 was seen to do
+abbrev pub finds_what_it_wants : Standing → Needs → Moment → Bool
+finds_what_it_wants s n m = n.selects && not s.has_found_buffer && not m.has_buffer || m.is_ready
 
 -- whether a request that runs, which a cancel has found or not, can be finished: one that would have waited waits until another has ended, which is our own rule; a timeout until its count is reached, since its time ends it by itself; any other, until its completion may be posted if it goes on, and its descriptor is ready if it may have to wait for that
 abbrev pub can_finish : Standing → Needs → Bool → Moment → Bool
@@ -23,7 +23,7 @@ can_finish s n is_cancelled m =
     if is_cancelled then true else
     if n.is_timeout then m.has_counted else
     if n.goes_on && not m.may_post then false else
-    if s.is_stream then finds_what_it_wants n m else true
+    if s.is_stream then finds_what_it_wants s n m else true
 
 -- what is known of the moment: what was asked of it
 abbrev pub was_asked : Wanted → Moment → Bool
@@ -38,10 +38,10 @@ told finishes = if finishes then Finishes else Waits
 abbrev pub look_at_count : Moment → Look
 look_at_count m = if m.knows_count then told m.has_counted else Asks Count
 
-abbrev pub look_at_descriptor : Needs → Moment → Look
-look_at_descriptor n m =
-    if n.selects && not n.goes_on && not m.knows_buffer then Asks Buffer else
-    if n.selects && not n.goes_on && not m.has_buffer then Finishes else
+abbrev pub look_at_descriptor : Standing → Needs → Moment → Look
+look_at_descriptor s n m =
+    if n.selects && not s.has_found_buffer && not m.knows_buffer then Asks Buffer else
+    if n.selects && not s.has_found_buffer && not m.has_buffer then Finishes else
     if not m.knows_readiness then Asks Readiness else told m.is_ready
 
 -- what is asked next, or whether it can be finished: nothing is asked that doesn't matter. Our own rule
@@ -52,7 +52,7 @@ look_of s n is_cancelled m =
     if n.is_timeout then look_at_count m else
     if n.goes_on && not m.knows_posting then Asks Posting else
     if n.goes_on && not m.may_post then Waits else
-    if s.is_stream then look_at_descriptor n m else Finishes
+    if s.is_stream then look_at_descriptor s n m else Finishes
 
 -- what was asked of a moment is so
 pub record Fits (known m : Moment) : Type 0 where

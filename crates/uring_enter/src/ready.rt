@@ -19,6 +19,9 @@ pub struct Standing {
 
     /// It may have to wait for its descriptor.
     pub is_stream: bool,
+
+    /// Of one that takes a provided buffer: it has found one in its group since it started.
+    pub has_found_buffer: bool,
 }
 
 /// What is so at a moment, as far as it was asked.
@@ -98,7 +101,7 @@ pub fn next_look(standing: &Standing, needs: &Needs, course: &Course, known: &Mo
     } else if needs.goes_on && !known.may_post {
         Look::Waits
     } else if standing.is_stream {
-        look_at_descriptor(needs, known)
+        look_at_descriptor(standing, needs, known)
     } else {
         Look::Finishes
     }
@@ -124,13 +127,13 @@ fn look_at_count(known: &Moment) -> Look
     }
 }
 
-fn look_at_descriptor(needs: &Needs, known: &Moment) -> Look
-    ensures { result ≡ spec.look_at_descriptor needs.now known.now }
+fn look_at_descriptor(standing: &Standing, needs: &Needs, known: &Moment) -> Look
+    ensures { result ≡ spec.look_at_descriptor standing.now needs.now known.now }
 {
-    let takes_one = needs.selects && !needs.goes_on;
-    if takes_one && !known.knows_buffer {
+    let seeks_buffer = needs.selects && !standing.has_found_buffer;
+    if seeks_buffer && !known.knows_buffer {
         Look::Asks(Wanted::Buffer)
-    } else if takes_one && !known.has_buffer {
+    } else if seeks_buffer && !known.has_buffer {
         Look::Finishes
     } else if known.knows_readiness {
         told(known.is_ready)

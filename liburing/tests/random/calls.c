@@ -144,7 +144,7 @@ static bool can_go_on(const struct model *model, const struct request *request)
     if (request->is_ended || request->is_silent || request->action->flags & IOSQE_CQE_SKIP_SUCCESS || !can_start(model, request))
         return false;
     bool is_timeout = request->action->code == IORING_OP_TIMEOUT;
-    return !is_blocked(model, request) && !(is_timeout && has_pipe_reads(model, false));
+    return !may_be_blocked(model, request) && !(is_timeout && has_pipe_reads(model, false));
 }
 
 /* A descriptor that polls is readable while completions wait or something can go on, and else isn't. */

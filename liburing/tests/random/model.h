@@ -45,6 +45,7 @@ struct request {
     bool is_loose;                      /* its file was found when it was accepted */
     int32_t failure;                    /* with which it ends however it is carried out, or 0 */
     bool has_fired, may_have_fired;     /* of a linked timeout: in a call that shows nothing of it */
+    bool may_have_found;                /* a provided buffer, since it could start */
     int64_t since;                      /* the virtual time at which it could start; negative: not yet */
 };
 
@@ -131,8 +132,9 @@ bool has_linked_timeouts(const struct model *model);
 /* When a timeout, or a linked one, ends that runs; negative: it doesn't run. */
 int64_t end_of_timeout(const struct request *timeout);
 
-/* Whether a request waits for its pipe, whether it is on what may have to wait, and whether it waits for no other request. */
+/* Whether a request waits for its pipe, or may wait for it; whether it is on what may have to wait, and whether it waits for no other request. */
 bool is_blocked(const struct model *model, const struct request *request);
+bool may_be_blocked(const struct model *model, const struct request *request);
 bool is_stream(const struct model *model, const struct request *request);
 bool can_start(const struct model *model, const struct request *request);
 

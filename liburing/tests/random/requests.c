@@ -77,7 +77,10 @@ static void note_starts(struct model *model)
 {
     for (uint32_t i = 0; i < model->count; i++) {
         struct request *request = &model->requests[i];
-        if (!request->is_ended && request->since < 0 && can_start(model, request))
+        if (request->is_ended || !can_start(model, request))
+            continue;
+        request->may_have_found |= model->queue_length > 0;
+        if (request->since < 0)
             request->since = model->now;
     }
 }
@@ -169,16 +172,22 @@ static bool is_pipe_read(const struct model *model, const struct request *reques
     return action->object == PIPE_OUT && (is_read(action) || action->code == IORING_OP_POLL_ADD) && is_stream(model, request);
 }
 
-bool is_blocked(const struct model *model, const struct request *request)
+/* One that is to take a provided buffer, and has found none, ends; one that has found one waits, though another has taken that. */
+bool may_be_blocked(const struct model *model, const struct request *request)
 {
     const struct things *things = model->things;
     const struct action *action = request->action;
     if (!is_pipe_read(model, request) || action->is_impatient || request->is_cancelled || request->is_doomed)
         return false;
-    /* One that is to take a provided buffer ends where there is none. */
-    if (is_selecting(action) ? model->queue_length == 0 : is_read(action) && length_of(action) == 0)
+    if (is_selecting(action) ? !request->may_have_found : is_read(action) && length_of(action) == 0)
         return false;
     return things->read == things->written && !things->is_fed_out;
+}
+
+bool is_blocked(const struct model *model, const struct request *request)
+{
+    bool may_have_found_none = is_selecting(request->action) && model->queue_length == 0;
+    return may_be_blocked(model, request) && !may_have_found_none;
 }
 
 bool is_timeout(const struct request *request)
@@ -309,7 +318,7 @@ static bool can_end(const struct model *model, const struct request *request)
         return false;
     if (request->is_doomed)
         return !model->is_linux || is_in_turn(model, request);
-    return (can_start(model, request) && !is_timeout(request) && !is_blocked(model, request) && !may_have_been_cancelled(model, request));
+    return (can_start(model, request) && !is_timeout(request) && !may_be_blocked(model, request) && !may_have_been_cancelled(model, request));
 }
 
 void expect_stuck(struct model *model, const char *what)
