@@ -192,6 +192,9 @@ impl Drains {
         ensures from { self.new.drains.from ≡ self.old.drains.from }
         ensures few { length self.new.drains.deferred ≤ length self.old.drains.deferred }
     {
+        if self.deferred.is_empty() {
+            return;
+        }
         let is_alone = is_alone(&self.deferred, window);
         go_on(&mut self.deferred, is_alone);
     }
