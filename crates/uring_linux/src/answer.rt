@@ -23,6 +23,7 @@ use uring_entry::{Sqe, opcode, prepare};
 
 impl LinuxDispatch {
     /// What the issue of request `n` is answered.
+    #[inline(always)]
     pub(crate) fn answer(&self, n: u64) -> Issued
         ensures issued { (l : LinuxRequests) → ShowsRequests self.now l → result ≡ issued l n }
         ensures open { is_refusal result ≡ false → IsOpen self.now.held.window n false }
@@ -55,6 +56,7 @@ impl LinuxDispatch {
     }
 
     /// What the end of request `n` with this result posts, if it runs.
+    #[inline(always)]
     pub(crate) fn posted(&self, n: u64, res: i32) -> Option<Posts>
         ensures posted { (l : LinuxRequests) → ShowsRequests self.now l → result ≡ posted_by l n res }
         ensures open { (p : Posts) → result ≡ Some p → IsOpen self.now.held.window n true }
@@ -75,6 +77,7 @@ impl LinuxDispatch {
 
 impl Window {
     /// What the end of the kept request `n` posts with this result.
+    #[inline(always)]
     fn posts(&self, n: u64, request: &Request, span: Span, res: i32) -> Posts
         ensures { (r : Requests) → Shows self.now r → Tells request.now r n
             → IsSpan self.now r n span.from span.end → result ≡ posts_of r n res }
@@ -93,6 +96,7 @@ impl Window {
     }
 
     /// The kept request `n` may start.
+    #[inline(always)]
     fn ready(&self, n: u64, request: &Request, span: Span) -> Issued
         ensures { (r : Requests) → Shows self.now r → Tells request.now r n
             → IsSpan self.now r n span.from span.end → is_faulty (entry_of r n) ≡ false

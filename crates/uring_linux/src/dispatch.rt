@@ -288,6 +288,7 @@ impl LinuxDispatch {
     }
 
     /// Ends request `n`, which hasn't ended, with this result, and lets go on what was deferred and may.
+    #[inline(always)]
     fn end(&mut self, n: u64, res: i32)
         requires { is_unended (at self.old.held.window n) ≡ true }
         ensures shows { (l : LinuxRequests) (bytes : List ℕ) → ShowsRequests self.old l

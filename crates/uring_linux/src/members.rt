@@ -123,6 +123,7 @@ impl Window {
     }
 
     /// Whether `n` is doomed.
+    #[inline(always)]
     pub(crate) fn is_doomed(&self, n: u64, span: Span) -> bool
         ensures { (r : Requests) → Shows self.now r → IsSpan self.now r n span.from span.end
             → result ≡ linux.is_doomed r n }

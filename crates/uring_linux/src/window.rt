@@ -138,6 +138,7 @@ impl Window {
     }
 
     /// The least of these numbers that passes a test.
+    #[inline(always)]
     pub(crate) fn first_with(&self, test: Test, from: u64, end: u64) -> Option<u64>
         ensures first { (r : Requests) → Shows self.now r → self.now.first ≤ from → end ≤ end_of self.now
             → result ≡ first_member (said test r) from end }
