@@ -25,6 +25,10 @@ static int find_fd(struct ring *ring, int fd, bool is_registered, struct file **
 static void ask_status(const struct request *request, struct wulgach_nature *nature)
 {
     struct stat status;
+    if (is_in_memory(request->fd)) {
+        nature->is_open = nature->is_file = true;
+        return;
+    }
     nature->is_open = pass(SYS_fstat, request->fd, (long)&status, 0, 0, 0, 0) >= 0;
     if (!nature->is_open)
         return;

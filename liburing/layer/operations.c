@@ -115,11 +115,20 @@ bool is_not_to_wait(const struct request *request)
     return flags >= 0 && flags & O_NONBLOCK;
 }
 
-/* Reads by the kernel's call itself, which is quicker than the C library's: that is one at which threads are cancelled. */
+/* Reads by the kernel's call itself, which is quicker than the C library's: that is one at which threads are cancelled. Into one buffer, and
+ * with nothing asked, by the call that copies no vectors. */
+static int32_t read_file(const struct request *request, uint64_t offset, int flags)
+{
+    const struct iovec *vectors = request->vectors;
+    if (flags == 0 && request->vector_count == 1 && vectors->iov_len > 0 && offset <= INT64_MAX)
+        return (int32_t)pass(SYS_pread64, request->fd, (long)vectors->iov_base, (long)vectors->iov_len, (long)offset, 0, 0);
+    return (int32_t)pass(SYS_preadv2, request->fd, (long)vectors, (long)request->vector_count, (long)offset, 0, flags);
+}
+
 static int32_t move(const struct request *request, uint64_t offset, int flags)
 {
     if (is_read(request))
-        return (int32_t)pass(SYS_preadv2, request->fd, (long)request->vectors, (long)request->vector_count, (long)offset, 0, flags);
+        return read_file(request, offset, flags);
     return result_of(pwritev2(request->fd, request->vectors, (int)request->vector_count, (off_t)offset, flags));
 }
 

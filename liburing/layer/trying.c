@@ -2,14 +2,17 @@
  * something else. So nothing rests on that but which call is made first: a read by the number of what was a file is asked not to wait,
  * which holds whatever is there by now.
  */
+#define _GNU_SOURCE
 #include "trying.h"
 #include "injection.h"
+#include "passing.h"
 #include "policy.h"
 
+#include <fcntl.h>
 #include <stdint.h>
 
-/* Of a number: nothing is known, or it was a file, or one that can't be asked not to wait. */
-enum kind { UNKNOWN, WAS_FILE, WAS_SLOW_FILE };
+/* Of a number: nothing is known, or it was a file, or one that can't be asked not to wait, in memory or elsewhere. */
+enum kind { UNKNOWN, WAS_FILE, WAS_IN_MEMORY, WAS_SLOW_FILE };
 
 /* Numbers from this on aren't remembered. */
 enum { MOST_KNOWN = 4096 };
@@ -45,10 +48,26 @@ void note_kind(int fd, bool is_file)
         set_kind(fd, WAS_FILE);
 }
 
+/* Files in memory alone have seals. */
+static bool has_seals(int fd)
+{
+    return pass(SYS_fcntl, fd, F_GET_SEALS, 0, 0, 0, 0) >= 0;
+}
+
 void note_slow(int fd)
 {
     if (was_file(fd))
-        set_kind(fd, WAS_SLOW_FILE);
+        set_kind(fd, has_seals(fd) ? WAS_IN_MEMORY : WAS_SLOW_FILE);
+}
+
+bool is_in_memory(int fd)
+{
+    if (kind_of(fd) != WAS_IN_MEMORY)
+        return false;
+    if (has_seals(fd))
+        return true;
+    set_kind(fd, UNKNOWN);
+    return false;
 }
 
 /* Elsewhere what can go on is a way of a choice, or is written down, or says which faults there may be. */

@@ -11,6 +11,9 @@ void note_kind(int fd, bool is_file);
 /* Notes that what has this number can't be asked not to wait. */
 void note_slow(int fd);
 
+/* Whether what has this number is a file in memory, if it was one when that was last asked. To be told is quicker than what else a file is asked. */
+bool is_in_memory(int fd);
+
 /* Whether what had this number was a file that could be asked not to wait, when that was last asked. */
 bool was_file(int fd);
 

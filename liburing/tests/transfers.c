@@ -190,6 +190,14 @@ static void read_when_written(struct ring *ring, int fd, int to, const void *byt
     check(wait_for_one(ring) == (int32_t)length && memcmp(text, bytes, length) == 0);
 }
 
+/* The number is given to this file. */
+static void read_again(struct ring *ring, int number, int file, const char *bytes)
+{
+    check(dup2(file, number) == number);
+    read_by_number(ring, number, bytes);
+}
+
+/* One file is in memory, the other isn't. */
 static void test_used_again(void)
 {
     struct ring ring;
@@ -201,23 +209,22 @@ static void test_used_again(void)
     read_by_number(&ring, number, "foobar");
     check(dup2(ends[0], number) == number);
     read_when_written(&ring, number, ends[1], "four", 4);
-    check(dup2(other, number) == number);
-    read_by_number(&ring, number, "barfoo");
+    read_again(&ring, number, other, "barfoo");
     int counter = eventfd(0, 0);
     check(dup2(counter, number) == number);
     read_when_written(&ring, number, counter, (const char[8]){7}, 8);
     static const char *const places[] = {"/dev/null", "/dev/zero", "."};
     static const int32_t results[] = {0, 4, -EISDIR};
-    for (int i = 0; i < 3; i++) {
-        int place = open(places[i], O_RDONLY);
-        check(dup2(other, number) == number);
-        read_by_number(&ring, number, "barfoo");
+    for (int i = 0; i < 6; i++) {
+        int place = open(places[i / 2], O_RDONLY);
+        read_again(&ring, number, i % 2 ? file : other, i % 2 ? "foobar" : "barfoo");
         check(place >= 0 && dup2(place, number) == number);
-        check(read_at(&ring, number, text, 4, 0) == results[i]);
+        check(read_at(&ring, number, text, 4, 0) == results[i / 2]);
         close(place);
     }
-    check(dup2(other, number) == number);
-    read_by_number(&ring, number, "barfoo");
+    read_again(&ring, number, file, "foobar");
+    read_again(&ring, number, other, "barfoo");
+    read_again(&ring, number, file, "foobar");
     check(dup2(ends[1], number) == number);
     check(read_at(&ring, number, text, 4, 0) == -EBADF);
     close(number);
