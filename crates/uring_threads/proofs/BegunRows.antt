@@ -108,8 +108,7 @@ pub row_taken : (a p b : Kept) (items : List Item) (x : Begun) → Stands (now a
     → Records a p (items_row 0 items ++ step.StoreTail ∷ []) → HasBegun p b x
     → (steps : List Step) × AreTaken a.setup items steps × Records a b steps
 row_taken a p b items x s few same at published h =
-    let begun : List Step = calls_row h.made (calls_left p.setup (now b).submission) ++ refused_row (calls_left p.setup (now b).submission) in
-    (
+    let begun : List Step = calls_row h.made (calls_left p.setup (now b).submission) ++ refused_row (calls_left p.setup (now b).submission) in (
       items_row 0 items ++ step.StoreTail ∷ begun,
       record {
         begun = begun;

@@ -44,7 +44,7 @@ unfoldable pub calls_row : (made left : List ℕ) → List Step
 calls_row [] left = []
 calls_row (count ∷ later) left =
     step.Begin (count + (sum later + sum left))
-        ∷ replicate count step.Take ++ step.End ∷ step.LoadHead ∷ calls_row later left
+    ∷ replicate count step.Take ++ step.End ∷ step.LoadHead ∷ calls_row later left
 
 -- the next call that is left, if one is, is begun and doesn't open
 unfoldable pub refused_row : List ℕ → List Step
