@@ -80,7 +80,7 @@ static int watch_of(struct pipes *pipes, int fd)
     if (pipes->inotify < 0)
         pipes->inotify = make_inotify();
     if (pipes->count == pipes->room) {
-        int *watches = realloc(pipes->watches, 2 * (pipes->room + 4) * sizeof *watches);
+        struct watch *watches = realloc(pipes->watches, 2 * (pipes->room + 4) * sizeof *watches);
         if (!watches)
             return 0;
         pipes->watches = watches;
@@ -91,12 +91,31 @@ static int watch_of(struct pipes *pipes, int fd)
     return watch < 0 ? 0 : watch;
 }
 
-static bool has_watch(const struct pipes *pipes, int watch)
+/* The place of a watch, or where it belongs. */
+static size_t place_of_watch(const struct pipes *pipes, int number)
 {
-    for (size_t i = 0; i < pipes->count; i++)
-        if (pipes->watches[i] == watch)
-            return true;
-    return false;
+    size_t low = 0, high = pipes->count;
+    while (low < high) {
+        size_t middle = low + (high - low) / 2;
+        if (pipes->watches[middle].number < number)
+            low = middle + 1;
+        else
+            high = middle;
+    }
+    return low;
+}
+
+/* A running poll awaits writes by this watch. A new one has room. */
+static void await_by(struct pipes *pipes, int number)
+{
+    size_t place = place_of_watch(pipes, number);
+    struct watch *at = pipes->watches + place;
+    if (place == pipes->count || at->number != number) {
+        memmove(at + 1, at, (pipes->count - place) * sizeof *at);
+        pipes->count++;
+        at->number = number;
+    }
+    at->is_awaited = true;
 }
 
 /* Sees that each running poll has its watch. Those that were submitted together wait for the same pipe, mostly. */
@@ -105,35 +124,28 @@ static void add_watches(struct ring *ring)
     const struct request *before = NULL;
     for (size_t i = 0; i < ring->running.count; i++) {
         struct request *request = ring->running.rows[i];
-        if (!is_watching(request))
+        if (!is_watching(request)) {
+            request->watch = 0;
             continue;
+        }
         if (request->watch == 0)
             request->watch = before && before->fd == request->fd ? before->watch : watch_of(&ring->pipes, request->fd);
-        if (request->watch > 0 && !has_watch(&ring->pipes, request->watch))
-            ring->pipes.watches[ring->pipes.count++] = request->watch;
+        if (request->watch > 0)
+            await_by(&ring->pipes, request->watch);
         before = request;
     }
 }
 
-static bool is_watched_for(const struct ring *ring, int watch)
-{
-    for (size_t i = 0; i < ring->running.count; i++)
-        if (is_watching_by(ring->running.rows[i], watch))
-            return true;
-    return false;
-}
-
 /* Takes away those that no poll waits for any more. */
-static void drop_watches(struct ring *ring)
+static void drop_watches(struct pipes *pipes)
 {
-    struct pipes *pipes = &ring->pipes;
     size_t kept = 0;
     for (size_t i = 0; i < pipes->count; i++) {
-        int watch = pipes->watches[i];
-        if (is_watched_for(ring, watch))
-            pipes->watches[kept++] = watch;
+        struct watch watch = pipes->watches[i];
+        if (watch.is_awaited)
+            pipes->watches[kept++] = (struct watch){.number = watch.number};
         else
-            inotify_rm_watch(pipes->inotify, watch);
+            inotify_rm_watch(pipes->inotify, watch.number);
     }
     pipes->count = kept;
 }
@@ -184,7 +196,7 @@ bool watch_pipes(struct ring *ring)
     add_watches(ring);
     if (ring->pipes.count == 0)
         return false;
-    drop_watches(ring);
+    drop_watches(&ring->pipes);
     return read_writes(ring, ring->lookout.may_be_own);
 }
 

@@ -9,11 +9,17 @@
 struct request;
 struct ring;
 
+/* What tells of writes to a pipe: one, however many polls that has. */
+struct watch {
+    int number;         /* the kernel's */
+    bool is_awaited;    /* by a poll that runs */
+};
+
 /* The pipes that a ring's polls wait for. */
 struct pipes {
-    int inotify;        /* what tells of writes to them, or negative */
-    int *watches;       /* its number of each, */
-    size_t count, room; /* how many there are, and may be */
+    int inotify;            /* what tells of writes to them, or negative */
+    struct watch *watches;  /* one for each, by rising number, */
+    size_t count, room;     /* how many there are, and may be */
 };
 
 void make_pipes(struct pipes *pipes);
