@@ -239,8 +239,8 @@ static void test_come_and_gone(void)
     close_ring(&ring);
 }
 
-/* The pipe that is raced for: it is written to behind a look that finds nothing, and read behind the one after so many that find something;
- * negative: no more. */
+/* The pipe that another thread seems to use: it is written to behind the first look of the layer that finds nothing after so many, and read
+ * behind the first that finds something after so many. A negative number: it isn't. */
 static const int *raced;
 static int until_write, until_read;
 
