@@ -273,7 +273,7 @@ static int32_t call_or_wait(struct ring *ring, struct request *request)
     if (is_transfer(request))
         return carry_transfer_out(request);
     if (is_poll(request))
-        return take_events(request);
+        return take_events(ring, request);
     return is_of_sockets(request->entry.opcode) || is_splice(request) ? call_socket(ring, request) : call_system(ring, request);
 }
 

@@ -150,42 +150,78 @@ static void drop_watches(struct pipes *pipes)
     pipes->count = kept;
 }
 
-/* What was written while nobody looked: the first watcher says whether it is there still. Returns whether a poll was told. */
-static bool tell_of_write(struct ring *ring, int watch)
+static bool has_something(const struct request *request)
 {
-    bool is_known = false, is_there = false, is_told = false;
-    for (size_t i = 0; i < ring->running.count; i++) {
-        struct request *request = ring->running.rows[i];
-        struct pollfd at = {.fd = request->fd, .events = POLLIN};
-        if (!is_watching_by(request, watch))
-            continue;
-        if (!is_known)
-            is_there = poll(&at, 1, 0) != 0;
-        is_known = true;
-        struct wulgach_pipe_poll seen = seen_of(request);
-        if (!wulgach_is_told_of_write(&seen, (uint32_t)watch, is_there))
-            continue;
-        request->is_told = is_told = true;
-        request->standing.has_to_wait = false;
-    }
-    if (is_told)
-        wulgach_lookout_tells(&ring->lookout);
-    return is_told;
+    struct pollfd at = {.fd = request->fd, .events = POLLIN};
+    return poll(&at, 1, 0) != 0;
 }
 
-/* Reads the writes that were told since they were last read, and passes them on, or drops them. Returns whether a poll was told. */
+/* A poll has heard of a write: what was written is there still, or gone. It may go on, and a thread that sleeps may wait for it. */
+static void tell(struct ring *ring, struct request *request, bool is_there)
+{
+    struct wulgach_pipe_poll seen = seen_of(request);
+    request->is_told |= wulgach_is_told_of_write(&seen, (uint32_t)request->watch, is_there);
+    request->is_heard = is_there;
+    request->standing.has_to_wait = false;
+    wulgach_lookout_tells(&ring->lookout);
+    wulgach_lookout_changes(&ring->lookout);
+}
+
+/* What was written while nobody looked: the first watcher says whether it is there still. Returns whether a poll has heard of it. */
+static bool tell_of_write(struct ring *ring, int watch)
+{
+    bool is_there = false, is_heard = false;
+    for (size_t i = 0; i < ring->running.count; i++) {
+        struct request *request = ring->running.rows[i];
+        if (!is_watching_by(request, watch))
+            continue;
+        if (!is_heard)
+            is_there = has_something(request);
+        is_heard = true;
+        tell(ring, request, is_there);
+    }
+    return is_heard;
+}
+
+/* Reads the writes that were told since they were last read, and passes them on, or drops them. Returns whether a poll has heard of one. */
 static bool read_writes(struct ring *ring, bool is_dropping)
 {
     _Alignas(struct inotify_event) char events[4096];
     ssize_t length;
-    bool is_told = false;
+    bool is_heard = false;
     while ((length = read(ring->pipes.inotify, events, sizeof events)) > 0) {
         for (ssize_t at = 0; at < length;) {
             const struct inotify_event *event = (const void *)(events + at);
             if (!is_dropping && event->mask & IN_MODIFY)
-                is_told |= tell_of_write(ring, event->wd);
+                is_heard |= tell_of_write(ring, event->wd);
             at += (ssize_t)(sizeof *event + event->len);
         }
+    }
+    return is_heard;
+}
+
+bool is_told_of_gone(const struct ring *ring, struct request *request)
+{
+    if (!request->is_heard)
+        return request->is_told;
+    /* (one that goes on has taken its event where it finds none, and something is there) */
+    bool is_there = request->epoll >= 0 && has_something(request);
+    struct wulgach_pipe_poll seen = seen_of(request);
+    request->is_told |= !ring->lookout.may_be_own && wulgach_is_told_of_write(&seen, (uint32_t)request->watch, is_there);
+    request->is_heard = false;
+    return request->is_told;
+}
+
+/* Sees what became of what was there when it was heard. Returns whether a poll was told. */
+static bool tell_of_gone(struct ring *ring)
+{
+    bool is_told = false;
+    for (size_t i = 0; i < ring->running.count; i++) {
+        struct request *request = ring->running.rows[i];
+        if (!request->is_heard || has_something(request) || !is_told_of_gone(ring, request))
+            continue;
+        tell(ring, request, false);
+        is_told = true;
     }
     return is_told;
 }
@@ -197,7 +233,9 @@ bool watch_pipes(struct ring *ring)
     if (ring->pipes.count == 0)
         return false;
     drop_watches(&ring->pipes);
-    return read_writes(ring, ring->lookout.may_be_own);
+    bool is_heard = tell_of_gone(ring);
+    is_heard |= read_writes(ring, ring->lookout.may_be_own);
+    return is_heard;
 }
 
 void hear_pipes(struct ring *ring)

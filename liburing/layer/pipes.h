@@ -29,10 +29,14 @@ void free_pipes(struct pipes *pipes);
 bool is_poll_of_pipe(const struct request *request);
 
 /* A call returns, or sleeps: from now on writes to the pipes that running polls wait for count. If the kernel refuses, they don't. Returns
- * whether one was told meanwhile of what another thread wrote. */
+ * whether one has heard meanwhile of what another thread wrote, so that it may go on. */
 bool watch_pipes(struct ring *ring);
 
-/* A call begins, or sleeps no longer: running polls are told of what was written to their pipes, and is gone. */
+/* A call begins, or sleeps no longer: running polls hear of what was written to their pipes, and are told of what is gone. */
 void hear_pipes(struct ring *ring);
+
+/* Whether a poll that finds nothing is told of a write. What was there when it was heard may have been read since by another thread: that is
+ * told too, unless the ring's own requests may have read it. */
+bool is_told_of_gone(const struct ring *ring, struct request *request);
 
 #endif

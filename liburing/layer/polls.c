@@ -51,10 +51,11 @@ static uint16_t present_events(const struct request *request)
     return poll(&at, 1, 0) > 0 ? (uint16_t)at.revents : 0;
 }
 
-int32_t take_events(struct request *request)
+int32_t take_events(const struct ring *ring, struct request *request)
 {
     int32_t res;
-    bool was_told = request->is_told;
-    request->is_told = false;
-    return wulgach_poll_result((uint16_t)events_of(request), present_events(request), was_told, &res) ? res : WOULD_WAIT;
+    uint16_t present = present_events(request);
+    bool was_told = !present && is_told_of_gone(ring, request);
+    request->is_heard = request->is_told = false;
+    return wulgach_poll_result((uint16_t)events_of(request), present, was_told, &res) ? res : WOULD_WAIT;
 }

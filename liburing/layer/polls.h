@@ -17,6 +17,6 @@ int start_poll(struct request *request);
 struct pollfd poll_of_poll(const struct request *request);
 
 /* The events that there are: at least one, or WOULD_WAIT. */
-int32_t take_events(struct request *request);
+int32_t take_events(const struct ring *ring, struct request *request);
 
 #endif

@@ -47,6 +47,7 @@ struct request {
     int epoll;                      /* what tells of the events of a poll that goes on; or negative */
     bool is_of_pipe;                /* a poll for what a pipe has to be read: */
     int watch;                      /* the number by which writes to that are told, or 0, */
+    bool is_heard;                  /* whether something was written, and was there still, */
     bool is_told;                   /* and whether something was written, and is gone */
     /* What the entry points to, copied when it is submitted: the application may reuse it at once. */
     struct iovec *vectors, one;     /* (one stands here) */

@@ -2,13 +2,14 @@
 #include "streams.h"
 #include "files.h"
 #include "operations.h"
+#include "pipes.h"
 
 #include <poll.h>
 
 static void note(const struct ring *ring, struct request *request, bool is_ready)
 {
     request->looked_at = ring->lookout.moment;
-    request->is_found_ready = is_ready;
+    request->is_found_ready = is_ready || is_told_of_gone(ring, request);
 }
 
 void look_at(const struct ring *ring, struct request *request)

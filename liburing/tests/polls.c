@@ -1,11 +1,13 @@
 /* Tests of a ring's descriptor that polls, by direct calls. All hold under every policy. A test that hangs ends by an
- * alarm. They are run with WULGACH_TEST_POLLED, which has ring.h set such rings up.
+ * alarm. They are run with WULGACH_TEST_POLLED, which has ring.h set such rings up. The layer's calls of poll and ppoll go through the
+ * wrapped ones of this program, behind which it does what another thread might do just then.
  */
 #define _GNU_SOURCE
 #include "ring.h"
 
 #include <poll.h>
 #include <pthread.h>
+#include <semaphore.h>
 #include <sys/epoll.h>
 #include <sys/resource.h>
 #include <sys/wait.h>
@@ -200,6 +202,15 @@ static void *write_and_read_later(void *of)
     return NULL;
 }
 
+static void submit_poll(struct ring *ring, int fd)
+{
+    struct io_uring_sqe *entry = put(ring, IORING_OP_POLL_ADD, 0, 0);
+    entry->fd = fd;
+    entry->poll32_events = POLLIN;
+    check(enter(ring, 1, 0, 0) == 1);
+    check(enter_for(ring, 1, 1000) == -ETIME && !is_readable(ring, 0));
+}
+
 static void test_come_and_gone(void)
 {
     struct ring ring;
@@ -210,11 +221,7 @@ static void test_come_and_gone(void)
     for (unsigned round = 0; round < 60; round++) {
         bool is_asleep = round % 2;
         later = round < 4 ? 20000 : round * 7 % 50;
-        struct io_uring_sqe *entry = put(&ring, IORING_OP_POLL_ADD, 0, 0);
-        entry->fd = ends[0];
-        entry->poll32_events = POLLIN;
-        check(enter(&ring, 1, 0, 0) == 1);
-        check(enter_for(&ring, 1, 1000) == -ETIME && !is_readable(&ring, 0));
+        submit_poll(&ring, ends[0]);
         if (is_asleep) {
             check(pthread_create(&thread, NULL, write_and_read_later, ends) == 0);
         } else {
@@ -226,6 +233,100 @@ static void test_come_and_gone(void)
         if (is_asleep)
             check(pthread_join(thread, NULL) == 0);
         check(enter(&ring, 0, 0, IORING_ENTER_GETEVENTS) == 0 && !is_readable(&ring, 0));
+    }
+    close(ends[0]);
+    close(ends[1]);
+    close_ring(&ring);
+}
+
+/* The pipe that another thread seems to use: it is written to behind the first look of the layer that finds nothing after so many, and read
+ * behind the first that finds something after so many. A negative number: it isn't. */
+static const int *raced;
+static int until_write, until_read;
+
+int __real_poll(struct pollfd *polled, nfds_t count, int patience);
+int __wrap_poll(struct pollfd *polled, nfds_t count, int patience)
+{
+    char byte;
+    int result = __real_poll(polled, count, patience);
+    if (raced && result == 0 && until_write-- == 0)
+        check(write(raced[1], "x", 1) == 1);
+    else if (raced && result > 0 && until_read-- == 0)
+        check(read(raced[0], &byte, 1) == 1);
+    return result;
+}
+
+/* Whatever look of a call it is behind which a pipe is read that was written to, before the call or in it: the poll ends, and until it has the
+ * descriptor is readable. */
+static void test_gone_behind_a_look(void)
+{
+    struct ring ring;
+    int ends[2];
+    char byte;
+    check(pipe2(ends, O_NONBLOCK) == 0);
+    make_ring(&ring, 4, 0, 0);
+    for (int round = 0; round < 16; round++) {
+        bool is_written_before = round & 1, is_waiting = round & 2;
+        submit_poll(&ring, ends[0]);
+        if (is_written_before)
+            check(write(ends[1], "x", 1) == 1);
+        until_write = is_written_before ? -1 : 0;
+        until_read = round / 4;
+        raced = ends;
+        long result = is_waiting ? enter_for(&ring, 1, 1000000000) : enter(&ring, 0, 0, IORING_ENTER_GETEVENTS);
+        raced = NULL;
+        check(result == 0);
+        (void)!read(ends[0], &byte, 1);
+        if (!is_waiting) {
+            check(is_readable(&ring, 0));
+            check(enter_for(&ring, 1, 1000000000) == 0);
+        }
+        check(reap(&ring).res == POLLIN && count_ready(&ring) == 0);
+    }
+    close(ends[0]);
+    close(ends[1]);
+    close_ring(&ring);
+}
+
+/* A sleep that is to begin: it is held until it may. */
+static sem_t begins, may_begin;
+static bool is_held;
+
+int __real_ppoll(struct pollfd *polled, nfds_t count, const struct timespec *time, const sigset_t *signals);
+int __wrap_ppoll(struct pollfd *polled, nfds_t count, const struct timespec *time, const sigset_t *signals)
+{
+    if (__atomic_exchange_n(&is_held, false, __ATOMIC_ACQ_REL)) {
+        check(sem_post(&begins) == 0);
+        check(sem_wait(&may_begin) == 0);
+    }
+    return __real_ppoll(polled, count, time, signals);
+}
+
+static void *wait_for_one(void *ring)
+{
+    check(enter_for(ring, 1, 5000000000) == 0);
+    return NULL;
+}
+
+/* What comes and goes while one thread begins to sleep is heard in another's call: that wakes the first. */
+static void test_heard_by_another(void)
+{
+    struct ring ring;
+    pthread_t thread;
+    int ends[2];
+    check(pipe(ends) == 0 && sem_init(&begins, 0, 0) == 0 && sem_init(&may_begin, 0, 0) == 0);
+    make_ring(&ring, 4, 0, 0);
+    for (int round = 0; round < 4; round++) {
+        submit_poll(&ring, ends[0]);
+        is_held = true;
+        check(pthread_create(&thread, NULL, wait_for_one, &ring) == 0);
+        check(sem_wait(&begins) == 0);
+        later = 0;
+        write_and_read_later(ends);
+        check(enter(&ring, 0, 0, 0) == 0);
+        check(sem_post(&may_begin) == 0);
+        check(pthread_join(thread, NULL) == 0);
+        check(reap(&ring).res == POLLIN);
     }
     close(ends[0]);
     close(ends[1]);
@@ -276,7 +377,7 @@ int main(void)
     static const struct {
         const char *name;
         void (*run)(void);
-    } tests[] = {{"refused", test_refused}, {"poll", test_poll}, {"overflow", test_overflow}, {"epoll", test_epoll}, {"pipe", test_pipe}, {"renewed", test_renewed}, {"come and gone", test_come_and_gone}, {"threads", test_threads}, {"file limit", test_file_limit}};
+    } tests[] = {{"refused", test_refused}, {"poll", test_poll}, {"overflow", test_overflow}, {"epoll", test_epoll}, {"pipe", test_pipe}, {"renewed", test_renewed}, {"come and gone", test_come_and_gone}, {"gone behind a look", test_gone_behind_a_look}, {"heard by another", test_heard_by_another}, {"threads", test_threads}, {"file limit", test_file_limit}};
     alarm(30);
     for (size_t i = 0; i < sizeof tests / sizeof *tests; i++) {
         test = tests[i].name;
