@@ -75,8 +75,12 @@ enum wulgach_awaited {
     WULGACH_AWAITED_WAITS = 2   /* it does, and the request hasn't started: it starts first */
 };
 
-/* Returns which (enum wulgach_awaited): it waits for each that a cancel has found and that hasn't ended. */
-uint32_t wulgach_course_awaited(const struct wulgach_course *course);
+/* Returns which (enum wulgach_awaited): it waits for each that a cancel has found and that hasn't ended, if it runs, or the core lets it
+ * start. */
+uint32_t wulgach_course_awaited(const struct wulgach_course *course, bool may_start);
+
+/* Whether it matters to that whether the core lets the request start. */
+bool wulgach_course_asks_start(const struct wulgach_course *course);
 
 /* ---- what is shown of an end ---- */
 
@@ -154,6 +158,9 @@ bool wulgach_looks_for_running(bool is_cancel, int32_t res);
 /* Whether a cancel that the core has ended so looks for a request which hasn't started and could: by Linux's rules the core finds only what
  * has started, and the kernel starts in the call that takes it what can start. */
 bool wulgach_looks_for_next(bool is_cancel, int32_t res, bool linux_rules);
+
+/* Whether a cancel looks for such a request before the core ends it: behind its end others could start, which it doesn't find. */
+bool wulgach_looks_ahead(bool is_cancel, bool linux_rules);
 
 /* What is shown of a request that the core has ended with this result: 0 of a cancel that has cancelled a request, an
  * entry's own error in the place of -22 (EINVAL), of a linked timeout what it ends with behind its request; else the same. */

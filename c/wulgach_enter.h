@@ -24,9 +24,10 @@ struct wulgach_asked {
     uint32_t to_submit;
     uint32_t min_complete;
     uint32_t cq;        /* the entries of the completion ring: a call waits for no more */
-    uint32_t policy;    /* enum wulgach_policy */
+    uint32_t policy;    /* what the program goes by: enum wulgach_policy */
     bool gets;          /* IORING_ENTER_GETEVENTS */
-    bool may_leave;     /* a call that nobody waits for may end before all has gone on */
+    bool may_leave;     /* a call may end before all has gone on that can, once there is what it waits for */
+    bool has_thread;    /* IORING_SETUP_SQPOLL: the ring has a thread that takes entries */
 };
 
 enum wulgach_command_kind {
@@ -82,21 +83,35 @@ struct wulgach_enter {
     bool took_all;
 };
 
-/* What goes on while a call is made, by the policy of the program: a lazy call that wakes a thread which takes entries, and gets no events,
- * goes on in order, since the application may look at memory alone behind it. A number that is none stays. */
-uint32_t wulgach_policy_of_call(uint32_t policy, bool has_thread, bool gets);
+/* How a call names its ring. */
+enum wulgach_naming {
+    WULGACH_NAMED_BY_FD = 0,        /* by a descriptor */
+    WULGACH_NAMED_BY_NUMBER = 1     /* by the number under which the thread has registered it: IORING_ENTER_REGISTERED_RING */
+};
+
+/* Returns how a call with these flags names its ring (enum wulgach_naming), or the error with which it is refused before that is looked at:
+ * -22 of a flag that isn't served. IORING_ENTER_GETEVENTS, _SQ_WAKEUP, _SQ_WAIT, _EXT_ARG and _REGISTERED_RING are. */
+int32_t wulgach_naming_of(uint32_t flags);
+
+/* The error of a call whose descriptor is no ring's: -9 (EBADF) if it isn't open, else -95 (EOPNOTSUPP). */
+int32_t wulgach_no_ring_fault(bool is_open);
 
 /* Begins a call of io_uring_enter(2), and writes what it wants first. -22 exactly if there is no such policy; then nothing is
  * written. Whoever keeps a ring does what the call wants, and replies with what became of it, until it is to return.
  *
  * A call hears the application first, and submits once. It waits only if it gets events, for one at least, and all was submitted;
  * then it sleeps only where nothing can go on and there isn't enough, and ends only if there is enough, its sleep has failed, or
- * the application's head is wrong. */
+ * the application's head is wrong. A lazy one that wakes a thread which takes entries, and gets no events, goes on in order, since the
+ * application may look at memory alone behind it. */
 int32_t wulgach_enter_begin(struct wulgach_enter *call, const struct wulgach_asked *asked, struct wulgach_command *command);
 
 /* Takes a reply, and writes what the call wants then. -22 exactly if the reply doesn't answer what it wanted; then nothing is
  * written. */
 int32_t wulgach_enter_next(struct wulgach_enter *call, const struct wulgach_reply *reply, struct wulgach_command *command);
+
+/* Whether a call that has submitted looks in vain, where so many completions can be reaped: it gets events, waits for none, and there is
+ * none. */
+bool wulgach_looks_in_vain(bool gets, uint32_t min_complete, uint32_t ready);
 
 /* ---- its last arguments ---- */
 
@@ -210,23 +225,50 @@ uint32_t wulgach_ways_count(const struct wulgach_ways *ways);
  * before those that the core lets start, and that the call returns is the last. Way 0 is what goes on first in order. */
 uint32_t wulgach_ways_at(const struct wulgach_ways *ways, uint32_t number, uint32_t *place);
 
-/* ---- completions that belong to no end of a request ---- */
+/* Whether a request that can be finished as it starts is finished in the same choice, by what the program goes by, where events are chosen
+ * or only ends: unless both are chosen each for itself. By a number that is no policy it is. */
+bool wulgach_is_one_choice(uint32_t policy, bool chooses_events);
+
+/* ---- drains, and completions that belong to no end of a request ---- */
+
+/* The members of a chain, as they are seen. It is the caller's memory. */
+struct wulgach_chain {
+    uint64_t members;
+    bool drains;        /* one has IOSQE_IO_DRAIN */
+};
+
+/* The first member of a chain has these flags, and each next one these. */
+void wulgach_chain_first(struct wulgach_chain *chain, uint8_t flags);
+void wulgach_chain_sees(struct wulgach_chain *chain, uint8_t flags);
 
 /* How many requests are outstanding that drain. It is the caller's memory. */
 struct wulgach_drains {
     uint64_t outstanding;
+    bool has_drained;   /* one was ever accepted */
 };
 
 /* No request was accepted. */
 void wulgach_drains_begin(struct wulgach_drains *drains);
 
-/* A chain of so many requests was accepted, of which one has IOSQE_IO_DRAIN or none. Says whether they drain. */
-bool wulgach_drains_accept(struct wulgach_drains *drains, uint32_t members, bool has_drain);
+/* A chain was accepted. Says whether its members drain: they all do if one has IOSQE_IO_DRAIN. */
+bool wulgach_drains_accept(struct wulgach_drains *drains, const struct wulgach_chain *chain);
 
 /* A request has ended, which drains or doesn't. */
 void wulgach_drains_end(struct wulgach_drains *drains, bool is_draining);
 
-/* Whether such a completion may be posted, where so many positions are staged and not taken: none is, and, but by Linux's rules, nothing
+/* Whether the oldest outstanding request can start, if it hasn't. Else the core is to be asked which can: by Linux's rules a drain, and what
+ * comes behind one, waits for a turn of its own. */
+bool wulgach_oldest_starts(const struct wulgach_drains *drains, bool linux_rules);
+
+/* Whether it may be kept which requests the core lets start: no drain was ever accepted. Then one can start as soon as what links it has ended,
+ * and that others start or end makes nothing of it, but as the next function says. */
+bool wulgach_keeps_startable(const struct wulgach_drains *drains);
+
+/* Whether the end of a request, which has failed or is a cancel's, may let others start than the next of its chain: by the manual pages' rules
+ * what it dooms, but not by Linux's. */
+bool wulgach_lets_others_start(bool linux_rules, bool has_failed, bool is_cancel);
+
+/* Whether a completion that belongs to no end of a request may be posted, where so many positions are staged and not taken: none is, and, but by Linux's rules, nothing
  * that drains is outstanding. */
 bool wulgach_drains_may_post(const struct wulgach_drains *drains, uint64_t staged, bool linux_rules);
 

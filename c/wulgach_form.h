@@ -45,17 +45,10 @@ uint32_t wulgach_form_of(const struct wulgach_submission *entry, int32_t refusal
 /* Whether an operation is served. */
 bool wulgach_is_served(uint8_t code);
 
-/* What a request that goes on is. */
-struct wulgach_shot {
-    bool is_multishot;      /* it goes on at all */
-    bool is_accept;         /* its results are descriptors */
-    bool is_of_messages;    /* its results count what stands in front of the bytes, */
-    bool has_bytes;         /* and there were bytes */
-};
-
-/* Whether a request goes on behind this result, which then has a completion of its own; else it ends with it: with an error, with
- * nothing more to come, or if its completion finds the ring of so many entries full. */
-bool wulgach_goes_on(const struct wulgach_shown *shown, const struct wulgach_shot *shot, int32_t res, uint32_t entries);
+/* Whether the request of an entry, which has moved so many bytes (`done`), goes on behind this result, which then has a completion of its
+ * own; else it ends with it: it isn't one that goes on, or it ends with an error, with nothing more to come, or since its completion finds
+ * the ring of so many entries full. */
+bool wulgach_goes_on(const struct wulgach_shown *shown, const struct wulgach_submission *entry, uint64_t done, int32_t res, uint32_t entries);
 
 /* Whether an eventfd is told of a completion, where it is registered for all, or only for what ends behind the call that submitted
  * it. */
@@ -127,26 +120,24 @@ bool wulgach_layout_of(uint32_t name, uint64_t control, uint64_t size, struct wu
 /* How much of the buffer has something behind a message of so many bytes. */
 uint64_t wulgach_layout_filled(const struct wulgach_layout *layout, uint32_t came);
 
-/* The flags with which the call of a message is made: it doesn't wait (MSG_DONTWAIT), and no send ends the program by a signal
- * (MSG_NOSIGNAL). */
-uint32_t wulgach_call_flags(const struct wulgach_submission *entry);
-
 /* What a no-op ends with that has found the file and the buffer that it looks for: the number that it is to inject, or 0. */
 int32_t wulgach_no_op_result(const struct wulgach_submission *entry);
 
-/* ---- a strict ring, which goes by a kernel ---- */
+/* ---- what a ring refuses that goes by a kernel ---- */
 
 struct wulgach_strict {
     bool has_skipped;   /* an entry had IOSQE_CQE_SKIP_SUCCESS, and wasn't refused for that */
 };
 
-/* Begins one that has seen no entry. */
+/* Begins a ring that has seen no entry. */
 void wulgach_strict_begin(struct wulgach_strict *strict);
 
-/* Returns the error with which it refuses the next entry, or 0: -22 (EINVAL) of an operation, or of IOSQE_CQE_SKIP_SUCCESS, that the
+/* Returns the error with which it refuses the next entry, or 0. A strict ring goes by this machine's kernel, which serves the operation and
+ * knows IOSQE_CQE_SKIP_SUCCESS or not; another that goes by Linux's rules by one that serves all; and one by the manual pages' rules by
+ * none, and refuses nothing so. Else that is -22 (EINVAL) of an operation, or of IOSQE_CQE_SKIP_SUCCESS, that the
  * kernel hasn't, and the fault that any ring finds first, of an operation and of flags; else -95 (EOPNOTSUPP) of a drain once an entry
  * without such a fault has skipped its success, for good. */
-int32_t wulgach_strict_refusal(struct wulgach_strict *strict, const struct wulgach_submission *entry, bool is_served, bool knows_skip);
+int32_t wulgach_strict_refusal(struct wulgach_strict *strict, const struct wulgach_submission *entry, bool is_strict, bool linux_rules, bool is_served, bool knows_skip);
 
 /* ---- messages between rings ---- */
 

@@ -174,6 +174,10 @@ void wulgach_times_sleeps_for(const struct wulgach_times *times, const struct wu
  * passed. To be asked before the sleep. */
 void wulgach_times_comes_to(const struct wulgach_times *times, const struct wulgach_limit *until, bool can_be_woken, struct wulgach_limit *end);
 
+/* The sleep is over, and ppoll(2) has returned this: time moves on so if that is 0, and else not, since something has ended the sleep
+ * before. */
+void wulgach_times_wake(struct wulgach_times *times, const struct wulgach_limit *end, int32_t came);
+
 #ifdef __cplusplus
 }
 #endif

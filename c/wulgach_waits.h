@@ -13,7 +13,7 @@ extern "C" {
 
 /* ---- what an operation needs ---- */
 
-/* What the operation of an entry needs, of one that is a token. */
+/* What the operation of an entry needs, of one that is a token, and of which kind it is. */
 struct wulgach_needs {
     bool needs_file;            /* an open file, */
     bool asks_file;             /* of which is asked before whether it is open, */
@@ -25,19 +25,30 @@ struct wulgach_needs {
     bool goes_on;               /* it can have more than one completion: a poll, an accept or a receive */
     bool is_timeout;            /* it ends when its count is reached, or its time is over */
     bool can_make_ready;        /* carrying it out can make a descriptor ready, or unready */
+    bool is_read;               /* it reads into vectors, */
+    bool is_write;              /* or writes them */
+    bool is_poll;               /* it looks for events of its file */
+    bool is_of_sockets;         /* it sends, receives, accepts or connects */
+    bool is_receive;            /* it receives a message, */
+    bool fills_buffer;          /* and puts what belongs to that into its buffer, in front of the bytes */
+    bool is_zero_copy;          /* it has a second completion, that its memory may be used again */
     uint32_t events;            /* for which its file is polled, as poll(2) has them; or 0 */
 };
 
-/* Writes what the operation of an entry needs. */
+/* Writes what the operation of an entry needs, and of which kind it is. */
 void wulgach_needs_of(const struct wulgach_submission *entry, struct wulgach_needs *needs);
 
-/* On how many bytes an FADVISE or a MADVISE advises. 0 of an FADVISE: all from its offset on. */
-uint64_t wulgach_advised_length(const struct wulgach_submission *entry);
+/* When the files and the buffer of a request are found. */
+enum wulgach_found {
+    WULGACH_FOUND_AT_START = 0,     /* when it starts */
+    WULGACH_FOUND_BY_CALL = 1,      /* by the call that has taken it */
+    WULGACH_ASKS_START = 2          /* so, if the core lets it start: that is asked */
+};
 
-/* Whether the call that has taken a request just now finds its files and its buffer: nothing links it, nothing that drains is outstanding,
- * itself among that, unless the ring goes by Linux's rules, and it could start. Those of another are found when it starts, and may be what
- * those before it open. */
-bool wulgach_drains_find_file(const struct wulgach_drains *drains, const struct wulgach_member *request, bool linux_rules, bool may_start);
+/* Returns when those of a request are found that a call has taken just now (enum wulgach_found), as far as it is known whether the core lets
+ * it start. The call finds them if nothing links it, and no drain was ever accepted; or nothing that drains is outstanding, itself among that,
+ * unless the ring goes by Linux's rules, and the core lets it start. Those of another may be what those before it open. */
+uint32_t wulgach_drains_find_file(const struct wulgach_drains *drains, const struct wulgach_member *request, bool linux_rules, bool knows_start, bool may_start);
 
 /* ---- whether it may have to wait for its descriptor ---- */
 
@@ -115,6 +126,14 @@ enum wulgach_look {
  * another has ended; one that a cancel has found can; a timeout if its count is reached; another if its completion may be posted, where it
  * goes on, and if its descriptor is ready, where it may have to wait; or if it is to take a provided buffer and has found none. */
 uint32_t wulgach_can_finish(const struct wulgach_standing *standing, const struct wulgach_needs *needs, const struct wulgach_course *course, const struct wulgach_moment *known);
+
+/* Whether a call that sleeps polls the descriptor of a request that runs: it may have to wait for that. Another is finished or not whatever
+ * its descriptor is. */
+bool wulgach_polls(const struct wulgach_standing *standing);
+
+/* Whether a request that runs is given a descriptor of its own behind the call, since the application may close its: it may have to wait,
+ * and no registered file and no epoll instance keeps its file open. */
+bool wulgach_keeps_open(const struct wulgach_standing *standing, bool has_registered, bool has_epoll);
 
 /* How far a request has come. */
 struct wulgach_patience {
@@ -253,9 +272,6 @@ enum wulgach_try {
  * ends. `last` is 0 at first; behind WULGACH_TRY_FINDS the transfer is as was found, and `res` that of the call before. No call is made that
  * may sleep; a transfer ends with what the last call came to, or with its fault; and what a stream gave is told. */
 uint32_t wulgach_transfer_next(const struct wulgach_transfer *transfer, uint32_t last, int32_t res, int32_t *end);
-
-/* The offset at which a transfer is made whose entry has this one: of what has no offsets it is 2^64 - 1, which is none. */
-uint64_t wulgach_transfer_offset(const struct wulgach_transfer *transfer, uint64_t offset);
 
 /* ---- what becomes of an operation of sockets, of a splice and of a poll ---- */
 

@@ -43,10 +43,13 @@ static void cancel_one(void)
 {
     struct wulgach_course course = started();
     int32_t res;
-    demand(wulgach_course_awaited(&course) == WULGACH_NOT_AWAITED && wulgach_course_begins_afresh(&course), "nobody waits for one that no cancel has found");
+    demand(wulgach_course_awaited(&course, true) == WULGACH_NOT_AWAITED && !wulgach_course_asks_start(&course) && wulgach_course_begins_afresh(&course), "nobody waits for one that no cancel has found");
     demand(wulgach_course_note(&course, WULGACH_FACT_CANCELLED, 0), "a cancel");
-    demand(wulgach_course_awaited(&course) == WULGACH_AWAITED_RUNS, "but for one that it has");
+    demand(wulgach_course_awaited(&course, false) == WULGACH_AWAITED_RUNS, "but for one that it has");
     demand(wulgach_course_act(&course, &res) == WULGACH_ACT_END && res == -125, "one that was cancelled");
+    wulgach_course_begin(&course);
+    demand(wulgach_course_note(&course, WULGACH_FACT_CANCELLED, 0) && wulgach_course_asks_start(&course), "one that hasn't started");
+    demand(wulgach_course_awaited(&course, true) == WULGACH_AWAITED_WAITS && wulgach_course_awaited(&course, false) == WULGACH_NOT_AWAITED, "if it may start");
 }
 
 /* The time of a linked timeout runs while the request runs that it limits; that of another from its own start on. */
@@ -121,6 +124,7 @@ static void judge_results(void)
     demand(wulgach_looks_for_running(true, -114) && !wulgach_looks_for_running(true, -2) && !wulgach_looks_for_running(false, -114), "what a cancel looks for");
     demand(wulgach_shown_of(&cancel, -114) == 0 && wulgach_shown_of(&late, -114) == -114 && wulgach_shown_of(&cancel, -2) == 0 && wulgach_shown_of(&late, -2) == -2, "a cancel");
     demand(wulgach_looks_for_next(true, -2, true) && !wulgach_looks_for_next(true, -2, false) && !wulgach_looks_for_next(true, -114, true), "what it looks for by Linux's rules");
+    demand(wulgach_looks_ahead(true, true) && !wulgach_looks_ahead(true, false) && !wulgach_looks_ahead(false, true), "and before its end");
     demand(wulgach_shown_of(&fired, -125) == -62 && wulgach_shown_of(&idle, -125) == -125 && wulgach_shown_of(&idle, -22) == -22, "a linked timeout's end");
 }
 

@@ -23,7 +23,7 @@ struct row {
     struct turn turns[MOST];
 };
 
-#define GETS(to_submit, min_complete, policy) {to_submit, min_complete, 2, policy, true, true}
+#define GETS(to_submit, min_complete, policy) {to_submit, min_complete, 2, policy, true, true, false}
 
 static const struct row rows[] = {
     {"a call that waits returns with enough", GETS(1, 1, WULGACH_IN_ORDER), {
@@ -86,7 +86,7 @@ static const struct row rows[] = {
         {WULGACH_NOT_TAKEN, 11, .wanted = WULGACH_RETURN, .value = -11}}},
     {"a wrong head submits nothing", GETS(1, 1, WULGACH_IN_ORDER), {
         {WULGACH_WRONG_HEAD, .wanted = WULGACH_RETURN, .value = -77}}},
-    {"a call that gets no events doesn't wait", {1, 1, 2, WULGACH_BY_CHOICE, false, false}, {
+    {"a call that gets no events doesn't wait", {1, 1, 2, WULGACH_BY_CHOICE, false, false, false}, {
         {WULGACH_HEARD, .wanted = WULGACH_SUBMIT},
         {WULGACH_WAS_TAKEN, 1, .wanted = WULGACH_GO_ON},
         {WULGACH_WENT_ON, .wanted = WULGACH_GO_ON},
@@ -166,14 +166,41 @@ static void take_in_rounds(void)
     check(!wulgach_rounds_go_on(&rounds, &refused, &submitted) && submitted == 5, "a refusal behind a position");
     wulgach_rounds_begin(&rounds, 5);
     check(!wulgach_rounds_go_on(&rounds, &refused, &submitted) && submitted == -11, "a refusal before any");
-    check(wulgach_policy_of_call(WULGACH_LAZY, true, false) == WULGACH_IN_ORDER && wulgach_policy_of_call(WULGACH_LAZY, true, true) == WULGACH_LAZY && wulgach_policy_of_call(WULGACH_LAZY, false, false) == WULGACH_LAZY, "a lazy call");
-    check(wulgach_policy_of_call(WULGACH_BY_CHOICE, true, false) == WULGACH_BY_CHOICE && wulgach_policy_of_call(7, true, false) == 7, "any other");
+}
+
+/* The policy of a call that is asked for this. */
+static uint32_t policy_of(struct wulgach_asked asked)
+{
+    struct wulgach_enter call;
+    struct wulgach_command command;
+    check(wulgach_enter_begin(&call, &asked, &command) == 0, "it doesn't begin");
+    return call.asked.policy;
+}
+
+static void go_by_policies(void)
+{
+    running = "policies";
+    check(policy_of((struct wulgach_asked){.policy = WULGACH_LAZY, .has_thread = true}) == WULGACH_IN_ORDER, "a lazy call that wakes a thread");
+    check(policy_of((struct wulgach_asked){.policy = WULGACH_LAZY, .has_thread = true, .gets = true}) == WULGACH_LAZY && policy_of((struct wulgach_asked){.policy = WULGACH_LAZY}) == WULGACH_LAZY, "another");
+    check(policy_of((struct wulgach_asked){.policy = WULGACH_BY_CHOICE, .has_thread = true}) == WULGACH_BY_CHOICE, "by choice");
+}
+
+static void reach_rings(void)
+{
+    running = "rings";
+    check(wulgach_naming_of(1 | 2 | 4 | 8) == WULGACH_NAMED_BY_FD, "a descriptor");
+    check(wulgach_naming_of(16 | 1) == WULGACH_NAMED_BY_NUMBER, "a number");
+    check(wulgach_naming_of(16 | 32) == -22 && wulgach_naming_of(1u << 31) == -22, "an unknown flag");
+    check(wulgach_no_ring_fault(false) == -9 && wulgach_no_ring_fault(true) == -95, "no ring");
+    check(wulgach_looks_in_vain(true, 0, 0) && !wulgach_looks_in_vain(true, 0, 1) && !wulgach_looks_in_vain(true, 1, 0) && !wulgach_looks_in_vain(false, 0, 0), "a look");
 }
 
 int main(void)
 {
     read_arguments();
     take_in_rounds();
+    go_by_policies();
+    reach_rings();
     struct wulgach_enter call = {.before = 7};
     struct wulgach_command command = {.kind = 99};
     const struct wulgach_asked asked = {.policy = 3};

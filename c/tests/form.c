@@ -68,10 +68,11 @@ static void look_at_order(void)
 static void go_on(void)
 {
     struct wulgach_shown shown = {.posted = 3};
-    struct wulgach_shot poll = {.is_multishot = true}, accept = {.is_multishot = true, .is_accept = true}, empty = {.is_multishot = true, .is_of_messages = true}, once = {.is_accept = true};
+    struct wulgach_submission poll = {.opcode = 6, .len = 1}, accept = {.opcode = 13, .ioprio = 1}, message = {.opcode = 10, .ioprio = 2}, once = {.opcode = 13}, read = {.opcode = 22, .len = 1};
     struct wulgach_posted late = {.call = 1, .ended = 2}, early = {.call = 2, .ended = 2};
-    demand(wulgach_goes_on(&shown, &poll, 1, 4) && !wulgach_goes_on(&shown, &poll, 0, 4) && !wulgach_goes_on(&shown, &poll, -9, 4) && !wulgach_goes_on(&shown, &poll, 1, 3), "a poll");
-    demand(wulgach_goes_on(&shown, &accept, 0, 4) && !wulgach_goes_on(&shown, &empty, 16, 4) && !wulgach_goes_on(&shown, &once, 5, 4), "an accept, a message");
+    demand(wulgach_goes_on(&shown, &poll, 0, 1, 4) && !wulgach_goes_on(&shown, &poll, 0, 0, 4) && !wulgach_goes_on(&shown, &poll, 0, -9, 4) && !wulgach_goes_on(&shown, &poll, 0, 1, 3), "a poll");
+    demand(wulgach_goes_on(&shown, &accept, 0, 0, 4) && !wulgach_goes_on(&shown, &message, 0, 16, 4) && wulgach_goes_on(&shown, &message, 1, 17, 4), "an accept, a message");
+    demand(!wulgach_goes_on(&shown, &once, 0, 5, 4) && !wulgach_goes_on(&shown, &read, 5, 5, 4), "one that doesn't go on");
     demand(wulgach_tells(&late, true) && wulgach_tells(&early, false) && !wulgach_tells(&early, true), "an eventfd");
 }
 
@@ -118,10 +119,10 @@ static void be_strict(void)
     struct wulgach_strict strict;
     wulgach_strict_begin(&strict);
     struct wulgach_submission none = {0}, drain = {.flags = 2}, skip = {.flags = 64}, both = {.flags = 66}, selects = {.flags = 32 | 66}, wrong = {.flags = 128 | 66};
-    demand(wulgach_strict_refusal(&strict, &drain, true, true) == 0 && wulgach_strict_refusal(&strict, &none, false, true) == -22, "a drain, an unknown operation");
-    demand(wulgach_strict_refusal(&strict, &skip, true, false) == -22 && wulgach_strict_refusal(&strict, &drain, true, true) == 0, "a flag that isn't known");
-    demand(wulgach_strict_refusal(&strict, &selects, true, true) == -95 && wulgach_strict_refusal(&strict, &wrong, true, true) == -22 && wulgach_strict_refusal(&strict, &drain, true, true) == 0, "faults that go before");
-    demand(wulgach_strict_refusal(&strict, &both, true, true) == -95 && wulgach_strict_refusal(&strict, &drain, true, true) == -95 && wulgach_strict_refusal(&strict, &skip, true, true) == 0, "a drain behind a skip");
+    demand(wulgach_strict_refusal(&strict, &drain, true, false, true, true) == 0 && wulgach_strict_refusal(&strict, &none, true, false, false, true) == -22, "a drain, an unknown operation");
+    demand(wulgach_strict_refusal(&strict, &skip, true, false, true, false) == -22 && wulgach_strict_refusal(&strict, &drain, true, false, true, true) == 0, "a flag that isn't known");
+    demand(wulgach_strict_refusal(&strict, &selects, true, false, true, true) == -95 && wulgach_strict_refusal(&strict, &wrong, true, false, true, true) == -22 && wulgach_strict_refusal(&strict, &drain, true, false, true, true) == 0, "faults that go before");
+    demand(wulgach_strict_refusal(&strict, &both, true, false, true, true) == -95 && wulgach_strict_refusal(&strict, &drain, true, false, true, true) == -95 && wulgach_strict_refusal(&strict, &skip, true, false, true, true) == 0, "a drain behind a skip");
 }
 
 static void have_room(void)
@@ -130,8 +131,6 @@ static void have_room(void)
     demand(wulgach_layout_of(4, 8, 30, &layout) && layout.name == 16 && layout.control == 20 && layout.bytes == 28 && layout.room == 2, "a buffer");
     demand(wulgach_layout_filled(&layout, 1) == 29 && wulgach_layout_filled(&layout, 9) == 30, "what is filled");
     demand(!wulgach_layout_of(4, 8, 27, &layout) && !wulgach_layout_of(0, UINT64_MAX, 64, &layout) && layout.room == 2, "one that is too small");
-    struct wulgach_submission send = {.opcode = 26, .op_flags = 1}, receive = {.opcode = 27, .op_flags = 2};
-    demand(wulgach_call_flags(&send) == 0x4041 && wulgach_call_flags(&receive) == 0x42, "flags of a call");
 }
 
 static void do_nothing(void)

@@ -51,18 +51,27 @@ static void choose(void)
 static void post(void)
 {
     struct wulgach_drains drains;
+    struct wulgach_chain chain;
     struct wulgach_shown shown;
     struct wulgach_course course;
     int32_t res = 7;
     wulgach_drains_begin(&drains);
     demand(wulgach_drains_may_post(&drains, 0, false) && !wulgach_drains_may_post(&drains, 1, false) && !wulgach_drains_may_post(&drains, 1, true), "nothing drains");
-    demand(!wulgach_drains_accept(&drains, 3, false) && wulgach_drains_may_post(&drains, 0, false), "a chain without a drain");
-    demand(wulgach_drains_accept(&drains, 2, true), "a chain with one");
+    demand(wulgach_oldest_starts(&drains, true), "no drain");
+    wulgach_chain_first(&chain, 4);
+    wulgach_chain_sees(&chain, 8);
+    wulgach_chain_sees(&chain, 0);
+    demand(!wulgach_drains_accept(&drains, &chain) && wulgach_drains_may_post(&drains, 0, false), "a chain without a drain");
+    wulgach_chain_first(&chain, 4);
+    wulgach_chain_sees(&chain, 2);
+    demand(wulgach_drains_accept(&drains, &chain), "a chain with one");
     wulgach_drains_end(&drains, true);
     wulgach_drains_end(&drains, false);
     demand(!wulgach_drains_may_post(&drains, 0, false) && wulgach_drains_may_post(&drains, 0, true), "its second member");
     wulgach_drains_end(&drains, true);
     demand(wulgach_drains_may_post(&drains, 0, false), "behind its end");
+    demand(!wulgach_oldest_starts(&drains, true) && wulgach_oldest_starts(&drains, false), "a drain was there");
+    demand(wulgach_is_one_choice(WULGACH_IN_ORDER, true) && wulgach_is_one_choice(WULGACH_LAZY, true) && wulgach_is_one_choice(WULGACH_BY_CHOICE, false) && !wulgach_is_one_choice(WULGACH_BY_CHOICE, true), "what is one choice");
     wulgach_shown_begin(&shown);
     demand(!wulgach_shown_is_readable(&shown, 0, false) && wulgach_shown_is_readable(&shown, 0, true) && wulgach_shown_is_readable(&shown, 1, false), "an empty ring");
     wulgach_shown_post(&shown);

@@ -135,6 +135,13 @@ static void check_waits(void)
     wulgach_times_sleeps_for(&times, &unset, true, &limit);
     wulgach_times_comes_to(&times, &unset, true, &end);
     demand(!limit.is_set && !end.is_set, "one without an end");
+    uint64_t before = times.time;
+    wulgach_times_wake(&times, &end, 0);
+    wulgach_times_wake(&times, &late, 1);
+    wulgach_times_wake(&times, &late, -4);
+    demand(times.time == before, "one that something has ended");
+    wulgach_times_wake(&times, &late, 0);
+    demand(times.time == late.at, "one that came to its end");
 }
 
 int main(void)

@@ -32,17 +32,25 @@ static void look_at_needs(void)
     demand(NEEDS(.opcode = READ, .flags = 32).selects && NEEDS(.opcode = TIMEOUT).is_timeout && !NEEDS(.opcode = 15).is_timeout, "a provided buffer, a timeout");
     demand(NEEDS(.opcode = POLL_ADD, .len = 1).goes_on && NEEDS(.opcode = ACCEPT, .ioprio = 1).goes_on && NEEDS(.opcode = RECV, .ioprio = 2).goes_on && !NEEDS(.opcode = RECV, .ioprio = 1).goes_on && !NEEDS(.opcode = READ, .len = 1).goes_on, "one that goes on");
     demand(!NEEDS(.opcode = NOP).can_make_ready && NEEDS(.opcode = WRITE).can_make_ready && !NEEDS(.opcode = POLL_ADD).can_make_ready, "what makes ready");
+    demand(NEEDS(.opcode = READV).is_read && NEEDS(.opcode = WRITE).is_write && !NEEDS(.opcode = WRITE).is_read && !NEEDS(.opcode = FSYNC).is_write && NEEDS(.opcode = READ).is_read, "reads and writes");
+    demand(NEEDS(.opcode = POLL_ADD).is_poll && NEEDS(.opcode = CONNECT).is_of_sockets && !NEEDS(.opcode = SPLICE).is_of_sockets && NEEDS(.opcode = SEND_ZC).is_zero_copy && !NEEDS(.opcode = SEND).is_zero_copy, "other kinds");
+    demand(NEEDS(.opcode = RECV, .ioprio = 2).is_receive && !NEEDS(.opcode = RECV, .ioprio = 2).fills_buffer && NEEDS(.opcode = 10, .ioprio = 2).fills_buffer && !NEEDS(.opcode = 10).fills_buffer, "receives");
     demand(NEEDS(.opcode = POLL_ADD, .op_flags = 0x10005).events == 5 && NEEDS(.opcode = READ).events == 1 && NEEDS(.opcode = CONNECT).events == 4 && NEEDS(.opcode = NOP).events == 0, "events");
 }
 
 static void find_files(void)
 {
     struct wulgach_drains drains;
+    struct wulgach_chain chain;
     struct wulgach_member first = {.number = 4, .chain = 4}, second = {.number = 5, .chain = 4, .is_linked = true};
     wulgach_drains_begin(&drains);
-    demand(wulgach_drains_find_file(&drains, &first, false, true) && !wulgach_drains_find_file(&drains, &first, false, false) && !wulgach_drains_find_file(&drains, &second, false, true), "behind a link");
-    wulgach_drains_accept(&drains, 1, true);
-    demand(!wulgach_drains_find_file(&drains, &first, false, true) && wulgach_drains_find_file(&drains, &first, true, true), "behind a drain");
+    demand(wulgach_drains_find_file(&drains, &first, false, false, false) == WULGACH_FOUND_BY_CALL && wulgach_drains_find_file(&drains, &second, false, true, true) == WULGACH_FOUND_AT_START, "behind a link");
+    wulgach_chain_first(&chain, 2);
+    wulgach_drains_accept(&drains, &chain);
+    demand(wulgach_drains_find_file(&drains, &first, false, true, true) == WULGACH_FOUND_AT_START && wulgach_drains_find_file(&drains, &first, true, false, true) == WULGACH_ASKS_START, "behind a drain");
+    demand(wulgach_drains_find_file(&drains, &first, true, true, true) == WULGACH_FOUND_BY_CALL && wulgach_drains_find_file(&drains, &first, true, true, false) == WULGACH_FOUND_AT_START, "as the core lets it start");
+    demand(wulgach_polls(&(struct wulgach_standing){.is_stream = true}) && !wulgach_polls(&(struct wulgach_standing){.has_found_buffer = true}), "whom a sleep polls for");
+    demand(wulgach_keeps_open(&(struct wulgach_standing){.is_stream = true}, false, false) && !wulgach_keeps_open(&(struct wulgach_standing){.is_stream = true}, true, false) && !wulgach_keeps_open(&(struct wulgach_standing){.is_stream = true}, false, true) && !wulgach_keeps_open(&(struct wulgach_standing){0}, false, false), "whose file is kept open");
 }
 
 /* What a request is on a descriptor of which all is known. */
@@ -113,7 +121,7 @@ static void transfer(void)
     demand(next(stream, WULGACH_CALL_NONBLOCKING, -11) == 1000 + WULGACH_TRY_WAITS && next(stream, WULGACH_CALL_NONBLOCKING, -95) == 1000 + WULGACH_TRY_POLLS && next(stream, WULGACH_CALL_NONBLOCKING, -5) == -5, "asked not to wait");
     demand(next(stream, WULGACH_TRY_POLLS, 0) == 1000 + WULGACH_TRY_WAITS && next(stream, WULGACH_TRY_POLLS, 1) == 1000 + WULGACH_CALL_READY && next(stream, WULGACH_CALL_READY, -11) == -11, "polled");
     demand(next(hasty, 0, 0) == 1000 + WULGACH_CALL_PLAIN && next(hasty, WULGACH_CALL_PLAIN, -11) == -11 && next(unwilling, 0, 0) == 1000 + WULGACH_CALL_UNWILLING && next(unwilling, WULGACH_CALL_UNWILLING, -11) == 1000 + WULGACH_TRY_WAITS, "what doesn't wait");
-    demand(next(failed, 0, 0) == -9 && wulgach_transfer_offset(&stream, 5) == UINT64_MAX && wulgach_transfer_offset(&file, 5) == 5, "one that failed, offsets");
+    demand(next(failed, 0, 0) == -9, "one that failed");
 }
 
 /* The same of a call. */
@@ -144,17 +152,8 @@ static void poll_one(void)
     demand(wulgach_poll_result(5, 4, true, &res) && res == 4 && wulgach_poll_result(5, 32, false, &res) && res == -9 && wulgach_poll_result(5, 0, true, &res) && res == 1, "its events");
 }
 
-static void advise(void)
-{
-    enum { FADVISE = 24, MADVISE = 25 };
-    demand(wulgach_advised_length(&(struct wulgach_submission){.opcode = FADVISE, .addr = 7, .len = 5, .off = 9}) == 7, "an advice on a file");
-    demand(wulgach_advised_length(&(struct wulgach_submission){.opcode = MADVISE, .addr = 7, .len = 5, .off = 9}) == 9, "one on memory");
-    demand(wulgach_advised_length(&(struct wulgach_submission){.opcode = FADVISE, .len = 5, .off = 9}) == 5, "a short length");
-}
-
 int main(void)
 {
-    advise();
     look_at_needs();
     find_files();
     look_at_descriptors();

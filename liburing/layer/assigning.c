@@ -21,6 +21,24 @@ static int find_fd(struct ring *ring, int fd, bool is_registered, struct file **
     return *file ? (*file)->fd : -1;
 }
 
+/* What the last descriptor was, of those that are asked one right after the other. */
+static __thread struct {
+    bool is_kept;
+    int fd;
+    struct wulgach_nature nature;
+} asked;
+
+void begin_asking(void)
+{
+    asked.is_kept = true;
+    asked.fd = -1;
+}
+
+void end_asking(void)
+{
+    asked.is_kept = false;
+}
+
 /* Asks a descriptor what it is: nothing, if it isn't open. */
 static void ask_status(const struct request *request, struct wulgach_nature *nature)
 {
@@ -45,12 +63,23 @@ static void ask_access(const struct request *request, struct wulgach_nature *nat
     nature->can_write = mode == O_RDWR || mode == O_WRONLY;
 }
 
+static void ask_status_once(const struct request *request, struct wulgach_nature *nature)
+{
+    if (asked.is_kept && asked.fd == request->fd) {
+        *nature = asked.nature;
+        return;
+    }
+    ask_status(request, nature);
+    asked.fd = request->fd;
+    asked.nature = *nature;
+}
+
 /* Asks a descriptor what the library wants to know of it. */
 static void ask(const struct request *request, uint32_t question, struct wulgach_known *known)
 {
     switch (question) {
     case WULGACH_ASK_STATUS:
-        ask_status(request, &known->nature);
+        ask_status_once(request, &known->nature);
         known->status = true;
         return;
     case WULGACH_ASK_OFFSETS:
@@ -98,11 +127,9 @@ static bool find_files(struct ring *ring, struct request *request)
 void assign(struct ring *ring, struct request *request)
 {
     const struct io_uring_sqe *entry = &request->entry;
-    struct wulgach_needs *needs = &request->needs;
+    const struct wulgach_needs *needs = &request->needs;
     request->is_assigned = true;
     request->fd = entry->fd;
-    if (request->mapping == TOKEN)
-        wulgach_needs_of(submission_of(entry), needs);
     if (needs->needs_file && !find_files(ring, request))
         request->started = -EBADF;
     else if (needs->uses_buffer)

@@ -39,7 +39,8 @@ static struct wulgach_outstanding seen_of(const struct request *request)
         .file = (uintptr_t)request->file,
         .fd = (uint32_t)request->entry.fd,
         .is_registered = request->entry.flags & IOSQE_FIXED_FILE,
-        .is_assigned = request->is_assigned,
+        /* (what needs no file has none, whatever descriptor its entry names) */
+        .is_assigned = request->is_assigned && request->needs.needs_file,
         .code = request->entry.opcode,
         .is_token = request->mapping == TOKEN,
         .is_cancelled = request->course.is_cancelled,

@@ -3,16 +3,18 @@
  */
 #include "ends.h"
 #include "cancels.h"
+#include "issuable.h"
 #include "outlook.h"
 #include "readiness.h"
 #include "rules.h"
 #include "timeouts.h"
 #include "trace.h"
-
+#include "ways.h"
 
 void note_wait(struct ring *ring, struct request *request)
 {
     request->standing.has_to_wait = true;
+    note_patient(ring, request);
     wulgach_lookout_waits(&ring->lookout);
 }
 
@@ -37,6 +39,8 @@ static void look_behind(struct ring *ring, const struct request *ended)
         forget_waits(ring);
     if (ended->course.has_started)
         wulgach_lookout_leaves(&ring->lookout, take_request(&ring->running, ended));
+    if (ended->is_patient)
+        take_request(&ring->patient, ended);
 }
 
 void end_of(struct ring *ring, struct request *request, int32_t res, int32_t told)
@@ -52,6 +56,7 @@ void end_of(struct ring *ring, struct request *request, int32_t res, int32_t tol
     if (request->file)
         unwatch(ring, request->file->fd);
     look_behind(ring, request);
+    note_issuable_behind(ring, request, told);
     if (request->is_draining)
         wulgach_drains_end(&ring->drains, true);
     end_request(&ring->requests, request);

@@ -31,7 +31,6 @@
 /* What the application asks for. */
 struct waiting {
     uint32_t to_submit, min_complete;
-    bool is_looking;        /* it gets events, and waits for none */
     struct wulgach_limit limit;     /* how long it waits at most, in nanoseconds; behind the submission, until when in the ring's time */
     const sigset_t *signals;        /* the thread's mask, while the call sleeps, */
     uint64_t mask;                  /* unless the call gives one, at this address */
@@ -112,7 +111,7 @@ static enum wulgach_reply_kind submit_entries(struct ring *ring, struct waiting 
     }
     if (waiting->limit.is_set)
         wulgach_times_deadline(&ring->times, &waiting->limit);
-    if (waiting->is_looking && count_ready(ring) == 0)
+    if (is_recording_ways() && wulgach_looks_in_vain(waiting->flags & IORING_ENTER_GETEVENTS, waiting->min_complete, count_ready(ring)))
         record_break();
     reply->number = (uint32_t)(submitted < 0 ? -submitted : submitted);
     return submitted < 0 ? WULGACH_NOT_TAKEN : WULGACH_WAS_TAKEN;
@@ -192,25 +191,19 @@ static void see(struct ring *ring, struct wulgach_reply *reply)
     reply->is_due = has_expired(ring);
 }
 
-/* What goes on while a call is made. It is the program's policy where no thread takes entries. */
-static uint32_t policy_of_call(bool has_thread, bool gets)
-{
-    enum wulgach_policy own = policy() == LAZY ? WULGACH_LAZY : policy() == IN_ORDER ? WULGACH_IN_ORDER : WULGACH_BY_CHOICE;
-    return has_thread ? wulgach_policy_of_call(own, has_thread, gets) : own;
-}
-
 /* Carries a call out: what it does next, when it sleeps and what it returns is the library's decision. */
 static int carry_call_out(struct ring *ring, struct waiting *waiting, uint32_t flags)
 {
-    bool has_thread = ring->flags & IORING_SETUP_SQPOLL, gets = flags & IORING_ENTER_GETEVENTS;
+    bool has_thread = ring->flags & IORING_SETUP_SQPOLL;
     struct wulgach_asked asked = {
         .to_submit = waiting->to_submit,
         .min_complete = waiting->min_complete,
         .cq = ring->memory.cq_entries,
-        .policy = policy_of_call(has_thread, gets),
-        .gets = gets,
+        .policy = kind_of_policy(),
+        .gets = flags & IORING_ENTER_GETEVENTS,
         /* One with an eventfd may sleep on it. */
         .may_leave = wulgach_eventfd_may_leave(&ring->telling, has_thread),
+        .has_thread = has_thread,
     };
     struct wulgach_enter call;
     struct wulgach_command command;
@@ -244,8 +237,6 @@ static int enter_ring(struct ring *ring, uint32_t flags, struct waiting *waiting
     return result;
 }
 
-enum { SERVED_FLAGS = IORING_ENTER_GETEVENTS | IORING_ENTER_SQ_WAKEUP | IORING_ENTER_SQ_WAIT | IORING_ENTER_EXT_ARG | IORING_ENTER_REGISTERED_RING };
-
 /* Operations are carried out in the call, where the kernel's would be out of a signal's reach. */
 static void block_signals(sigset_t *before)
 {
@@ -256,19 +247,19 @@ static void block_signals(sigset_t *before)
 
 int enter(int fd, uint32_t to_submit, uint32_t min_complete, uint32_t flags, const void *argument, size_t size, const sigset_t *signals)
 {
-    if (flags & ~(uint32_t)SERVED_FLAGS)
-        return -EINVAL;
-    if (flags & IORING_ENTER_REGISTERED_RING && (fd = enrolled_fd((uint32_t)fd)) < 0)
+    int naming = wulgach_naming_of(flags);
+    if (naming < 0)
+        return naming;
+    if (naming == WULGACH_NAMED_BY_NUMBER && (fd = enrolled_fd((uint32_t)fd)) < 0)
         return fd;
     struct ring *ring = lock_ring(fd);
     if (!ring)
-        return fcntl(fd, F_GETFD) < 0 ? -EBADF : -EOPNOTSUPP;
+        return wulgach_no_ring_fault(fcntl(fd, F_GETFD) >= 0);
     ring->called_fd = fd;
     sigset_t own, given;
     struct waiting waiting = {
         .to_submit = to_submit,
         .min_complete = min_complete,
-        .is_looking = flags & IORING_ENTER_GETEVENTS && min_complete == 0,
         .signals = signals ? signals : &own,
         .mask = (uintptr_t)argument,
         .mask_size = size,

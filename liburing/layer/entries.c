@@ -78,7 +78,7 @@ static int copy_piece(struct request *request, const struct wulgach_piece *piece
 {
     switch (piece->what) {
     case WULGACH_BUFFER:
-        return is_of_sockets(request->entry.opcode) ? make_message(request) : make_vector(request);
+        return request->needs.is_of_sockets ? make_message(request) : make_vector(request);
     case WULGACH_VECTORS:
         return copy_vectors(request, piece);
     case WULGACH_PATH:
@@ -118,14 +118,17 @@ int copy_behind(struct request *request, const struct request *before)
 {
     if (request->mapping == CANCEL)
         return 0;
+    wulgach_needs_of(submission_of(&request->entry), &request->needs);
     /* (nothing is copied of one buffer, and it has no fault) */
     int32_t next = wulgach_has_one_buffer(submission_of(&request->entry)) ? make_vector(request) : copy_pieces(request, before);
     if (next == -ENOMEM)
         return next;
     if (request->entry.flags & IOSQE_BUFFER_SELECT)
         request->wanted = request->length;
-    if (next < 0)
-        request->mapping = REFUSED;
     request->fault = next;
+    if (next < 0) {
+        request->mapping = REFUSED;
+        request->needs = (struct wulgach_needs){0};
+    }
     return 0;
 }

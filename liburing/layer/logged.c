@@ -2,23 +2,16 @@
 #define _GNU_SOURCE
 #include "logged.h"
 #include "log.h"
-#include "operations.h"
 
 #include <string.h>
 
 /* Of a write in more parts the bytes aren't logged, and the comparison at the run's end tells of it. */
 enum { MOST_VECTORS = 1000 };
 
-static bool is_write(const struct request *request)
-{
-    uint8_t code = request->entry.opcode;
-    return code == IORING_OP_WRITE || code == IORING_OP_WRITEV || code == IORING_OP_WRITE_FIXED;
-}
-
 /* Most requests aren't, and are passed over at once. */
 static bool may_be_logged(const struct request *request)
 {
-    bool is_of_file = (is_write(request) && !request->standing.is_stream) || request->entry.opcode == IORING_OP_FSYNC;
+    bool is_of_file = (request->needs.is_write && !request->standing.is_stream) || request->entry.opcode == IORING_OP_FSYNC;
     return is_of_file && request->mapping == TOKEN && is_logging();
 }
 
@@ -37,7 +30,7 @@ __attribute__((noinline)) static void log_start_of(const struct ring *ring, cons
     if (!is_on_disk(request->fd, path, &file))
         return;
     struct event event = {.operation = operation_of(ring, request), .file = file};
-    if (!is_write(request)) {
+    if (!request->needs.is_write) {
         event.kind = EVENT_SYNC;
         event.offset = (int64_t)entry->off;
         event.length = entry->len;

@@ -18,12 +18,13 @@ int copy_behind(struct request *request, const struct request *before);
 /* Finds out what a request is carried out on: its file, its buffer, and whether it may have to wait. */
 void assign(struct ring *ring, struct request *request);
 
+/* Between these a descriptor is asked but once what it is, as long as no other is: the requests of a submission find theirs one right
+ * after the other, and nothing is carried out meanwhile. */
+void begin_asking(void);
+void end_asking(void);
+
 /* Asks its descriptor what the library wants to know, and so finds out whether it may have to wait for that. */
 void find_kind(struct request *request);
-
-bool is_read(const struct request *request);
-bool is_transfer(const struct request *request);
-bool is_splice(const struct request *request);
 
 /* Whether a transfer's descriptor has offsets, and whether a descriptor isn't to wait. */
 bool has_offsets(const struct request *request);

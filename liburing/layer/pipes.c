@@ -167,20 +167,41 @@ static void tell(struct ring *ring, struct request *request, bool is_there)
     wulgach_lookout_changes(&ring->lookout);
 }
 
-/* What was written while nobody looked: the first watcher says whether it is there still. Returns whether a poll has heard of it. */
-static bool tell_of_write(struct ring *ring, int watch)
+/* The watch by which a request hears of a write, or NULL: there was none. */
+static struct watch *written_watch_of(const struct pipes *pipes, const struct request *request)
 {
-    bool is_there = false, is_heard = false;
+    size_t place = request->watch > 0 ? place_of_watch(pipes, request->watch) : pipes->count;
+    bool is_written = place < pipes->count && pipes->watches[place].number == request->watch && pipes->watches[place].is_written;
+    return is_written && is_watching_by(request, request->watch) ? &pipes->watches[place] : NULL;
+}
+
+/* What was written while nobody looked: the first watcher of each pipe says whether it is there still. Returns whether a poll has heard of any. */
+static bool tell_of_writes(struct ring *ring)
+{
+    bool is_heard = false;
     for (size_t i = 0; i < ring->running.count; i++) {
         struct request *request = ring->running.rows[i];
-        if (!is_watching_by(request, watch))
+        struct watch *watch = written_watch_of(&ring->pipes, request);
+        if (!watch)
             continue;
-        if (!is_heard)
-            is_there = has_something(request);
-        is_heard = true;
-        tell(ring, request, is_there);
+        if (!watch->is_known)
+            watch->is_there = has_something(request);
+        watch->is_known = is_heard = true;
+        tell(ring, request, watch->is_there);
     }
+    for (size_t i = 0; i < ring->pipes.count; i++)
+        ring->pipes.watches[i].is_written = ring->pipes.watches[i].is_known = false;
     return is_heard;
+}
+
+/* Notes what an event says. Returns whether a pipe was written to that is watched. */
+static bool note_write(struct pipes *pipes, const struct inotify_event *event)
+{
+    size_t place = place_of_watch(pipes, event->wd);
+    if (!(event->mask & IN_MODIFY) || place == pipes->count || pipes->watches[place].number != event->wd)
+        return false;
+    pipes->watches[place].is_written = true;
+    return true;
 }
 
 /* Reads the writes that were told since they were last read, and passes them on, or drops them. Returns whether a poll has heard of one. */
@@ -188,16 +209,15 @@ static bool read_writes(struct ring *ring, bool is_dropping)
 {
     _Alignas(struct inotify_event) char events[4096];
     ssize_t length;
-    bool is_heard = false;
+    bool is_any = false;
     while ((length = read(ring->pipes.inotify, events, sizeof events)) > 0) {
         for (ssize_t at = 0; at < length;) {
             const struct inotify_event *event = (const void *)(events + at);
-            if (!is_dropping && event->mask & IN_MODIFY)
-                is_heard |= tell_of_write(ring, event->wd);
+            is_any |= !is_dropping && note_write(&ring->pipes, event);
             at += (ssize_t)(sizeof *event + event->len);
         }
     }
-    return is_heard;
+    return is_any && tell_of_writes(ring);
 }
 
 bool is_told_of_gone(const struct ring *ring, struct request *request)

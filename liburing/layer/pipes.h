@@ -13,6 +13,9 @@ struct ring;
 struct watch {
     int number;         /* the kernel's */
     bool is_awaited;    /* by a poll that runs */
+    bool is_written;    /* its pipe was written to, of which polls haven't heard yet, */
+    bool is_known;      /* and it is known whether */
+    bool is_there;      /* what was written is there still */
 };
 
 /* The pipes that a ring's polls wait for. */

@@ -13,6 +13,7 @@
 #include "account.h"
 #include "fault.h"
 #include "priorities.h"
+#include "wulgach_enter.h"
 
 #include <inttypes.h>
 #include <pthread.h>
@@ -25,6 +26,7 @@
 static struct {
     enum policy policy;
     bool is_choosing_events;
+    bool is_one_choice;             /* (asked once) */
     uint64_t random;        /* the state of the generator */
     uint32_t *list;
     uint64_t list_count;
@@ -124,6 +126,7 @@ static void read_environment(void)
     read_name(name && *name ? name : "order");
     demand(!grain || strcmp(grain, "ends") == 0 || strcmp(grain, "events") == 0, "WULGACH_CHOOSE is ends or events");
     chosen_by.is_choosing_events = !grain || strcmp(grain, "events") == 0;
+    chosen_by.is_one_choice = wulgach_is_one_choice(kind_of_policy(), chosen_by.is_choosing_events);
     chosen_by.is_recording = record && *record;
     chosen_by.is_recording_ways = chosen_by.is_recording && getenv("WULGACH_WAYS");
 }
@@ -134,6 +137,18 @@ void read_policy(void)
     pthread_once(&once, read_environment);
 }
 
+uint32_t kind_of_policy(void)
+{
+    switch (policy()) {
+    case IN_ORDER:
+        return WULGACH_IN_ORDER;
+    case LAZY:
+        return WULGACH_LAZY;
+    default:
+        return WULGACH_BY_CHOICE;
+    }
+}
+
 enum policy policy(void)
 {
     return chosen_by.policy;
@@ -142,6 +157,11 @@ enum policy policy(void)
 bool is_choosing_events(void)
 {
     return chosen_by.is_choosing_events;
+}
+
+bool is_one_choice(void)
+{
+    return chosen_by.is_one_choice;
 }
 
 /* A generator of 64 bits whose state is a counter (splitmix64). */

@@ -20,8 +20,13 @@ void read_policy(void);
 
 enum policy policy(void);
 
-/* Whether issuing and finishing are two choices (WULGACH_CHOOSE=events, the default), or one (ends). */
+/* What goes on by it while a call is made (enum wulgach_policy). */
+uint32_t kind_of_policy(void);
+
+/* Whether issuing and finishing are two choices (WULGACH_CHOOSE=events, the default), or one (ends); and whether they are one by the
+ * policy. */
 bool is_choosing_events(void);
+bool is_one_choice(void);
 
 /* Counts a choice, and returns its number. Only policies that choose make any. */
 uint64_t count_choice(void);

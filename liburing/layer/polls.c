@@ -12,7 +12,7 @@
 
 bool is_poll(const struct request *request)
 {
-    return request->entry.opcode == IORING_OP_POLL_ADD;
+    return request->needs.is_poll;
 }
 
 static short events_of(const struct request *request)

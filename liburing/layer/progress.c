@@ -7,6 +7,7 @@
 #include "extras.h"
 #include "fault.h"
 #include "injection.h"
+#include "issuable.h"
 #include "logged.h"
 #include "operations.h"
 #include "outlook.h"
@@ -51,16 +52,10 @@ bool can_finish(struct ring *ring, struct request *request)
     return look == WULGACH_LOOK_FINISHES;
 }
 
-/* Whether a request that goes on does so behind this result. */
+/* Whether a request goes on behind this result. (most can't, whatever that is) */
 static bool goes_on_behind(const struct ring *ring, const struct request *request, int32_t res)
 {
-    struct wulgach_shot shot = {
-        .is_multishot = true,
-        .is_accept = request->entry.opcode == IORING_OP_ACCEPT,
-        .is_of_messages = request->entry.opcode == IORING_OP_RECVMSG,
-        .has_bytes = request->done > 0,
-    };
-    return wulgach_goes_on(&ring->completions.at, &shot, res, ring->memory.cq_entries);
+    return request->needs.goes_on && wulgach_goes_on(&ring->completions.at, submission_of(&request->entry), request->done, res, ring->memory.cq_entries);
 }
 
 /* Posts a completion of a request before its end. It counts as of the call that submitted the request. */
@@ -86,7 +81,7 @@ static bool try_operation(struct ring *ring, struct request *request, int32_t *r
         note_wait(ring, request);
         return false;
     }
-    if (request->needs.goes_on && goes_on_behind(ring, request, *res)) {
+    if (goes_on_behind(ring, request, *res)) {
         note_fact(request, WULGACH_FACT_WENT_ON, 0);
         post_event(ring, request, *res, WULGACH_PART_EVENT);
         return false;
@@ -121,7 +116,7 @@ static void finish_running(struct ring *ring, struct request *request)
         request->flags = wulgach_completion_flags(WULGACH_PART_CANCELLED, request->flags);
     }
     int32_t told = is_success(request, res) ? TOLD_SUCCESS : TOLD_FAILURE;
-    if (is_zero_copy(request))
+    if (request->needs.is_zero_copy)
         res = notify(ring, request, res);
     finish(ring, request->number, told);
     demand(wulgach_course_end(&request->course), "a request ends that isn't to end");
@@ -140,6 +135,7 @@ static void start(struct ring *ring, struct request *request)
     note_started(ring, request);
     if (is_poll(request) && request->started == 0)
         request->started = start_poll(request);
+    note_running(ring, request);
     if (!request->standing.is_stream)
         return;
     look_at(ring, request);
@@ -152,9 +148,10 @@ static bool issue_waiting(struct ring *ring, struct request *request)
 {
     int32_t res;
     note_standing(ring, request);
-    /* (behind its end others could start, which it doesn't find) */
-    struct request *next = ring->is_linux && request->mapping == CANCEL ? find_request(ring, &request->entry) : NULL;
+    bool is_cancel = request->mapping == CANCEL;
+    struct request *next = is_cancel && wulgach_looks_ahead(is_cancel, ring->is_linux) ? find_request(ring, &request->entry) : NULL;
     uint32_t kind = issue(ring, request->number, &res);
+    note_issued(ring, request);
     if (kind == WULGACH_ENDED) {
         int32_t shown = shown_of(ring, request, next, res);
         note_fact(request, WULGACH_FACT_DROPPED, shown);
@@ -168,10 +165,9 @@ static bool issue_waiting(struct ring *ring, struct request *request)
 
 void go_on_with(struct ring *ring, struct request *request)
 {
-    bool is_one_choice = policy() == IN_ORDER || policy() == LAZY || !is_choosing_events();
     if (request->course.has_started)
         finish_running(ring, request);
-    else if (issue_waiting(ring, request) && is_one_choice && can_finish(ring, request))
+    else if (issue_waiting(ring, request) && is_one_choice() && can_finish(ring, request))
         finish_running(ring, request);
 }
 
@@ -188,12 +184,9 @@ static struct request *first_to_finish(struct ring *ring)
 static struct request *first_to_issue(struct ring *ring)
 {
     const struct requests *requests = &ring->requests;
-    /* The least outstanding one runs or can be issued, unless it is deferred behind a drain, so of one that waits the core mostly needn't be asked. */
-    bool can_be_deferred = ring->is_linux && ring->has_drained;
-    if (requests->count > 0 && !can_be_deferred && !requests->rows[0]->course.has_started)
+    if (requests->count > 0 && !requests->rows[0]->course.has_started && wulgach_oldest_starts(&ring->drains, ring->is_linux))
         return requests->rows[0];
-    uint64_t number;
-    return requests->count > 0 && find_next(ring, &number) ? request_of(requests, number) : NULL;
+    return requests->count > 0 ? first_issuable(ring) : NULL;
 }
 
 /* What goes on first in order: way 0 of the library's, which is asked where there are two kinds. NULL if there is none. */
@@ -210,7 +203,7 @@ enum progress go_on(struct ring *ring, bool may_return)
     struct request *first = first_in_order(ring);
     if (!first)
         return STUCK;
-    if (policy() == SEEDED || policy() == BY_PRIORITY || policy() == LISTED)
+    if (is_by_choice())
         return go_on_by_choice(ring, first, may_return);
     go_on_with(ring, first);
     return WENT_ON;
@@ -225,9 +218,9 @@ void end_cancelled(struct ring *ring)
 {
     for (size_t i = 0; i < ring->requests.count;) {
         struct request *request = ring->requests.rows[i];
-        uint32_t awaited = wulgach_course_awaited(&request->course);
-        bool may_end = awaited == WULGACH_AWAITED_RUNS || (awaited == WULGACH_AWAITED_WAITS && can_issue(ring, request->number));
-        if (!may_end) {
+        bool may_start = wulgach_course_asks_start(&request->course) && can_issue(ring, request->number);
+        uint32_t awaited = wulgach_course_awaited(&request->course, may_start);
+        if (awaited == WULGACH_NOT_AWAITED) {
             i++;
             continue;
         }

@@ -74,8 +74,7 @@ void add_request(struct requests *requests, struct request *request)
     requests->rows[requests->count++] = request;
 }
 
-/* How many have a lesser number. */
-static size_t count_before(const struct requests *requests, uint64_t number)
+size_t count_before(const struct requests *requests, uint64_t number)
 {
     size_t low = 0, high = requests->count;
     while (low < high) {
@@ -115,13 +114,19 @@ size_t place_of(const struct requests *requests, uint64_t number)
     return place;
 }
 
+/* The rows before it, or behind it, are moved: where there is room on both sides, the fewer. */
 size_t insert_request(struct requests *requests, struct request *request)
 {
     size_t count = requests->count, place = count;
     if (count > 0 && requests->rows[count - 1]->number > request->number)
         place = count_before(requests, request->number);
-    if (place < count)
+    if (place < count - place && requests->rows > requests->at) {
+        memmove(requests->rows - 1, requests->rows, place * sizeof *requests->rows);
+        requests->rows--;
+        requests->room++;
+    } else if (place < count) {
         memmove(requests->rows + place + 1, requests->rows + place, (count - place) * sizeof *requests->rows);
+    }
     requests->rows[place] = request;
     requests->count++;
     return place;

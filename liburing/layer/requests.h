@@ -2,7 +2,7 @@
 #ifndef REQUESTS_H
 #define REQUESTS_H
 
-#include "wulgach_waits.h"
+#include "wulgach_calls.h"
 
 #include <linux/io_uring.h>
 #include <stdbool.h>
@@ -23,6 +23,7 @@ struct request {
     enum mapping mapping;           /* what the core was told of it */
     uint64_t looked_at;             /* of one that may have to wait: the moment at which its descriptor was last looked at, */
     bool is_found_ready;            /* and whether it was ready */
+    bool is_patient;                /* it runs, and stands among those that may have to wait */
     struct wulgach_standing standing;   /* whether it would have waited, and nothing has ended since; whether it may have to wait for a descriptor; and whether it has found a provided buffer */
     int32_t fault;                  /* of a refused entry: what it ends with */
     bool is_draining;               /* a member of its chain drains, or it does: those behind wait until all of them have ended */
@@ -31,7 +32,7 @@ struct request {
     struct file *second_file;       /* of a splice: where it reads */
     int second_fd;
     struct buffer *buffer;          /* the registered buffer that it uses, or NULL */
-    struct wulgach_needs needs;     /* what its operation needs: as zeros, until its file is looked for */
+    struct wulgach_needs needs;     /* what its operation needs, and of which kind it is: as zeros, but of a token */
     bool is_assigned;               /* these are known: when it is accepted, or, behind a link or beside a drain, when it starts */
     bool is_tried;                  /* whether it may have to wait isn't known: it is tried first, */
     bool is_tried_at_once;          /* and nothing was asked of its descriptor, */
@@ -90,8 +91,9 @@ struct request *request_or_none(const struct requests *requests, uint64_t number
 /* The request of a number. There is one. */
 struct request *request_of(const struct requests *requests, uint64_t number);
 
-/* Its place among the rows. */
+/* Its place among the rows; and how many of these have a lesser number. */
 size_t place_of(const struct requests *requests, uint64_t number);
+size_t count_before(const struct requests *requests, uint64_t number);
 
 /* Takes the first ones out, and frees nothing. */
 void drop_requests(struct requests *requests, size_t count);

@@ -49,9 +49,13 @@ struct ring {
     struct memory memory;
     struct wulgach_core core;
     bool is_linux;                      /* which keeps requests by Linux's rules; else by the manual pages' */
-    bool has_drained;                   /* an entry has asked to drain: else nobody waits but behind a link */
     struct requests requests;           /* accepted and not ended */
     struct requests running;            /* those of them that were started */
+    struct requests patient;            /* where ways are chosen: those of the running ones that may have to wait, */
+    struct request **waiting;           /* and those of them that have to at a choice, */
+    size_t waiting_room;                /* with room for so many */
+    struct requests issuable;           /* those that the core lets start, by Linux's rules, */
+    bool knows_issuable;                /* if they are known */
     struct wulgach_drains drains;       /* which of them drain, */
     bool may_count;                     /* a timeout with a count has started since none ran, */
     bool is_count_reached;              /* and one, maybe, has counted enough */
@@ -59,8 +63,6 @@ struct ring {
     struct requests staged;             /* staged and not accepted; a word that names no slot has an empty place */
     struct wulgach_entry *entries;      /* what the core is given of each of them: as many as there are slots */
     uint32_t bad_word;                  /* the word of the last of them, if that names no slot */
-    struct request **ways;              /* room for the ways of a choice: as many as there are requests */
-    size_t ways_room;
     uint32_t returns;                   /* how often in a row the choice was to return */
     struct files files;                 /* registered */
     struct buffers buffers;
@@ -76,7 +78,8 @@ struct ring {
     struct wulgach_strict strict;       /* where the layer is strict, or goes by Linux's rules: what it has seen of its entries */
     struct wulgach_restrictions restrictions;
     uint64_t accepted;                  /* how many requests were accepted so far, */
-    uint64_t begun;                     /* and how many have started */
+    uint64_t begun;                     /* and how many have started; */
+    uint64_t unstarted;                 /* each with a lesser number has started, or ended */
     struct completions completions;     /* posted and not reaped */
     struct wulgach_times times;         /* its time, in nanoseconds, and how many timeouts run: */
     struct wulgach_timeout *timeouts;   /* these, */

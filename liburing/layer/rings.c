@@ -33,6 +33,8 @@ void free_ring(struct ring *ring)
     wulgach_core_free(&ring->core);
     free_requests(&ring->requests);
     forget_requests(&ring->running);
+    forget_requests(&ring->patient);
+    forget_requests(&ring->issuable);
     free_requests(&ring->staged);
     free_entries(ring);
     free_completions(&ring->completions);
@@ -44,7 +46,7 @@ void free_ring(struct ring *ring)
     free_groups(ring);
     free_inbox(&ring->inbox);
     unregister_eventfd(ring);
-    free(ring->ways);
+    free(ring->waiting);
     free(ring->timeouts);
     close_trace(ring);
     pthread_mutex_destroy(&ring->lock);

@@ -37,7 +37,7 @@ static nfds_t list_streams(const struct ring *ring, struct pollfd *streams)
     nfds_t count = 0;
     for (size_t i = 0; i < ring->running.count; i++) {
         struct request *request = ring->running.rows[i];
-        if (request->standing.is_stream)
+        if (wulgach_polls(&request->standing))
             streams[count++] = poll_of(request);
     }
     return count;
@@ -88,8 +88,7 @@ int sleep_until(struct ring *ring, const struct wulgach_limit *until, const sigs
     free(polled);
     add_slept(ring, start);
     look_afresh(ring);
-    if (result == 0 && end.is_set)
-        wulgach_times_move_to(&ring->times, end.at);
+    wulgach_times_wake(&ring->times, &end, result);
     return result < 0 ? result : 0;
 }
 

@@ -3,10 +3,9 @@
 #define _GNU_SOURCE
 #include "sockets.h"
 #include "copying.h"
-#include "files.h"
+#include "means.h"
 #include "operations.h"
 #include "ring.h"
-#include "splices.h"
 
 #include <errno.h>
 #include <fcntl.h>
@@ -21,38 +20,6 @@ struct addressed {
     struct msghdr message;
     struct sockaddr_storage address;
 };
-
-static int32_t result_of(long result)
-{
-    return result < 0 ? -errno : (int32_t)result;
-}
-
-bool is_of_sockets(uint8_t code)
-{
-    switch (code) {
-    case IORING_OP_SEND:
-    case IORING_OP_RECV:
-    case IORING_OP_SENDMSG:
-    case IORING_OP_RECVMSG:
-    case IORING_OP_ACCEPT:
-    case IORING_OP_CONNECT:
-    case IORING_OP_SEND_ZC:
-    case IORING_OP_SENDMSG_ZC:
-        return true;
-    default:
-        return false;
-    }
-}
-
-bool is_zero_copy(const struct request *request)
-{
-    return request->entry.opcode == IORING_OP_SEND_ZC || request->entry.opcode == IORING_OP_SENDMSG_ZC;
-}
-
-static bool is_sending(const struct request *request)
-{
-    return request->entry.opcode == IORING_OP_SEND || request->entry.opcode == IORING_OP_SENDMSG || is_zero_copy(request);
-}
 
 int make_message(struct request *request)
 {
@@ -132,21 +99,11 @@ static int tell_message(const struct request *request)
     return copy_out(at + offsetof(struct msghdr, msg_flags), &message->msg_flags, sizeof message->msg_flags);
 }
 
-static int32_t move_message(struct request *request)
+int32_t move_message(struct request *request, const struct wulgach_means *means)
 {
-    int flags = (int)wulgach_call_flags(submission_of(&request->entry));
-    if (is_sending(request))
-        return result_of(sendmsg(request->fd, request->value, flags));
-    int32_t res = result_of(recvmsg(request->fd, request->value, flags));
-    if (res >= 0 && request->entry.opcode == IORING_OP_RECVMSG && tell_message(request) < 0)
+    int32_t res = make_call(&means->call);
+    if (res >= 0 && means->kind == WULGACH_BY_RECEIVE_MESSAGE && tell_message(request) < 0)
         return -EFAULT;
-    return res;
-}
-
-/* Moves what can be moved now, and says how much. */
-static int32_t move_some(struct request *request)
-{
-    int32_t res = move_message(request);
     if (res > 0)
         advance(request, (uint64_t)res);
     return res;
@@ -170,7 +127,10 @@ static int32_t receive_into_buffer(struct request *request, int32_t *filled)
         .msg_iov = &bytes,
         .msg_iovlen = 1,
     };
-    int32_t res = result_of(recvmsg(request->fd, &message, (int)wulgach_call_flags(submission_of(&request->entry))));
+    struct wulgach_held held = {.fd = request->fd, .value = (uintptr_t)&message};
+    struct wulgach_means means;
+    wulgach_means_of(submission_of(&request->entry), &held, &means);
+    int32_t res = make_call(&means.call);
     if (res < 0)
         return res;
     struct io_uring_recvmsg_out told = {message.msg_namelen, (uint32_t)message.msg_controllen, (uint32_t)res, (uint32_t)message.msg_flags};
@@ -181,22 +141,13 @@ static int32_t receive_into_buffer(struct request *request, int32_t *filled)
     return res;
 }
 
-static int32_t accept_one_socket(struct ring *ring, const struct request *request)
-{
-    const struct io_uring_sqe *entry = &request->entry;
-    int fd = accept4(request->fd, (struct sockaddr *)(uintptr_t)entry->addr, (socklen_t *)(uintptr_t)entry->addr2, (int)entry->accept_flags);
-    if (fd < 0)
-        return -errno;
-    return entry->file_index ? install_file(ring, fd, entry->file_index) : fd;
-}
-
 /* The descriptor is told not to wait for the moment of the call. */
-static int32_t begin_connect(struct request *request)
+int32_t begin_connect(struct request *request, const struct wulgach_system_call *call)
 {
     int flags = fcntl(request->fd, F_GETFL);
     if (flags >= 0 && !(flags & O_NONBLOCK))
         fcntl(request->fd, F_SETFL, flags | O_NONBLOCK);
-    int32_t res = result_of(connect(request->fd, request->value, (socklen_t)request->entry.off));
+    int32_t res = make_call(call);
     if (flags >= 0 && !(flags & O_NONBLOCK))
         fcntl(request->fd, F_SETFL, flags);
     request->done = res == -EINPROGRESS;
@@ -217,29 +168,12 @@ static int32_t error_of_socket(const struct request *request)
     return getsockopt(request->fd, SOL_SOCKET, SO_ERROR, &error, &size) < 0 ? -errno : -error;
 }
 
-/* Makes the call of the operation, so that it doesn't wait. */
-static int32_t make_call(struct ring *ring, struct request *request, int32_t *filled)
-{
-    switch (request->entry.opcode) {
-    case IORING_OP_ACCEPT:
-        return accept_one_socket(ring, request);
-    case IORING_OP_CONNECT:
-        return begin_connect(request);
-    case IORING_OP_SPLICE:
-    case IORING_OP_TEE:
-        request->done = 1;
-        return call_splice(request);
-    default:
-        return filled ? receive_into_buffer(request, filled) : move_some(request);
-    }
-}
-
 /* Does what the library said is next, and says what that came to. */
 static int32_t take_turn(struct ring *ring, struct request *request, uint32_t turn, int32_t *filled)
 {
     switch (turn) {
     case WULGACH_TURN_CALLS:
-        return make_call(ring, request, filled);
+        return filled ? receive_into_buffer(request, filled) : carry_out_by_means(ring, request);
     case WULGACH_TURN_POLLS:
         return is_polled(request);
     case WULGACH_TURN_ASKS_WILL:
@@ -264,7 +198,7 @@ static struct wulgach_call call_of(const struct request *request)
 int32_t call_socket(struct ring *ring, struct request *request)
 {
     const struct wulgach_submission *entry = submission_of(&request->entry);
-    bool fills = request->entry.opcode == IORING_OP_RECVMSG && request->needs.goes_on;
+    bool fills = request->needs.fills_buffer;
     int32_t res = 0, filled = 0;
     uint32_t turn = 0;
     for (;;) {

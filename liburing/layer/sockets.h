@@ -6,9 +6,6 @@
 
 struct ring;
 
-/* Whether an operation is one of these. */
-bool is_of_sockets(uint8_t code);
-
 /* One buffer becomes a message of a single vector. Returns 0 or -ENOMEM. */
 int make_message(struct request *request);
 
@@ -19,7 +16,9 @@ int copy_address(struct request *request, uint64_t from, size_t size);
 /* Carries the operation out: its result, or WOULD_WAIT. */
 int32_t call_socket(struct ring *ring, struct request *request);
 
-/* Whether it ends with two completions: one that the bytes were taken, and one that their memory may be used again. */
-bool is_zero_copy(const struct request *request);
+/* The call of a connect, whose descriptor is told not to wait; and that of a message, which is moved on by what was moved. Each returns its
+ * result. */
+int32_t begin_connect(struct request *request, const struct wulgach_system_call *call);
+int32_t move_message(struct request *request, const struct wulgach_means *means);
 
 #endif

@@ -7,6 +7,5 @@
 #include <poll.h>
 
 struct pollfd poll_of_splice(const struct request *request);
-int32_t call_splice(const struct request *request);
 
 #endif

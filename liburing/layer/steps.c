@@ -132,13 +132,13 @@ uint64_t flush(struct ring *ring)
     return moved;
 }
 
-bool find_next(struct ring *ring, uint64_t *number)
+bool find_next(struct ring *ring, uint64_t from, uint64_t *number)
 {
-    struct wulgach_answer answer;
-    make_plain(ring, WULGACH_NEXT, 0, &answer);
-    demand(answer.kind == WULGACH_NEXT_IS || answer.kind == WULGACH_NOTHING, "the core doesn't say what is next");
-    *number = answer.number;
-    return answer.kind == WULGACH_NEXT_IS;
+    *number = next_issuable(ring, from);
+    bool is_any = *number != UINT64_MAX;
+    if (is_traced(ring))
+        trace_plain_step(ring, WULGACH_NEXT, is_any ? WULGACH_NEXT_IS : WULGACH_NOTHING, 0, *number);
+    return is_any;
 }
 
 /* Traces a step that moves a request. */

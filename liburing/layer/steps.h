@@ -26,7 +26,7 @@ bool begin_call(struct ring *ring, uint32_t count);     /* false: memory was ref
 bool take_position(struct ring *ring);                  /* false: the word names no slot */
 struct wulgach_answer end_call(struct ring *ring);
 uint64_t flush(struct ring *ring);      /* how many completions moved */
-bool find_next(struct ring *ring, uint64_t *number);    /* false: nothing can be issued */
+bool find_next(struct ring *ring, uint64_t from, uint64_t *number);     /* none before `from` can be issued; false: none can */
 /* The kind of the answer, and the result if the request ended. */
 uint32_t issue(struct ring *ring, uint64_t number, int32_t *res);
 void finish(struct ring *ring, uint64_t number, int32_t told);

@@ -76,7 +76,7 @@ void hold_files(struct ring *ring)
 {
     for (size_t i = 0; i < ring->running.count; i++) {
         struct request *request = ring->running.rows[i];
-        if (!request->standing.is_stream || request->file || request->epoll >= 0)
+        if (!wulgach_keeps_open(&request->standing, request->file, request->epoll >= 0))
             continue;
         request->file = hold_file(request->fd);
         if (request->file)

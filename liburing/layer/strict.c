@@ -72,7 +72,5 @@ int ask_set_up(uint32_t entries, const struct io_uring_params *params)
 /* (the ring's set-up has asked) */
 int32_t strict_fault(struct ring *ring, const struct io_uring_sqe *entry)
 {
-    if (!is_on && !ring->is_linux)
-        return 0;
-    return wulgach_strict_refusal(&ring->strict, submission_of(entry), !is_on || operations[entry->opcode], !is_on || features & IORING_FEAT_CQE_SKIP);
+    return wulgach_strict_refusal(&ring->strict, submission_of(entry), is_on, ring->is_linux, operations[entry->opcode], features & IORING_FEAT_CQE_SKIP);
 }

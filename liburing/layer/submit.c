@@ -5,6 +5,7 @@
 #include "account.h"
 #include "callers.h"
 #include "fault.h"
+#include "issuable.h"
 #include "operations.h"
 #include "outlook.h"
 #include "rules.h"
@@ -12,6 +13,7 @@
 #include "strict.h"
 #include "timeouts.h"
 #include "trace.h"
+#include "ways.h"
 #include "whole_calls.h"
 
 #include <errno.h>
@@ -94,36 +96,42 @@ static void accept_one(struct ring *ring, struct request *request, const struct 
     add_request(&ring->requests, request);
 }
 
-/* A drain makes its whole chain drain. */
+/* Notes which members of a chain drain. */
 static void mark_draining(struct ring *ring, size_t first, size_t end)
 {
-    bool has_drain = false;
+    struct request **rows = ring->requests.rows;
+    struct wulgach_chain chain;
+    wulgach_chain_first(&chain, rows[first]->entry.flags);
+    for (size_t i = first + 1; i < end; i++)
+        wulgach_chain_sees(&chain, rows[i]->entry.flags);
+    bool is_draining = wulgach_drains_accept(&ring->drains, &chain);
     for (size_t i = first; i < end; i++)
-        has_drain |= wulgach_is_drain(ring->requests.rows[i]->entry.flags);
-    ring->has_drained |= has_drain;
-    bool is_draining = has_drain && wulgach_drains_accept(&ring->drains, (uint32_t)(end - first), has_drain);
-    for (size_t i = first; i < end && is_draining; i++)
-        ring->requests.rows[i]->is_draining = true;
+        rows[i]->is_draining = is_draining;
 }
 
-/* Whether the core lets a request start that nothing links, which was accepted just now. */
-static bool may_start(struct ring *ring, const struct request *request)
+/* Whether the files of a request that was accepted just now are found at once. */
+static bool is_found_by_call(struct ring *ring, const struct request *request)
 {
-    return !ring->has_drained || can_issue(ring, request->number);
+    uint32_t found = wulgach_drains_find_file(&ring->drains, &request->member, ring->is_linux, false, false);
+    if (found == WULGACH_ASKS_START)
+        found = wulgach_drains_find_file(&ring->drains, &request->member, ring->is_linux, true, can_issue(ring, request->number));
+    return found == WULGACH_FOUND_BY_CALL;
 }
 
 /* Of the requests from a row on, which are new: which drain, and on what those are carried out that wait for no other. */
 static void note_chains(struct ring *ring, size_t first)
 {
     struct request **rows = ring->requests.rows;
+    begin_asking();
     for (size_t end; first < ring->requests.count; first = end) {
         for (end = first + 1; end < ring->requests.count && wulgach_is_one_chain(&rows[end]->member, &rows[first]->member);)
             end++;
         mark_draining(ring, first, end);
         for (size_t i = first; i < end; i++)
-            if (wulgach_drains_find_file(&ring->drains, &rows[i]->member, ring->is_linux, may_start(ring, rows[i])))
+            if (is_found_by_call(ring, rows[i]))
                 assign(ring, rows[i]);
     }
+    end_asking();
 }
 
 /* Has the core take what is staged, behind which this head stands; it has the first `given` of it already. */
@@ -138,6 +146,7 @@ static int take_staged(struct ring *ring, uint32_t given, uint32_t head)
         accept_one(ring, ring->staged.rows[i], i > 0 ? ring->staged.rows[i - 1] : NULL);
     drop_requests(&ring->staged, count);
     note_chains(ring, ring->requests.count - (size_t)(ring->accepted - accepted));
+    note_issuable(ring, accepted);
     wulgach_lookout_changes(&ring->lookout);
     demand(taken.accepted == ring->accepted - accepted, "the core accepts another number of requests");
     note_accepted(ring, accepted);
@@ -158,15 +167,8 @@ bool reserve_all(struct ring *ring, uint32_t count)
     size_t whole = ring->requests.count + count;
     if (!reserve_requests(&ring->staged, count) || !reserve_requests(&ring->requests, count) || !reserve_completions(&ring->completions, whole))
         return false;
-    if (!reserve_requests(&ring->running, whole - ring->running.count) || !reserve_timeouts(ring, ring->requests.room))
+    if (!reserve_requests(&ring->running, whole - ring->running.count) || !reserve_timeouts(ring, ring->requests.room) || !reserve_ways(ring, whole))
         return false;
-    if (ring->ways_room < ring->requests.room) {
-        struct request **ways = realloc(ring->ways, ring->requests.room * sizeof *ways);
-        if (!ways)
-            return false;
-        ring->ways = ways;
-        ring->ways_room = ring->requests.room;
-    }
     return true;
 }
 

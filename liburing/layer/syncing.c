@@ -17,13 +17,11 @@ static void read_environment(void)
     is_skipping = word && strcmp(word, "skip") == 0;
 }
 
-int sync_descriptor(int fd, bool is_data)
+bool is_taken_for_synced(int fd)
 {
     static pthread_once_t once = PTHREAD_ONCE_INIT;
     struct stat about;
     pthread_once(&once, read_environment);
     bool is_open = is_skipping && fstat(fd, &about) == 0 && !(fcntl(fd, F_GETFL) & O_PATH);
-    if (is_open && (S_ISREG(about.st_mode) || S_ISDIR(about.st_mode)))
-        return 0;
-    return is_data ? fdatasync(fd) : fsync(fd);
+    return is_open && (S_ISREG(about.st_mode) || S_ISDIR(about.st_mode));
 }

@@ -6,7 +6,7 @@
 
 #include <stdbool.h>
 
-/* As fsync(2) and fdatasync(2). */
-int sync_descriptor(int fd, bool is_data);
+/* Whether an fsync(2) or fdatasync(2) of a descriptor isn't made. */
+bool is_taken_for_synced(int fd);
 
 #endif

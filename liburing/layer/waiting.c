@@ -23,11 +23,11 @@ static void fire(struct ring *ring, const struct wulgach_timeout *timeout)
         finish_timeout(ring, request_of(&ring->requests, timeout->number));
 }
 
-/* Whether a transfer on a stream waits. */
+/* Whether a request runs for whose descriptor a sleep polls. */
 static bool is_streaming(const struct ring *ring)
 {
     for (size_t i = 0; i < ring->running.count; i++)
-        if (ring->running.rows[i]->standing.is_stream)
+        if (wulgach_polls(&ring->running.rows[i]->standing))
             return true;
     return false;
 }

@@ -1,50 +1,90 @@
 /* The ways of a choice: which there are, and which one the policy takes. Only what can really go on is a way: running requests that
- * needn't wait, and those that the core says can be issued. So a choice takes no longer for those that wait behind links and drains.
+ * needn't wait, and those that the core says can be issued. Only those that may have to wait are looked at: so a choice takes no longer for
+ * the others, nor for those that wait behind links.
  */
 #include "ways.h"
+#include "issuable.h"
 #include "operations.h"
 #include "outlook.h"
 #include "policy.h"
 #include "priorities.h"
-#include "steps.h"
 #include "trace.h"
 
 #include <inttypes.h>
+#include <stdlib.h>
 
-/* The ways of a choice: which stands where is the library's. Of those that can be issued few are listed behind those that can be finished;
- * of many only their number is known, and each is asked for by its place. */
+/* The ways of a choice: which stands where is the library's. Of the running requests those that have to wait are no way: they stand in
+ * ring->waiting, by rising number. */
 struct ways {
     struct wulgach_ways of;
-    uint32_t listed;        /* how many requests stand in ring->ways */
+    uint32_t waiting;
 };
 
-/* So many that can be issued are listed. */
-enum { FEW = 8 };
+bool is_by_choice(void)
+{
+    return kind_of_policy() == WULGACH_BY_CHOICE;
+}
 
-static uint32_t list_ready(struct ring *ring)
+bool reserve_ways(struct ring *ring, size_t count)
+{
+    if (!reserve_requests(&ring->patient, count - ring->patient.count) || !reserve_requests(&ring->issuable, count - ring->issuable.count))
+        return false;
+    if (ring->waiting_room >= count)
+        return true;
+    struct request **waiting = realloc(ring->waiting, 2 * count * sizeof *waiting);
+    if (!waiting)
+        return false;
+    ring->waiting = waiting;
+    ring->waiting_room = 2 * count;
+    return true;
+}
+
+void note_patient(struct ring *ring, struct request *request)
+{
+    if (request->is_patient || !is_by_choice())
+        return;
+    request->is_patient = true;
+    insert_request(&ring->patient, request);
+}
+
+/* What can be finished whatever is so at any moment need never be asked. */
+void note_running(struct ring *ring, struct request *request)
+{
+    static const struct wulgach_moment nothing;
+    if (is_by_choice() && wulgach_can_finish(&request->standing, &request->needs, &request->course, &nothing) != WULGACH_LOOK_FINISHES)
+        note_patient(ring, request);
+}
+
+static uint32_t list_waiting(struct ring *ring)
 {
     uint32_t count = 0;
-    for (size_t i = 0; i < ring->running.count; i++)
-        if (can_finish(ring, ring->running.rows[i]))
-            ring->ways[count++] = ring->running.rows[i];
+    for (size_t i = 0; i < ring->patient.count; i++)
+        if (!can_finish(ring, ring->patient.rows[i]))
+            ring->waiting[count++] = ring->patient.rows[i];
     return count;
 }
 
 /* The first of them is what is first in order. */
 static struct ways ways_of(struct ring *ring, bool may_return)
 {
-    uint32_t ready = list_ready(ring), listed = ready;
-    uint64_t number = next_issuable(ring, 0);
-    for (; number != UINT64_MAX && listed < ready + FEW; number = next_issuable(ring, number + 1))
-        ring->ways[listed++] = request_of(&ring->requests, number);
-    uint32_t issuable = number == UINT64_MAX ? listed - ready : count_issuable(ring);
-    return (struct ways){{ready, issuable, may_return}, listed};
+    uint32_t waiting = list_waiting(ring);
+    return (struct ways){{(uint32_t)ring->running.count - waiting, how_many_issuable(ring), may_return}, waiting};
 }
 
-static struct request *issuable_at(struct ring *ring, const struct ways *ways, uint32_t place)
+/* The running request that can be finished and stands at this place among these. */
+static struct request *ready_at(struct ring *ring, const struct ways *ways, uint32_t place)
 {
-    uint32_t listed = ways->of.ready + place;
-    return listed < ways->listed ? ring->ways[listed] : request_of(&ring->requests, nth_issuable(ring, place));
+    for (uint32_t i = 0; i < ways->waiting && place_of(&ring->running, ring->waiting[i]->number) <= place; i++)
+        place++;
+    return ring->running.rows[place];
+}
+
+static uint32_t place_of_ready(struct ring *ring, const struct ways *ways, const struct request *request)
+{
+    uint32_t place = (uint32_t)place_of(&ring->running, request->number), before = 0;
+    while (before < ways->waiting && ring->waiting[before]->number < request->number)
+        before++;
+    return place - before;
 }
 
 /* The request of a way, or NULL: it is to return. */
@@ -53,9 +93,9 @@ static struct request *way_at(struct ring *ring, const struct ways *ways, uint32
     uint32_t place;
     switch (wulgach_ways_at(&ways->of, number, &place)) {
     case WULGACH_WAY_FINISH:
-        return ring->ways[place];
+        return ready_at(ring, ways, place);
     case WULGACH_WAY_ISSUE:
-        return issuable_at(ring, ways, place);
+        return issuable_at(ring, place);
     default:
         return NULL;
     }
@@ -65,20 +105,6 @@ static struct request *way_at(struct ring *ring, const struct ways *ways, uint32
 static uint32_t count_requests(const struct ways *ways)
 {
     return ways->of.ready + ways->of.issuable;
-}
-
-/* The place of a way that can be issued. */
-static uint32_t place_of_issuable(struct ring *ring, const struct ways *ways, uint64_t number)
-{
-    uint32_t low = ways->of.ready, high = count_requests(ways);
-    while (low < high) {
-        uint32_t middle = low + (high - low) / 2;
-        if (way_at(ring, ways, middle)->number < number)
-            low = middle + 1;
-        else
-            high = middle;
-    }
-    return low;
 }
 
 /* Says what going on with a request means: before it is done, since it may free the request. */
@@ -117,38 +143,39 @@ static struct player player_of(const struct ring *ring, const struct request *wa
     return way ? (struct player){.ring = ring->index, .chain = way->member.chain} : (struct player){.is_application = true};
 }
 
-/* Looks at a way, and asks whether it can go on only if it would be the highest. */
-static void look_at_way(struct highest *highest, struct ring *ring, struct request *way, bool is_known)
+static void look_at_way(struct highest *highest, struct ring *ring, struct request *way)
 {
     uint64_t priority = priority_of(player_of(ring, way));
-    if (priority > highest->priority && (is_known || can_issue(ring, way->number)))
+    if (priority > highest->priority)
         *highest = (struct highest){priority, way};
 }
 
 static struct request *highest_way(struct ring *ring, const struct ways *ways)
 {
     struct highest highest = {0, NULL};
+    uint32_t waiting = 0;
     if (ways->of.may_return && ring->returns < MOST_RETURNS)
-        look_at_way(&highest, ring, NULL, true);
-    for (uint32_t place = 0; place < ways->listed; place++)
-        look_at_way(&highest, ring, ring->ways[place], true);
-    for (size_t i = 0; ways->listed < count_requests(ways) && i < ring->requests.count; i++)
-        if (!ring->requests.rows[i]->course.has_started)
-            look_at_way(&highest, ring, ring->requests.rows[i], false);
+        look_at_way(&highest, ring, NULL);
+    for (size_t i = 0; i < ring->running.count; i++) {
+        if (waiting < ways->waiting && ring->waiting[waiting] == ring->running.rows[i])
+            waiting++;
+        else
+            look_at_way(&highest, ring, ring->running.rows[i]);
+    }
+    struct request *request = NULL;
+    for (uint32_t place = 0; place < ways->of.issuable; place++) {
+        request = issuable_behind(ring, place, request);
+        look_at_way(&highest, ring, request);
+    }
     return highest.way;
 }
 
 /* The place of a way; that of returning is behind all others. */
 static uint32_t place_of_way(struct ring *ring, const struct ways *ways, const struct request *way)
 {
-    uint32_t place = 0;
     if (!way)
         return count_requests(ways);
-    if (!way->course.has_started)
-        return place_of_issuable(ring, ways, way->number);
-    while (ring->ways[place] != way)
-        place++;
-    return place;
+    return way->course.has_started ? place_of_ready(ring, ways, way) : ways->of.ready + place_of_issuable(ring, way);
 }
 
 static uint32_t choose_by_priority(struct ring *ring, uint64_t at, const struct ways *ways)

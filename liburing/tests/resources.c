@@ -405,6 +405,29 @@ static void test_async_eventfd(void)
     close_ring(&ring);
 }
 
+/* Who sleeps on an eventfd calls no more: so a call of each kind leaves nothing that can go on. */
+static void test_left_to_eventfd(void)
+{
+    static const struct {
+        unsigned min_complete, flags;
+    } calls[] = {{1, IORING_ENTER_GETEVENTS}, {0, IORING_ENTER_GETEVENTS}, {0, 0}};
+    struct ring ring;
+    uint64_t count;
+    int fd = eventfd(0, EFD_NONBLOCK);
+    make_ring(&ring, 8, 0, 0);
+    check(register_at(ring.fd, IORING_REGISTER_EVENTFD, &fd, 1) == 0);
+    for (int i = 0; i < 30; i++) {
+        for (uint64_t n = 0; n < 4; n++)
+            put(&ring, IORING_OP_NOP, n, n == 0 ? IOSQE_IO_LINK : 0);
+        check(enter(&ring, 4, calls[i % 3].min_complete, calls[i % 3].flags) == 4);
+        check(count_ready(&ring) == 4 && read(fd, &count, sizeof count) == sizeof count);
+        for (int n = 0; n < 4; n++)
+            reap(&ring);
+    }
+    close(fd);
+    close_ring(&ring);
+}
+
 /* An advice has its length in 64 bits, and in 32 only where that is 0. */
 static void test_advice(void)
 {
@@ -553,6 +576,7 @@ int main(int count, char **words)
         {"groups", test_groups},
         {"eventfd", test_eventfd},
         {"async eventfd", test_async_eventfd},
+        {"left to an eventfd", test_left_to_eventfd},
         {"advice", test_advice},
         {"restrictions", test_restrictions},
         {"rings by number", test_rings_by_number},

@@ -237,6 +237,34 @@ static void test_used_again(void)
     close_ring(&ring);
 }
 
+/* Of the reads of a call each is of its own descriptor: a file, a pipe, or nothing, once, or twice in a row. */
+static void test_in_turn(void)
+{
+    struct ring ring;
+    char text[9][4];
+    int32_t results[9];
+    int ends[2], file = make_file(), other = make_file(), gone = dup(file);
+    check(pipe(ends) == 0 && write(file, "foobar", 6) == 6 && write(other, "b", 1) == 1);
+    int turns[] = {file, file, ends[0], ends[0], other, gone, gone, file, ends[0]};
+    int32_t wanted[] = {4, 4, 2, 2, 1, -EBADF, -EBADF, 4, 2};
+    make_ring(&ring, 16, 0, 0);
+    for (int round = 0; round < 2; round++) {
+        check(write(ends[1], "123456", 6) == 6);
+        for (uint64_t i = 0; i < 9; i++)
+            put_transfer(&ring, IORING_OP_READ, i, 0, turns[i], text[i], turns[i] == ends[0] ? 2 : 4, 0);
+        check(enter(&ring, 9, 9, IORING_ENTER_GETEVENTS) == 9);
+        reap_all(&ring, 9, results);
+        for (int i = 0; i < 9; i++)
+            check(results[i] == (turns[i] == gone && round == 0 ? 4 : wanted[i]));
+        close(gone);
+    }
+    for (int i = 0; i < 2; i++)
+        close(ends[i]);
+    close(file);
+    close(other);
+    close_ring(&ring);
+}
+
 /* Faults of ring 0, as WULGACH_FAULTS says. */
 static void test_injection(void)
 {
@@ -279,6 +307,7 @@ int main(int count, char **words)
         {"not waiting", test_not_waiting},
         {"without offsets", test_without_offsets},
         {"used again", test_used_again},
+        {"in turn", test_in_turn},
     };
     static const struct named injection = {"injection", test_injection};
     if (count > 1 && strcmp(words[1], injection.name) == 0)

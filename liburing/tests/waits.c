@@ -167,6 +167,32 @@ static void test_cancels(void)
     close_ring(&ring);
 }
 
+/* What needs no file isn't found by a descriptor, whatever its entry names. */
+static void test_cancel_by_unused_descriptor(void)
+{
+    struct ring ring;
+    int32_t results[3];
+    struct __kernel_timespec hour = {.tv_sec = 3600};
+    int ends[2];
+    check(pipe(ends) == 0);
+    make_ring(&ring, 8, 0, 0);
+    put_transfer(&ring, IORING_OP_TIMEOUT, 0, 0, ends[0], &hour, 1, 0);
+    put_plain(&ring, IORING_OP_POLL_ADD, 1, ends[0])->poll32_events = POLLIN;
+    check(enter(&ring, 2, 0, 0) == 2);
+    check(enter_for(&ring, 1, 1000) == -ETIME);
+    put_plain(&ring, IORING_OP_ASYNC_CANCEL, 2, ends[0])->cancel_flags = IORING_ASYNC_CANCEL_FD | IORING_ASYNC_CANCEL_ALL;
+    check(enter(&ring, 1, 0, 0) == 1);
+    reap_all(&ring, 2, results);
+    check(results[1] == -ECANCELED && results[2] == 1);
+    put(&ring, IORING_OP_TIMEOUT_REMOVE, 2, 0)->addr = 0;
+    check(enter(&ring, 1, 0, 0) == 1);
+    reap_all(&ring, 2, results);
+    check(results[0] == -ECANCELED && results[2] == 0);
+    close(ends[0]);
+    close(ends[1]);
+    close_ring(&ring);
+}
+
 /* Of two cancels of any in one submission neither finds the other. */
 static void test_cancels_of_any(void)
 {
@@ -522,6 +548,7 @@ int main(int count, char **words)
         {"timeouts", test_timeouts},
         {"cancels", test_cancels},
         {"cancels of any", test_cancels_of_any},
+        {"cancel by an unused descriptor", test_cancel_by_unused_descriptor},
         {"count of removed", test_count_of_removed},
         {"polls", test_polls},
         {"updated polls", test_updated_polls},

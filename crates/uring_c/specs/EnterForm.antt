@@ -12,6 +12,7 @@ use Rattle.uring_enter.specs.declared.enter.Before.{Before}
 use Rattle.uring_enter.specs.declared.enter.Before.TheVariants as before
 use Rattle.uring_enter.specs.declared.enter.Enter.{Enter}
 use Rattle.uring_enter.specs.After.{IsAfter}
+use Rattle.uring_enter.specs.Due.{on_ring}
 use Rattle.uring_c.specs.declared.enter_words.AskedWords.{AskedWords}
 use Rattle.uring_c.specs.declared.enter_words.CommandWords.{CommandWords}
 use Rattle.uring_c.specs.declared.enter_words.ReplyWords.{ReplyWords}
@@ -44,6 +45,15 @@ asked_with w (Some policy) = Some (record {
 abbrev pub asked_of : AskedWords → Option Asked
 asked_of w = asked_with w (policy_of w.policy)
 
+abbrev pub on_its_ring : Bool → Option Asked → Option Asked
+on_its_ring has_thread None = None
+on_its_ring has_thread (Some a) = Some (on_ring a has_thread)
+
+-- the same on the ring of the call, which has a thread that takes entries or hasn't: the words say what the program goes by
+abbrev pub on_ring_of : AskedWords → Option Asked
+on_ring_of w = on_its_ring w.has_thread (asked_of w)
+
+-- those of a call that has begun: it goes by its own policy
 abbrev pub words_of_asked : Asked → AskedWords
 words_of_asked a = record {
   to_submit = a.to_submit;
@@ -52,6 +62,7 @@ words_of_asked a = record {
   policy = word_of_policy a.policy;
   gets = a.gets;
   may_leave = a.may_leave;
+  has_thread = false;
 }
 
 abbrev pub wanted_in : ℕ → Bool → ℤ → CommandWords

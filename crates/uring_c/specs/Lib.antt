@@ -25,4 +25,6 @@ pub mod WaitForm
 pub mod MessageForm
 pub mod RoundForm
 pub mod RingForm
+pub mod DecisionForm
 pub mod SleepForm
+pub mod MeansForm

@@ -2,9 +2,8 @@
 ghost use Rattle.std.specs.Prelude.{◌≡◌, ℕ, List, [], ◌∷◌};
 ghost use Rattle.uring_enter.specs.Arguments as spec;
 ghost use Rattle.uring_enter.specs.Rounds.{KeepsRounds, returned};
-ghost use Rattle.uring_c.specs.RoundForm.{goes_on, submitted_of, policy_word_of};
+ghost use Rattle.uring_c.specs.RoundForm.{goes_on, submitted_of};
 
-use crate::enter_words::{policy, policy_word};
 use uring_enter::{
     Argument, Round, Rounds, argument_fault, mask_fault, reads_argument, with_fault,
 };
@@ -69,16 +68,5 @@ pub extern "C" fn wulgach_rounds_go_on(
             false
         }
         None => true,
-    }
-}
-
-/// What goes on while a call is made, by the policy of the program. A number that is none stays.
-#[unsafe(no_mangle)]
-pub extern "C" fn wulgach_policy_of_call(word: u32, has_thread: bool, gets: bool) -> u32
-    ensures { result ≡ policy_word_of word has_thread gets }
-{
-    match policy(word) {
-        Some(policy) => policy_word(policy.of_call(has_thread, gets)),
-        None => word,
     }
 }

@@ -3,7 +3,7 @@ ghost use Rattle.std.specs.Prelude.{◌≡◌, ℤ, pos, negsuc, List, [], ◌�
 ghost use Rattle.uring_enter.specs.declared.asked.Asked.{Asked};
 ghost use Rattle.uring_enter.specs.declared.reply.Reply.{Reply};
 ghost use Rattle.uring_enter.specs.Due.{due, is_reply_to};
-ghost use Rattle.uring_c.specs.EnterForm.{asked_of, reply_of, words_of_command, AreAfter};
+ghost use Rattle.uring_c.specs.EnterForm.{on_ring_of, reply_of, words_of_command, AreAfter};
 
 use crate::enter_words::{
     AskedWords, CommandWords, EnterWords, ReplyWords, command_words, enter_words,
@@ -17,12 +17,12 @@ pub extern "C" fn wulgach_enter_begin(
     asked: &AskedWords,
     command: &mut CommandWords,
 ) -> i32
-    ensures begun { (a : Asked) → asked_of asked.now ≡ Some a → (result ≡ pos 0)
+    ensures begun { (a : Asked) → on_ring_of asked.now ≡ Some a → (result ≡ pos 0)
         × AreAfter a [] call.new × (command.new ≡ words_of_command (due a [])) }
-    ensures refused { asked_of asked.now ≡ None → (result ≡ negsuc 21)
+    ensures refused { on_ring_of asked.now ≡ None → (result ≡ negsuc 21)
         × (call.new ≡ call.old) × (command.new ≡ command.old) }
 {
-    let Some(asked) = asked.asked() else {
+    let Some(asked) = asked.on_ring() else {
         return -22;
     };
     let enter = Enter::begin(asked);

@@ -14,6 +14,7 @@ pub struct AskedWords {
     pub policy: u32,
     pub gets: bool,
     pub may_leave: bool,
+    pub has_thread: bool,
 }
 
 /// What a call wants: `struct wulgach_command`.
@@ -62,6 +63,18 @@ impl AskedWords {
             policy,
             may_leave: self.may_leave,
         })
+    }
+}
+
+impl AskedWords {
+    /// The same of a call on its ring, by what the program goes by.
+    pub(crate) fn on_ring(&self) -> Option<Asked>
+        ensures { result ≡ spec.on_ring_of self.now }
+    {
+        match self.asked() {
+            Some(asked) => Some(asked.on_ring(self.has_thread)),
+            None => None,
+        }
     }
 }
 
@@ -181,6 +194,7 @@ fn asked_words(asked: Asked) -> AskedWords
         policy: policy_word(asked.policy),
         gets: asked.gets,
         may_leave: asked.may_leave,
+        has_thread: false,
     }
 }
 

@@ -6,7 +6,7 @@ ghost use Rattle.uring_enter.specs.NoOps.{result_of};
 ghost use Rattle.uring_c.specs.RingForm.{form_of_word};
 
 use uring_enter::{
-    CoreEntry, Form, Layout, Member, Submission, call_flags, core_entry_of, flags_before, is_drain,
+    CoreEntry, Form, Layout, Member, Submission, core_entry_of, flags_before, is_drain,
     is_one_chain, layout_of, no_op_result, slot_of,
 };
 
@@ -89,12 +89,4 @@ pub extern "C" fn wulgach_layout_filled(layout: &Layout, came: u32) -> u64
     ensures { layout.now.bytes + layout.now.room < 2 ^ 64 → result ≡ layouts.filled layout.now came }
 {
     layout.filled(came)
-}
-
-/// The flags with which the call of a message is made.
-#[unsafe(no_mangle)]
-pub extern "C" fn wulgach_call_flags(entry: &Submission) -> u32
-    ensures { result ≡ layouts.call_flags entry.now }
-{
-    call_flags(entry)
 }

@@ -2,10 +2,10 @@
 ghost use Rattle.std.specs.Prelude.{◌≡◌, List};
 ghost use Rattle.uring_enter.specs.Forms.{form_of, rule_of, is_rule};
 ghost use Rattle.uring_enter.specs.Showing.{Change, KeepsShown};
-ghost use Rattle.uring_enter.specs.Shots.{goes_on, has_room, tells};
+ghost use Rattle.uring_enter.specs.Shots.{goes_on, has_room, shot_of, tells};
 ghost use Rattle.uring_c.specs.EntryForm.{word_of_form, fault_of_form};
 
-use uring_enter::{Form, Posted, Shot, Shown, Submission, form_of, rule_of};
+use uring_enter::{Form, Posted, Shown, Submission, form_of, rule_of};
 
 /// Returns what an entry is to the core, and writes its fault, or 0. `refusal` is the error with which a strict ring refuses it, or 0.
 #[unsafe(no_mangle)]
@@ -50,13 +50,19 @@ pub extern "C" fn wulgach_is_served(code: u8) -> bool
     rule_of(code).is_some()
 }
 
-/// Whether a request goes on behind this result, in a ring of so many entries; else it ends with it.
+/// Whether the request of an entry, which has moved so many bytes, goes on behind this result, in a ring of so many entries; else it ends with it.
 #[unsafe(no_mangle)]
-pub extern "C" fn wulgach_goes_on(shown: &Shown, shot: &Shot, res: i32, entries: u32) -> bool
+pub extern "C" fn wulgach_goes_on(
+    shown: &Shown,
+    entry: &Submission,
+    done: u64,
+    res: i32,
+    entries: u32,
+) -> bool
     ensures { (log : List Change) → KeepsShown log shown.now
-        → result ≡ goes_on shot.now res (has_room log entries) }
+        → result ≡ goes_on (shot_of entry.now done) res (has_room log entries) }
 {
-    shown.goes_on(*shot, res, entries)
+    shown.goes_on(entry, done, res, entries)
 }
 
 /// Whether an eventfd is told of a completion.

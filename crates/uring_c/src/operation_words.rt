@@ -2,7 +2,6 @@
 ghost use Rattle.std.specs.Prelude.{◌≡◌};
 ghost use Rattle.uring_c.specs.OperationForm as spec;
 
-use uring_entry::opcode;
 use uring_machine::Op;
 
 /// The words of an operation: `struct wulgach_operation` of the header. A word that an operation hasn't is 0.
@@ -35,49 +34,15 @@ pub struct OperationWords {
 pub(crate) fn operation_words(op: &Op) -> OperationWords
     ensures { result ≡ spec.words_of_operation op.now }
 {
-    match *op {
-        Op::Nop => bare(opcode::NOP),
-        Op::Read { fd, off, len } => OperationWords {
-            fd,
-            off,
-            len,
-            ..bare(opcode::READ)
-        },
-        Op::Write {
-            fd,
-            off,
-            len,
-            bytes,
-        } => OperationWords {
-            fd,
-            off,
-            len,
-            bytes,
-            ..bare(opcode::WRITE)
-        },
-        Op::Fsync { fd } => OperationWords {
-            fd,
-            ..bare(opcode::FSYNC)
-        },
-        Op::Cancel { target, all } => OperationWords {
-            target,
-            all: u32::from(all),
-            ..bare(opcode::ASYNC_CANCEL)
-        },
-    }
-}
-
-/// The words of an operation that has only its code.
-fn bare(code: u8) -> OperationWords
-    ensures { result ≡ spec.bare code }
-{
+    let fields = op.fields();
+    let bytes = fields.bytes;
     OperationWords {
-        code: u32::from(code),
-        fd: 0,
-        off: 0,
-        target: 0,
-        len: 0,
-        all: 0,
-        bytes: [0; 64],
+        code: u32::from(fields.code),
+        fd: fields.fd,
+        off: fields.off,
+        target: fields.target,
+        len: fields.len,
+        all: u32::from(fields.all),
+        bytes,
     }
 }

@@ -1,6 +1,6 @@
 //! What a strict ring refuses of an entry, for C: functions of `c/wulgach_form.h`.
-ghost use Rattle.std.specs.Prelude.{◌≡◌, List, [], ◌∷◌};
-ghost use Rattle.uring_enter.specs.Strictness.{Looked, Looks, KeepsStrict, refusal_of};
+ghost use Rattle.std.specs.Prelude.{◌≡◌, List, []};
+ghost use Rattle.uring_enter.specs.Strictness.{Looked, KeepsStrict, looked_by, refusal_by};
 
 use uring_enter::{Strict, Submission};
 
@@ -12,18 +12,20 @@ pub extern "C" fn wulgach_strict_begin(strict: &mut Strict)
     *strict = Strict::begin();
 }
 
-/// Returns the error with which it refuses the next entry, or 0.
+/// Returns the error with which a ring refuses the next entry, or 0: one that is strict or not, and goes by Linux's rules or the manual pages'.
 #[unsafe(no_mangle)]
 pub extern "C" fn wulgach_strict_refusal(
     strict: &mut Strict,
     entry: &Submission,
+    is_strict: bool,
+    linux: bool,
     is_served: bool,
     knows_skip: bool,
 ) -> i32
     ensures refusal { (log : List Looked) → KeepsStrict log strict.old
-        → result ≡ refusal_of log entry.now is_served knows_skip }
+        → result ≡ refusal_by log entry.now is_strict linux is_served knows_skip }
     ensures after { (log : List Looked) → KeepsStrict log strict.old
-        → KeepsStrict (Looks entry.now is_served knows_skip ∷ log) strict.new }
+        → KeepsStrict (looked_by log entry.now is_strict linux is_served knows_skip) strict.new }
 {
-    strict.refusal(entry, is_served, knows_skip)
+    strict.refusal_by(entry, is_strict, linux, is_served, knows_skip)
 }

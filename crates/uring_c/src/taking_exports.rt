@@ -1,11 +1,12 @@
 //! Which positions a call takes, and what goes on next, for C: functions of `c/wulgach_enter.h`.
-ghost use Rattle.std.specs.Prelude.{◌≡◌, ◌+◌, ◌<◌, ◌^◌, false, List, [], ◌∷◌};
+ghost use Rattle.std.specs.Prelude.{◌≡◌, ◌+◌, ◌<◌, ◌^◌, ℕ, length, false, List, [], ◌∷◌};
 ghost use Rattle.uring_enter.specs.Takings.{KeepsTaking, most, next_of, has_ended};
 ghost use Rattle.uring_enter.specs.Ways.{way_of, count_of};
-ghost use Rattle.uring_enter.specs.Drainings.{Drainage, Accepted, Ended, KeepsDrains, finds_file, outstanding, may_post};
+ghost use Rattle.uring_enter.specs.Drainings.{Drainage, Accepted, Ended, KeepsChain, KeepsDrains, outstanding, may_post};
+ghost use Rattle.uring_enter.specs.Drainings.{drains as chain_drains};
 ghost use Rattle.uring_c.specs.TakingForm.{word_of_next, cell_of_next, word_of_way, place_of_way};
 
-use uring_enter::{Drains, Item, Member, Onward, Submitting, Taking, Way, Ways};
+use uring_enter::{Chain, Drains, Item, Onward, Submitting, Taking, Way, Ways};
 
 /// Begins a call that has taken nothing, and writes the cell of its first position. Returns how many it takes at most: where that is 0, the cell stays as it was.
 #[unsafe(no_mangle)]
@@ -106,14 +107,15 @@ pub extern "C" fn wulgach_drains_begin(drains: &mut Drains)
     *drains = Drains::begin();
 }
 
-/// A chain of so many requests was accepted, of which one has IOSQE_IO_DRAIN or none. Says whether they drain.
+/// A chain was accepted. Says whether its members drain.
 #[unsafe(no_mangle)]
-pub extern "C" fn wulgach_drains_accept(drains: &mut Drains, members: u32, has_drain: bool) -> bool
-    ensures drains { result ≡ has_drain }
-    ensures after { (log : List Drainage) → KeepsDrains log drains.old
-        → outstanding log + members < 2 ^ 64 → KeepsDrains (Accepted members has_drain ∷ log) drains.new }
+pub extern "C" fn wulgach_drains_accept(drains: &mut Drains, chain: &Chain) -> bool
+    ensures drains { (members : List ℕ) → KeepsChain members chain.now → result ≡ chain_drains members }
+    ensures after { (log : List Drainage) (members : List ℕ) → KeepsDrains log drains.old
+        → KeepsChain members chain.now → outstanding log + length members < 2 ^ 64
+        → KeepsDrains (Accepted members ∷ log) drains.new }
 {
-    drains.accept(members, has_drain)
+    drains.accept(chain)
 }
 
 /// A request has ended, which drains or doesn't.
@@ -132,18 +134,4 @@ pub extern "C" fn wulgach_drains_may_post(drains: &Drains, staged: u64, linux: b
         → result ≡ may_post log staged linux }
 {
     drains.may_post(staged, linux)
-}
-
-/// Whether the call that has taken a request just now, which could start or not, finds its files and its buffer.
-#[unsafe(no_mangle)]
-pub extern "C" fn wulgach_drains_find_file(
-    drains: &Drains,
-    request: &Member,
-    linux: bool,
-    may_start: bool,
-) -> bool
-    ensures { (log : List Drainage) → KeepsDrains log drains.now
-        → result ≡ finds_file log request.now linux may_start }
-{
-    drains.finds_file(request, linux, may_start)
 }

@@ -74,13 +74,21 @@ pub extern "C" fn wulgach_course_begins_afresh(course: &Course) -> bool
     course.begins_afresh()
 }
 
-/// Returns whether a cancel by io_uring_register(2) waits for the request.
+/// Whether it matters to a cancel by io_uring_register(2) whether the core lets the request start.
 #[unsafe(no_mangle)]
-pub extern "C" fn wulgach_course_awaited(course: &Course) -> u32
-    ensures { (log : List Fact) → KeepsCourse log course.now
-        → result ≡ word_of_awaited (afresh.awaited log) }
+pub extern "C" fn wulgach_course_asks_start(course: &Course) -> bool
+    ensures { (log : List Fact) → KeepsCourse log course.now → result ≡ afresh.asks_start log }
 {
-    match course.awaited() {
+    course.asks_start()
+}
+
+/// Returns whether a cancel by io_uring_register(2) waits for the request, which the core lets start or doesn't.
+#[unsafe(no_mangle)]
+pub extern "C" fn wulgach_course_awaited(course: &Course, may_start: bool) -> u32
+    ensures { (log : List Fact) → KeepsCourse log course.now
+        → result ≡ word_of_awaited (afresh.awaited log may_start) }
+{
+    match course.awaited(may_start) {
         Awaited::NotAwaited => 0,
         Awaited::Runs => 1,
         Awaited::Waits => 2,

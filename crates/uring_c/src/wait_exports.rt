@@ -14,8 +14,7 @@ use crate::wait_words::{
 };
 use uring_enter::{
     Call, Course, Known, Moment, Needs, Patience, Standing, Submission, Transfer, Trial,
-    advised_length, is_impatient, needs_of, next_finding, next_look, next_step, next_turn,
-    offset_of, poll_result,
+    is_impatient, needs_of, next_finding, next_look, next_step, next_turn, poll_result,
 };
 
 /// Writes what the operation of an entry needs.
@@ -24,14 +23,6 @@ pub extern "C" fn wulgach_needs_of(entry: &Submission, needs: &mut Needs)
     ensures { needs.new ≡ needed.needs_of entry.now }
 {
     *needs = needs_of(entry);
-}
-
-/// On how many bytes an FADVISE or a MADVISE advises.
-#[unsafe(no_mangle)]
-pub extern "C" fn wulgach_advised_length(entry: &Submission) -> u64
-    ensures { result ≡ needed.advised_length entry.now }
-{
-    advised_length(entry)
 }
 
 /// Returns what is to be asked next of a descriptor, or what the request of an entry is on it.
@@ -78,14 +69,6 @@ pub extern "C" fn wulgach_transfer_next(
     let step = next_step(transfer, task(last), res);
     *end = step_end(step, *end);
     step_word(step)
-}
-
-/// The offset at which a transfer is made whose entry has this one.
-#[unsafe(no_mangle)]
-pub extern "C" fn wulgach_transfer_offset(transfer: &Transfer, offset: u64) -> u64
-    ensures { result ≡ tried.offset_of transfer.now offset }
-{
-    offset_of(transfer, offset)
 }
 
 /// Returns what is next of an operation of sockets or of a splice, behind what was done last, which came to `res`, and writes what it ends with, if that is known.

@@ -1,12 +1,11 @@
 -- The text of a check's report. Its words are our own rule.
-use Rattle.std.specs.Prelude.{ℕ, Bool, ◌==◌, if◌then◌else◌, ◌+◌, ◌-◌, ◌^◌, min, List, [], ◌∷◌, ◌++◌, length, codes, option_map, Option, Some, None}
+use Rattle.std.specs.Prelude.{ℕ, Bool, if◌then◌else◌, ◌+◌, ◌-◌, ◌^◌, min, List, [], ◌∷◌, ◌++◌, length, codes, option_map, Option, Some, None}
 use Rattle.std.specs.Fmt.{decimal, signed_decimal}
 use Rattle.uring_entry.specs.Layout.{Sqe, len_of, opcode_of}
-use Rattle.uring_entry.specs.Preparation.{is_read, is_write}
+use Rattle.uring_entry.specs.Preparation.{is_transfer}
 use Rattle.uring_entry.specs.Setup.{Setup}
 use Rattle.uring_linux.specs.LinuxRequests.{LinuxRequests}
 use Rattle.uring_rules.specs.Rules as by_rules
-use Rattle.uring_entry.specs.declared.opcode.TheConstants.{FSYNC}
 use Rattle.uring_entry.specs.declared.why.Why.{Why}
 use Rattle.uring_core.specs.World.{requests_of}
 use Rattle.uring_core.specs.Histories.{History, world}
@@ -16,6 +15,7 @@ use Rattle.uring_core.specs.declared.step.Step.TheVariants as step
 use Rattle.uring_core.specs.declared.wanted.Wanted.{Wanted}
 use Rattle.uring_core.specs.declared.wanted.Wanted.TheVariants.{Only, CallOrAgain, AnyEnd, EndOrNoMemory}
 use Rattle.uring_trace.specs.Explanations.{line_number}
+use Rattle.uring_text.specs.Forms.{deed_text}
 use Rattle.uring_text.specs.Lines.{ended}
 use Rattle.uring_text.specs.Visible.{visible_line}
 use Rattle.uring_trace.specs.Flaws.{line_flaw}
@@ -34,10 +34,8 @@ use Rattle.uring_check.specs.declared.verdict.Verdict.TheVariants as verdict
 -- what a request of this entry does, and of a read and a write its length
 abbrev pub operation_text : Sqe → List ℕ
 operation_text e =
-    if is_read e then codes "a read of " ++ decimal (len_of e) else
-    if is_write e then codes "a write of " ++ decimal (len_of e) else
-    if opcode_of e == FSYNC then codes "an fsync" else
-    codes "a no-op"
+    if is_transfer e then deed_text (opcode_of e) ++ codes " of " ++ decimal (len_of e)
+    else deed_text (opcode_of e)
 
 -- an end: any, or one with a result that a request of this entry may end with
 abbrev pub end_text : Option Sqe → List ℕ

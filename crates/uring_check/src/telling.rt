@@ -1,6 +1,7 @@
 //! The lines of a report.
 
 ghost use Rattle.std.specs.Prelude.{◌≡◌, ℕ, List, [], ◌++◌, OnOk, IsOk, Some, None, decimal, string_bytes, codes};
+ghost use Rattle.uring_text.specs.Forms.{deed_text};
 ghost use Rattle.uring_text.specs.Lines.{ended};
 ghost use Rattle.uring_check.specs.Reports.{closing, end_text, line_text, operation_text, wanted_text, why_bad};
 ghost use Rattle.uring_check.specs.Checking.{reasons_by};
@@ -12,10 +13,11 @@ use crate::judging::Told;
 use crate::standing::Standing;
 use crate::verdict::Verdict;
 use std::alloc::{AllocError, Global};
-use uring_entry::{Sqe, opcode};
+use uring_entry::Sqe;
 use uring_machine::Wanted;
 use uring_text::{
-    KeptLine, TextMemory, push_bytes, push_number, push_signed, push_text, push_visible_line_in,
+    KeptLine, Name, TextMemory, push_bytes, push_number, push_signed, push_text,
+    push_visible_line_in,
 };
 use uring_trace::{Language, push_answer_in, push_line_flaw_in};
 
@@ -235,12 +237,37 @@ fn push_operation<M: TextMemory>(
         (string_bytes text.new ≡ string_bytes text.old ++ operation_text entry.now) }
     ensures granted { ((n : ℕ) → M.grants memory.now n) → IsOk result }
 {
-    match entry.opcode() {
-        opcode::READ => push_length(memory, text, "a read of ", entry.len()),
-        opcode::WRITE => push_length(memory, text, "a write of ", entry.len()),
-        opcode::FSYNC => push_text(memory, text, "an fsync"),
-        _ => push_text(memory, text, "a no-op"),
+    let deed = deed(entry.opcode());
+    if entry.is_transfer() {
+        push_transfer(memory, text, deed, entry.len())
+    } else {
+        push_text(memory, text, deed)
     }
+}
+
+/// What a request of this operation does.
+fn deed(code: u8) -> &'static str
+    ensures { result.now ≡ deed_text code }
+{
+    match Name::of_code(code) {
+        Some(name) => name.deed(),
+        None => "a no-op",
+    }
+}
+
+/// Appends what moves bytes, and how many.
+fn push_transfer<M: TextMemory>(
+    memory: &M,
+    text: &mut String,
+    deed: &str,
+    len: u32,
+) -> Result<(), AllocError>
+    ensures told { OnOk result
+        (string_bytes text.new ≡ string_bytes text.old ++ (deed.now ++ codes " of " ++ decimal len)) }
+    ensures granted { ((n : ℕ) → M.grants memory.now n) → IsOk result }
+{
+    push_text(memory, text, deed)?;
+    push_length(memory, text, " of ", len)
 }
 
 /// Appends these words and a length.

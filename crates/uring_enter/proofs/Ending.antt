@@ -40,7 +40,8 @@ waiting_ends : (a : Asked) (log : List Reply) (b : Bool) (s : Sight) (v : ℤ)
     → waits a log ≡ true → going a log b s ≡ command.Return v → is_enough a log s ≡ true
 unfolding is_end
 waiting_ends a log b s v waits_on is =
-    both_left _ _ (then_of _ _ _ v (go_by_no_end a.policy _) (sym (going_waiting a log b s waits_on) ∙ is))
+    both_left _ _ (both_left _ _
+    (then_of _ _ _ v (go_by_no_end a.policy _) (sym (going_waiting a log b s waits_on) ∙ is)))
 
 -- where it was offered that the call ends, there was enough
 offered : (b g : Bool) (policy : Policy) (log : List Reply) (v : ℤ)
@@ -53,7 +54,7 @@ offered false g ByChoice log v answers = answers
 waiting_offers : (a : Asked) (log : List Reply) (b : Bool) (s : Sight)
     → waits a log ≡ true → is_reply_to (going a log b s) Chosen ≡ true → is_enough a log s ≡ true
 waiting_offers a log b s waits_on answers =
-    (offered _ _ a.policy log _
+    both_left _ _ (offered _ _ a.policy log _
     (sym (ap (λ c. is_reply_to c Chosen) (going_waiting a log b s waits_on)) ∙ answers))
 
 chosen : (a : Asked) (log : List Reply) → waits a log ≡ true

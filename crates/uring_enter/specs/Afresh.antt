@@ -1,5 +1,5 @@
 -- What becomes of a request that an update changes, or that a cancel waits for, by what has happened to it, the newest first.
-use Rattle.std.specs.Prelude.{Bool, not, ◌&&◌, List, if◌then◌else◌}
+use Rattle.std.specs.Prelude.{◌≡◌, Bool, true, false, not, ◌&&◌, List, if◌then◌else◌}
 use Rattle.uring_enter.specs.declared.act.Fact.{Fact}
 use Rattle.uring_enter.specs.declared.afresh.Awaited.{Awaited}
 use Rattle.uring_enter.specs.declared.afresh.Awaited.TheVariants.{NotAwaited, Runs, Waits}
@@ -9,9 +9,18 @@ use Rattle.uring_enter.specs.Courses.{has_started, has_ended, is_cancelled}
 abbrev pub begins_afresh : List Fact → Bool
 begins_afresh log = has_started log && not (has_ended log)
 
--- a cancel by io_uring_register(2) waits for the requests that a cancel has found, and that haven't ended: IORING_REGISTER_SYNC_CANCEL. One that hasn't started starts first, and so ends too
-abbrev pub awaited : List Fact → Awaited
-awaited log =
+-- a cancel by io_uring_register(2) waits for the requests that a cancel has found, and that haven't ended: IORING_REGISTER_SYNC_CANCEL. One that hasn't started starts first, and so ends too, if the core lets it start; the kernel waits for none that waits behind others
+abbrev pub awaited : List Fact → (may_start : Bool) → Awaited
+awaited log may_start =
     if has_ended log then NotAwaited else
     if not (is_cancelled log) then NotAwaited else
-    if has_started log then Runs else Waits
+    if has_started log then Runs else
+    if may_start then Waits else NotAwaited
+
+-- whether the core is asked if it lets the request start
+abbrev pub asks_start : List Fact → Bool
+asks_start log = is_cancelled log && not (has_started log) && not (has_ended log)
+
+-- where it isn't asked, it doesn't matter
+abbrev pub AsksForTheStart : Type 0
+AsksForTheStart = (log : List Fact) → asks_start log ≡ false → awaited log true ≡ awaited log false

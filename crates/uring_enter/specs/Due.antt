@@ -20,6 +20,22 @@ abbrev pub policy_of : Policy → Bool → Bool → Policy
 policy_of Lazy has_thread gets = if has_thread && not gets then InOrder else Lazy
 policy_of policy has_thread gets = policy
 
+-- what is asked of a call on a ring that has such a thread or hasn't, by what the program goes by
+abbrev pub on_ring : Asked → (has_thread : Bool) → Asked
+on_ring a has_thread = record {
+  to_submit = a.to_submit;
+  min_complete = a.min_complete;
+  cq = a.cq;
+  gets = a.gets;
+  policy = policy_of a.policy has_thread a.gets;
+  may_leave = a.may_leave;
+}
+
+-- a request that can be finished as it starts is finished in the same choice, unless something is chosen each time, and of events: then its start is one, and its end another. Our own rule
+abbrev pub is_one_choice : Policy → Bool → Bool
+is_one_choice ByChoice chooses_events = not chooses_events
+is_one_choice _ chooses_events = true
+
 -- going on: in order as far as it can; lazily by one request; and by choice, where it may be chosen that the call ends. Our own rule
 abbrev pub go_by : Policy → Bool → Command
 go_by InOrder may_end = GoOnFully
@@ -38,21 +54,22 @@ ended log outcome = Return (returned log outcome)
 abbrev pub unless_ready : Sight → ℕ → ℤ
 unless_ready sight number = if nat_lt 0 sight.ready then pos 0 else error number
 
--- a call that waits goes on, and where there is enough it may end; lazily it does. Our own rule
+-- a call that waits goes on, and where there is enough it may end, unless it is to leave nothing that can go on; lazily it does. Our own rule
 abbrev pub waiting : Asked → List Reply → Sight → Command
 waiting a log sight =
-    if is_enough a log sight && is_lazy a.policy then ended log (pos 0) else
-    go_by a.policy (is_enough a log sight)
+    if (is_enough a log sight && a.may_leave) && is_lazy a.policy then ended log (pos 0) else
+    go_by a.policy (is_enough a log sight && a.may_leave)
 
 -- a call that looks goes on by one request at least, if there is no completion yet. Our own rule
 abbrev pub looking : Asked → List Reply → Bool → Sight → Command
 looking a log has_gone sight =
-    if nat_lt 0 sight.ready && is_lazy a.policy then ended log (pos 0) else
-    go_by a.policy (has_gone || nat_lt 0 sight.ready)
+    if (nat_lt 0 sight.ready && a.may_leave) && is_lazy a.policy then ended log (pos 0) else
+    go_by a.policy ((has_gone || nat_lt 0 sight.ready) && a.may_leave)
 
 -- a call that nobody waits for goes on as it will; lazily not at all. Our own rule
 abbrev pub leaving : Asked → List Reply → Command
-leaving a log = if is_lazy a.policy then ended log (pos 0) else go_by a.policy a.may_leave
+leaving a log =
+    if a.may_leave && is_lazy a.policy then ended log (pos 0) else go_by a.policy a.may_leave
 
 -- going on, once the entries are submitted
 abbrev pub going : Asked → List Reply → Bool → Sight → Command

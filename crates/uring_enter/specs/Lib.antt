@@ -45,9 +45,14 @@ pub mod Strictness
 pub mod Layouts
 pub mod Arguments
 pub mod Rounds
+pub mod Reaching
 pub mod Sleeps
 pub mod Timings
 pub mod Visits
 pub mod Afresh
 pub mod CoreEntries
 pub mod Ringing
+pub mod SystemCalls
+pub mod Means
+pub mod TransferCalls
+pub mod Faults

@@ -1,4 +1,4 @@
--- What carrying out an operation needs, by lists of operations. io_uring_enter(2), at each operation; the numbers are those of <linux/io_uring.h>.
+-- What carrying out an operation needs, and of which kind it is, by lists of operations. io_uring_enter(2), at each operation; the numbers are those of <linux/io_uring.h>.
 use Rattle.std.specs.Prelude.{ℕ, Bool, not, ◌&&◌, ◌||◌, ◌==◌, if◌then◌else◌}
 use Rattle.std.specs.Int.RustNames.{bit_and}
 use Rattle.uring_enter.specs.declared.submission.Submission.{Submission}
@@ -20,6 +20,10 @@ is_transfer code = is_read code || is_write code
 -- SENDMSG, SEND, SEND_ZC and SENDMSG_ZC
 abbrev pub is_send : ℕ → Bool
 is_send code = code == 9 || code == 26 || code == 47 || code == 48
+
+-- SEND_ZC and SENDMSG_ZC: one completion says that the bytes were taken, and a second that their memory may be used again
+abbrev pub is_zero_copy : ℕ → Bool
+is_zero_copy code = code == 47 || code == 48
 
 -- RECVMSG and RECV
 abbrev pub is_receive : ℕ → Bool
@@ -64,6 +68,10 @@ goes_on e =
     is_poll e.opcode && has_some e.len 1 || e.opcode == 13 && has_some e.ioprio 1
     || is_receive e.opcode && has_some e.ioprio 2
 
+-- a RECVMSG that goes on puts sizes, flags, the address and control data into its buffer, in front of the bytes. io_uring_prep_recvmsg_multishot(3)
+abbrev pub fills_buffer : Submission → Bool
+fills_buffer e = e.opcode == 10 && has_some e.ioprio 2
+
 -- NOP, POLL_ADD, POLL_REMOVE, TIMEOUT, TIMEOUT_REMOVE, ASYNC_CANCEL and LINK_TIMEOUT do nothing to a descriptor. Our own rule: whatever another does may make one ready, or unready
 abbrev pub can_make_ready : ℕ → Bool
 can_make_ready code =
@@ -89,5 +97,12 @@ needs_of e = record {
   goes_on = goes_on e;
   is_timeout = e.opcode == 11;
   can_make_ready = can_make_ready e.opcode;
+  is_read = is_read e.opcode;
+  is_write = is_write e.opcode;
+  is_poll = is_poll e.opcode;
+  is_of_sockets = is_of_sockets e.opcode;
+  is_receive = is_receive e.opcode;
+  fills_buffer = fills_buffer e;
+  is_zero_copy = is_zero_copy e.opcode;
   events = events_of e;
 }

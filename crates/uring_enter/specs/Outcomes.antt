@@ -1,5 +1,5 @@
 -- What of a request's result is a success to the links behind it, and what is shown of one that the core ends by itself. io_uring_enter(2), IOSQE_IO_LINK, but where another section or our own rule is named.
-use Rattle.std.specs.Prelude.{ℤ, pos, negsuc, Bool, false, not, ◌&&◌, ◌||◌, ◌==◌, if◌then◌else◌}
+use Rattle.std.specs.Prelude.{◌≡◌, ℤ, pos, negsuc, Bool, true, false, not, ◌&&◌, ◌||◌, ◌==◌, if◌then◌else◌}
 use Rattle.std.specs.Ordering.{int_eq}
 use Rattle.uring_enter.specs.declared.outcome.Success.{Success}
 use Rattle.uring_enter.specs.declared.outcome.EndedEarly.{EndedEarly}
@@ -56,6 +56,15 @@ looks_for_running is_cancel res = is_cancel && int_eq res (error 114)
 -- By Linux's rules a cancel of the core's finds only what has started: -2 (ENOENT). One that could start is found all the same, since the kernel starts it in the call that takes it
 abbrev pub looks_for_next : Bool → ℤ → (linux : Bool) → Bool
 looks_for_next is_cancel res linux = linux && is_cancel && int_eq res (error 2)
+
+-- a cancel looks for such a request before the core ends it: others could start behind its end, which the kernel's cancel doesn't find
+abbrev pub looks_ahead : Bool → (linux : Bool) → Bool
+looks_ahead is_cancel linux = linux && is_cancel
+
+-- whoever looks for one once the core has ended it has looked before
+abbrev pub LooksInTime : Type 0
+LooksInTime = (is_cancel linux : Bool) (res : ℤ)
+    → looks_for_next is_cancel res linux ≡ true → looks_ahead is_cancel linux ≡ true
 
 abbrev pub may_have_found : Bool → ℤ → Bool
 may_have_found is_cancel res = is_cancel && (int_eq res (error 114) || int_eq res (error 2))

@@ -25,6 +25,32 @@ can_finish s n is_cancelled m =
     if n.goes_on && not m.may_post then false else
     if s.is_stream then finds_what_it_wants s n m else true
 
+-- whether a call that sleeps polls the descriptor of a request that runs: it may have to wait for that
+abbrev pub polls : Standing → Bool
+polls s = s.is_stream
+
+-- whether a request that runs is to be given a descriptor of its own behind the call in which it began to wait, since the application may close its: one that may have to wait keeps its file as the kernel does, unless a registered file or an epoll instance keeps it
+abbrev pub keeps_open : Standing → (has_registered has_epoll : Bool) → Bool
+keeps_open s has_registered has_epoll = s.is_stream && not has_registered && not has_epoll
+
+-- the same moment, where its descriptor is ready or isn't
+abbrev pub with_descriptor : Moment → Bool → Moment
+with_descriptor m is_ready = record {
+  knows_count = m.knows_count;
+  has_counted = m.has_counted;
+  knows_posting = m.knows_posting;
+  may_post = m.may_post;
+  knows_buffer = m.knows_buffer;
+  has_buffer = m.has_buffer;
+  knows_readiness = m.knows_readiness;
+  is_ready = is_ready;
+}
+
+-- a request that isn't polled is finished or not whatever its descriptor is: so a sleep misses none that its descriptor would let go on
+abbrev pub PollsWhatMatters : Type 0
+PollsWhatMatters = (s : Standing) (n : Needs) (is_cancelled : Bool) (m : Moment) → polls s ≡ false
+    → can_finish s n is_cancelled (with_descriptor m true) ≡ can_finish s n is_cancelled (with_descriptor m false)
+
 -- what is known of the moment: what was asked of it
 abbrev pub was_asked : Wanted → Moment → Bool
 was_asked Count m = m.knows_count

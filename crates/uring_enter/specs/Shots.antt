@@ -1,11 +1,22 @@
 -- Requests that go on, and of which completions an eventfd is told. io_uring_enter(2), IORING_POLL_ADD_MULTI, IORING_ACCEPT_MULTISHOT and IORING_RECV_MULTISHOT; io_uring_register(2), IORING_REGISTER_EVENTFD_ASYNC. io_uring_enter(2), IORING_CQE_F_MORE and IORING_CQE_F_NOTIF.
 use Rattle.std.specs.Prelude.{ℕ, ℤ, pos, negsuc, ◌-◌, Bool, false, not, ◌&&◌, ◌||◌, ◌==◌, nat_lt, List}
+use Rattle.uring_enter.specs.declared.submission.Submission.{Submission}
+use Rattle.uring_enter.specs.Needs as needs
 use Rattle.uring_enter.specs.declared.shot.Shot.{Shot}
 use Rattle.uring_enter.specs.declared.shot.Part.{Part}
 use Rattle.uring_enter.specs.declared.shot.Part.TheVariants.{Event, Sent, Notice, Own, Cancelled}
 use Rattle.std.specs.Int.RustNames.{bit_or}
 use Rattle.uring_enter.specs.declared.posted.Posted.{Posted}
 use Rattle.uring_enter.specs.Showing.{Change, posted, reaped}
+
+-- what the request of an entry is that has moved so many bytes: the results of an ACCEPT (13) are descriptors; those of a RECVMSG (10) that goes on count what stands in front of the bytes, and not these alone. IORING_ACCEPT_MULTISHOT and IORING_RECV_MULTISHOT
+abbrev pub shot_of : Submission → ℕ → Shot
+shot_of e done = record {
+  is_multishot = needs.goes_on e;
+  is_accept = e.opcode == 13;
+  is_of_messages = e.opcode == 10;
+  has_bytes = nat_lt 0 done;
+}
 
 -- a result says that something has come: no error, and not the end of what was to come, which a descriptor never is
 abbrev pub brings : Shot → ℤ → Bool

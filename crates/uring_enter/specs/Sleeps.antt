@@ -1,6 +1,7 @@
 -- How long a call sleeps at most, and what time it is behind a sleep that came to its end. Our own rules: where no descriptor is left by which another thread could wake the sleeper, it naps, and looks again.
-use Rattle.std.specs.Prelude.{ℕ, ◌-◌, Bool, ◌||◌, nat_le, min, Option, Some, None, List, if◌then◌else◌}
-use Rattle.uring_enter.specs.Timeouts.{Event, time}
+use Rattle.std.specs.Prelude.{ℕ, ℤ, pos, ◌-◌, Bool, ◌||◌, nat_le, min, Option, Some, None, List, ◌∷◌, if◌then◌else◌}
+use Rattle.std.specs.Ordering.{int_eq}
+use Rattle.uring_enter.specs.Timeouts.{Event, Clock, time}
 
 -- 10 milliseconds, in nanoseconds
 abbrev pub nap : ℕ
@@ -21,3 +22,15 @@ abbrev pub comes_to : List Event → Option ℕ → Bool → Option ℕ
 comes_to log None can_be_woken = None
 comes_to log (Some at) can_be_woken =
     if can_be_woken || nat_le (left log at) nap then Some at else None
+
+abbrev pub behind_end : List Event → Option ℕ → List Event
+behind_end log None = log
+behind_end log (Some at) = Clock at ∷ log
+
+-- to when a sleep has come: to its end only if nothing has ended it before, which ppoll(2) says by 0. One that a descriptor, a signal or an error has ended adds only what a clock says
+abbrev pub reached : Option ℕ → ℤ → Option ℕ
+reached end came = if int_eq came (pos 0) then end else None
+
+-- what has happened behind a sleep
+abbrev pub behind_sleep : List Event → Option ℕ → ℤ → List Event
+behind_sleep log end came = behind_end log (reached end came)

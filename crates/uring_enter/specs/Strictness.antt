@@ -27,6 +27,20 @@ refusal_of log e is_served knows_skip =
     if is_below (unserved_fault e is_served knows_skip) then unserved_fault e is_served knows_skip else
     if has_skipped (Looks e is_served knows_skip ∷ log) && has_some e.flags 2 then error 95 else pos 0
 
+-- whether a ring goes by a kernel: a strict one by this machine's, and one by Linux's rules by one that serves all. One by the manual pages' rules refuses nothing so
+abbrev pub goes_by_kernel : (is_strict linux : Bool) → Bool
+goes_by_kernel is_strict linux = is_strict || linux
+
+-- what a ring refuses an entry with whose operation this machine's kernel serves or not, and which knows IOSQE_CQE_SKIP_SUCCESS or not
+abbrev pub refusal_by : List Looked → Submission → (is_strict linux is_served knows_skip : Bool) → ℤ
+refusal_by log e is_strict linux is_served knows_skip =
+    if goes_by_kernel is_strict linux then refusal_of log e (not is_strict || is_served) (not is_strict || knows_skip) else pos 0
+
+-- what it was asked about behind that
+abbrev pub looked_by : List Looked → Submission → (is_strict linux is_served knows_skip : Bool) → List Looked
+looked_by log e is_strict linux is_served knows_skip =
+    if goes_by_kernel is_strict linux then Looks e (not is_strict || is_served) (not is_strict || knows_skip) ∷ log else log
+
 -- glue: what is kept is that of a ring that was asked about these
 pub record KeepsStrict (log : List Looked) (s : Strict) : Type 0 where
   pub has_skipped : s.has_skipped ≡ has_skipped log

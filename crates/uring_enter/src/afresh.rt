@@ -4,6 +4,7 @@ ghost use Rattle.std.specs.Prelude.{◌≡◌, List};
 ghost use Rattle.uring_enter.specs.declared.act.Fact.{Fact};
 ghost use Rattle.uring_enter.specs.Courses.{KeepsCourse};
 ghost use Rattle.uring_enter.specs.Afresh as spec;
+ghost use Rattle.uring_enter.specs.Afresh.{AsksForTheStart};
 
 use crate::course::Course;
 
@@ -28,16 +29,31 @@ impl Course {
         self.has_started && !self.has_ended
     }
 
-    /// Whether a cancel by io_uring_register(2) waits for the request.
-    pub fn awaited(&self) -> Awaited
-        ensures { (log : List Fact) → KeepsCourse log self.now → result ≡ spec.awaited log }
+    /// Whether it matters to that whether the core lets the request start.
+    pub fn asks_start(&self) -> bool
+        ensures { (log : List Fact) → KeepsCourse log self.now → result ≡ spec.asks_start log }
+    {
+        self.is_cancelled && !self.has_started && !self.has_ended
+    }
+
+    /// Whether a cancel by io_uring_register(2) waits for the request, which the core lets start or doesn't.
+    pub fn awaited(&self, may_start: bool) -> Awaited
+        ensures { (log : List Fact) → KeepsCourse log self.now
+            → result ≡ spec.awaited log may_start }
     {
         if self.has_ended || !self.is_cancelled {
             Awaited::NotAwaited
         } else if self.has_started {
             Awaited::Runs
-        } else {
+        } else if may_start {
             Awaited::Waits
+        } else {
+            Awaited::NotAwaited
         }
     }
 }
+
+/// Where it isn't asked whether the request may start, it doesn't matter.
+pub fn asks_for_the_start()
+    ensures { AsksForTheStart }
+{}

@@ -1,7 +1,7 @@
 //! What a call is asked for.
 
 ghost use Rattle.std.specs.Prelude.{◌≡◌};
-ghost use Rattle.uring_enter.specs.Due.{policy_of};
+ghost use Rattle.uring_enter.specs.Due.{is_one_choice, on_ring, policy_of};
 
 /// What goes on while a call is made, where more than one thing may.
 #[derive(Clone, Copy)]
@@ -33,6 +33,16 @@ impl Policy {
             Policy::ByChoice => Policy::ByChoice,
         }
     }
+
+    /// Whether a request that can be finished as it starts is finished in the same choice, where events are chosen, or only ends.
+    pub fn is_one_choice(self, chooses_events: bool) -> bool
+        ensures { result ≡ is_one_choice self chooses_events }
+    {
+        match self {
+            Policy::ByChoice => !chooses_events,
+            _ => true,
+        }
+    }
 }
 
 /// The arguments of a call, and the ring that it is made on.
@@ -53,6 +63,18 @@ pub struct Asked {
     /// What goes on meanwhile.
     pub policy: Policy,
 
-    /// Whether a call that nobody waits for may end before all has gone on. Where completions are told to an eventfd, it may not. Our own rule.
+    /// Whether a call may end before all has gone on that can, once the application has what it waits for. Where completions are told to an eventfd, it may not. Our own rule.
     pub may_leave: bool,
+}
+
+impl Asked {
+    /// The same, where `policy` is the program's, of a call on a ring that has a thread which takes entries, or hasn't.
+    pub fn on_ring(self, has_thread: bool) -> Asked
+        ensures { result ≡ on_ring self has_thread }
+    {
+        Asked {
+            policy: self.policy.of_call(has_thread, self.gets),
+            ..self
+        }
+    }
 }

@@ -1,15 +1,65 @@
-//! Which outstanding requests drain, and so whether a completion that belongs to no end of a request may be posted.
+//! Which outstanding requests drain; so whether a completion that belongs to no end of a request may be posted, when files are found, who can start, and how long that is known.
 
-ghost use Rattle.std.specs.Prelude.{◌≡◌, ◌+◌, ◌<◌, ◌^◌, List, [], ◌∷◌};
-ghost use Rattle.uring_enter.specs.Drainings.{Drainage, Accepted, Ended, KeepsDrains, finds_file, outstanding, may_post};
+ghost use Rattle.std.specs.Prelude.{◌≡◌, ◌+◌, ◌<◌, ◌^◌, ℕ, length, List, [], ◌∷◌};
+ghost use Rattle.uring_enter.specs.Drainings.{Drainage, Accepted, Ended, KeepsChain, KeepsDrains, FindsInTime, drains, keeps_startable, oldest_starts, outstanding, may_post, when_found};
+ghost use Rattle.uring_enter.specs.Drainings as spec;
 
+use crate::core_entry::is_drain;
 use crate::member::Member;
+
+/// The members of a chain, as they are seen one behind the other.
+#[repr(C)]
+#[derive(Clone, Copy, Drop)]
+pub struct Chain {
+    /// How many there are.
+    pub members: u64,
+
+    /// One has IOSQE_IO_DRAIN.
+    pub drains: bool,
+}
+
+impl Chain {
+    /// The first member of a chain, whose entry has these flags.
+    pub fn first(flags: u8) -> Chain
+        ensures { KeepsChain (flags ∷ []) result }
+    {
+        Chain {
+            members: 1,
+            drains: is_drain(flags),
+        }
+    }
+
+    /// The next member has these flags.
+    pub fn sees(&mut self, flags: u8)
+        ensures { (members : List ℕ) → KeepsChain members self.old → length members + 1 < 2 ^ 64
+            → KeepsChain (flags ∷ members) self.new }
+    {
+        self.members = self.members.saturating_add(1);
+        self.drains = is_drain(flags) || self.drains;
+    }
+}
+
+/// When the files and the buffer of a request are found.
+#[derive(Clone, Copy, Drop)]
+pub enum WhenFound {
+    /// When it starts.
+    AtItsStart,
+
+    /// By the call that has taken it.
+    ByTheCall,
+
+    /// By the call, if the core lets it start: that is asked.
+    AsksStart,
+}
 
 /// How many requests are outstanding that drain.
 #[repr(C)]
 #[derive(Clone, Copy, Drop)]
 pub struct Drains {
     pub outstanding: u64,
+
+    /// One was accepted.
+    pub has_drained: bool,
 }
 
 impl Drains {
@@ -17,19 +67,24 @@ impl Drains {
     pub fn begin() -> Drains
         ensures { KeepsDrains [] result }
     {
-        Drains { outstanding: 0 }
+        Drains {
+            outstanding: 0,
+            has_drained: false,
+        }
     }
 
-    /// A chain of so many requests was accepted, of which one has IOSQE_IO_DRAIN or none. Says whether they drain: a drain makes its whole chain drain.
-    pub fn accept(&mut self, members: u32, has_drain: bool) -> bool
-        ensures drains { result ≡ has_drain }
-        ensures after { (log : List Drainage) → KeepsDrains log self.old
-            → outstanding log + members < 2 ^ 64 → KeepsDrains (Accepted members has_drain ∷ log) self.new }
+    /// A chain was accepted. Says whether its members drain: a drain makes its whole chain drain.
+    pub fn accept(&mut self, chain: &Chain) -> bool
+        ensures drains { (members : List ℕ) → KeepsChain members chain.now → result ≡ drains members }
+        ensures after { (log : List Drainage) (members : List ℕ) → KeepsDrains log self.old
+            → KeepsChain members chain.now → outstanding log + length members < 2 ^ 64
+            → KeepsDrains (Accepted members ∷ log) self.new }
     {
-        if has_drain {
-            self.outstanding = self.outstanding.saturating_add(members as u64);
+        if chain.drains {
+            self.outstanding = self.outstanding.saturating_add(chain.members);
+            self.has_drained = true;
         }
-        has_drain
+        chain.drains
     }
 
     /// A request has ended, which drains or doesn't.
@@ -42,12 +97,45 @@ impl Drains {
         }
     }
 
-    /// Whether the call that has taken a request just now, which could start or not, finds its files and its buffer; else they are found when it starts.
-    pub fn finds_file(&self, request: &Member, linux: bool, may_start: bool) -> bool
+    /// When the files and the buffer of a request are found that a call has taken just now, as far as it is known whether the core lets it start.
+    pub fn when_found(
+        &self,
+        request: &Member,
+        linux: bool,
+        knows_start: bool,
+        may_start: bool,
+    ) -> WhenFound
         ensures { (log : List Drainage) → KeepsDrains log self.now
-            → result ≡ finds_file log request.now linux may_start }
+            → result ≡ when_found log request.now linux knows_start may_start }
     {
-        (linux || self.outstanding == 0) && !request.is_linked && may_start
+        if request.is_linked {
+            WhenFound::AtItsStart
+        } else if !self.has_drained {
+            WhenFound::ByTheCall
+        } else if !linux && self.outstanding != 0 {
+            WhenFound::AtItsStart
+        } else if !knows_start {
+            WhenFound::AsksStart
+        } else if may_start {
+            WhenFound::ByTheCall
+        } else {
+            WhenFound::AtItsStart
+        }
+    }
+
+    /// Whether the oldest outstanding request can start, if it hasn't. Else the core is to be asked which can.
+    pub fn oldest_starts(&self, linux: bool) -> bool
+        ensures { (log : List Drainage) → KeepsDrains log self.now
+            → result ≡ oldest_starts log linux }
+    {
+        !linux || !self.has_drained
+    }
+
+    /// Whether it may be kept which requests the core lets start, from one end or start of a request to the next.
+    pub fn keeps_startable(&self) -> bool
+        ensures { (log : List Drainage) → KeepsDrains log self.now → result ≡ keeps_startable log }
+    {
+        !self.has_drained
     }
 
     /// Whether a completion may be posted that belongs to no end of a request, where so many positions are staged and not taken, in a ring by Linux's rules or by the manual pages'.
@@ -58,3 +146,15 @@ impl Drains {
         (linux || self.outstanding == 0) && staged == 0
     }
 }
+
+/// Whether the end of a request, which has failed or is a cancel's, may let others start than the next of its chain. Our own rule is that it is asked so.
+pub fn lets_others_start(linux: bool, has_failed: bool, is_cancel: bool) -> bool
+    ensures { result ≡ spec.lets_others_start linux has_failed is_cancel }
+{
+    !linux && (has_failed || is_cancel)
+}
+
+/// Files are found by the call exactly if they are to be, whatever was known before.
+pub fn finds_in_time()
+    ensures { FindsInTime }
+{}

@@ -164,11 +164,11 @@ impl Enter {
         ensures { (a : Asked) (log : List Reply) → Keeps a log self.now
             → result ≡ waiting a log sight }
     {
-        let is_enough = self.is_enough(sight);
-        if is_enough && self.is_lazy() {
+        let may_end = self.is_enough(sight) && self.asked.may_leave;
+        if may_end && self.is_lazy() {
             self.ended(0)
         } else {
-            go_by(self.asked.policy, is_enough)
+            go_by(self.asked.policy, may_end)
         }
     }
 
@@ -178,10 +178,13 @@ impl Enter {
             → result ≡ looking a log has_gone sight }
     {
         let is_any = 0 < sight.ready;
-        if is_any && self.is_lazy() {
+        if is_any && self.asked.may_leave && self.is_lazy() {
             self.ended(0)
         } else {
-            go_by(self.asked.policy, has_gone || is_any)
+            go_by(
+                self.asked.policy,
+                (has_gone || is_any) && self.asked.may_leave,
+            )
         }
     }
 
@@ -190,7 +193,7 @@ impl Enter {
         ensures { (a : Asked) (log : List Reply) → Keeps a log self.now
             → result ≡ leaving a log }
     {
-        if self.is_lazy() {
+        if self.asked.may_leave && self.is_lazy() {
             self.ended(0)
         } else {
             go_by(self.asked.policy, self.asked.may_leave)

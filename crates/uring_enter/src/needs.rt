@@ -1,4 +1,4 @@
-//! What carrying out an operation needs: a file, a second one, a registered or a provided buffer; and whether it goes on. io_uring_enter(2), at each operation.
+//! What carrying out an operation needs: a file, a second one, a registered or a provided buffer; whether it goes on, and of which kind it is. io_uring_enter(2), at each operation.
 
 ghost use Rattle.std.specs.Prelude.{◌≡◌};
 ghost use Rattle.uring_enter.specs.Needs as spec;
@@ -6,7 +6,7 @@ ghost use Rattle.uring_enter.specs.Needs as spec;
 use crate::no_op::{is_of_slot, wants_buffer, wants_file};
 use crate::submission::Submission;
 
-/// What an operation needs.
+/// What an operation needs, and of which kind it is.
 #[repr(C)]
 #[derive(Clone, Copy, Drop)]
 pub struct Needs {
@@ -40,15 +40,37 @@ pub struct Needs {
     /// Carrying it out can make a descriptor ready, or unready.
     pub can_make_ready: bool,
 
+    /// It reads into vectors,
+    pub is_read: bool,
+
+    /// or writes them.
+    pub is_write: bool,
+
+    /// It looks for events of its file. IORING_OP_POLL_ADD.
+    pub is_poll: bool,
+
+    /// It sends, receives, accepts or connects.
+    pub is_of_sockets: bool,
+
+    /// It receives a message.
+    pub is_receive: bool,
+
+    /// It puts what belongs to a message into its buffer, in front of the bytes.
+    pub fills_buffer: bool,
+
+    /// It has a second completion, that its memory may be used again. IORING_OP_SEND_ZC.
+    pub is_zero_copy: bool,
+
     /// The events for which its file is polled, as poll(2) has them.
     pub events: u32,
 }
 
-/// What the operation of an entry needs.
+/// What the operation of an entry needs, and of which kind it is.
 pub fn needs_of(entry: &Submission) -> Needs
     ensures { result ≡ spec.needs_of entry.now }
 {
     match entry.opcode {
+        0 => needs_of_no_op(entry),
         22 => Needs {
             needs_file: true,
             asks_file: false,
@@ -60,9 +82,42 @@ pub fn needs_of(entry: &Submission) -> Needs
             goes_on: false,
             is_timeout: false,
             can_make_ready: true,
+            is_read: true,
+            is_write: false,
+            is_poll: false,
+            is_of_sockets: false,
+            is_receive: false,
+            fills_buffer: false,
+            is_zero_copy: false,
             events: 1,
         },
         _ => needs_of_any(entry),
+    }
+}
+
+/// The same of a no-op.
+fn needs_of_no_op(entry: &Submission) -> Needs
+    ensures { entry.now.opcode ≡ 0 → result ≡ spec.needs_of entry.now }
+{
+    Needs {
+        needs_file: wants_file(entry),
+        asks_file: wants_file(entry),
+        is_registered: entry.flags & 1 != 0 || is_of_slot(entry),
+        needs_second: false,
+        is_second_registered: entry.op_flags & 0x8000_0000 != 0,
+        uses_buffer: wants_buffer(entry),
+        selects: entry.flags & 32 != 0,
+        goes_on: false,
+        is_timeout: false,
+        can_make_ready: false,
+        is_read: false,
+        is_write: false,
+        is_poll: false,
+        is_of_sockets: false,
+        is_receive: false,
+        fills_buffer: false,
+        is_zero_copy: false,
+        events: 0,
     }
 }
 
@@ -81,6 +136,13 @@ fn needs_of_any(entry: &Submission) -> Needs
         goes_on: goes_on(entry),
         is_timeout: entry.opcode == 11,
         can_make_ready: can_make_ready(entry.opcode),
+        is_read: is_read(entry.opcode),
+        is_write: is_write(entry.opcode),
+        is_poll: entry.opcode == 6,
+        is_of_sockets: is_of_sockets(entry.opcode),
+        is_receive: is_receive(entry.opcode),
+        fills_buffer: entry.opcode == 10 && entry.ioprio & 2 != 0,
+        is_zero_copy: is_zero_copy(entry.opcode),
         events: events_of(entry),
     }
 }
@@ -92,7 +154,14 @@ pub(crate) fn is_read(code: u8) -> bool
     matches!(code, 1 | 4 | 22)
 }
 
-/// These, and the writes of their kind.
+/// WRITEV, WRITE_FIXED and WRITE.
+pub(crate) fn is_write(code: u8) -> bool
+    ensures { result ≡ spec.is_write code }
+{
+    matches!(code, 2 | 5 | 23)
+}
+
+/// These, and the reads of their kind.
 pub(crate) fn is_transfer(code: u8) -> bool
     ensures { result ≡ spec.is_transfer code }
 {
@@ -104,6 +173,13 @@ pub(crate) fn is_send(code: u8) -> bool
     ensures { result ≡ spec.is_send code }
 {
     matches!(code, 9 | 26 | 47 | 48)
+}
+
+/// SEND_ZC and SENDMSG_ZC.
+fn is_zero_copy(code: u8) -> bool
+    ensures { result ≡ spec.is_zero_copy code }
+{
+    matches!(code, 47 | 48)
 }
 
 /// RECVMSG and RECV.
@@ -163,7 +239,8 @@ fn asks_file(entry: &Submission) -> bool
     entry.opcode == 6 || wants_file(entry)
 }
 
-fn goes_on(entry: &Submission) -> bool
+/// Whether the request of an entry can have more than one completion.
+pub(crate) fn goes_on(entry: &Submission) -> bool
     ensures { result ≡ spec.goes_on entry.now }
 {
     match entry.opcode {

@@ -1,7 +1,7 @@
 //! What of a request's result is a success to the links behind it, and what is shown of one that the core ends by itself.
 
 ghost use Rattle.std.specs.Prelude.{◌≡◌};
-ghost use Rattle.uring_enter.specs.Outcomes.{cuts, is_success, is_whole, success_of_entry, wants_whole, looks_for_running, looks_for_next, may_have_found, shown_of};
+ghost use Rattle.uring_enter.specs.Outcomes.{cuts, is_success, is_whole, success_of_entry, wants_whole, looks_ahead, looks_for_running, looks_for_next, may_have_found, shown_of, LooksInTime};
 
 use crate::needs::{is_of_sockets, is_splice, is_transfer};
 use crate::submission::Submission;
@@ -167,6 +167,18 @@ pub fn looks_for_next(is_cancel: bool, res: i32, linux: bool) -> bool
 {
     linux && is_cancel && res == -2
 }
+
+/// Whether a cancel looks, before the core ends it, for a request which hasn't started and could: behind its end others could start, which it doesn't find.
+pub fn looks_ahead(is_cancel: bool, linux: bool) -> bool
+    ensures { result ≡ looks_ahead is_cancel linux }
+{
+    is_cancel && linux
+}
+
+/// A cancel that looks for such a request once it has ended has looked for it before.
+pub fn looks_in_time()
+    ensures { LooksInTime }
+{}
 
 /// Whether a cancel that the core has ended so may have found one all the same.
 fn may_have_found(is_cancel: bool, res: i32) -> bool

@@ -4,7 +4,7 @@ ghost use Rattle.std.specs.Prelude.{◌≡◌, List};
 ghost use Rattle.uring_enter.specs.declared.act.Fact.{Fact};
 ghost use Rattle.uring_enter.specs.Courses.{KeepsCourse, is_cancelled};
 ghost use Rattle.uring_enter.specs.Readiness as spec;
-ghost use Rattle.uring_enter.specs.Readiness.{FinishesWhatCan, LooksOnce};
+ghost use Rattle.uring_enter.specs.Readiness.{FinishesWhatCan, LooksOnce, PollsWhatMatters};
 
 use crate::course::Course;
 use crate::needs::{Needs, is_of_sockets, is_splice, is_transfer};
@@ -107,6 +107,20 @@ pub fn next_look(standing: &Standing, needs: &Needs, course: &Course, known: &Mo
     }
 }
 
+/// Whether a request that runs waits for its descriptor, so that a call which sleeps polls that.
+pub fn polls(standing: &Standing) -> bool
+    ensures { result ≡ spec.polls standing.now }
+{
+    standing.is_stream
+}
+
+/// Whether a request that runs keeps its file open behind the call, where it has a registered one or not, and an epoll instance that keeps it or not.
+pub fn keeps_open(standing: &Standing, has_registered: bool, has_epoll: bool) -> bool
+    ensures { result ≡ spec.keeps_open standing.now has_registered has_epoll }
+{
+    standing.is_stream && !has_registered && !has_epoll
+}
+
 fn told(finishes: bool) -> Look
     ensures { result ≡ spec.told finishes }
 {
@@ -167,6 +181,11 @@ pub(crate) fn has_message_flags(code: u8) -> bool
 /// What is told of a request is whether it can be finished by all that is so, whatever was asked before.
 pub fn finishes_what_can()
     ensures { FinishesWhatCan }
+{}
+
+/// A request that can't be finished but once its descriptor is ready is polled.
+pub fn polls_what_matters()
+    ensures { PollsWhatMatters }
 {}
 
 /// Nothing is asked twice of a moment.

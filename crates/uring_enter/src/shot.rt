@@ -2,13 +2,14 @@
 
 ghost use Rattle.std.specs.Prelude.{◌≡◌, List};
 ghost use Rattle.uring_enter.specs.Showing.{Change, KeepsShown};
-ghost use Rattle.uring_enter.specs.Shots.{brings, completion_flags, goes_on, has_room, tells};
+ghost use Rattle.uring_enter.specs.Shots.{brings, completion_flags, goes_on, has_room, shot_of, tells};
 
+use crate::needs::goes_on;
 use crate::posted::Posted;
 use crate::showing::Shown;
+use crate::submission::Submission;
 
 /// What a request that goes on is.
-#[repr(C)]
 #[derive(Clone, Copy, Drop)]
 pub struct Shot {
     /// It goes on at all.
@@ -25,12 +26,32 @@ pub struct Shot {
 }
 
 impl Shown {
-    /// Whether a request goes on behind this result, which then has a completion of its own; else the request ends with it. The ring has so many entries.
-    pub fn goes_on(&self, shot: Shot, res: i32, entries: u32) -> bool
+    /// Whether the request of an entry, which has moved so many bytes, goes on behind this result, which then has a completion of its own; else the request ends with it. The ring has so many entries.
+    pub fn goes_on(&self, entry: &Submission, done: u64, res: i32, entries: u32) -> bool
+        ensures { (log : List Change) → KeepsShown log self.now
+            → result ≡ goes_on (shot_of entry.now done) res (has_room log entries) }
+    {
+        self.goes_on_as(shot_of(entry, done), res, entries)
+    }
+
+    /// The same of a request that is this.
+    fn goes_on_as(&self, shot: Shot, res: i32, entries: u32) -> bool
         ensures { (log : List Change) → KeepsShown log self.now
             → result ≡ goes_on shot res (has_room log entries) }
     {
         shot.is_multishot && brings(shot, res) && self.posted < entries as u64
+    }
+}
+
+/// What the request of an entry is that has moved so many bytes.
+fn shot_of(entry: &Submission, done: u64) -> Shot
+    ensures { result ≡ shot_of entry.now done }
+{
+    Shot {
+        is_multishot: goes_on(entry),
+        is_accept: entry.opcode == 13,
+        is_of_messages: entry.opcode == 10,
+        has_bytes: done > 0,
     }
 }
 

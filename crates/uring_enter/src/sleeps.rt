@@ -4,7 +4,7 @@ ghost use Rattle.std.specs.Prelude.{◌≡◌, List};
 ghost use Rattle.uring_enter.specs.declared.timeout.Timeout.{Timeout};
 ghost use Rattle.uring_enter.specs.Timeouts.{Event};
 ghost use Rattle.uring_enter.specs.Kept.{KeepsTime};
-ghost use Rattle.uring_enter.specs.Sleeps.{lasts_at_most, comes_to};
+ghost use Rattle.uring_enter.specs.Sleeps.{behind_end, behind_sleep, lasts_at_most, comes_to, reached};
 
 use crate::timeout::left_until;
 use crate::times::Times;
@@ -43,4 +43,29 @@ impl Times {
             }
         }
     }
+
+    /// A sleep has come to this that was to move time on to `end`: it does if nothing has ended the sleep before. `came` is ppoll's.
+    pub fn wake(&mut self, end: Option<u64>, came: i32)
+        ensures { (log : List Event) (rows : List Timeout) → KeepsTime log self.old rows
+            → KeepsTime (behind_sleep log end came) self.new rows }
+    {
+        self.come_to(reached(end, came));
+    }
+
+    /// Time moves on to then, if it does.
+    fn come_to(&mut self, end: Option<u64>)
+        ensures { (log : List Event) (rows : List Timeout) → KeepsTime log self.old rows
+            → KeepsTime (behind_end log end) self.new rows }
+    {
+        if let Some(at) = end {
+            self.move_to(at);
+        }
+    }
+}
+
+/// To when a sleep has come that was to come to `end`, and came to this.
+fn reached(end: Option<u64>, came: i32) -> Option<u64>
+    ensures { result ≡ reached end came }
+{
+    if came == 0 { end } else { None }
 }

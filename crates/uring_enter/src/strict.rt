@@ -1,7 +1,7 @@
 //! What a ring that goes by a kernel refuses of an entry. io_uring_enter(2), IOSQE_CQE_SKIP_SUCCESS; io_uring_register(2), IORING_REGISTER_PROBE.
 
 ghost use Rattle.std.specs.Prelude.{◌≡◌, List, [], ◌∷◌};
-ghost use Rattle.uring_enter.specs.Strictness.{Looked, Looks, KeepsStrict, refusal_of, unserved_fault};
+ghost use Rattle.uring_enter.specs.Strictness.{Looked, Looks, KeepsStrict, looked_by, refusal_by, refusal_of, unserved_fault};
 
 use crate::form::first_fault;
 use crate::submission::Submission;
@@ -22,8 +22,28 @@ impl Strict {
         Strict { has_skipped: false }
     }
 
-    /// The error with which it refuses the next entry, or 0. `is_served`: the kernel serves its operation; `knows_skip`: and IOSQE_CQE_SKIP_SUCCESS.
-    pub fn refusal(&mut self, entry: &Submission, is_served: bool, knows_skip: bool) -> i32
+    /// The error with which a ring refuses the next entry, or 0: a strict one goes by this machine's kernel, another by Linux's rules by one that serves all, and one by the manual pages' by none.
+    pub fn refusal_by(
+        &mut self,
+        entry: &Submission,
+        is_strict: bool,
+        linux: bool,
+        is_served: bool,
+        knows_skip: bool,
+    ) -> i32
+        ensures refusal { (log : List Looked) → KeepsStrict log self.old
+            → result ≡ refusal_by log entry.now is_strict linux is_served knows_skip }
+        ensures after { (log : List Looked) → KeepsStrict log self.old
+            → KeepsStrict (looked_by log entry.now is_strict linux is_served knows_skip) self.new }
+    {
+        if !is_strict && !linux {
+            return 0;
+        }
+        self.refusal(entry, !is_strict || is_served, !is_strict || knows_skip)
+    }
+
+    /// The error with which one that goes by a kernel refuses the next entry, or 0. `is_served`: the kernel serves its operation; `knows_skip`: and IOSQE_CQE_SKIP_SUCCESS.
+    fn refusal(&mut self, entry: &Submission, is_served: bool, knows_skip: bool) -> i32
         ensures refusal { (log : List Looked) → KeepsStrict log self.old
             → result ≡ refusal_of log entry.now is_served knows_skip }
         ensures after { (log : List Looked) → KeepsStrict log self.old

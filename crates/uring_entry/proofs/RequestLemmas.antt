@@ -10,7 +10,7 @@ use Rattle.std.proofs.lemmas.List.Folds.{list_any-append}
 use Rattle.std.proofs.lemmas.Bool.{cases_lt, cases_eq, cases_Bool, and_left, and_right, and_from, and_cases, or_parts, or_from, or_left, or_right, both_ways, le-leb, lt-leb, lt-ltb, eq-eqb, eqb-true, ne_eqb, not-false}
 use Rattle.std.proofs.Math.Bool.{or-false}
 use Rattle.uring_entry.specs.Layout.{Sqe, zero_entry, opcode_of, len_of}
-use Rattle.uring_entry.specs.declared.opcode.TheConstants.{READ, WRITE}
+use Rattle.uring_entry.specs.declared.operation.opcode.TheConstants.{READ, WRITE}
 use Rattle.uring_entry.specs.Success.{is_success}
 use Rattle.uring_entry.specs.Requests.{Requests, entry_of, has_started, has_ended, has_failed, is_running, is_outstanding, is_last, is_joined, is_in_group, some_member, is_in_faulty_group, is_behind_failure, is_cancelled, is_doomed, is_ready, holds_back, is_issuable, is_candidate, target_of, is_target, targets_of, least_of, with_accepted, with_started, with_ended}
 use Rattle.uring_entry.specs.Preparation.{is_faulty, is_cancel, is_cancel_all, is_transfer}

@@ -1,7 +1,6 @@
 -- The numbers of Linux and the limits, each written out once. Those that code and definitions name are these.
 use Rattle.std.specs.Prelude.{◌≡◌, ◌+◌, pos}
 use Rattle.uring_entry.specs.declared.errno.TheConstants.{ENOENT, EBADF, ENOMEM, EINVAL, EFBIG, EOPNOTSUPP, EALREADY, ECANCELED}
-use Rattle.uring_entry.specs.declared.opcode.TheConstants.{NOP, FSYNC, ASYNC_CANCEL, READ, WRITE, ASYNC_CANCEL_ALL}
 use Rattle.uring_entry.specs.declared.flags.TheConstants.SqeFlags.{IO_DRAIN, IO_LINK, IO_HARDLINK, ASYNC, CQE_SKIP_SUCCESS, REFUSED}
 use Rattle.uring_entry.specs.declared.setup.TheConstants.Setup.{MAX_SQ, MAX_CQ, MAX_FILES}
 use Rattle.uring_entry.specs.Flags.{io_drain, io_link, io_hardlink, skip_success, refused}
@@ -16,15 +15,6 @@ pub record AreErrorNumbers : Type 0 where
   pub not_supported : EOPNOTSUPP ≡ pos 95
   pub already : EALREADY ≡ pos 114
   pub cancelled : ECANCELED ≡ pos 125
-
--- the operation codes, and the flag of a cancel. io_uring_enter(2) and io_uring_prep_cancel(3), with the numbers of enum io_uring_op and of IORING_ASYNC_CANCEL_ALL in <linux/io_uring.h>
-pub record AreOperationCodes : Type 0 where
-  pub no_op : NOP ≡ 0
-  pub sync : FSYNC ≡ 3
-  pub cancel : ASYNC_CANCEL ≡ 14
-  pub cancel_all : ASYNC_CANCEL_ALL ≡ 1
-  pub read : READ ≡ 22
-  pub write : WRITE ≡ 23
 
 -- the flag bits, of the code and of the definitions. io_uring_enter(2), with the numbers of enum io_uring_sqe_flags_bit in <linux/io_uring.h>. Not served are 1 (IOSQE_FIXED_FILE), 32 (IOSQE_BUFFER_SELECT) and 128: our own rule
 pub record AreFlagBits : Type 0 where

@@ -2,7 +2,8 @@
 
 ghost use Rattle.uring_entry.specs.Layout.{WordsGiveBack, WordsDetermine, WordsAreKept};
 ghost use Rattle.uring_entry.specs.IndexWords.{WordTellsCount};
-ghost use Rattle.uring_entry.specs.Numbers.{AreErrorNumbers, AreOperationCodes, AreFlagBits, AreLimits};
+ghost use Rattle.uring_entry.specs.Numbers.{AreErrorNumbers, AreFlagBits, AreLimits};
+ghost use Rattle.uring_entry.specs.Preparation.{AreOperationCodes};
 
 /// The error numbers, operation codes and flag bits are those of Linux. A submission ring has at most 4,096 entries, a completion ring 8,192, and there are at most 64 files: our own rule.
 pub fn numbers_of_linux()

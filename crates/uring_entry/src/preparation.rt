@@ -1,13 +1,10 @@
 //! What an entry asks for, or its first fault.
 
-ghost use Rattle.std.specs.Prelude.{◌≡◌, ◌==◌, ◌||◌, Some, None, IfOk, IfErr};
+ghost use Rattle.std.specs.Prelude.{◌≡◌, Some, None, IfOk, IfErr};
 ghost use Rattle.uring_entry.specs.Preparation.{fault_of, operation_of};
-ghost use Rattle.uring_entry.specs.Preparation as spec;
-ghost use Rattle.uring_entry.specs.declared.opcode.TheConstants.{READ, WRITE};
 
 use crate::fault::Fault;
 use crate::flags::SqeFlags;
-use crate::opcode;
 use crate::operation::Op;
 use crate::sqe::Sqe;
 use bitflags::Flags;
@@ -23,7 +20,7 @@ pub fn prepare(entry: &Sqe) -> Result<Op, Fault>
 {
     match first_fault(entry) {
         Some(fault) => Err(fault),
-        None => Ok(operation(entry)),
+        None => Ok(Op::of(entry)),
     }
 }
 
@@ -33,7 +30,7 @@ fn first_fault(entry: &Sqe) -> Option<Fault>
 {
     if SqeFlags::from_bits_retain(entry.flags()).intersects(SqeFlags::REFUSED) {
         Some(Fault::Flags)
-    } else if !is_served(entry.opcode()) {
+    } else if !entry.is_served() {
         Some(Fault::Opcode)
     } else if entry.ioprio() != 0 {
         Some(Fault::Ioprio)
@@ -43,53 +40,9 @@ fn first_fault(entry: &Sqe) -> Option<Fault>
         Some(Fault::Reserved)
     } else if entry.len() > 64 {
         Some(Fault::Len)
-    } else if is_transfer(entry.opcode()) && entry.off() == u64::MAX {
+    } else if entry.is_transfer() && entry.off() == u64::MAX {
         Some(Fault::Off)
     } else {
         None
-    }
-}
-
-/// Whether an operation is served.
-fn is_served(code: u8) -> bool
-    ensures { result ≡ spec.is_served code }
-{
-    matches!(
-        code,
-        opcode::NOP | opcode::FSYNC | opcode::ASYNC_CANCEL | opcode::READ | opcode::WRITE
-    )
-}
-
-/// Whether an operation moves bytes.
-fn is_transfer(code: u8) -> bool
-    ensures { result ≡ ((code == READ) || (code == WRITE)) }
-{
-    code == opcode::READ || code == opcode::WRITE
-}
-
-/// What an entry without a fault asks for.
-fn operation(entry: &Sqe) -> Op
-    requires { fault_of entry.now ≡ None }
-    ensures { result ≡ operation_of entry.now }
-{
-    match entry.opcode() {
-        opcode::NOP => Op::Nop,
-        opcode::FSYNC => Op::Fsync { fd: entry.fd() },
-        opcode::ASYNC_CANCEL => Op::Cancel {
-            target: entry.addr(),
-            all: entry.is_cancel_all(),
-        },
-        opcode::READ => Op::Read {
-            fd: entry.fd(),
-            off: entry.off(),
-            len: entry.len(),
-        },
-        opcode::WRITE => Op::Write {
-            fd: entry.fd(),
-            off: entry.off(),
-            len: entry.len(),
-            bytes: entry.payload(),
-        },
-        _ => unreachable!(),
     }
 }

@@ -1,17 +1,14 @@
-//! Submission entries: how each is made, and its fields.
+//! Submission entries: their words and their fields.
 
-ghost use Rattle.std.specs.Prelude.{◌≡◌, ◌≤◌, ◌+◌, ◌*◌, ◌^◌, pos, length, not, ◌==◌};
+ghost use Rattle.std.specs.Prelude.{◌≡◌, ◌+◌, ◌*◌, ◌^◌, pos, not, ◌==◌};
 ghost use Rattle.std.specs.Int.{w32, cast_unsigned};
 ghost use Rattle.std.specs.List.{list_any};
-ghost use Rattle.uring_entry.specs.Layout.{opcode_of, flags_of, ioprio_of, fd_of, off_of, addr_of, len_of, operation_flags_of, user_data_of, reserved_of, payload_of, header, without_data, HasData};
+ghost use Rattle.uring_entry.specs.Layout.{opcode_of, flags_of, ioprio_of, fd_of, off_of, addr_of, len_of, operation_flags_of, user_data_of, reserved_of, payload_of, header, without_data};
 ghost use Rattle.uring_entry.specs.Layout as layout;
 ghost use Rattle.uring_entry.specs.Requests as spec;
-ghost use Rattle.uring_entry.specs.Preparation as preparation;
-ghost use Rattle.uring_entry.specs.declared.opcode.TheConstants.{NOP, FSYNC, ASYNC_CANCEL, READ, WRITE, ASYNC_CANCEL_ALL};
 
 use crate::flags::SqeFlags;
-use crate::opcode;
-use crate::payload::{bytes_of_words, padded_bytes, words_of_bytes};
+use crate::payload::bytes_of_words;
 use bitflags::Flags;
 use std::marker::Model;
 
@@ -136,13 +133,6 @@ impl Sqe {
         (self.words[3] >> 32) as u32
     }
 
-    /// Whether the entry cancels all that it names: io_uring_prep_cancel(3), IORING_ASYNC_CANCEL_ALL.
-    pub fn is_cancel_all(&self) -> bool
-        ensures { result ≡ preparation.is_cancel_all self.now }
-    {
-        self.opcode() == opcode::ASYNC_CANCEL && self.operation_flags() == opcode::ASYNC_CANCEL_ALL
-    }
-
     /// What the completion repeats unchanged: bytes 32 to 39.
     pub fn user_data(&self) -> u64
         ensures { result ≡ user_data_of self.now }
@@ -164,63 +154,6 @@ impl Sqe {
         bytes_of_words(&self.words[8..])
     }
 
-    /// A no-op with these flag bits, every other field zero. io_uring_enter(2), IORING_OP_NOP.
-    pub fn nop(user_data: u64, flags: u8) -> Sqe
-        ensures { result ≡ without_data (header NOP flags (pos 0) 0 0 0 user_data) }
-    {
-        Sqe::with_opcode(opcode::NOP, user_data, flags)
-    }
-
-    /// A read of `len` bytes of file `fd` from offset `off` on, in bytes. io_uring_enter(2), IORING_OP_READ. Any numbers make an entry; above 64 bytes, and at offset 2^64 - 1, it is a faulty one.
-    pub fn read(user_data: u64, flags: u8, fd: i32, off: u64, len: u32) -> Sqe
-        ensures { result ≡ without_data (header READ flags fd off 0 len user_data) }
-    {
-        let first = word_zero(opcode::READ, flags, fd);
-        from_header([first, off, 0, u64::from(len), user_data, 0, 0, 0])
-    }
-
-    /// A write of 0 to 64 bytes to file `fd` at offset `off`, in bytes. io_uring_enter(2), IORING_OP_WRITE. At offset 2^64 - 1 it is a faulty entry.
-    pub fn write(user_data: u64, flags: u8, fd: i32, off: u64, bytes: &[u8]) -> Sqe
-        requires { length bytes.now ≤ 64 }
-        ensures { HasData result
-            (header WRITE flags fd off 0 (length bytes.now) user_data) bytes.now }
-    {
-        let first = word_zero(opcode::WRITE, flags, fd);
-        let len = bytes.len() as u64;
-        let mut words = [
-            first, off, 0, len, user_data, 0, 0, 0, 0, 0, 0, 0, 0, 0, 0, 0,
-        ];
-        words[8..].copy_from_slice(&words_of_bytes(&padded_bytes(bytes)));
-        Sqe { words }
-    }
-
-    /// An fsync: a note of which writes of file `fd` are safe. io_uring_enter(2), IORING_OP_FSYNC.
-    pub fn fsync(user_data: u64, flags: u8, fd: i32) -> Sqe
-        ensures { result ≡ without_data (header FSYNC flags fd 0 0 0 user_data) }
-    {
-        let first = word_zero(opcode::FSYNC, flags, fd);
-        from_header([first, 0, 0, 0, user_data, 0, 0, 0])
-    }
-
-    /// A cancel of a request with the user data `target`. io_uring_enter(2), IORING_OP_ASYNC_CANCEL.
-    pub fn cancel(user_data: u64, flags: u8, target: u64) -> Sqe
-        ensures { result ≡ without_data (header ASYNC_CANCEL flags (pos 0) 0 target 0 user_data) }
-    {
-        let first = word_zero(opcode::ASYNC_CANCEL, flags, 0);
-        from_header([first, 0, target, 0, user_data, 0, 0, 0])
-    }
-
-    /// A cancel of all requests with the user data `target` that aren't running. io_uring_prep_cancel(3), IORING_ASYNC_CANCEL_ALL; that those that run go on is our own rule.
-    pub fn cancel_all(user_data: u64, flags: u8, target: u64) -> Sqe
-        ensures { result
-            ≡ without_data
-            (header ASYNC_CANCEL flags (pos 0) 0 target (2 ^ 32 * ASYNC_CANCEL_ALL) user_data) }
-    {
-        let first = word_zero(opcode::ASYNC_CANCEL, flags, 0);
-        let operation_flags = u64::from(opcode::ASYNC_CANCEL_ALL) << 32;
-        from_header([first, 0, target, operation_flags, user_data, 0, 0, 0])
-    }
-
     /// An entry of any operation, served or not, every other field zero.
     pub fn with_opcode(code: u8, user_data: u64, flags: u8) -> Sqe
         ensures { result ≡ without_data (header code flags (pos 0) 0 0 0 user_data) }
@@ -231,14 +164,14 @@ impl Sqe {
 }
 
 /// The first word of an entry: operation, flags, no priority, file.
-fn word_zero(code: u8, flags: u8, fd: i32) -> u64
+pub(crate) fn word_zero(code: u8, flags: u8, fd: i32) -> u64
     ensures { result ≡ code + 2 ^ 8 * flags + 2 ^ 32 * cast_unsigned w32 fd }
 {
     u64::from(code) + 256 * u64::from(flags) + 4_294_967_296 * u64::from(fd.cast_unsigned())
 }
 
 /// The entry with these first words and no data.
-fn from_header(words: [u64; 8]) -> Sqe
+pub(crate) fn from_header(words: [u64; 8]) -> Sqe
     ensures { result ≡ without_data words }
 {
     let [a, b, c, d, e, f, g, h] = words;

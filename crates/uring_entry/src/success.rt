@@ -5,7 +5,6 @@ ghost use Rattle.uring_entry.specs.Success.{is_success};
 ghost use Rattle.uring_entry.specs.Success as spec;
 
 use crate::flags::SqeFlags;
-use crate::opcode;
 use crate::sqe::Sqe;
 
 /// Whether a request of this entry that ended with `res` succeeded: a read or a write if it moved all `len` bytes, a cancel of all if it gave 0 or more, anything else if it gave 0. A short read or write didn't succeed, io_uring_enter(2), IOSQE_IO_LINK; that of a cancel of all is our own rule.
@@ -15,12 +14,7 @@ pub fn succeeded(entry: &Sqe, res: i32) -> bool
     if entry.is_cancel_all() {
         return res >= 0;
     }
-    let code = entry.opcode();
-    let wanted = if code == opcode::READ || code == opcode::WRITE {
-        entry.len()
-    } else {
-        0
-    };
+    let wanted = if entry.is_transfer() { entry.len() } else { 0 };
     i64::from(res) == i64::from(wanted)
 }
 

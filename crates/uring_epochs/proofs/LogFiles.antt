@@ -11,7 +11,7 @@ use Rattle.uring_entry.specs.Preparation.{operation_of}
 use Rattle.uring_entry.specs.Requests.{Requests, entry_of, is_running, operation_running}
 use Rattle.uring_entry.specs.declared.errno.TheConstants.{EFBIG, ENOMEM}
 use Rattle.uring_entry.specs.declared.operation.Op.{Op}
-use Rattle.uring_entry.specs.declared.operation.Op.TheVariants.{Nop, Read, Write, Fsync, Cancel}
+use Rattle.uring_entry.specs.declared.operation.Op.TheVariants.{Write, Fsync}
 use Rattle.uring_entry.specs.declared.operation.Outcome.{Outcome}
 use Rattle.uring_files.specs.Contents.{FileContents, empty_file, empty_files, max_len, is_too_long, overwritten, written, with_writes_synced}
 use Rattle.uring_files.specs.Operations.{file_of, with_changed, after, IsOutcome, on_file, ended_with}
@@ -23,7 +23,7 @@ use Rattle.uring_volume.specs.declared.event.Event.TheVariants.{WriteEnded, Sync
 use Rattle.uring_linux.specs.LinuxRequests.{LinuxRequests}
 use Rattle.uring_core.specs.World.{requests_of}
 use Rattle.uring_core.specs.Histories as core
-use Rattle.uring_core.specs.Histories.{world, IsLawfulApart}
+use Rattle.uring_core.specs.Histories.{world}
 use Rattle.uring_core.specs.CalledFor.{IsLawful, files_of, files_after, EndsOn}
 use Rattle.uring_core.specs.Core.{IsNoFinish}
 use Rattle.uring_core.specs.declared.step.Step.{Step}
@@ -244,9 +244,7 @@ shows_finished over first fd r n files log (Fsync own) res bytes s running is ca
           ]
       | inr other ↦ shows file (sym (others_stay files (Fsync own) res fd other) ∙ there)
     ])
-shows_finished over first fd r n files log Nop res bytes s running is called shows = shows
-shows_finished over first fd r n files log (Read own off len) res bytes s running is called shows = shows
-shows_finished over first fd r n files log (Cancel target all) res bytes s running is called shows = shows
+shows_finished over first fd r n files log _ res bytes s running is called shows = shows
 
 -- An event.
 

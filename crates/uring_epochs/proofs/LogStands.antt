@@ -13,7 +13,7 @@ use Rattle.uring_linux.specs.LinuxRequests.{LinuxRequests}
 use Rattle.uring_rules.specs.Rules.{with_issued_end}
 use Rattle.uring_core.specs.World.{requests_of}
 use Rattle.uring_entry.specs.declared.operation.Op.{Op}
-use Rattle.uring_entry.specs.declared.operation.Op.TheVariants.{Nop, Read, Write, Fsync, Cancel}
+use Rattle.uring_entry.specs.declared.operation.Op.TheVariants.{Write, Fsync}
 use Rattle.uring_volume.specs.Writes as piece
 use Rattle.uring_volume.specs.Events.{History}
 use Rattle.uring_volume.specs.Choices.{issued, named}
@@ -264,15 +264,9 @@ stands_begun fd r n log (Fsync own) is s =
           both_ways test fails (ap (int_eq log.fd) owns ∙ on) in
           subst (Stands fd (with_started r n)) (sym (cond-false test more log fails)) (stands_unlogged fd r n log no_write no_sync s)
     ]
-stands_begun fd r n log Nop is s = stands_unlogged fd r n log
-    (λ own off len bytes is' on sure. let at : Nop ≡ Write own off len bytes = sym is ∙ is' in absurd cc)
-    (λ own is' on. let at : Nop ≡ Fsync own = sym is ∙ is' in absurd cc) s
-stands_begun fd r n log (Read own' off' len') is s = stands_unlogged fd r n log
-    (λ own off len bytes is' on sure. let at : Read own' off' len' ≡ Write own off len bytes = sym is ∙ is' in absurd cc)
-    (λ own is' on. let at : Read own' off' len' ≡ Fsync own = sym is ∙ is' in absurd cc) s
-stands_begun fd r n log (Cancel target all) is s = stands_unlogged fd r n log
-    (λ own off len bytes is' on sure. let at : Cancel target all ≡ Write own off len bytes = sym is ∙ is' in absurd cc)
-    (λ own is' on. let at : Cancel target all ≡ Fsync own = sym is ∙ is' in absurd cc) s
+stands_begun fd r n log op is s = stands_unlogged fd r n log
+    (λ own off len bytes is' on sure. let at : op ≡ Write own off len bytes = sym is ∙ is' in absurd cc)
+    (λ own is' on. let at : op ≡ Fsync own = sym is ∙ is' in absurd cc) s
 
 -- A request that ran ends.
 

@@ -1,25 +1,240 @@
--- What holds of whatever operation there is: the cases of the operations, for the crates above, which match on none.
+-- What an operation is on files, in one form: on none, or on one with a task. A new operation is a case of `cases`, `most_of` and `for_files`; what else holds of operations is told of that form, and names none.
 -- Stable: other crates may import all of it.
-use Rattle.std.proofs.Common.{◌≡◌, ℕ, ◌+◌, ◌^◌, ◌<◌, ◌≤◌, ℤ, pos, negsuc, neg_ℤ, Bool, true, false, not, ◌&&◌, cond, Option, Some, None, List, length, take, if◌then◌else◌, refl, sym, ap, ◌∙◌, inl, inr, arith}
+use Rattle.std.proofs.Common.{◌≡◌, ℕ, ◌+◌, ◌-◌, ◌^◌, ◌<◌, ◌≤◌, ℤ, pos, negsuc, neg_ℤ, Bool, true, false, not, ◌&&◌, cond, min, Option, Some, None, List, length, take, if◌then◌else◌, refl, sym, ap, subst, ◌∙◌, inl, inr, ◌⊎◌, arith}
 use Rattle.std.specs.Prelude.{nat_lt, ◌==◌}
 use Rattle.std.specs.Option.{option_map_or}
 use Rattle.std.specs.Ordering.{int_eq}
-use Rattle.std.proofs.lemmas.Bool.{true≢false, cond_both, and_cases, eqb-true, ltb-false, not-false}
+use Rattle.std.proofs.Math.Nat.{min-le_left}
+use Rattle.std.proofs.lemmas.Bool.{true≢false, and_cases, eqb-true, ltb-false, not-false}
 use Rattle.std.proofs.lemmas.List.{length-set}
-use Rattle.uring_entry.specs.declared.errno.TheConstants.{ECANCELED, EFBIG}
+use Rattle.uring_entry.specs.declared.errno.TheConstants.{EBADF, ECANCELED, EFBIG, ENOMEM}
 use Rattle.uring_entry.specs.declared.operation.Op.{Op}
-use Rattle.uring_entry.specs.declared.operation.Op.TheVariants.{Nop, Read, Write, Fsync}
+use Rattle.uring_entry.specs.declared.operation.Op.TheVariants.{Nop, Read, Write, Fsync, Cancel}
 use Rattle.uring_entry.specs.declared.operation.Outcome.{Outcome}
-use Rattle.uring_files.specs.Contents.{FileContents, read_outcome, is_too_long, is_past_end, max_len, written, with_writes_synced}
-use Rattle.uring_files.specs.Operations.{after, with_changed, file_of, on_file, ended_with, result_of, is_lengthening, IsOutcome}
+use Rattle.uring_files.specs.Contents.{FileContents, overwritten, read_outcome, is_too_long, is_past_end, max_len, written, with_writes_synced}
+use Rattle.uring_files.specs.Operations.{after, with_changed, file_asked, file_of, on_file, ended_with, result_of, is_lengthening, IsForFiles, IsOutcome}
 use Rattle.uring_files.specs.Laws.{FailureChangesNothing}
 
--- an end that failed changes no file
-pub failed : FailureChangesNothing
-failed files Nop below = refl
-failed files _ below = refl
+-- an end with a number of bytes, which is no great one
+abbrev pub IsGrowth : Outcome → Type 0
+IsGrowth outcome = (n : ℕ) × (n < 2 ^ 63) × (outcome ≡ ended_with (pos n))
 
--- As many files after an operation as before.
+-- a result that is called for on a file: a number, so much at most, or that the file would be too long
+abbrev pub IsGiven : ℕ → ℤ → Type 0
+IsGiven most res = ((n : ℕ) × (n ≤ most) × (res ≡ pos n)) ⊎ (res ≡ neg_ℤ EFBIG)
+
+-- What an operation does on its file.
+pub record Task : Type 0 where
+  -- the file's descriptor
+  pub fd : ℤ
+  -- its greatest result
+  pub most : ℕ
+  -- how it ends there
+  pub ends : FileContents → Outcome
+  -- whether it makes it longer
+  pub lengthens : FileContents → Bool
+  -- the results with which it changes it, and to what
+  pub changes : ℤ → Bool
+  pub change : FileContents → FileContents
+
+-- What holds of every task.
+pub record IsTask (t : Task) : Type 0 where
+  pub given : (file : FileContents) → IsGiven t.most (t.ends file).res
+  pub grown : (file : FileContents) → t.lengthens file ≡ true → IsGrowth (t.ends file)
+  pub failed : (below : ℕ) → t.changes (negsuc below) ≡ false
+  -- what a file counts tells nothing
+  pub same_end : (file other : FileContents) → file.bytes ≡ other.bytes → t.ends file ≡ t.ends other
+  pub same_growth : (file other : FileContents) → file.bytes ≡ other.bytes
+      → t.lengthens file ≡ t.lengthens other
+  pub same_bytes : (file other : FileContents) → file.bytes ≡ other.bytes
+      → (t.change file).bytes ≡ (t.change other).bytes
+
+-- the greatest result of an operation
+abbrev pub most_of : Op → ℕ
+most_of (Read fd off len) = len
+most_of (Write fd off len bytes) = len
+most_of other = 0
+
+-- the operation is on no file
+pub record IsIdle (op : Op) : Type 0 where
+  pub asked : file_asked op ≡ None
+  pub ends : (files : List FileContents) → result_of files op ≡ ended_with (pos 0)
+  pub lengthens : (files : List FileContents) → is_lengthening files op ≡ false
+  pub after : (files : List FileContents) (res : ℤ) → after files op res ≡ files
+
+-- the operation does this task
+pub record Does (op : Op) (t : Task) : Type 0 where
+  pub asked : file_asked op ≡ Some t.fd
+  pub most : most_of op ≡ t.most
+  pub ends : (files : List FileContents) → result_of files op ≡ on_file (file_of files t.fd) t.ends
+  pub lengthens : (files : List FileContents)
+      → is_lengthening files op ≡ option_map_or t.lengthens (file_of files t.fd) false
+  pub after : (files : List FileContents) (res : ℤ)
+      → after files op res ≡ cond (t.changes res) (with_changed files t.fd t.change) files
+
+-- ---- a read
+
+never : (file : Option FileContents) → false ≡ option_map_or (λ f. false) file false
+never None = refl
+never (Some f) = refl
+
+abbrev read_task : ℤ → ℕ → ℕ → Task
+read_task fd off len = record {
+  fd = fd;
+  most = len;
+  ends = read_outcome off len;
+  lengthens = λ file. false;
+  changes = λ res. false;
+  change = λ file. file;
+}
+
+abbrev read_of : ℕ → ℕ → List ℕ → Outcome
+read_of off len bytes =
+    read_outcome off len (record { bytes = bytes; writes = 0; synced = 0 })
+
+read_does : (fd : ℤ) (off len : ℕ) → Does (Read fd off len) (read_task fd off len)
+read_does fd off len = record {
+  asked = refl;
+  most = refl;
+  ends = λ files. refl;
+  lengthens = λ files. never (file_of files fd);
+  after = λ files res. refl;
+}
+
+read_is : (fd : ℤ) (off len : ℕ) → IsTask (read_task fd off len)
+read_is fd off len = record {
+  given = λ file. inl (min len (length file.bytes - off), min-le_left len (length file.bytes - off), refl);
+  grown = λ file e. absurd (true≢false (sym e));
+  failed = λ below. refl;
+  same_end = λ file other same. ap (read_of off len) same;
+  same_growth = λ file other same. refl;
+  same_bytes = λ file other same. same;
+}
+
+-- ---- a write
+
+abbrev write_task : ℤ → ℕ → ℕ → List ℕ → Task
+write_task fd off len bytes = record {
+  fd = fd;
+  most = len;
+  ends = λ file. ended_with (if is_too_long off len then neg_ℤ EFBIG else pos len);
+  lengthens = λ file. not (is_too_long off len) && is_past_end off len file;
+  changes = λ res. int_eq res (pos len);
+  change = written off (take len bytes);
+}
+
+few_bytes : (off len : ℕ) → is_too_long off len ≡ false → len < 2 ^ 63
+few_bytes off len e = elim (and_cases (not (len == 0)) (nat_lt max_len (off + len)) e) [
+  | inl none ↦ let zero : len ≡ 0 = eqb-true len 0 (not-false (len == 0) none) in omega arith
+  | inr within ↦ let bound : off + len ≤ 65536 = ltb-false 65536 (off + len) within in omega arith
+]
+
+-- how a write ends by whether it is too long
+
+given_at : (long : Bool) (len : ℕ)
+    → IsGiven len (ended_with (if long then neg_ℤ EFBIG else pos len)).res
+given_at true len = inr refl
+given_at false len = inl (len, omega arith, refl)
+
+growth_at : (off len : ℕ) (file : FileContents) (long : Bool) → is_too_long off len ≡ long
+    → (not long && is_past_end off len file) ≡ true
+    → IsGrowth (ended_with (if long then neg_ℤ EFBIG else pos len))
+growth_at off len file true is e = absurd (true≢false (sym e))
+growth_at off len file false is e = (len, few_bytes off len is, refl)
+
+abbrev longer_of : ℕ → ℕ → List ℕ → Bool
+longer_of off len bytes =
+    not (is_too_long off len) && is_past_end off len (record { bytes = bytes; writes = 0; synced = 0 })
+
+write_does : (fd : ℤ) (off len : ℕ) (bytes : List ℕ)
+    → Does (Write fd off len bytes) (write_task fd off len bytes)
+write_does fd off len bytes = record {
+  asked = refl;
+  most = refl;
+  ends = λ files. refl;
+  lengthens = λ files. refl;
+  after = λ files res. refl;
+}
+
+write_is : (fd : ℤ) (off len : ℕ) (bytes : List ℕ) → IsTask (write_task fd off len bytes)
+write_is fd off len bytes = record {
+  given = λ file. given_at (is_too_long off len) len;
+  grown = λ file e. growth_at off len file (is_too_long off len) refl e;
+  failed = λ below. refl;
+  same_end = λ file other same. refl;
+  same_growth = λ file other same. ap (longer_of off len) same;
+  same_bytes = λ file other same. ap (λ old. overwritten old off (take len bytes)) same;
+}
+
+-- ---- a sync
+
+abbrev sync_task : ℤ → Task
+sync_task fd = record {
+  fd = fd;
+  most = 0;
+  ends = λ file. ended_with (pos 0);
+  lengthens = λ file. false;
+  changes = λ res. int_eq res (pos 0);
+  change = with_writes_synced;
+}
+
+sync_does : (fd : ℤ) → Does (Fsync fd) (sync_task fd)
+sync_does fd = record {
+  asked = refl;
+  most = refl;
+  ends = λ files. refl;
+  lengthens = λ files. never (file_of files fd);
+  after = λ files res. refl;
+}
+
+sync_is : (fd : ℤ) → IsTask (sync_task fd)
+sync_is fd = record {
+  given = λ file. inl (0, omega arith, refl);
+  grown = λ file e. absurd (true≢false (sym e));
+  failed = λ below. refl;
+  same_end = λ file other same. refl;
+  same_growth = λ file other same. refl;
+  same_bytes = λ file other same. same;
+}
+
+-- ---- all of them
+
+pub cases : (op : Op) → IsIdle op ⊎ ((t : Task) × Does op t × IsTask t)
+cases (Read fd off len) = inr (read_task fd off len, read_does fd off len, read_is fd off len)
+cases (Write fd off len bytes) =
+    inr (write_task fd off len bytes, write_does fd off len bytes, write_is fd off len bytes)
+cases (Fsync fd) = inr (sync_task fd, sync_does fd, sync_is fd)
+cases Nop =
+    inl (record { asked = refl; ends = λ files. refl; lengthens = λ files. refl; after = λ files res. refl })
+cases (Cancel target all) =
+    inl (record { asked = refl; ends = λ files. refl; lengthens = λ files. refl; after = λ files res. refl })
+
+-- what can be asked of files: whatever is no cancel, and gives no great result
+pub for_files : (op : Op) → ((target : ℕ) (all : Bool) → op ≡ Cancel target all → ⊥) → most_of op ≤ 64
+    → IsForFiles op
+for_files Nop other small = tt
+for_files (Read fd off len) other small = small
+for_files (Write fd off len bytes) other small = small
+for_files (Fsync fd) other small = tt
+for_files (Cancel target all) other small = other target all refl
+
+-- ==== what follows, whichever operation it is
+
+-- an end that failed changes no file
+
+failed_by : (chosen : Bool) (files changed : List FileContents) → chosen ≡ false
+    → cond chosen changed files ≡ files
+failed_by true files changed e = absurd (true≢false e)
+failed_by false files changed e = refl
+
+pub failed : FailureChangesNothing
+failed files op below = elim (cases op) [
+  | inl idle ↦ idle.after files (negsuc below)
+  | inr busy ↦
+      busy.1.after files (negsuc below) ∙ failed_by (busy.0.changes (negsuc below)) files (with_changed files busy.0.fd busy.0.change) (busy.2.failed below)
+]
+
+-- as many files after an operation as before
 
 many_changed : (chosen : Bool) (files : List FileContents) (fd : ℤ) (change : FileContents → FileContents)
     → length (cond chosen (with_changed files fd change) files) ≡ length files
@@ -29,61 +244,77 @@ many_changed true files (negsuc below) change = refl
 
 pub many_after : (files : List FileContents) (op : Op) (res : ℤ)
     → length (after files op res) ≡ length files
-many_after files (Write fd off len bytes) res =
-    many_changed (int_eq res (pos len)) files fd (written off (take len bytes))
-many_after files (Fsync fd) res = many_changed (int_eq res (pos 0)) files fd with_writes_synced
-many_after files _ res = refl
+many_after files op res = elim (cases op) [
+  | inl idle ↦ ap length (idle.after files res)
+  | inr busy ↦
+      ap length (busy.1.after files res) ∙ many_changed (busy.0.changes res) files busy.0.fd busy.0.change
+]
+
+-- What is called for: a number, no file, or that the file would be too long.
+
+abbrev pub IsCalled : ℕ → ℤ → Type 0
+IsCalled most res = IsGiven most res ⊎ (res ≡ neg_ℤ EBADF)
+
+on_file_called : (file : Option FileContents) (most : ℕ) (ends : FileContents → Outcome)
+    → ((f : FileContents) → IsGiven most (ends f).res) → IsCalled most (on_file file ends).res
+on_file_called None most ends given = inr refl
+on_file_called (Some file) most ends given = inl (given file)
+
+zero_called : (most : ℕ) → IsCalled most (pos 0)
+zero_called most = inl (inl (0, omega arith, refl))
+
+pub result_called : (files : List FileContents) (op : Op) → IsCalled (most_of op) (result_of files op).res
+result_called files op = elim (cases op) [
+  | inl idle ↦
+      subst (λ (o : Outcome). IsCalled (most_of op) o.res) (sym (idle.ends files)) (zero_called (most_of op))
+  | inr busy ↦
+      subst (λ (o : Outcome). IsCalled (most_of op) o.res) (sym (busy.1.ends files))
+      (subst (λ (m : ℕ). IsCalled m (on_file (file_of files busy.0.fd) busy.0.ends).res) (sym busy.1.most)
+      (on_file_called (file_of files busy.0.fd) busy.0.most busy.0.ends busy.2.given))
+]
 
 -- No operation gives ECANCELED.
 
 abbrev pub IsOther : ℤ → Type 0
 IsOther res = int_eq res (neg_ℤ ECANCELED) ≡ false
 
-on_file_other : (file : Option FileContents) (outcome : FileContents → Outcome)
-    → ((f : FileContents) → IsOther (outcome f).res) → IsOther (on_file file outcome).res
-on_file_other None outcome other = refl
-on_file_other (Some file) outcome other = other file
-
-result_other : (files : List FileContents) (op : Op) → IsOther (result_of files op).res
-result_other files (Read fd off len) =
-    on_file_other (file_of files fd) (read_outcome off len) (λ f. refl)
-result_other files (Write fd off len bytes) = on_file_other (file_of files fd) (λ file. ended_with (cond (is_too_long off len) (neg_ℤ EFBIG) (pos len))) (λ f. cond_both (is_too_long off len) (neg_ℤ EFBIG) (pos len) IsOther (λ _. refl) (λ _. refl))
-result_other files (Fsync fd) =
-    on_file_other (file_of files fd) (λ file. ended_with (pos 0)) (λ f. refl)
-result_other files _ = refl
+called_other : (most : ℕ) (res : ℤ) → IsCalled most res → IsOther res
+called_other most res (inl (inl n)) = ap (λ r. int_eq r (neg_ℤ ECANCELED)) n.2
+called_other most res (inl (inr long)) = ap (λ r. int_eq r (neg_ℤ ECANCELED)) long
+called_other most res (inr none) = ap (λ r. int_eq r (neg_ℤ ECANCELED)) none
 
 pub outcome_other : (files : List FileContents) (op : Op) (outcome : Outcome)
     → IsOutcome files op outcome → IsOther outcome.res
 outcome_other files op outcome (inl called) =
-    ap (λ (o : Outcome). int_eq o.res (neg_ℤ ECANCELED)) called ∙ result_other files op
+    ap (λ (o : Outcome). int_eq o.res (neg_ℤ ECANCELED)) called
+    ∙ called_other (most_of op) (result_of files op).res (result_called files op)
 outcome_other files op outcome (inr failed) =
     ap (λ (o : Outcome). int_eq o.res (neg_ℤ ECANCELED)) failed.1
 
--- What makes its file longer ends with a number of bytes, which is no great one.
+-- No operation is called for to end with ENOMEM.
 
-abbrev pub IsGrowth : Outcome → Type 0
-IsGrowth outcome = (n : ℕ) × (n < 2 ^ 63) × (outcome ≡ ended_with (pos n))
+called_granted : (most : ℕ) (res : ℤ) → IsCalled most res → res ≡ neg_ℤ ENOMEM → ⊥
+called_granted most res (inl (inl n)) is = absurd (let f : pos n.0 ≡ neg_ℤ ENOMEM = sym n.2 ∙ is in cc)
+called_granted most res (inl (inr long)) is =
+    absurd (let f : neg_ℤ EFBIG ≡ neg_ℤ ENOMEM = sym long ∙ is in cc)
+called_granted most res (inr none) is =
+    absurd (let f : neg_ℤ EBADF ≡ neg_ℤ ENOMEM = sym none ∙ is in cc)
 
-few_bytes : (off len : ℕ) → is_too_long off len ≡ false → len < 2 ^ 63
-few_bytes off len e = elim (and_cases (not (len == 0)) (nat_lt max_len (off + len)) e) [
-  | inl none ↦ let zero : len ≡ 0 = eqb-true len 0 (not-false (len == 0) none) in omega arith
-  | inr within ↦ let bound : off + len ≤ 65536 = ltb-false 65536 (off + len) within in omega arith
-]
+pub result_granted : (files : List FileContents) (op : Op) → (result_of files op).res ≡ neg_ℤ ENOMEM → ⊥
+result_granted files op is =
+    called_granted (most_of op) (result_of files op).res (result_called files op) is
 
--- how a write ends by whether it is too long
-growth_at : (off len : ℕ) (file : FileContents) (long : Bool) → is_too_long off len ≡ long
-    → (not long && is_past_end off len file) ≡ true
-    → IsGrowth (ended_with (if long then neg_ℤ EFBIG else pos len))
-growth_at off len file true is e = absurd (true≢false (sym e))
-growth_at off len file false is e = (len, few_bytes off len is, refl)
+-- What makes its file longer ends with a number of bytes.
 
-growth_of : (off len : ℕ) (file : Option FileContents)
-    → option_map_or (λ f. not (is_too_long off len) && is_past_end off len f) file false ≡ true
-    → IsGrowth (on_file file (λ f. ended_with (if is_too_long off len then neg_ℤ EFBIG else pos len)))
-growth_of off len None e = absurd (true≢false (sym e))
-growth_of off len (Some file) e = growth_at off len file (is_too_long off len) refl e
+grown_on : (file : Option FileContents) (t : Task) → IsTask t
+    → option_map_or t.lengthens file false ≡ true → IsGrowth (on_file file t.ends)
+grown_on None t is e = absurd (true≢false (sym e))
+grown_on (Some file) t is e = is.grown file e
 
 pub growth : (files : List FileContents) (op : Op) → is_lengthening files op ≡ true
     → IsGrowth (result_of files op)
-growth files (Write fd off len bytes) e = growth_of off len (file_of files fd) e
-growth files _ e = absurd (true≢false (sym e))
+growth files op e = elim (cases op) [
+  | inl idle ↦ absurd (true≢false (sym e ∙ idle.lengthens files))
+  | inr busy ↦
+      subst IsGrowth (sym (busy.1.ends files)) (grown_on (file_of files busy.0.fd) busy.0 busy.2 (sym (busy.1.lengthens files) ∙ e))
+]

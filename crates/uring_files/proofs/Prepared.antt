@@ -1,13 +1,15 @@
--- What a prepared entry asks of files.
-use Rattle.std.proofs.Common.{◌≡◌, ℕ, ℤ, ◌≤◌, refl, rules, List, Bool, true, false, Option, Some, None, if◌then◌else◌}
-use Rattle.std.specs.Prelude.{nat_lt, ◌==◌}
-use Rattle.uring_entry.specs.declared.opcode.TheConstants.{NOP, FSYNC, READ}
-use Rattle.uring_entry.specs.Layout.{Sqe, opcode_of, fd_of, off_of, len_of, addr_of, payload_of}
-use Rattle.uring_entry.specs.Preparation.{fault_of, has_fault_of, operation_of, is_cancel, is_cancel_all}
-use Rattle.uring_entry.specs.declared.operation.Op.TheVariants.{Nop, Read, Write, Fsync, Cancel}
+-- What a prepared entry asks of files, whichever operation it is.
+-- Stable: other crates may import what is pub.
+use Rattle.std.proofs.Common.{◌≡◌, ℕ, ℤ, ◌≤◌, ◌∙◌, refl, sym, arith, Bool, true, false, Option, Some, None, if◌then◌else◌}
+use Rattle.std.proofs.lemmas.Bool.{true≢false, ltb-false, not-false}
+use Rattle.uring_entry.specs.Layout.{Sqe, opcode_of, len_of}
+use Rattle.uring_entry.specs.Preparation.{fault_of, has_fault_of, operation_named, operation_of, is_cancel, is_served, is_transfer, is_on_file}
+use Rattle.uring_entry.proofs.Preparations.{cancel_asked}
+use Rattle.uring_entry.specs.declared.operation.Op.TheVariants.{Cancel}
 use Rattle.uring_entry.specs.declared.fault.Fault.{Fault}
 use Rattle.uring_entry.specs.declared.fault.Fault.TheVariants.{Flags, Opcode, Ioprio, OpFlags, Reserved, Len}
-use Rattle.uring_files.specs.Operations.{IsForFiles}
+use Rattle.uring_files.specs.Operations.{IsForFiles, file_asked}
+use Rattle.uring_files.proofs.OperationCases.{most_of, for_files}
 
 -- what isn't found isn't the first
 not_first : (first : Bool) (fault : Fault) (later : Option Fault)
@@ -16,29 +18,45 @@ not_first : (first : Bool) (fault : Fault) (later : Option Fault)
 not_first true fault later none = cc
 not_first false fault later none = (refl, none)
 
--- an entry without a fault isn't too long
-no_length_fault : (e : Sqe) → fault_of e ≡ None → nat_lt 64 (len_of e) ≡ false
-no_length_fault e none =
+-- an entry without a fault has an operation that is served
+pub is_served_of : (e : Sqe) → fault_of e ≡ None → is_served (opcode_of e) ≡ true
+is_served_of e none =
+    let flags = not_first (has_fault_of e Flags) Flags _ none in
+    let opcode = not_first (has_fault_of e Opcode) Opcode _ flags.1 in
+    not-false (is_served (opcode_of e)) opcode.0
+
+-- and isn't too long
+pub is_short : (e : Sqe) → fault_of e ≡ None → len_of e ≤ 64
+is_short e none =
     let flags = not_first (has_fault_of e Flags) Flags _ none in
     let opcode = not_first (has_fault_of e Opcode) Opcode _ flags.1 in
     let ioprio = not_first (has_fault_of e Ioprio) Ioprio _ opcode.1 in
     let op_flags = not_first (has_fault_of e OpFlags) OpFlags _ ioprio.1 in
     let reserved = not_first (has_fault_of e Reserved) Reserved _ op_flags.1 in
     let len = not_first (has_fault_of e Len) Len _ reserved.1 in
-    len.0
+    ltb-false 64 (len_of e) len.0
 
--- whichever operation it is, but a cancel
-whichever : (nop sync cancel read all : Bool) (fd : ℤ) (off len target : ℕ) (bytes : List ℕ)
-    → cancel ≡ false → len ≤ 64
-    → IsForFiles (if nop then Nop else if sync then Fsync fd else if cancel then Cancel target all else if read then Read fd off len else Write fd off len bytes)
-whichever true sync cancel read all fd off len target bytes other short = tt
-whichever false true cancel read all fd off len target bytes other short = tt
-whichever false false true read all fd off len target bytes other short = cc
-whichever false false false true all fd off len target bytes other short = short
-whichever false false false false all fd off len target bytes other short = short
+-- no operation gives more than its entry's length
+most_named : (code : ℕ) (e : Sqe) → most_of (operation_named code e) ≤ len_of e
+most_named code e = grind arith
+
+no_cancel : (e : Sqe) → is_cancel e ≡ false → (target : ℕ) (all : Bool)
+    → operation_of e ≡ Cancel target all → ⊥
+no_cancel e other target all is = true≢false (sym (cancel_asked e target all is).0 ∙ other)
 
 -- an entry without a fault that is no cancel asks for what can be asked of files
 pub prepared : (e : Sqe) → fault_of e ≡ None → is_cancel e ≡ false → IsForFiles (operation_of e)
 prepared e none other =
-    whichever (opcode_of e == NOP) (opcode_of e == FSYNC) (is_cancel e) (opcode_of e == READ) (is_cancel_all e) (fd_of e) (off_of e) (len_of e) (addr_of e) (payload_of e) other
-    (let short = no_length_fault e none in search rules)
+    let short : len_of e ≤ 64 = is_short e none in
+    let most : most_of (operation_of e) ≤ len_of e = most_named (opcode_of e) e in
+    for_files (operation_of e) (no_cancel e other) (omega (arith, short, most))
+
+-- no served operation gives more than what its entry moves, if it moves any
+pub moved : (e : Sqe) → is_served (opcode_of e) ≡ true
+    → most_of (operation_of e) ≤ (if is_transfer e then len_of e else 0)
+moved e served = grind arith
+
+-- a served operation that is on a file is one of an entry that is on one
+pub on_some_file : (e : Sqe) (fd : ℤ) → is_served (opcode_of e) ≡ true
+    → file_asked (operation_of e) ≡ Some fd → is_on_file e ≡ true
+on_some_file e fd served asked = grind arith

@@ -1,17 +1,17 @@
--- Each file stands by itself: the laws of `files_stand_alone` as lemmas, by cases of the operation.
+-- Each file stands by itself: the laws of `files_stand_alone` as lemmas, of whatever operation there is.
 -- Stable: other crates may import `others_stay`, `files_apart` and `ends_apart`.
-use Rattle.std.proofs.Common.{◌≡◌, ◌≢◌, ℕ, zero, suc, ℤ, pos, negsuc, neg_ℤ, Bool, true, false, not, ◌&&◌, cond, List, [], ◌∷◌, take, get_or, refl, sym, ap, ◌∙◌, inl, inr}
+use Rattle.std.proofs.Common.{◌≡◌, ◌≢◌, ℕ, zero, suc, ℤ, pos, negsuc, Bool, true, false, cond, List, [], ◌∷◌, get_or, refl, sym, ap, ◌∙◌, inl, inr}
 use Rattle.std.specs.Prelude.{slice_get, slice_set}
 use Rattle.std.specs.Option.{option_map, option_map_or}
 use Rattle.std.specs.Ordering.{int_eq}
 use Rattle.std.proofs.lemmas.Bool.{cases_Bool, both_ways}
 use Rattle.std.proofs.lemmas.Bool.Decides.{Decides-int_eq}
 use Rattle.std.proofs.lemmas.Cmp.{int_eq_equiv}
-use Rattle.uring_entry.specs.declared.errno.TheConstants.{EFBIG}
-use Rattle.uring_entry.specs.declared.operation.Op.TheVariants.{Read, Write, Fsync}
-use Rattle.uring_files.specs.Contents.{FileContents, empty_file, read_outcome, is_too_long, is_past_end, written, with_writes_synced}
-use Rattle.uring_files.specs.Operations.{file_of, with_changed, on_file, ended_with}
-use Rattle.uring_files.specs.Laws.{AgreeAt, OthersStay, FilesStandAlone, EndsStandAlone}
+use Rattle.uring_entry.specs.declared.operation.Op.{Op}
+use Rattle.uring_files.specs.Contents.{FileContents, empty_file}
+use Rattle.uring_files.specs.Operations.{file_of, with_changed, on_file}
+use Rattle.uring_files.specs.Laws.{AgreeAt, is_on, OthersStay, FilesStandAlone, EndsStandAlone}
+use Rattle.uring_files.proofs.OperationCases.{Task, Does, cases}
 
 -- what stands at a place after one was set
 
@@ -68,25 +68,33 @@ chosen_apart true files others own fd change same =
       | inr differ ↦ changed_other files own fd change (unlike fd own differ) ∙ same ∙ sym (changed_other others own fd change (unlike fd own differ))
     ]
 
+-- whether a task is on the file of a descriptor
+on_task : (op : Op) (t : Task) (fd : ℤ) → Does op t → is_on fd op ≡ int_eq fd t.fd
+on_task op t fd does = ap (λ asked. option_map_or (int_eq fd) asked false) does.asked
+
 pub others_stay : OthersStay
-others_stay files (Write own off len bytes) res fd other =
-    chosen_other (int_eq res (pos len)) files own fd (written off (take len bytes)) other
-others_stay files (Fsync own) res fd other =
-    chosen_other (int_eq res (pos 0)) files own fd with_writes_synced other
-others_stay files _ res fd other = refl
+others_stay files op res fd other = elim (cases op) [
+  | inl idle ↦ ap (λ fs. file_of fs fd) (idle.after files res)
+  | inr busy ↦
+      ap (λ fs. file_of fs fd) (busy.1.after files res)
+      ∙ chosen_other (busy.0.changes res) files busy.0.fd fd busy.0.change (sym (on_task op busy.0 fd busy.1) ∙ other)
+]
 
 pub files_apart : FilesStandAlone
-files_apart files others (Write own off len bytes) res fd same =
-    chosen_apart (int_eq res (pos len)) files others own fd (written off (take len bytes)) same
-files_apart files others (Fsync own) res fd same =
-    chosen_apart (int_eq res (pos 0)) files others own fd with_writes_synced same
-files_apart files others _ res fd same = same
+files_apart files others op res fd same = elim (cases op) [
+  | inl idle ↦
+      ap (λ fs. file_of fs fd) (idle.after files res) ∙ same ∙ sym (ap (λ fs. file_of fs fd) (idle.after others res))
+  | inr busy ↦
+      ap (λ fs. file_of fs fd) (busy.1.after files res)
+      ∙ chosen_apart (busy.0.changes res) files others busy.0.fd fd busy.0.change same
+      ∙ sym (ap (λ fs. file_of fs fd) (busy.1.after others res))
+]
 
 pub ends_apart : EndsStandAlone
-ends_apart files others (Read fd off len) agree =
-    (ap (λ file. on_file file (read_outcome off len)) (agree fd (int_eq_equiv.refl fd)), refl)
-ends_apart files others (Write fd off len bytes) agree =
-    (ap (λ file. on_file file (λ f. ended_with (cond (is_too_long off len) (neg_ℤ EFBIG) (pos len)))) (agree fd (int_eq_equiv.refl fd)), ap (λ file. option_map_or (λ f. not (is_too_long off len) && is_past_end off len f) file false) (agree fd (int_eq_equiv.refl fd)))
-ends_apart files others (Fsync fd) agree =
-    (ap (λ file. on_file file (λ f. ended_with (pos 0))) (agree fd (int_eq_equiv.refl fd)), refl)
-ends_apart files others _ agree = (refl, refl)
+ends_apart files others op agree = elim (cases op) [
+  | inl idle ↦
+      (idle.ends files ∙ sym (idle.ends others), idle.lengthens files ∙ sym (idle.lengthens others))
+  | inr busy ↦
+      let own : file_of files busy.0.fd ≡ file_of others busy.0.fd = agree busy.0.fd (on_task op busy.0 busy.0.fd busy.1 ∙ int_eq_equiv.refl busy.0.fd) in
+      (busy.1.ends files ∙ ap (λ file. on_file file busy.0.ends) own ∙ sym (busy.1.ends others), busy.1.lengthens files ∙ ap (λ file. option_map_or busy.0.lengthens file false) own ∙ sym (busy.1.lengthens others))
+]

@@ -4,11 +4,8 @@ ghost use Rattle.std.specs.Prelude.{◌≡◌, ℕ, ◌≤◌, ◌↔◌, length
 ghost use Rattle.uring_entry.specs.Layout.{padded};
 ghost use Rattle.uring_files.specs.Contents.{empty_file, file_of_bytes, max_len, read_outcome, is_too_long, is_past_end, written, with_writes_synced};
 
-use crate::bytes::overwrite;
 use std::alloc::Global;
 use std::marker::Model;
-use uring_entry::Outcome;
-use uring_memory::Memory;
 
 /// How a file stands. Our own rule.
 #[derive(Clone, Copy, Debug, PartialEq, Eq)]
@@ -23,22 +20,12 @@ pub struct FileState {
     pub synced: u64,
 }
 
-/// Why a write of a file failed.
-#[derive(Clone, Copy, Debug, PartialEq, Eq)]
-pub(crate) enum WriteFault {
-    /// The file would pass its largest size.
-    TooLong,
-
-    /// Memory for the file's growth was refused.
-    NoMemory,
-}
-
 /// A file in memory, with counts of its successful writes.
 #[derive(Debug, Drop)]
 pub(crate) struct File {
-    bytes: Vec<u8>,
-    writes: u64,
-    synced: u64,
+    pub(crate) bytes: Vec<u8>,
+    pub(crate) writes: u64,
+    pub(crate) synced: u64,
 }
 
 impl Model for File {
@@ -97,76 +84,5 @@ impl File {
         ensures { result ≡ slice_get self.now.bytes at }
     {
         self.bytes.get(at as usize).copied()
-    }
-
-    /// Whether a write of `len` bytes at `off` makes the file longer, within the largest size.
-    pub(crate) fn is_lengthened(&self, off: u64, len: u32) -> bool
-        ensures { result ≡ (not (is_too_long off len) && is_past_end off len self.now) }
-    {
-        match off.checked_add(u64::from(len)) {
-            Some(end) => {
-                len != 0 && end <= u64::from(File::MAX_LEN) && end > self.bytes.len() as u64
-            }
-            None => false,
-        }
-    }
-
-    /// Reads at most `len` bytes from `off` on.
-    pub(crate) fn read(&self, off: u64, len: u32) -> Outcome
-        requires { len ≤ 64 }
-        ensures { result ≡ read_outcome off len self.now }
-    {
-        let start = self.bytes.len().min(off as usize);
-        let end = self.bytes.len().min(start + len as usize);
-        found(&self.bytes[start..end])
-    }
-
-    /// Writes bytes at `off`, and grows by this memory. A fault changes nothing.
-    pub(crate) fn write<M: Memory>(
-        &mut self,
-        memory: &M,
-        off: u64,
-        bytes: &[u8],
-    ) -> Result<(), WriteFault>
-        requires { length bytes.now ≤ 64 }
-        ensures ok { OnOk result (self.new ≡ written off bytes.now self.old) }
-        ensures err { OnErr result (self.new ≡ self.old) }
-        ensures too_long { IsErrOf result WriteFault.TooLong
-            ↔ IsTrue (is_too_long off (length bytes.now)) }
-        ensures no_memory { IsErrOf result WriteFault.NoMemory
-            → IsTrue (is_past_end off (length bytes.now) self.old) }
-        ensures granted { (n : ℕ) → M.grants memory.now n → max_len ≤ n
-            → IsErrOf result WriteFault.NoMemory → ⊥ }
-    {
-        if !bytes.is_empty() {
-            if off > u64::from(File::MAX_LEN) - bytes.len() as u64 {
-                return Err(WriteFault::TooLong);
-            }
-            let Ok(()) = overwrite(memory, &mut self.bytes, off as usize, bytes) else {
-                return Err(WriteFault::NoMemory);
-            };
-        }
-        self.writes = self.writes.wrapping_add(1);
-        Ok(())
-    }
-
-    /// Notes the successful writes so far as safe.
-    pub(crate) fn sync(&mut self)
-        ensures { self.new ≡ with_writes_synced self.old }
-    {
-        self.synced = self.writes;
-    }
-}
-
-/// The end of a read that found these bytes.
-fn found(bytes: &[u8]) -> Outcome
-    requires { length bytes.now ≤ 64 }
-    ensures { result ≡ record { res = pos (length bytes.now); bytes = padded bytes.now } }
-{
-    let mut all = [0; 64];
-    all[..bytes.len()].copy_from_slice(bytes);
-    Outcome {
-        res: bytes.len() as i32,
-        bytes: all,
     }
 }

@@ -9,5 +9,5 @@ mod operations;
 
 pub use file::FileState;
 pub use files::Files;
-pub use operations::{file_asked, written_length};
+pub use operations::{file_asked, is_for_files, written_length};
 pub use uring_entry::{BadSetup, Cqe, Fault, Op, Outcome, Setup, Sqe, SqeFlags};

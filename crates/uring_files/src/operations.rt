@@ -1,11 +1,17 @@
-//! What an operation asks of files, for those that needn't know which operations there are.
+//! The operations, on the file that each is on: how it ends there, what it makes of the file, and what it asks of files for those that needn't know which operations there are.
 
-ghost use Rattle.std.specs.Prelude.{◌≡◌, List, true};
+ghost use Rattle.std.specs.Prelude.{◌≡◌, ◌↔◌, ◌≤◌, List, length, pos, true, IsTrue};
+ghost use Rattle.uring_entry.specs.Layout.{padded};
+ghost use Rattle.uring_files.specs.Contents as contents;
 ghost use Rattle.uring_files.specs.Contents.{FileContents};
 ghost use Rattle.uring_files.specs.Operations as spec;
 ghost use Rattle.uring_files.specs.Operations.{IsForFiles, ended_with, is_lengthening, result_of};
 
-use uring_entry::Op;
+use crate::bytes::overwrite;
+use crate::file::File;
+use crate::files::Files;
+use uring_entry::{Op, Outcome, errno};
+use uring_memory::Memory;
 
 /// The descriptor of the file that an operation is on, whether there is such a file or not: `None` for a no-op and a cancel, which are on none. io_uring_enter(2), at each operation.
 pub fn file_asked(op: &Op) -> Option<i32>
@@ -28,5 +34,265 @@ pub fn written_length(op: &Op) -> i32
     match op {
         Op::Write { len, .. } => *len as i32,
         _ => 0,
+    }
+}
+
+/// Whether an operation can be asked of files: any but a cancel, and no transfer of more than 64 bytes.
+pub fn is_for_files(op: &Op) -> bool
+    ensures { IsTrue result ↔ IsForFiles op.now }
+{
+    match op {
+        Op::Nop | Op::Fsync { .. } => true,
+        Op::Read { len, .. } | Op::Write { len, .. } => *len <= 64,
+        Op::Cancel { .. } => false,
+    }
+}
+
+impl Files {
+    ghost use Rattle.std.specs.Prelude.{◌≡◌, ◌≤◌, ℕ};
+    ghost use Rattle.uring_files.specs.Contents.{max_len};
+    ghost use Rattle.uring_files.specs.Operations as spec;
+    ghost use Rattle.uring_files.specs.Operations.{IsForFiles, IsOutcome, is_lengthening, result_of, after};
+
+    /// Carries out an operation, any but a cancel, that moves at most 64 bytes, and returns how it ended. A result of 0 or more is that of a success, and one below 0 the negative of an error number; such an end changes no file.
+    ///
+    /// - A no-op gives 0.
+    /// - Any other operation ends with -9 (EBADF) if its descriptor is negative or not below the number of files, before anything else is looked at.
+    /// - A read gives the bytes from its offset on, as many as it asks for and as the file has, and returns how many: 0 at or past the file's end.
+    /// - A write of no bytes gives 0 at any offset, and counts as a successful write. One that would make its file longer than 65,536 bytes ends with -27 (EFBIG), and one that lengthens its file with -12 (ENOMEM) if memory was refused. Else it returns how many bytes it wrote, and a gap between the file's end and its offset is filled with zeros.
+    /// - A sync gives 0, and notes the successful writes of its file so far as safe.
+    ///
+    /// Only a write that lengthens its file takes memory. What the operations do is that of io_uring_enter(2), IORING_OP_NOP, READ, WRITE and FSYNC, and EBADF of its CQE ERRORS. The largest size, that a write past it changes nothing, and that files are in memory, are our own rule.
+    pub fn apply(&mut self, op: &Op) -> Outcome
+        requires { IsForFiles op.now }
+        ensures outcome { IsOutcome self.old op.now result }
+        ensures files { self.new ≡ after self.old op.now result.res }
+    {
+        let memory = *self.files.allocator();
+        self.apply_in(&memory, op)
+    }
+
+    /// As `apply`, by this memory. If it grants 65,536 elements, the outcome is the one called for, and never -12.
+    pub fn apply_in<M: Memory>(&mut self, memory: &M, op: &Op) -> Outcome
+        requires { IsForFiles op.now }
+        ensures outcome { IsOutcome self.old op.now result }
+        ensures files { self.new ≡ after self.old op.now result.res }
+        ensures granted { (n : ℕ) → M.grants memory.now n → max_len ≤ n
+            → result ≡ result_of self.old op.now }
+    {
+        match op {
+            Op::Nop => with_result(0),
+            Op::Read { fd, off, len } => self.read(*fd, *off, *len),
+            Op::Write {
+                fd,
+                off,
+                len,
+                bytes,
+            } => with_result(self.write(memory, *fd, *off, *len, bytes)),
+            Op::Fsync { fd } => with_result(self.sync(*fd)),
+            Op::Cancel { .. } => unreachable!(),
+        }
+    }
+
+    /// Whether an operation is a write that makes its file longer, within the largest size. Such a one alone asks `apply` for memory, and may end with -12 (ENOMEM) in place of its success.
+    pub fn lengthens(&self, op: &Op) -> bool
+        ensures { result ≡ is_lengthening self.now op.now }
+    {
+        match op {
+            Op::Write { fd, off, len, .. } => match self.file(*fd) {
+                Some(file) => file.is_lengthened(*off, *len),
+                None => false,
+            },
+            _ => false,
+        }
+    }
+
+    /// The outcome that an operation calls for, which isn't carried out.
+    pub fn called_for(&self, op: &Op) -> Outcome
+        requires { IsForFiles op.now }
+        ensures { result ≡ result_of self.now op.now }
+    {
+        match op {
+            Op::Nop | Op::Cancel { .. } => with_result(0),
+            Op::Read { fd, off, len } => self.read(*fd, *off, *len),
+            Op::Write {
+                fd,
+                off,
+                len,
+                bytes,
+            } => with_result(self.write_called(*fd, *off, *len, bytes)),
+            Op::Fsync { fd } => with_result(self.sync_called(*fd)),
+        }
+    }
+
+    /// Reads at most `len` bytes of the file of a descriptor from `off` on.
+    fn read(&self, fd: i32, off: u64, len: u32) -> Outcome
+        requires { len ≤ 64 }
+        ensures { result ≡ result_of self.now (Op.Read fd off len) }
+    {
+        match self.file(fd) {
+            Some(file) => file.read(off, len),
+            None => with_result(-errno::EBADF),
+        }
+    }
+
+    /// Writes the first `len` of the bytes to the file of a descriptor at `off`, and returns the result.
+    fn write<M: Memory>(&mut self, memory: &M, fd: i32, off: u64, len: u32, bytes: &[u8; 64]) -> i32
+        requires { len ≤ 64 }
+        ensures outcome { IsOutcome self.old (Op.Write fd off len bytes.now)
+            (spec.ended_with result) }
+        ensures files { self.new ≡ after self.old (Op.Write fd off len bytes.now) result }
+        ensures granted { (n : ℕ) → M.grants memory.now n → max_len ≤ n
+            → spec.ended_with result ≡ result_of self.old (Op.Write fd off len bytes.now) }
+    {
+        let Some(place) = self.place(fd) else {
+            return -errno::EBADF;
+        };
+        match self.files[place].write(memory, off, &bytes[..len as usize]) {
+            Ok(()) => len as i32,
+            Err(WriteFault::TooLong) => -errno::EFBIG,
+            Err(WriteFault::NoMemory) => -errno::ENOMEM,
+        }
+    }
+
+    /// Notes the successful writes of the file of a descriptor as safe, and returns the result.
+    fn sync(&mut self, fd: i32) -> i32
+        ensures outcome { spec.ended_with result ≡ result_of self.old (Op.Fsync fd) }
+        ensures files { self.new ≡ after self.old (Op.Fsync fd) result }
+    {
+        let Some(place) = self.place(fd) else {
+            return -errno::EBADF;
+        };
+        self.files[place].sync();
+        0
+    }
+
+    /// The result that a write calls for.
+    fn write_called(&self, fd: i32, off: u64, len: u32, bytes: &[u8; 64]) -> i32
+        requires { len ≤ 64 }
+        ensures { spec.ended_with result ≡ result_of self.now (Op.Write fd off len bytes.now) }
+    {
+        if self.file(fd).is_none() {
+            -errno::EBADF
+        } else if is_too_long(off, len) {
+            -errno::EFBIG
+        } else {
+            len as i32
+        }
+    }
+
+    /// The result that a sync calls for.
+    fn sync_called(&self, fd: i32) -> i32
+        ensures { spec.ended_with result ≡ result_of self.now (Op.Fsync fd) }
+    {
+        if self.file(fd).is_none() {
+            -errno::EBADF
+        } else {
+            0
+        }
+    }
+}
+
+/// Why a write of a file failed.
+#[derive(Clone, Copy, Debug, PartialEq, Eq)]
+pub(crate) enum WriteFault {
+    /// The file would pass its largest size.
+    TooLong,
+
+    /// Memory for the file's growth was refused.
+    NoMemory,
+}
+
+impl File {
+    ghost use Rattle.std.specs.Prelude.{◌≡◌, ℕ, ◌≤◌, ◌↔◌, length, IsTrue, OnOk, OnErr, IsErrOf, not, ◌&&◌};
+    ghost use Rattle.uring_files.specs.Contents.{max_len, read_outcome, is_too_long, is_past_end, written, with_writes_synced};
+
+    /// Whether a write of `len` bytes at `off` makes the file longer, within the largest size.
+    pub(crate) fn is_lengthened(&self, off: u64, len: u32) -> bool
+        ensures { result ≡ (not (is_too_long off len) && is_past_end off len self.now) }
+    {
+        match off.checked_add(u64::from(len)) {
+            Some(end) => {
+                len != 0 && end <= u64::from(File::MAX_LEN) && end > self.bytes.len() as u64
+            }
+            None => false,
+        }
+    }
+
+    /// Reads at most `len` bytes from `off` on.
+    pub(crate) fn read(&self, off: u64, len: u32) -> Outcome
+        requires { len ≤ 64 }
+        ensures { result ≡ read_outcome off len self.now }
+    {
+        let start = self.bytes.len().min(off as usize);
+        let end = self.bytes.len().min(start + len as usize);
+        found(&self.bytes[start..end])
+    }
+
+    /// Writes bytes at `off`, and grows by this memory. A fault changes nothing.
+    pub(crate) fn write<M: Memory>(
+        &mut self,
+        memory: &M,
+        off: u64,
+        bytes: &[u8],
+    ) -> Result<(), WriteFault>
+        requires { length bytes.now ≤ 64 }
+        ensures ok { OnOk result (self.new ≡ written off bytes.now self.old) }
+        ensures err { OnErr result (self.new ≡ self.old) }
+        ensures too_long { IsErrOf result WriteFault.TooLong
+            ↔ IsTrue (is_too_long off (length bytes.now)) }
+        ensures no_memory { IsErrOf result WriteFault.NoMemory
+            → IsTrue (is_past_end off (length bytes.now) self.old) }
+        ensures granted { (n : ℕ) → M.grants memory.now n → max_len ≤ n
+            → IsErrOf result WriteFault.NoMemory → ⊥ }
+    {
+        if !bytes.is_empty() {
+            if off > u64::from(File::MAX_LEN) - bytes.len() as u64 {
+                return Err(WriteFault::TooLong);
+            }
+            let Ok(()) = overwrite(memory, &mut self.bytes, off as usize, bytes) else {
+                return Err(WriteFault::NoMemory);
+            };
+        }
+        self.writes = self.writes.wrapping_add(1);
+        Ok(())
+    }
+
+    /// Notes the successful writes so far as safe.
+    pub(crate) fn sync(&mut self)
+        ensures { self.new ≡ with_writes_synced self.old }
+    {
+        self.synced = self.writes;
+    }
+}
+
+/// Whether a write of `len` bytes at `off` would pass the largest size.
+fn is_too_long(off: u64, len: u32) -> bool
+    requires { len ≤ 64 }
+    ensures { result ≡ contents.is_too_long off len }
+{
+    len != 0 && off > u64::from(File::MAX_LEN) - u64::from(len)
+}
+
+/// The end of a read that found these bytes.
+fn found(bytes: &[u8]) -> Outcome
+    requires { length bytes.now ≤ 64 }
+    ensures { result ≡ record { res = pos (length bytes.now); bytes = padded bytes.now } }
+{
+    let mut all = [0; 64];
+    all[..bytes.len()].copy_from_slice(bytes);
+    Outcome {
+        res: bytes.len() as i32,
+        bytes: all,
+    }
+}
+
+/// An end with this result and no bytes.
+pub(crate) fn with_result(res: i32) -> Outcome
+    ensures { result ≡ spec.ended_with res }
+{
+    Outcome {
+        res,
+        bytes: [0; 64],
     }
 }

@@ -1,45 +1,24 @@
 -- The files of a history, and that they are some others by what is told of each.
-use Rattle.std.proofs.Common.{◌≡◌, ℕ, ◌<◌, ◌≤◌, ℤ, pos, negsuc, Bool, true, false, List, [], ◌∷◌, length, Option, Some, None, inl, inr, if◌then◌else◌, refl, ◌∙◌, arith}
-use Rattle.std.specs.Prelude.{take, slice_get}
+use Rattle.std.proofs.Common.{◌≡◌, ℕ, ◌<◌, ◌≤◌, pos, List, [], ◌∷◌, length, Option, Some, None, inl, inr, refl, ◌∙◌, arith}
+use Rattle.std.specs.Prelude.{slice_get}
 use Rattle.std.specs.Option.{option_map}
 use Rattle.std.proofs.lemmas.Option.{slice_get_cases}
-use Rattle.std.specs.Ordering.{int_eq}
-use Rattle.std.proofs.lemmas.List.{length-set, length-replicate}
+use Rattle.std.proofs.lemmas.List.{length-replicate}
 use Rattle.uring_entry.specs.Setup.{Setup}
 use Rattle.uring_entry.specs.Preparation.{operation_of}
 use Rattle.uring_entry.specs.Requests.{Requests, Ending, entry_of}
-use Rattle.uring_entry.specs.declared.operation.Op.{Op}
-use Rattle.uring_entry.specs.declared.operation.Op.TheVariants as op
-use Rattle.uring_files.specs.Contents.{FileContents, empty_file, empty_files, written, with_writes_synced}
-use Rattle.uring_files.specs.Operations.{after, with_changed, file_of, state_of}
+use Rattle.uring_files.specs.Contents.{FileContents, empty_file, empty_files}
+use Rattle.uring_files.proofs.OperationCases.{many_after}
+use Rattle.uring_files.specs.Operations.{after, file_of, state_of}
 use Rattle.uring_core.specs.World.{World}
 use Rattle.uring_core.specs.CalledFor.{files_after, files_of}
 use Rattle.uring_outcomes.proofs.SameEndings.{same_by_descriptors}
-
-changed_count : (files : List FileContents) (fd : ℤ) (change : FileContents → FileContents)
-    → length (with_changed files fd change) ≡ length files
-changed_count files (pos fd) change = length-set files fd _
-changed_count files (negsuc below) change = refl
-
-count_if : (b : Bool) (files changed : List FileContents) → length changed ≡ length files
-    → length (if b then changed else files) ≡ length files
-count_if true files changed same = same
-count_if false files changed same = refl
-
-after_count : (files : List FileContents) (o : Op) (res : ℤ) → length (after files o res) ≡ length files
-after_count files op.Nop res = refl
-after_count files (op.Read fd off len) res = refl
-after_count files (op.Write fd off len bytes) res =
-    count_if (int_eq res (pos len)) files (with_changed files fd (written off (take len bytes))) (changed_count files fd (written off (take len bytes)))
-after_count files (op.Fsync fd) res =
-    count_if (int_eq res (pos 0)) files (with_changed files fd with_writes_synced) (changed_count files fd with_writes_synced)
-after_count files (op.Cancel target all) res = refl
 
 ends_count : (r : Requests) (ends : List Ending) (files : List FileContents)
     → length (files_after r files ends) ≡ length files
 ends_count r [] files = refl
 ends_count r (e ∷ later) files =
-    ends_count r later (after files (operation_of (entry_of r e.number)) e.res) ∙ after_count files (operation_of (entry_of r e.number)) e.res
+    ends_count r later (after files (operation_of (entry_of r e.number)) e.res) ∙ many_after files (operation_of (entry_of r e.number)) e.res
 
 -- there are as many as the set-up has
 pub files_count : (g : Setup) (w : World) → length (files_of g w) ≡ g.files

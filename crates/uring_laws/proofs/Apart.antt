@@ -1,21 +1,23 @@
 -- Operations that stay apart don't meet: `apart_dont_meet`. What one leaves of a file, the other finds as it was, and both orders leave the same bytes.
 use Rattle.std.proofs.Common.{◌≡◌, ◌≢◌, ℕ, zero, suc, ◌+◌, ◌-◌, ◌<◌, ◌≤◌, ◌==◌, ◌%◌, ◌^◌, min, max, ℤ, pos, negsuc, neg_ℤ, Bool, true, false, not, ◌&&◌, ◌||◌, cond, if◌then◌else◌, List, [], ◌∷◌, ◌++◌, length, take, drop, replicate, get_or, Option, Some, None, refl, sym, ap, ap₂, ◌∙◌, arith, rules, ◌⊎◌, inl, inr}
 use Rattle.std.specs.Prelude.{slice_get, slice_set, nat_le, nat_lt}
-use Rattle.std.specs.Option.{option_map}
+use Rattle.std.specs.Option.{option_map, option_map_or}
 use Rattle.std.specs.Ordering.{int_eq}
-use Rattle.std.proofs.lemmas.Bool.{cases_Bool, cases_lt, or_cases, and_from, and_left, and_right, both_ways, not-true, leb-true, le-leb, lt-leb, lt-ltb, le-ltb}
+use Rattle.std.proofs.lemmas.Bool.{true≢false, cases_Bool, cases_lt, or_cases, and_from, and_left, and_right, both_ways, not-true, leb-true, le-leb, lt-leb, lt-ltb, le-ltb}
 use Rattle.std.proofs.lemmas.Bool.Decides.{Decides-int_eq, nat_tests}
 use Rattle.std.proofs.lemmas.Grind.{same_number_lists}
 use Rattle.std.proofs.lemmas.List.{length-take, length-drop, get_or-drop, places}
 use Rattle.uring_entry.specs.Layout.{padded}
 use Rattle.uring_entry.specs.declared.errno.TheConstants.{EFBIG}
 use Rattle.uring_entry.specs.declared.operation.Op.{Op}
-use Rattle.uring_entry.specs.declared.operation.Op.TheVariants.{Nop, Read, Write, Fsync, Cancel}
+use Rattle.uring_entry.specs.declared.operation.Op.TheVariants.{Read, Write, Fsync}
 use Rattle.uring_entry.specs.declared.operation.Outcome.{Outcome}
 use Rattle.uring_files.specs.Contents.{FileContents, empty_file, overwritten, written, with_writes_synced, read_outcome, is_too_long}
-use Rattle.uring_files.specs.Operations.{file_of, with_changed, on_file, ended_with, result_of, after}
+use Rattle.uring_files.specs.Operations.{file_asked, file_of, with_changed, on_file, ended_with, result_of, after}
+use Rattle.uring_files.proofs.OperationCases.{Task, Does, cases}
+use Rattle.uring_files.proofs.StandAlone.{others_stay, ends_apart}
 use Rattle.uring_files.specs.Laws.{IsWrittenOver}
-use Rattle.uring_laws.specs.Swaps.{stay_apart, are_disjoint, ApartDontMeet}
+use Rattle.uring_laws.specs.Swaps.{are_disjoint, are_on_others, stay_apart, stay_apart_on_one, ApartDontMeet}
 
 -- Bytes written over others.
 
@@ -210,12 +212,6 @@ chosen_either false false files fd other f g same = refl
 
 -- What an operation gives where another was carried out.
 
--- an outcome that asks only whether the file is there
-there_only : (o : Option FileContents) (change : FileContents → FileContents) (outcome : Outcome)
-    → on_file (option_map change o) (λ file. outcome) ≡ on_file o (λ file. outcome)
-there_only None change outcome = refl
-there_only (Some file) change outcome = refl
-
 as_before : (o : Option FileContents) (change : FileContents → FileContents) (outcome : FileContents → Outcome)
     → ((file : FileContents) → outcome (change file) ≡ outcome file)
     → on_file (option_map change o) outcome ≡ on_file o outcome
@@ -245,29 +241,50 @@ chosen_as_before false files own fd change outcome same = refl
 few : (len : ℕ) (bytes : List ℕ) → length (take len bytes) ≤ len
 few len bytes = omega (arith, length-take len bytes)
 
--- on one file, if they are apart, the other test holds
-on_one : (fd own : ℤ) (apart : Bool) → (not (int_eq fd own) || apart) ≡ true → fd ≡ own → apart ≡ true
-on_one fd own apart e same = elim (or_cases (not (int_eq fd own)) apart e) [
-  | inl differ ↦ absurd (unlike fd own (not-true (int_eq fd own) differ) same)
-  | inr holds ↦ holds
+-- On different files, whichever operations they are.
+
+abbrev others : Option ℤ → Option ℤ → Bool
+others asked other =
+    option_map_or (λ fd. not (option_map_or (int_eq fd) other false)) asked true
+
+not_on : (asked other : Option ℤ) (fd : ℤ) → others asked other ≡ true
+    → option_map_or (int_eq fd) other false ≡ true
+    → option_map_or (int_eq fd) asked false ≡ false
+not_on None other fd apart on = refl
+not_on (Some own) None fd apart on = absurd (true≢false (sym on))
+not_on (Some own) (Some k) fd apart on = elim (cases_Bool (int_eq fd own)) [
+  | inl here ↦
+      absurd (unlike own k (not-true (int_eq own k) apart) (sym ((Decides-int_eq fd own).0 here) ∙ (Decides-int_eq fd k).0 on))
+  | inr differ ↦ differ
 ]
+
+gives_elsewhere : (files : List FileContents) (d e : Op) (res : ℤ) → are_on_others d e ≡ true
+    → result_of (after files d res) e ≡ result_of files e
+gives_elsewhere files d e res apart =
+    (ends_apart (after files d res) files e (λ fd on. others_stay files d res fd (not_on (file_asked d) (file_asked e) fd apart on))).0
+
+gives_on_one : (files : List FileContents) (d e : Op) (res : ℤ) → stay_apart_on_one d e ≡ true
+    → result_of (after files d res) e ≡ result_of files e
+gives_on_one files (Read own off len) (Read fd at count) res apart = refl
+gives_on_one files (Read own off len) (Write fd at count more) res apart = refl
+gives_on_one files (Read own off len) (Fsync fd) res apart = refl
+gives_on_one files (Write own off len bytes) (Read fd at count) res apart =
+    chosen_as_before (int_eq res (pos len)) files own fd (written off (take len bytes)) (read_outcome at count)
+    (λ same file. read_behind file (take len bytes) off at count (let low : off + len ≤ at = leb-true (off + len) at apart in omega (arith, low, few len bytes)))
+gives_on_one files (Write own off len bytes) (Write fd at count more) res apart =
+    chosen_as_before (int_eq res (pos len)) files own fd (written off (take len bytes)) (λ file. ended_with (if is_too_long at count then neg_ℤ EFBIG else pos count)) (λ same file. refl)
+gives_on_one files (Fsync own) (Read fd at count) res apart =
+    chosen_as_before (int_eq res (pos 0)) files own fd with_writes_synced (read_outcome at count) (λ same file. refl)
+gives_on_one files (Fsync own) (Fsync fd) res apart =
+    chosen_as_before (int_eq res (pos 0)) files own fd with_writes_synced (λ file. ended_with (pos 0)) (λ same file. refl)
+gives_on_one files d e res apart = absurd (true≢false (sym apart))
 
 gives_same : (files : List FileContents) (d e : Op) (res : ℤ) → stay_apart d e ≡ true
     → result_of (after files d res) e ≡ result_of files e
-gives_same files (Write own off len bytes) (Read fd at count) res apart =
-    chosen_as_before (int_eq res (pos len)) files own fd (written off (take len bytes)) (read_outcome at count)
-    (λ same file. read_behind file (take len bytes) off at count (let low : off + len ≤ at = leb-true (off + len) at (on_one own fd (nat_le (off + len) at) apart (sym same)) in omega (arith, low, few len bytes)))
-gives_same files (Write own off len bytes) (Write fd at count more) res apart =
-    chosen_as_before (int_eq res (pos len)) files own fd (written off (take len bytes)) (λ file. ended_with (if is_too_long at count then neg_ℤ EFBIG else pos count)) (λ same file. refl)
-gives_same files (Write own off len bytes) (Fsync fd) res apart =
-    chosen_as_before (int_eq res (pos len)) files own fd (written off (take len bytes)) (λ file. ended_with (pos 0)) (λ same file. refl)
-gives_same files (Fsync own) (Read fd at count) res apart =
-    chosen_as_before (int_eq res (pos 0)) files own fd with_writes_synced (read_outcome at count) (λ same file. refl)
-gives_same files (Fsync own) (Write fd at count more) res apart =
-    chosen_as_before (int_eq res (pos 0)) files own fd with_writes_synced (λ file. ended_with (if is_too_long at count then neg_ℤ EFBIG else pos count)) (λ same file. refl)
-gives_same files (Fsync own) (Fsync fd) res apart =
-    chosen_as_before (int_eq res (pos 0)) files own fd with_writes_synced (λ file. ended_with (pos 0)) (λ same file. refl)
-gives_same files d e res apart = refl
+gives_same files d e res apart = elim (or_cases (are_on_others d e) (stay_apart_on_one d e) apart) [
+  | inl elsewhere ↦ gives_elsewhere files d e res elsewhere
+  | inr on_one ↦ gives_on_one files d e res on_one
+]
 
 -- Which files both orders leave.
 
@@ -290,40 +307,37 @@ same_test fd other = elim (cases_Bool (int_eq fd other)) [
       ]
 ]
 
-beside_nop : (e : Op) → stay_apart e Nop ≡ true
-beside_nop Nop = refl
-beside_nop (Read fd off len) = refl
-beside_nop (Write fd off len bytes) = refl
-beside_nop (Fsync fd) = refl
-beside_nop (Cancel target all) = refl
+others_either : (asked other : Option ℤ) → others asked other ≡ true → others other asked ≡ true
+others_either None None apart = refl
+others_either None (Some k) apart = refl
+others_either (Some own) None apart = refl
+others_either (Some own) (Some k) apart = ap not (same_test k own) ∙ apart
 
-beside_cancel : (target : ℕ) (all : Bool) (e : Op) → stay_apart e (Cancel target all) ≡ true
-beside_cancel target all Nop = refl
-beside_cancel target all (Read fd off len) = refl
-beside_cancel target all (Write fd off len bytes) = refl
-beside_cancel target all (Fsync fd) = refl
-beside_cancel target all (Cancel other every) = refl
+on_one_either : (d e : Op) → stay_apart_on_one d e ≡ true → stay_apart_on_one e d ≡ true
+on_one_either (Read fd off len) (Read other at count) a = refl
+on_one_either (Read fd off len) (Write other at count bytes) a = a
+on_one_either (Read fd off len) (Fsync other) a = refl
+on_one_either (Write fd off len bytes) (Read other at count) a = a
+on_one_either (Write fd off len bytes) (Write other at count more) a =
+    swapped_disjoint off len at count a
+on_one_either (Fsync fd) (Read other at count) a = refl
+on_one_either (Fsync fd) (Fsync other) a = refl
+on_one_either d e a = absurd (true≢false (sym a))
+
+or_first : (x y : Bool) → x ≡ true → (x || y) ≡ true
+or_first true y is = refl
+or_first false y is = absurd (true≢false (sym is))
+
+or_second : (x y : Bool) → y ≡ true → (x || y) ≡ true
+or_second true y is = refl
+or_second false y is = is
 
 apart_either : (d e : Op) → stay_apart d e ≡ true → stay_apart e d ≡ true
-apart_either (Read fd off len) (Write other at count bytes) a =
-    ap (λ b. not b || nat_le (at + count) off) (same_test other fd) ∙ a
-apart_either (Write fd off len bytes) (Read other at count) a =
-    ap (λ b. not b || nat_le (off + len) at) (same_test other fd) ∙ a
-apart_either (Write fd off len bytes) (Write other at count more) a =
-    ap (λ b. not b || are_disjoint at count off len) (same_test other fd) ∙ turned (not (int_eq fd other)) a where
-      turned : (b : Bool) → (b || are_disjoint off len at count) ≡ true → (b || are_disjoint at count off len) ≡ true
-      turned true f = refl
-      turned false f = swapped_disjoint off len at count f
-apart_either (Write fd off len bytes) (Fsync other) a = ap not (same_test other fd) ∙ a
-apart_either (Fsync fd) (Write other at count bytes) a = ap not (same_test other fd) ∙ a
-apart_either (Read fd off len) (Read other at count) a = refl
-apart_either (Read fd off len) (Fsync other) a = refl
-apart_either (Fsync fd) (Read other at count) a = refl
-apart_either (Fsync fd) (Fsync other) a = refl
-apart_either d Nop a = refl
-apart_either d (Cancel target all) a = refl
-apart_either Nop e a = beside_nop e
-apart_either (Cancel target all) e a = beside_cancel target all e
+apart_either d e apart = elim (or_cases (are_on_others d e) (stay_apart_on_one d e) apart) [
+  | inl elsewhere ↦
+      or_first (are_on_others e d) (stay_apart_on_one e d) (others_either (file_asked d) (file_asked e) elsewhere)
+  | inr on_one ↦ or_second (are_on_others e d) (stay_apart_on_one e d) (on_one_either d e on_one)
+]
 
 written_either : (file : FileContents) (a b : List ℕ) (o p len count : ℕ) → length a ≤ len
     → length b ≤ count → are_disjoint o len p count ≡ true
@@ -336,18 +350,48 @@ written_either file a b o p len count few_a few_b apart =
         | inr high ↦ inr (let le : p + count ≤ o = leb-true (p + count) o high in omega (arith, le, few_b))
       ]
 
+other_files : (d e : Op) (t u : Task) → Does d t → Does e u → are_on_others d e ≡ true → t.fd ≢ u.fd
+other_files d e t u does_d does_e apart =
+    unlike t.fd u.fd (not-true (int_eq t.fd u.fd) (sym (ap₂ others does_d.asked does_e.asked) ∙ apart))
+
+leaves_elsewhere : (files : List FileContents) (d e : Op) (x y : ℤ) → are_on_others d e ≡ true
+    → after (after files d x) e y ≡ after (after files e y) d x
+leaves_elsewhere files d e x y apart = elim (cases d) [
+  | inl idle ↦
+      ap (λ fs. after fs e y) (idle.after files x) ∙ sym (idle.after (after files e y) x)
+  | inr one ↦
+      elim (cases e) [
+        | inl idle ↦
+            idle.after (after files d x) y ∙ sym (ap (λ fs. after fs d x) (idle.after files y))
+        | inr two ↦
+            two.1.after (after files d x) y
+            ∙ ap (λ fs. cond (two.0.changes y) (with_changed fs two.0.fd two.0.change) fs) (one.1.after files x)
+            ∙ chosen_either (one.0.changes x) (two.0.changes y) files one.0.fd two.0.fd one.0.change two.0.change (λ same file. absurd (other_files d e one.0 two.0 one.1 two.1 apart same))
+            ∙ sym (ap (λ fs. cond (one.0.changes x) (with_changed fs one.0.fd one.0.change) fs) (two.1.after files y))
+            ∙ sym (one.1.after (after files e y) x)
+      ]
+]
+
+leaves_on_one : (files : List FileContents) (d e : Op) (x y : ℤ) → stay_apart_on_one d e ≡ true
+    → after (after files d x) e y ≡ after (after files e y) d x
+leaves_on_one files (Read fd off len) (Read other at count) x y apart = refl
+leaves_on_one files (Read fd off len) (Write other at count more) x y apart = refl
+leaves_on_one files (Read fd off len) (Fsync other) x y apart = refl
+leaves_on_one files (Write fd off len bytes) (Read other at count) x y apart = refl
+leaves_on_one files (Write fd off len bytes) (Write other at count more) x y apart =
+    chosen_either (int_eq x (pos len)) (int_eq y (pos count)) files fd other (written off (take len bytes)) (written at (take count more))
+    (λ same file. written_either file (take len bytes) (take count more) off at len count (few len bytes) (few count more) apart)
+leaves_on_one files (Fsync fd) (Read other at count) x y apart = refl
+leaves_on_one files (Fsync fd) (Fsync other) x y apart =
+    chosen_either (int_eq x (pos 0)) (int_eq y (pos 0)) files fd other with_writes_synced with_writes_synced (λ same file. refl)
+leaves_on_one files d e x y apart = absurd (true≢false (sym apart))
+
 leaves_same : (files : List FileContents) (d e : Op) (x y : ℤ) → stay_apart d e ≡ true
     → after (after files d x) e y ≡ after (after files e y) d x
-leaves_same files (Write fd off len bytes) (Write other at count more) x y apart =
-    chosen_either (int_eq x (pos len)) (int_eq y (pos count)) files fd other (written off (take len bytes)) (written at (take count more))
-    (λ same file. written_either file (take len bytes) (take count more) off at len count (few len bytes) (few count more) (on_one fd other (are_disjoint off len at count) apart same))
-leaves_same files (Write fd off len bytes) (Fsync other) x y apart =
-    chosen_either (int_eq x (pos len)) (int_eq y (pos 0)) files fd other (written off (take len bytes)) with_writes_synced (λ same file. absurd (unlike fd other (not-true (int_eq fd other) apart) same))
-leaves_same files (Fsync fd) (Write other at count more) x y apart =
-    chosen_either (int_eq x (pos 0)) (int_eq y (pos count)) files fd other with_writes_synced (written at (take count more)) (λ same file. absurd (unlike fd other (not-true (int_eq fd other) apart) same))
-leaves_same files (Fsync fd) (Fsync other) x y apart =
-    chosen_either (int_eq x (pos 0)) (int_eq y (pos 0)) files fd other with_writes_synced with_writes_synced (λ same file. refl)
-leaves_same files d e x y apart = refl
+leaves_same files d e x y apart = elim (or_cases (are_on_others d e) (stay_apart_on_one d e) apart) [
+  | inl elsewhere ↦ leaves_elsewhere files d e x y elsewhere
+  | inr on_one ↦ leaves_on_one files d e x y on_one
+]
 
 pub apart_dont_meet : ApartDontMeet
 apart_dont_meet files d e x y apart one two = record {

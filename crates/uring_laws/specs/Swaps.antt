@@ -1,7 +1,7 @@
 -- Which two events that come one behind the other may change places, and what they leave then: worlds that are alike, which no later answer tells apart. Exploring of one order of each class rests on it.
 use Rattle.std.specs.Prelude.{◌≡◌, ◌≢◌, ◌⊎◌, ◌<◌, ℕ, ◌+◌, Bool, true, false, not, ◌||◌, nat_le, List, ◌∷◌, ◌++◌, length}
 use Rattle.std.specs.List.{list_any}
-use Rattle.std.specs.Ordering.{int_eq}
+use Rattle.std.specs.Option.{option_map_or}
 use Rattle.uring_entry.specs.Setup.{Setup}
 use Rattle.uring_entry.specs.Preparation.{operation_of}
 use Rattle.uring_entry.specs.Requests.{Requests, Ending, entry_of}
@@ -9,7 +9,8 @@ use Rattle.uring_entry.specs.declared.operation.Op.{Op}
 use Rattle.uring_entry.specs.declared.operation.Op.TheVariants.{Read, Write, Fsync}
 use Rattle.uring_entry.specs.declared.operation.Outcome.{Outcome}
 use Rattle.uring_files.specs.Contents.{FileContents}
-use Rattle.uring_files.specs.Operations.{after, result_of, IsOutcome}
+use Rattle.uring_files.specs.Laws.{is_on}
+use Rattle.uring_files.specs.Operations.{after, file_asked, result_of, IsOutcome}
 use Rattle.uring_rules.specs.Rules.{ends_doomed, may_start, posts}
 use Rattle.uring_core.specs.World.{World, requests_of}
 use Rattle.uring_core.specs.CalledFor.{CalledFor, IsLawful, files_of}
@@ -124,14 +125,24 @@ FinishesChange g = (h : History) (m n : ℕ) (x y : Outcome)
 abbrev pub are_disjoint : ℕ → ℕ → ℕ → ℕ → Bool
 are_disjoint off len at count = nat_le (off + len) at || nat_le (at + count) off
 
--- Whether two operations stay apart: on files of different descriptors all do. On one file two reads do, two syncs, a read and a sync, a read and a write that lies before it, and two writes with no byte in common. A write behind a read may make the file longer, and a sync notes the writes before it.
+-- whether no file is one that both are on
+abbrev pub are_on_others : Op → Op → Bool
+are_on_others d e = option_map_or (λ fd. not (is_on fd e)) (file_asked d) true
+
+-- Whether two operations on one file stay apart: two reads do, two syncs, a read and a sync, a read and a write that lies before it, and two writes with no byte in common. A write behind a read may make the file longer, and a sync notes the writes before it.
+abbrev pub stay_apart_on_one : Op → Op → Bool
+stay_apart_on_one (Read fd off len) (Read other at count) = true
+stay_apart_on_one (Read fd off len) (Write other at count bytes) = nat_le (at + count) off
+stay_apart_on_one (Read fd off len) (Fsync other) = true
+stay_apart_on_one (Write fd off len bytes) (Read other at count) = nat_le (off + len) at
+stay_apart_on_one (Write fd off len bytes) (Write other at count more) = are_disjoint off len at count
+stay_apart_on_one (Fsync fd) (Read other at count) = true
+stay_apart_on_one (Fsync fd) (Fsync other) = true
+stay_apart_on_one d e = false
+
+-- Whether two operations stay apart: on files of different descriptors all do, and those that are on no file.
 abbrev pub stay_apart : Op → Op → Bool
-stay_apart (Read fd off len) (Write other at count bytes) = not (int_eq fd other) || nat_le (at + count) off
-stay_apart (Write fd off len bytes) (Read other at count) = not (int_eq fd other) || nat_le (off + len) at
-stay_apart (Write fd off len bytes) (Write other at count more) = not (int_eq fd other) || are_disjoint off len at count
-stay_apart (Write fd off len bytes) (Fsync other) = not (int_eq fd other)
-stay_apart (Fsync fd) (Write other at count bytes) = not (int_eq fd other)
-stay_apart d e = true
+stay_apart d e = are_on_others d e || stay_apart_on_one d e
 
 -- Operations that stay apart don't meet, if each gave what it calls for on the files that it found, with no memory refused.
 abbrev pub ApartDontMeet : Type 0

@@ -27,7 +27,7 @@ impl LinuxDispatch {
         ensures issued { (l : LinuxRequests) → ShowsRequests self.now l → result ≡ issued l n }
         ensures open { is_refusal result ≡ false → IsOpen self.now.held.window n false }
     {
-        let Some(request) = self.window.copy(n) else {
+        let Some(request) = self.window.get(n) else {
             return Issued::Unknown;
         };
         if request.has_ended {
@@ -39,19 +39,17 @@ impl LinuxDispatch {
         if self.window.is_right_behind(n) {
             return Issued::NotReady;
         }
-        let group = self.window.group_of(&request);
+        let group = self.window.group_of(request);
         if !self.window.is_in_turn(n, group) {
             return Issued::NotReady;
         }
         if group.is_doomed(n) {
-            return self
-                .window
-                .ended(n, &request, group, doomed_result(&request));
+            return self.window.ended(n, request, group, doomed_result(request));
         }
         if self.drains.is_deferred(n) {
             return Issued::NotReady;
         }
-        self.window.ready(n, &request, group)
+        self.window.ready(n, request, group)
     }
 
     /// What the end of request `n` with this result posts, if it runs.
@@ -59,7 +57,7 @@ impl LinuxDispatch {
         ensures posted { (l : LinuxRequests) → ShowsRequests self.now l → result ≡ posted_by l n res }
         ensures open { (p : Posts) → result ≡ Some p → IsOpen self.now.held.window n true }
     {
-        let Some(request) = self.window.copy(n) else {
+        let Some(request) = self.window.get(n) else {
             return None;
         };
         if request.has_ended {
@@ -68,8 +66,8 @@ impl LinuxDispatch {
         if !request.is_running {
             return None;
         }
-        let group = self.window.group_of(&request);
-        Some(self.window.posts(n, &request, group, res))
+        let group = self.window.group_of(request);
+        Some(self.window.posts(n, request, group, res))
     }
 }
 

@@ -15,7 +15,7 @@ use crate::answers::Issued;
 use crate::drains::Drains;
 use crate::entries::{asks_to_drain, asks_to_skip};
 use crate::group::with_member;
-use crate::request::{Request, Test, operation};
+use crate::request::{Request, Test};
 use crate::window::Window;
 use std::alloc::Global;
 use std::marker::Model;
@@ -216,7 +216,7 @@ impl LinuxDispatch {
         if !request.is_running {
             return None;
         }
-        Some(operation(&request.entry))
+        Some(Op::of(&request.entry))
     }
 
     /// The entry of request `n`: `Some` exactly if it is outstanding, that is accepted and not ended.

@@ -1,10 +1,7 @@
 //! What is kept of one request.
 
-ghost use Rattle.std.specs.Prelude.{◌≡◌};
-ghost use Rattle.uring_entry.specs.Preparation.{operation_of};
-
 use crate::group::Group;
-use uring_entry::{Op, Sqe, opcode};
+use uring_entry::Sqe;
 
 /// What is kept of one request.
 #[derive(Clone, Copy, Debug, PartialEq, Eq)]
@@ -35,29 +32,4 @@ pub(crate) enum Test {
 
     /// It runs, and has this user data.
     Runs(u64),
-}
-
-/// What an entry asks for that has no fault.
-pub(crate) fn operation(entry: &Sqe) -> Op
-    ensures { result ≡ operation_of entry.now }
-{
-    match entry.opcode() {
-        opcode::NOP => Op::Nop,
-        opcode::FSYNC => Op::Fsync { fd: entry.fd() },
-        opcode::ASYNC_CANCEL => Op::Cancel {
-            target: entry.addr(),
-            all: entry.is_cancel_all(),
-        },
-        opcode::READ => Op::Read {
-            fd: entry.fd(),
-            off: entry.off(),
-            len: entry.len(),
-        },
-        _ => Op::Write {
-            fd: entry.fd(),
-            off: entry.off(),
-            len: entry.len(),
-            bytes: entry.payload(),
-        },
-    }
 }

@@ -1,5 +1,5 @@
 -- What ends a walk before its end: an operation that wasn't granted its memory, and calls with more entries than requests have numbers.
-use Rattle.std.proofs.Common.{◌≡◌, ℕ, ◌+◌, ◌≤◌, ◌^◌, pos, neg_ℤ, Bool, true, false, List, [], ◌∷◌, ◌++◌, length, drop, get_or, Option, Some, None, Result, Ok, Err, if◌then◌else◌, refl, sym, subst, ap, ◌∙◌, arith, ◌<◌}
+use Rattle.std.proofs.Common.{◌≡◌, ℕ, ◌+◌, ◌≤◌, ◌^◌, Bool, true, false, List, [], ◌∷◌, ◌++◌, length, drop, get_or, Option, Some, None, Result, Ok, Err, if◌then◌else◌, refl, sym, subst, ap, ◌∙◌, arith, ◌<◌}
 use Rattle.std.specs.Prelude.{IfErr, IsErrAnd}
 use Rattle.std.specs.Option.{option_and_then}
 use Rattle.std.proofs.lemmas.List.{length-append}
@@ -8,12 +8,6 @@ use Rattle.std.specs.declared.alloc.Global.{Global}
 use Rattle.uring_entry.specs.Layout.{Sqe}
 use Rattle.uring_entry.specs.Requests.{entry_of, is_doomed, is_issuable, doomed_result, cancel_result, with_call}
 use Rattle.uring_entry.specs.Preparation.{is_cancel}
-use Rattle.uring_entry.specs.declared.errno.TheConstants.{EFBIG, ENOMEM}
-use Rattle.uring_entry.specs.declared.operation.Op.{Op}
-use Rattle.uring_entry.specs.declared.operation.Op.TheVariants as op
-use Rattle.uring_entry.specs.declared.operation.Outcome.{Outcome}
-use Rattle.uring_files.specs.Contents.{FileContents, is_too_long, read_outcome}
-use Rattle.uring_files.specs.Operations.{result_of, on_file, file_of, ended_with}
 use Rattle.uring_moves.specs.Moments.{Moment, starting, accepted, started, ended_at_once, issued, finished, is_finishable, moved, after_moves}
 use Rattle.uring_moves.specs.declared.move_of_calls.Move.{Move}
 use Rattle.uring_moves.specs.declared.move_of_calls.Move.TheVariants as move
@@ -25,28 +19,6 @@ use Rattle.uring_outcomes.specs.declared.fault.WalkFault.TheVariants as fault
 use Rattle.uring_outcomes.specs.Runs.{entries_of, StandsAt}
 use Rattle.uring_outcomes.specs.declared.run.Run.{Run}
 use Rattle.uring_outcomes.proofs.Moving.{next_left}
-
--- No operation is called for to end with ENOMEM.
-
-on_file_granted : (file : Option FileContents) (f : FileContents → Outcome)
-    → ((x : FileContents) → (f x).res ≡ neg_ℤ ENOMEM → ⊥) → (on_file file f).res ≡ neg_ℤ ENOMEM → ⊥
-on_file_granted None f other is = absurd cc
-on_file_granted (Some file) f other is = other file is
-
-write_granted : (long : Bool) (len : ℕ)
-    → (ended_with (if long then neg_ℤ EFBIG else pos len)).res ≡ neg_ℤ ENOMEM → ⊥
-write_granted true len is = cc
-write_granted false len is = cc
-
-pub called_granted : (files : List FileContents) (o : Op) → (result_of files o).res ≡ neg_ℤ ENOMEM → ⊥
-called_granted files (op.Read fd off len) is =
-    on_file_granted (file_of files fd) (read_outcome off len) (λ file e. cc) is
-called_granted files (op.Write fd off len bytes) is =
-    on_file_granted (file_of files fd) (λ file. ended_with (if is_too_long off len then neg_ℤ EFBIG else pos len)) (λ file e. write_granted (is_too_long off len) len e) is
-called_granted files (op.Fsync fd) is =
-    on_file_granted (file_of files fd) (λ file. ended_with (pos 0)) (λ file e. cc) is
-called_granted files op.Nop is = cc
-called_granted files (op.Cancel target all) is = cc
 
 -- Each move leaves the number of the entries that are accepted and of those that are left to be.
 

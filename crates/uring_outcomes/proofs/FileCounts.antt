@@ -1,39 +1,18 @@
 -- Moves change neither the number of files nor, so, that there are few.
-use Rattle.std.proofs.Common.{◌≡◌, ℕ, ◌≤◌, ℤ, pos, negsuc, Bool, true, false, List, [], ◌∷◌, length, Option, Some, None, if◌then◌else◌, refl, sym, ap, ◌∙◌, arith}
-use Rattle.std.specs.Prelude.{unwrap_or, take}
+use Rattle.std.proofs.Common.{◌≡◌, ℕ, ◌≤◌, ℤ, Bool, true, false, List, [], ◌∷◌, length, Option, Some, None, if◌then◌else◌, refl, sym, ap, ◌∙◌, arith}
+use Rattle.std.specs.Prelude.{unwrap_or}
 use Rattle.std.specs.Option.{option_and_then}
-use Rattle.std.specs.Ordering.{int_eq}
-use Rattle.std.proofs.lemmas.List.{length-set, length-replicate}
+use Rattle.std.proofs.lemmas.List.{length-replicate}
 use Rattle.uring_entry.specs.Layout.{Sqe}
 use Rattle.uring_entry.specs.Preparation.{is_cancel, operation_of}
 use Rattle.uring_entry.specs.Requests.{entry_of, is_doomed, is_issuable, doomed_result, cancel_result}
-use Rattle.uring_entry.specs.declared.operation.Op.{Op}
-use Rattle.uring_entry.specs.declared.operation.Op.TheVariants as op
-use Rattle.uring_files.specs.Contents.{FileContents, empty_file, empty_files, written, with_writes_synced}
-use Rattle.uring_files.specs.Operations.{after, result_of, with_changed}
+use Rattle.uring_files.specs.Contents.{empty_file, empty_files}
+use Rattle.uring_files.proofs.OperationCases.{many_after}
+use Rattle.uring_files.specs.Operations.{result_of}
 use Rattle.uring_moves.specs.Moments.{Moment, starting, accepted, started, ended_at_once, issued, finished, is_finishable, moved, after_moves}
 use Rattle.uring_moves.specs.declared.move_of_calls.Move.{Move}
 use Rattle.uring_moves.specs.declared.move_of_calls.Move.TheVariants as move
 use Rattle.uring_outcomes.specs.Runs.{IsReached}
-
-changed_count : (files : List FileContents) (fd : ℤ) (change : FileContents → FileContents)
-    → length (with_changed files fd change) ≡ length files
-changed_count files (pos fd) change = length-set files fd _
-changed_count files (negsuc below) change = refl
-
-count_if : (b : Bool) (files changed : List FileContents) → length changed ≡ length files
-    → length (if b then changed else files) ≡ length files
-count_if true files changed same = same
-count_if false files changed same = refl
-
-after_count : (files : List FileContents) (o : Op) (res : ℤ) → length (after files o res) ≡ length files
-after_count files op.Nop res = refl
-after_count files (op.Read fd off len) res = refl
-after_count files (op.Write fd off len bytes) res =
-    count_if (int_eq res (pos len)) files (with_changed files fd (written off (take len bytes))) (changed_count files fd (written off (take len bytes)))
-after_count files (op.Fsync fd) res =
-    count_if (int_eq res (pos 0)) files (with_changed files fd with_writes_synced) (changed_count files fd with_writes_synced)
-after_count files (op.Cancel target all) res = refl
 
 issue_count : (m : Moment) (n : ℕ) (doomed cancel : Bool) (as_doomed as_cancel : ℤ)
     → length (if doomed then ended_at_once m n as_doomed else (if cancel then ended_at_once m n as_cancel else started m n)).files ≡ length m.files
@@ -57,7 +36,7 @@ one_count m next (move.Finish n) e = by_test (is_finishable m.requests n) e wher
   by_test false e = absurd cc
   by_test true e =
       ap (λ (o : Option Moment). length (unwrap_or o m).files) (sym e)
-      ∙ after_count m.files (operation_of (entry_of m.requests n)) (result_of m.files (operation_of (entry_of m.requests n))).res
+      ∙ many_after m.files (operation_of (entry_of m.requests n)) (result_of m.files (operation_of (entry_of m.requests n))).res
 
 count_on : (moves : List Move) (m last : Moment) → after_moves m moves ≡ Some last
     → length last.files ≡ length m.files

@@ -302,8 +302,9 @@ impl Changes {
             return Ok(());
         };
         match request.entry.opcode() {
-            opcode::WRITE => push_value(memory, &mut self.writes, number),
             opcode::FSYNC => self.make_safe(memory, text, &request.entry, request.issued),
+            opcode::READ => Ok(()),
+            _ if request.entry.is_on_file() => push_value(memory, &mut self.writes, number),
             _ => Ok(()),
         }
     }

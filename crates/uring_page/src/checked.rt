@@ -3,11 +3,12 @@
 ghost use Rattle.std.specs.Prelude.{◌≢◌, ℕ, Err};
 
 use crate::json_text::last_number;
-use crate::recorder::{Recorder, Told};
-use crate::watching::{Form, watch_byte, write_form};
+use crate::recorder::Recorder;
+use crate::watching::{Form, write_form};
 use std::alloc::Global;
 use std::io::Write;
 use uring_machine::Setup;
+use uring_pictures::{Told, Watcher, watch_byte};
 use uring_text::{TextMemory, TraceFault, is_name};
 use uring_trace::Explainer;
 

@@ -6,7 +6,7 @@ use crate::json_text::{push_count, push_name};
 use std::alloc::AllocError;
 use uring_entry::opcode;
 use uring_machine::{Sqe, SqeFlags};
-use uring_text::{TextMemory, push_number, push_signed, push_text};
+use uring_text::{TextMemory, push_number, push_operation, push_signed, push_text};
 
 /// Appends the members of an entry, behind another member. Here and below, and in all that is recorded: if the memory grants whatever is asked for, there is no error. Numbers of 64 bits are strings, since many readers of JSON keep 53.
 pub(crate) fn push_entry<M: TextMemory>(
@@ -17,20 +17,17 @@ pub(crate) fn push_entry<M: TextMemory>(
     ensures { ((n : ℕ) → M.grants memory.now n) → IsOk result }
 {
     push_long(memory, text, "user_data", entry.user_data())?;
-    push_operation(memory, text, entry)?;
+    push_named(memory, text, entry)?;
     push_flags(memory, text, entry)?;
-    match entry.opcode() {
-        opcode::FSYNC => push_file(memory, text, entry),
-        opcode::READ => {
-            push_file(memory, text, entry)?;
-            push_range(memory, text, entry)
-        }
-        opcode::WRITE => {
-            push_file(memory, text, entry)?;
-            push_range(memory, text, entry)
-        }
-        opcode::ASYNC_CANCEL => push_long(memory, text, "target", entry.addr()),
-        _ => Ok(()),
+    if entry.is_transfer() {
+        push_file(memory, text, entry)?;
+        push_range(memory, text, entry)
+    } else if entry.is_on_file() {
+        push_file(memory, text, entry)
+    } else if entry.opcode() == opcode::ASYNC_CANCEL {
+        push_long(memory, text, "target", entry.addr())
+    } else {
+        Ok(())
     }
 }
 
@@ -50,31 +47,12 @@ fn push_long<M: TextMemory>(
 }
 
 /// Appends the operation, by its name in the trace language.
-fn push_operation<M: TextMemory>(
-    memory: &M,
-    text: &mut String,
-    entry: &Sqe,
-) -> Result<(), AllocError>
+fn push_named<M: TextMemory>(memory: &M, text: &mut String, entry: &Sqe) -> Result<(), AllocError>
     ensures { ((n : ℕ) → M.grants memory.now n) → IsOk result }
 {
     push_name(memory, text, "operation")?;
-    match entry.opcode() {
-        opcode::NOP => push_text(memory, text, "\"nop\""),
-        opcode::FSYNC => push_text(memory, text, "\"fsync\""),
-        opcode::READ => push_text(memory, text, "\"read\""),
-        opcode::WRITE => push_text(memory, text, "\"write\""),
-        opcode::ASYNC_CANCEL if entry.is_cancel_all() => push_text(memory, text, "\"cancelall\""),
-        opcode::ASYNC_CANCEL => push_text(memory, text, "\"cancel\""),
-        code => push_other(memory, text, code),
-    }
-}
-
-/// Appends an operation that has no name in the trace language.
-fn push_other<M: TextMemory>(memory: &M, text: &mut String, code: u8) -> Result<(), AllocError>
-    ensures { ((n : ℕ) → M.grants memory.now n) → IsOk result }
-{
-    push_text(memory, text, "\"op ")?;
-    push_number(memory, text, u64::from(code))?;
+    push_text(memory, text, "\"")?;
+    push_operation(memory, text, entry)?;
     push_text(memory, text, "\"")
 }
 

@@ -10,21 +10,12 @@ use crate::submission::Submission;
 use std::alloc::{AllocError, Global};
 use uring_entry::opcode;
 use uring_machine::{Found, Machine, Setup, Step};
+use uring_pictures::{Told, Watcher};
 use uring_text::{KeptLine, TextMemory, push_number, push_text};
 use uring_trace::read_step_in;
 
 /// How many index words there are.
 const WORDS: u64 = 4_294_967_296;
-
-/// What is told of a line.
-#[derive(Clone, Copy)]
-pub(crate) struct Told<'a> {
-    /// What stands on standard output for it, without the end of the line.
-    pub(crate) text: &'a [u8],
-
-    /// What is noted of it, if it is bad.
-    pub(crate) note: &'a [u8],
-}
 
 /// Writes lines as JSON, as a machine goes along with them.
 #[derive(Drop)]
@@ -72,17 +63,8 @@ impl Recorder {
         self.line.push(byte);
     }
 
-    /// Whether the line has no byte.
-    pub(crate) fn is_empty(&self) -> bool {
-        self.line.is_empty()
-    }
-
     /// Looks at the machine before the line is answered.
-    pub(crate) fn look<M: TextMemory>(
-        &mut self,
-        memory: &M,
-        machine: &Machine,
-    ) -> Result<(), AllocError>
+    fn look<M: TextMemory>(&mut self, memory: &M, machine: &Machine) -> Result<(), AllocError>
         ensures { ((n : ℕ) → M.grants memory.now n) → IsOk result }
     {
         self.step = match self.line.whole() {
@@ -93,20 +75,6 @@ impl Recorder {
             Some(Step::Issue { number }) => found_number(machine.would_find(number)),
             _ => None,
         };
-        Ok(())
-    }
-
-    /// Ends a line: appends what is told of it and what it has changed, and begins the next.
-    pub(crate) fn end_line<M: TextMemory>(
-        &mut self,
-        memory: &M,
-        machine: &Machine,
-        told: Told<'_>,
-    ) -> Result<(), AllocError>
-        ensures { ((n : ℕ) → M.grants memory.now n) → IsOk result }
-    {
-        self.push_ended(memory, machine, told)?;
-        self.begin_line();
         Ok(())
     }
 
@@ -333,16 +301,58 @@ impl Recorder {
         let Some(request) = self.changes.requests.get(*number) else {
             return Ok(());
         };
-        let code = request.entry.opcode();
-        if !answer.starts_with(b"ended ") || code != opcode::WRITE && code != opcode::FSYNC {
+        let entry = request.entry;
+        if !answer.starts_with(b"ended ") || !entry.is_on_file() || entry.opcode() == opcode::READ {
             return Ok(());
         }
-        let fd = request.entry.fd();
+        let fd = entry.fd();
         let Some(state) = machine.state(fd) else {
             return Ok(());
         };
         push_name(memory, &mut self.text, "file")?;
         push_state(memory, &mut self.text, fd, &state)
+    }
+}
+
+impl Watcher for Recorder {
+    /// Keeps a byte of a line, or looks at the machine before the line is answered.
+    fn take_byte<M: TextMemory>(
+        &mut self,
+        memory: &M,
+        machine: &Machine,
+        byte: u8,
+    ) -> Result<(), AllocError> {
+        if byte == b'\n' {
+            self.look(memory, machine)
+        } else {
+            self.keep(byte);
+            Ok(())
+        }
+    }
+
+    /// Appends what is told of a line and what it has changed, and begins the next.
+    fn end_line<M: TextMemory>(
+        &mut self,
+        memory: &M,
+        machine: &Machine,
+        told: Told<'_>,
+    ) -> Result<(), AllocError> {
+        self.push_ended(memory, machine, told)?;
+        self.begin_line();
+        Ok(())
+    }
+
+    /// Ends the last line, if it has a byte.
+    fn end_input<M: TextMemory>(
+        &mut self,
+        memory: &M,
+        machine: &Machine,
+        told: Told<'_>,
+    ) -> Result<(), AllocError> {
+        if self.line.is_empty() {
+            return Ok(());
+        }
+        self.end_line(memory, machine, told)
     }
 }
 

@@ -11,7 +11,7 @@ use Rattle.uring_entry.specs.declared.why.Why.TheVariants.{Runs, IsDoomed, Waits
 use Rattle.uring_entry.specs.declared.why.Since.{Since}
 use Rattle.uring_entry.specs.declared.why.Since.TheVariants.{SameGroup}
 use Rattle.uring_trace.specs.Reasons.{why_text, since_text}
-use Rattle.uring_trace.specs.Shown.{operation_text}
+use Rattle.uring_text.specs.Forms.{operation_text}
 
 -- Where a request stands.
 

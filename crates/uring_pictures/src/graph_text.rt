@@ -9,7 +9,7 @@ use crate::accepted::Accepted;
 use crate::node_text::{Place, push_placed};
 use std::alloc::AllocError;
 use uring_machine::{Since, Why};
-use uring_text::{TextMemory, push_number, push_text};
+use uring_text::{TextMemory, push_named, push_text};
 use uring_trace::push_since_in;
 
 /// Appends the graph of the outstanding requests. Here and below: if the memory grants whatever is asked for, there is no error.
@@ -195,19 +195,4 @@ fn push_drain_arrow<M: TextMemory>(
     push_text(memory, text, " [style=dashed, label=\"")?;
     push_since_in(memory, text, least, since)?;
     push_text(memory, text, "\"];\n")
-}
-
-/// Appends a word, with the blanks around it, and a number.
-pub(crate) fn push_named<M: TextMemory>(
-    memory: &M,
-    text: &mut String,
-    word: &str,
-    number: u64,
-) -> Result<(), AllocError>
-    ensures bytes { OnOk result
-        (string_bytes text.new ≡ string_bytes text.old ++ word.now ++ decimal number) }
-    ensures granted { ((n : ℕ) → M.grants memory.now n) → IsOk result }
-{
-    push_text(memory, text, word)?;
-    push_number(memory, text, number)
 }

@@ -8,8 +8,10 @@ pub mod laws;
 mod moment;
 mod node_text;
 mod rows;
+mod timelines;
 mod watching;
 
 pub use drawing::{graph, graph_in};
+pub use timelines::{timeline, timeline_in};
 pub use uring_text::TraceFault;
-pub use watching::{timeline, timeline_in};
+pub use watching::{Told, Watcher, watch_all, watch_byte};

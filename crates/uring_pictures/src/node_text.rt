@@ -1,14 +1,11 @@
 //! The node of an outstanding request in a graph, in the clusters of its call and its chain.
 
 ghost use Rattle.std.specs.Prelude.{◌≡◌, ◌++◌, ℕ, true, OnOk, IsOk, string_bytes};
-ghost use Rattle.uring_trace.specs.Shown.{named_text, operation_text};
 ghost use Rattle.uring_pictures.specs.Graphs.{placed_text, in_chain, node_text, label_text, flags_text, flag_text, shape_of, standing_text};
 
-use crate::graph_text::push_named;
 use std::alloc::AllocError;
-use uring_entry::opcode;
 use uring_machine::{Sqe, SqeFlags, Why};
-use uring_text::{TextMemory, push_number, push_text};
+use uring_text::{TextMemory, push_named, push_number, push_operation, push_text};
 use uring_trace::push_why_in;
 
 /// Where a request stands.
@@ -126,38 +123,6 @@ fn push_label<M: TextMemory>(
     push_named(memory, text, "\\nuser data ", entry.user_data())?;
     push_text(memory, text, "\\n")?;
     push_standing(memory, text, why)
-}
-
-/// Appends the operation that an entry names.
-fn push_operation<M: TextMemory>(
-    memory: &M,
-    text: &mut String,
-    entry: &Sqe,
-) -> Result<(), AllocError>
-    ensures bytes { OnOk result
-        (string_bytes text.new ≡ string_bytes text.old ++ operation_text entry.now) }
-    ensures granted { ((n : ℕ) → M.grants memory.now n) → IsOk result }
-{
-    if entry.is_cancel_all() {
-        push_text(memory, text, "cancelall")
-    } else {
-        push_code(memory, text, entry.opcode())
-    }
-}
-
-/// Appends the operation of this number.
-fn push_code<M: TextMemory>(memory: &M, text: &mut String, code: u8) -> Result<(), AllocError>
-    ensures bytes { OnOk result (string_bytes text.new ≡ string_bytes text.old ++ named_text code) }
-    ensures granted { ((n : ℕ) → M.grants memory.now n) → IsOk result }
-{
-    match code {
-        opcode::NOP => push_text(memory, text, "nop"),
-        opcode::FSYNC => push_text(memory, text, "fsync"),
-        opcode::READ => push_text(memory, text, "read"),
-        opcode::WRITE => push_text(memory, text, "write"),
-        opcode::ASYNC_CANCEL => push_text(memory, text, "cancel"),
-        _ => push_named(memory, text, "op ", u64::from(code)),
-    }
 }
 
 /// Appends the flags that are set.

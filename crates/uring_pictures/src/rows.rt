@@ -2,6 +2,7 @@
 
 ghost use Rattle.std.specs.Prelude.{ℕ, IsOk};
 
+use crate::watching::{Told, Watcher};
 use itoa::Buffer;
 use std::alloc::{AllocError, Global};
 use uring_machine::{Counts, Machine, Why};
@@ -49,12 +50,8 @@ impl Timeline {
         }
     }
 
-    /// Ends a line: notes what it has changed, as the machine shows it, and begins the next. Here and below: if the memory grants whatever is asked for, there is no error.
-    pub(crate) fn end_line<M: Memory>(
-        &mut self,
-        memory: &M,
-        machine: &Machine,
-    ) -> Result<(), AllocError>
+    /// Notes what a line has changed, as the machine shows it, and begins the next. Here and below: if the memory grants whatever is asked for, there is no error.
+    fn pass_line<M: Memory>(&mut self, memory: &M, machine: &Machine) -> Result<(), AllocError>
         ensures granted { ((n : ℕ) → M.grants memory.now n) → IsOk result }
     {
         self.look(memory, machine, self.line)?;
@@ -175,6 +172,35 @@ impl Timeline {
             number = number.saturating_add(1);
         }
         Ok(())
+    }
+}
+
+impl Watcher for Timeline {
+    fn take_byte<M: TextMemory>(
+        &mut self,
+        _memory: &M,
+        _machine: &Machine,
+        _byte: u8,
+    ) -> Result<(), AllocError> {
+        Ok(())
+    }
+
+    fn end_line<M: TextMemory>(
+        &mut self,
+        memory: &M,
+        machine: &Machine,
+        _told: Told<'_>,
+    ) -> Result<(), AllocError> {
+        self.pass_line(memory, machine)
+    }
+
+    fn end_input<M: TextMemory>(
+        &mut self,
+        memory: &M,
+        machine: &Machine,
+        _told: Told<'_>,
+    ) -> Result<(), AllocError> {
+        self.pass_line(memory, machine)
     }
 }
 

@@ -1,126 +1,69 @@
-//! The run of a trace of which a timeline is drawn.
+//! The run of a trace beside which something looks at the machine, line by line.
 
-ghost use Rattle.std.specs.Prelude.{◌≡◌, ◌≢◌, ℕ, List, [], ◌∷◌, ◌++◌, IfErr, IfOk, OnOk, Err, string_bytes};
+ghost use Rattle.std.specs.Prelude.{◌≡◌, ◌≢◌, ℕ, List, [], ◌∷◌, ◌++◌, IfOk, IsOk, OnOk, Err, string_bytes};
 ghost use Rattle.uring_entry.specs.Setup.{Setup};
 ghost use Rattle.uring_trace.specs.Explaining.{HasTold, HasEnded};
-ghost use Rattle.uring_pictures.specs.Drawings.{Reads};
 ghost use Rattle.uring_pictures.specs.Readings.{ReadsAll, TakesIn, EndsIn, EndsLine};
 
-use crate::rows::Timeline;
-use std::alloc::Global;
+use std::alloc::{AllocError, Global};
 use std::io::{Read, Write};
-use uring_machine::Setup;
+use uring_machine::Machine;
 use uring_text::{Calls, TextMemory, TraceFault, read_once, write_all};
 use uring_trace::Explainer;
 
 /// Most bytes that are read at once.
 const CHUNK: usize = 512;
 
-/// Reads the lines of an explanation from `reader`, makes their steps on a new machine of this set-up, and writes to `writer`, once the input has ended, a row for each request that was accepted: the numbers of the lines, from 1 on, at which it was accepted, started and ended, and at which its completion was posted and reaped, and `-` for what didn't happen. No answers are written. `Ok` tells whether a line was bad.
+/// What is told of a line.
+#[derive(Clone, Copy)]
+pub struct Told<'a> {
+    /// What stands on standard output for it, without the end of the line.
+    pub text: &'a [u8],
+
+    /// What is noted of it, if it is bad.
+    pub note: &'a [u8],
+}
+
+/// What looks at the machine as the lines of an explanation go by. If the memory grants whatever is asked for, no call ends with an error. Our own rule.
+pub trait Watcher {
+    /// Takes in a byte, before it is explained: the machine stands as the lines before have left it. The input's end is taken in as the end of a line.
+    fn take_byte<M: TextMemory>(
+        &mut self,
+        memory: &M,
+        machine: &Machine,
+        byte: u8,
+    ) -> Result<(), AllocError>
+        ensures { ((n : ℕ) → M.grants memory.now n) → IsOk result };
+
+    /// Ends a line, of which this was told.
+    fn end_line<M: TextMemory>(
+        &mut self,
+        memory: &M,
+        machine: &Machine,
+        told: Told<'_>,
+    ) -> Result<(), AllocError>
+        ensures { ((n : ℕ) → M.grants memory.now n) → IsOk result };
+
+    /// Ends the input, at whose end this was told of what stands behind the last end of a line.
+    fn end_input<M: TextMemory>(
+        &mut self,
+        memory: &M,
+        machine: &Machine,
+        told: Told<'_>,
+    ) -> Result<(), AllocError>
+        ensures { ((n : ℕ) → M.grants memory.now n) → IsOk result };
+}
+
+/// Takes in all lines that `reader` gives, and writes what is noted of the bad ones to `errors`. Returns whether a line was bad.
 ///
-/// Each bad line is noted with its number on `errors`. After each step that changes a count it looks at every request, so it is for traces that one can read.
-///
-/// - `Read`: a read failed, or 2^64 - 1 reads were made. Nothing is drawn.
-/// - `Write`: a write failed or took no byte, or 2^64 - 1 writes were made. The timeline or the notes are cut short.
-/// - `Memory`: memory was refused. Nothing is drawn.
-pub fn timeline<R: Read, W: Write, E: Write>(
-    alloc: Global,
-    reader: &mut R,
-    writer: &mut W,
-    errors: &mut E,
-    setup: &Setup,
-) -> Result<bool, TraceFault>
-    ensures { IfOk result
-        (λ bad. Reads setup.now bad (R.remaining reader.old) (R.remaining reader.new) (E.contents errors.old) (E.contents errors.new)) }
-{
-    timeline_in(&alloc, alloc, reader, writer, errors, setup)
-}
-
-/// As `timeline`, by this memory. If it grants whatever is asked for, it never ends with `Memory`.
-pub fn timeline_in<M: TextMemory, R: Read, W: Write, E: Write>(
-    memory: &M,
-    alloc: Global,
-    reader: &mut R,
-    writer: &mut W,
-    errors: &mut E,
-    setup: &Setup,
-) -> Result<bool, TraceFault>
-    ensures lines { IfOk result
-        (λ bad. Reads setup.now bad (R.remaining reader.old) (R.remaining reader.new) (E.contents errors.old) (E.contents errors.new)) }
-    ensures granted { ((n : ℕ) → M.grants memory.now n) → result ≢ Err TraceFault.Memory }
-{
-    let mut explainer = Explainer::new_in(memory, alloc, setup)?;
-    let drawn = draw_all(memory, alloc, &mut explainer, reader, writer, errors);
-    drop(explainer);
-    drawn
-}
-
-/// Takes in all lines, and draws the timeline of their requests. Returns whether a line was bad.
-fn draw_all<M: TextMemory, R: Read, W: Write, E: Write>(
+/// - `Read`: a read failed, or 2^64 - 1 reads were made.
+/// - `Write`: a write failed or took no byte, or 2^64 - 1 writes were made.
+/// - `Memory`: memory was refused.
+pub fn watch_all<M: TextMemory, W: Watcher, R: Read, E: Write>(
     memory: &M,
     alloc: Global,
     explainer: &mut Explainer,
-    reader: &mut R,
-    writer: &mut W,
-    errors: &mut E,
-) -> Result<bool, TraceFault>
-    ensures lines { IfOk result
-        (λ bad. (setup : Setup) → HasTold setup explainer.old [] [] []
-        → Reads setup bad (R.remaining reader.old) (R.remaining reader.new) (E.contents errors.old) (E.contents errors.new)) }
-    ensures granted { ((n : ℕ) → M.grants memory.now n) → result ≢ Err TraceFault.Memory }
-{
-    let mut timeline = Timeline::new(alloc);
-    watch_and_write(
-        memory,
-        alloc,
-        explainer,
-        &mut timeline,
-        reader,
-        writer,
-        errors,
-    )
-}
-
-/// Takes in all lines, and writes the timeline. Returns whether a line was bad.
-fn watch_and_write<M: TextMemory, R: Read, W: Write, E: Write>(
-    memory: &M,
-    alloc: Global,
-    explainer: &mut Explainer,
-    timeline: &mut Timeline,
-    reader: &mut R,
-    writer: &mut W,
-    errors: &mut E,
-) -> Result<bool, TraceFault>
-    ensures lines { IfOk result
-        (λ bad. (setup : Setup) → HasTold setup explainer.old [] [] []
-        → Reads setup bad (R.remaining reader.old) (R.remaining reader.new) (E.contents errors.old) (E.contents errors.new)) }
-    ensures granted { ((n : ℕ) → M.grants memory.now n) → result ≢ Err TraceFault.Memory }
-{
-    let bad = watch_all(memory, alloc, explainer, timeline, reader, errors)?;
-    write_timeline(memory, alloc, timeline, writer)?;
-    Ok(bad)
-}
-
-/// Writes the timeline.
-fn write_timeline<M: TextMemory, W: Write>(
-    memory: &M,
-    alloc: Global,
-    timeline: &Timeline,
-    writer: &mut W,
-) -> Result<(), TraceFault>
-    ensures granted { ((n : ℕ) → M.grants memory.now n) → result ≢ Err TraceFault.Memory }
-{
-    let mut text = String::new(alloc);
-    timeline.push_rows(memory, &mut text)?;
-    write_all(writer, text.as_bytes(), &mut Calls::new())
-}
-
-/// Takes in all lines, and writes what is noted of them. Returns whether a line was bad.
-fn watch_all<M: TextMemory, R: Read, E: Write>(
-    memory: &M,
-    alloc: Global,
-    explainer: &mut Explainer,
-    timeline: &mut Timeline,
+    watcher: &mut W,
     reader: &mut R,
     errors: &mut E,
 ) -> Result<bool, TraceFault>
@@ -134,12 +77,12 @@ fn watch_all<M: TextMemory, R: Read, E: Write>(
     let mut chunk = [0; CHUNK];
     while !reads.are_over() {
         match read_once(reader, &mut chunk, &mut reads) {
-            Ok(0) => return watch_end(memory, alloc, explainer, timeline, errors, &mut writes),
+            Ok(0) => return watch_end(memory, alloc, explainer, watcher, errors, &mut writes),
             Ok(count) => watch(
                 memory,
                 alloc,
                 explainer,
-                timeline,
+                watcher,
                 &chunk[..count],
                 errors,
                 &mut writes,
@@ -151,11 +94,11 @@ fn watch_all<M: TextMemory, R: Read, E: Write>(
 }
 
 /// Takes in these bytes, and writes what is noted of the lines that they complete.
-fn watch<M: TextMemory, E: Write>(
+fn watch<M: TextMemory, W: Watcher, E: Write>(
     memory: &M,
     alloc: Global,
     explainer: &mut Explainer,
-    timeline: &mut Timeline,
+    watcher: &mut W,
     bytes: &[u8],
     errors: &mut E,
     writes: &mut Calls,
@@ -166,15 +109,15 @@ fn watch<M: TextMemory, E: Write>(
 {
     let mut text = String::new(alloc);
     let mut notes = String::new(alloc);
-    watch_bytes(memory, explainer, timeline, bytes, &mut text, &mut notes)?;
+    watch_bytes(memory, explainer, watcher, bytes, &mut text, &mut notes)?;
     write_all(errors, notes.as_bytes(), writes)
 }
 
-/// Takes in these bytes, and looks at the machine behind each line that they complete.
-fn watch_bytes<M: TextMemory>(
+/// Takes in these bytes, and ends each line that they complete.
+fn watch_bytes<M: TextMemory, W: Watcher>(
     memory: &M,
     explainer: &mut Explainer,
-    timeline: &mut Timeline,
+    watcher: &mut W,
     bytes: &[u8],
     text: &mut String,
     notes: &mut String,
@@ -186,16 +129,16 @@ fn watch_bytes<M: TextMemory>(
     ensures granted { ((n : ℕ) → M.grants memory.now n) → result ≢ Err TraceFault.Memory }
 {
     for byte in bytes {
-        watch_byte(memory, explainer, timeline, *byte, text, notes)?;
+        watch_byte(memory, explainer, watcher, *byte, text, notes)?;
     }
     Ok(())
 }
 
-/// Takes in one byte, and looks at the machine if it completes a line.
-fn watch_byte<M: TextMemory>(
+/// Takes in one byte, and appends what is told and noted of the line that it completes.
+pub fn watch_byte<M: TextMemory, W: Watcher>(
     memory: &M,
     explainer: &mut Explainer,
-    timeline: &mut Timeline,
+    watcher: &mut W,
     byte: u8,
     text: &mut String,
     notes: &mut String,
@@ -206,19 +149,31 @@ fn watch_byte<M: TextMemory>(
         → HasTold setup explainer.new (before ++ byte ∷ []) (told ++ string_bytes text.new) (noted ++ string_bytes notes.new)) }
     ensures granted { ((n : ℕ) → M.grants memory.now n) → result ≢ Err TraceFault.Memory }
 {
+    let (told_before, noted_before) = (text.len(), notes.len());
+    watcher.take_byte(memory, explainer.machine(), byte)?;
     explainer.feed_in(memory, &[byte], text, notes)?;
     if byte == b'\n' {
-        timeline.end_line(memory, explainer.machine())?;
+        let told = Told {
+            text: rest_of(text, told_before),
+            note: rest_of(notes, noted_before),
+        };
+        watcher.end_line(memory, explainer.machine(), told)?;
     }
     Ok(())
 }
 
+/// What a text has from a place on, without the end of its line.
+fn rest_of(text: &str, place: usize) -> &[u8] {
+    let rest = text.as_bytes().get(place..).unwrap_or_default();
+    rest.strip_suffix(b"\n").unwrap_or(rest)
+}
+
 /// Ends the input, and writes what is noted of its last line. Returns whether a line was bad.
-fn watch_end<M: TextMemory, E: Write>(
+fn watch_end<M: TextMemory, W: Watcher, E: Write>(
     memory: &M,
     alloc: Global,
     explainer: &mut Explainer,
-    timeline: &mut Timeline,
+    watcher: &mut W,
     errors: &mut E,
     writes: &mut Calls,
 ) -> Result<bool, TraceFault>
@@ -226,16 +181,16 @@ fn watch_end<M: TextMemory, E: Write>(
         (λ bad. EndsIn bad explainer.old explainer.new (E.contents errors.old) (E.contents errors.new)) }
     ensures granted { ((n : ℕ) → M.grants memory.now n) → result ≢ Err TraceFault.Memory }
 {
-    watch_last(memory, alloc, explainer, timeline, errors, writes)?;
+    watch_last(memory, alloc, explainer, watcher, errors, writes)?;
     Ok(explainer.has_bad())
 }
 
 /// Ends the input, and writes what is noted of its last line.
-fn watch_last<M: TextMemory, E: Write>(
+fn watch_last<M: TextMemory, W: Watcher, E: Write>(
     memory: &M,
     alloc: Global,
     explainer: &mut Explainer,
-    timeline: &mut Timeline,
+    watcher: &mut W,
     errors: &mut E,
     writes: &mut Calls,
 ) -> Result<(), TraceFault>
@@ -245,15 +200,15 @@ fn watch_last<M: TextMemory, E: Write>(
 {
     let mut text = String::new(alloc);
     let mut notes = String::new(alloc);
-    end_last(memory, explainer, timeline, &mut text, &mut notes)?;
+    end_last(memory, explainer, watcher, &mut text, &mut notes)?;
     write_all(errors, notes.as_bytes(), writes)
 }
 
-/// Ends the input, and looks at the machine behind its last line.
-fn end_last<M: TextMemory>(
+/// Ends the input, and its last line.
+fn end_last<M: TextMemory, W: Watcher>(
     memory: &M,
     explainer: &mut Explainer,
-    timeline: &mut Timeline,
+    watcher: &mut W,
     text: &mut String,
     notes: &mut String,
 ) -> Result<(), TraceFault>
@@ -263,6 +218,11 @@ fn end_last<M: TextMemory>(
         → HasEnded setup explainer.new before (told ++ string_bytes text.new) (noted ++ string_bytes notes.new)) }
     ensures granted { ((n : ℕ) → M.grants memory.now n) → result ≢ Err TraceFault.Memory }
 {
+    watcher.take_byte(memory, explainer.machine(), b'\n')?;
     explainer.finish_in(memory, text, notes)?;
-    Ok(timeline.end_line(memory, explainer.machine())?)
+    let told = Told {
+        text: rest_of(text, 0),
+        note: rest_of(notes, 0),
+    };
+    Ok(watcher.end_input(memory, explainer.machine(), told)?)
 }

@@ -10,7 +10,7 @@ use Rattle.std.proofs.lemmas.Bool.{ltb-true, ltb-false, eqb-true, eqb-false, cas
 use Rattle.std.proofs.lemmas.Slice.Eq.{bytes_eq-Decides}
 use Rattle.std.proofs.lemmas.List.{append-nil, nil_from_length, take-append-drop, length-take, reverse-append}
 use Rattle.uring_entry.specs.Layout.{Sqe, header, padded, bytes_of, AreWords}
-use Rattle.uring_entry.specs.declared.opcode.TheConstants.{WRITE}
+use Rattle.uring_entry.specs.declared.operation.opcode.TheConstants.{WRITE}
 use Rattle.uring_text.specs.Lines.{Splits, with_last}
 use Rattle.uring_text.specs.Tokens.{tokens_of}
 use Rattle.uring_text.specs.Spelling.{SpellsNumber, IsNoNumber}

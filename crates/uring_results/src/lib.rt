@@ -5,7 +5,7 @@ ghost use Rattle.std.specs.Prelude.{◌≡◌, int_le, pos, min, ◌-◌, ◌^�
 ghost use Rattle.std.specs.Ordering.{int_eq};
 ghost use Rattle.uring_results.specs.Results as spec;
 
-use uring_entry::{Sqe, errno, opcode};
+use uring_entry::{Sqe, errno};
 
 /// The negative of the greatest error number that a system call may return. errno(3).
 const LEAST_ERROR: i32 = -4095;
@@ -18,7 +18,7 @@ pub fn may_end(entry: &Sqe, res: i32) -> bool
     ensures { result ≡ spec.may_end entry.now res }
 {
     if is_own_error(res) {
-        return may_fail(entry);
+        return entry.is_on_file();
     }
     if !is_at_most(0, res) {
         return false;
@@ -26,20 +26,11 @@ pub fn may_end(entry: &Sqe, res: i32) -> bool
     is_at_most(res, greatest_result(entry))
 }
 
-/// Whether a request of this entry may end with an error of its own.
-fn may_fail(entry: &Sqe) -> bool
-    ensures { result ≡ spec.may_fail entry.now }
-{
-    let code = entry.opcode();
-    code == opcode::READ || code == opcode::WRITE || code == opcode::FSYNC
-}
-
 /// The greatest result of a request of this entry.
 pub fn greatest_result(entry: &Sqe) -> i32
     ensures { result ≡ pos (spec.greatest_result entry.now) }
 {
-    let code = entry.opcode();
-    if code == opcode::READ || code == opcode::WRITE {
+    if entry.is_transfer() {
         as_result(entry.len())
     } else {
         0

@@ -1,9 +1,11 @@
 -- The forms in which entries are written: a name, and behind it tokens of given kinds, each of which says a part. The language is our own rule.
-use Rattle.std.specs.Prelude.{◌≡◌, ℕ, ℤ, pos, ◌^◌, ◌*◌, List, [], ◌∷◌, length, codes}
+use Rattle.std.specs.Prelude.{◌≡◌, ℕ, ℤ, pos, ◌^◌, ◌*◌, ◌==◌, List, [], ◌∷◌, ◌++◌, length, codes, decimal, Option, Some, None, if◌then◌else◌}
 use Rattle.std.specs.Fmt.{signed_decimal}
+use Rattle.std.specs.Option.{option_map_or}
 use Rattle.hex.specs.Hex.{encode_lower}
-use Rattle.uring_entry.specs.Layout.{Sqe, header, without_data, bytes_of, AreWords, HasData}
-use Rattle.uring_entry.specs.declared.opcode.TheConstants.{NOP, FSYNC, ASYNC_CANCEL, ASYNC_CANCEL_ALL, READ, WRITE}
+use Rattle.uring_entry.specs.Layout.{Sqe, opcode_of, header, without_data, bytes_of, AreWords, HasData}
+use Rattle.uring_entry.specs.Preparation.{is_cancel_all}
+use Rattle.uring_entry.specs.declared.operation.opcode.TheConstants.{NOP, FSYNC, ASYNC_CANCEL, ASYNC_CANCEL_ALL, READ, WRITE}
 use Rattle.uring_text.specs.Tokens.{AreFlags, hex_or_dash}
 use Rattle.uring_text.specs.Spelling.{SpellsNumber, IsFile, AreBytes}
 use Rattle.uring_text.specs.declared.forms.Name.{Name}
@@ -50,6 +52,17 @@ name_text name.CancelAll = codes "cancelall"
 name_text name.Op = codes "op"
 name_text name.Raw = codes "raw"
 
+-- the names, for who wants one
+abbrev pub names_text : List ℕ
+names_text = codes "nop, fsync, read, write, cancel, cancelall, op or raw"
+
+-- what a request of an entry of this form does, in words
+abbrev pub deed_named : Name → List ℕ
+deed_named name.Fsync = codes "an fsync"
+deed_named name.Read = codes "a read"
+deed_named name.Write = codes "a write"
+deed_named other = codes "a no-op"
+
 abbrev pub kinds_of : Name → List Kind
 kinds_of name.Nop = kind.UserData ∷ kind.Flags ∷ []
 kinds_of name.Fsync = kind.UserData ∷ kind.Flags ∷ kind.File ∷ []
@@ -82,6 +95,28 @@ IsEntryNamed name.CancelAll p entry = entry
 IsEntryNamed name.Op p entry =
     entry ≡ without_data (header p.code p.flags (pos 0) 0 0 0 p.user_data)
 IsEntryNamed name.Raw p entry = HasBytes entry p.bytes
+
+-- the name of the form of an operation's entries, if it has one of its own
+abbrev pub name_of_code : ℕ → Option Name
+name_of_code code =
+    if code == NOP then Some name.Nop else
+    if code == FSYNC then Some name.Fsync else
+    if code == READ then Some name.Read else
+    if code == WRITE then Some name.Write else
+    if code == ASYNC_CANCEL then Some name.Cancel else
+    None
+
+-- the operation of this number, as the form of its fill names it
+abbrev pub named_text : ℕ → List ℕ
+named_text code = option_map_or name_text (name_of_code code) (codes "op " ++ decimal code)
+
+-- the operation that an entry names
+abbrev pub operation_text : Sqe → List ℕ
+operation_text e = if is_cancel_all e then codes "cancelall" else named_text (opcode_of e)
+
+-- what a request of this operation does, in words
+abbrev pub deed_text : ℕ → List ℕ
+deed_text code = option_map_or deed_named (name_of_code code) (codes "a no-op")
 
 -- What tokens say, the parts before it being p: a token sets the part of its kind. The kinds that are no part of an entry say nothing.
 abbrev pub SaysPart : Kind → List ℕ → Parts → Parts → Type 0

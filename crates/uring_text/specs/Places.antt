@@ -1,6 +1,7 @@
 -- What may stand at a place of a line. The language of a trace is our own rule.
 use Rattle.std.specs.Prelude.{ℕ, ◌^◌, Bool, List, codes}
 use Rattle.std.specs.Option.{is_some}
+use Rattle.uring_text.specs.Forms.{names_text}
 use Rattle.uring_text.specs.Reading.{number_of, file_of, flags_of, data_of, hex_of}
 use Rattle.uring_text.specs.declared.place.Kind.{Kind}
 use Rattle.uring_text.specs.declared.place.Kind.TheVariants as kind
@@ -43,7 +44,7 @@ kind_text kind.Bytes = codes "RAW, 256 lower case hexadecimal digits"
 abbrev pub place_text : Place → List ℕ
 place_text place.Step =
     codes "fill, index, tail, head, begin, take, end, issue, finish, flush, cqtail, reap, cqhead, close or next"
-place_text place.Form = codes "nop, fsync, read, write, cancel, cancelall, op or raw"
+place_text place.Form = names_text
 place_text place.Shown = codes "counts, sizes, overflow, requests, why or file"
 place_text (place.Token kind) = kind_text kind
 place_text place.Answer = codes "` = ` and an answer (uring trace reads steps alone)"

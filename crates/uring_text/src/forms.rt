@@ -1,16 +1,25 @@
 //! The forms in which entries are written, a line each: what one is called, what its tokens say, and which entry it is.
 
-ghost use Rattle.std.specs.Prelude.{◌≡◌};
+ghost use Rattle.std.specs.Prelude.{◌≡◌, ◌++◌, ℕ, IsOk, OnOk, codes, string_bytes};
 ghost use Rattle.uring_text.specs.Forms as spec;
 ghost use Rattle.uring_text.specs.Forms.{IsEntryNamed};
 ghost use Rattle.uring_text.specs.Reading as reading;
 ghost use Rattle.uring_text.specs.Reading.{Fits};
 
+use crate::growth::{TextMemory, push_named, push_text};
 use crate::hex_tokens::entry_of_bytes;
 use crate::parts::Parts;
 use crate::place::Kind;
 use crate::tokens::is_name;
-use uring_entry::Sqe;
+use std::alloc::AllocError;
+use uring_entry::{Sqe, opcode};
+
+/// The names, for who wants one.
+pub(crate) fn names_text() -> &'static str
+    ensures { result.now ≡ spec.names_text }
+{
+    "nop, fsync, read, write, cancel, cancelall, op or raw"
+}
 
 /// The name of a form.
 #[derive(Clone, Copy, Debug, PartialEq, Eq)]
@@ -59,6 +68,48 @@ impl Name {
         }
     }
 
+    /// The name of the form of an operation's entries: `None` if it has none of its own.
+    pub fn of_code(code: u8) -> Option<Name>
+        ensures { result ≡ spec.name_of_code code }
+    {
+        match code {
+            opcode::NOP => Some(Name::Nop),
+            opcode::FSYNC => Some(Name::Fsync),
+            opcode::READ => Some(Name::Read),
+            opcode::WRITE => Some(Name::Write),
+            opcode::ASYNC_CANCEL => Some(Name::Cancel),
+            _ => None,
+        }
+    }
+
+    /// The token that it is.
+    pub fn text(self) -> &'static str
+        ensures { result.now ≡ spec.name_text self }
+    {
+        match self {
+            Name::Nop => "nop",
+            Name::Fsync => "fsync",
+            Name::Read => "read",
+            Name::Write => "write",
+            Name::Cancel => "cancel",
+            Name::CancelAll => "cancelall",
+            Name::Op => "op",
+            Name::Raw => "raw",
+        }
+    }
+
+    /// What a request of an entry of this form does, in words.
+    pub fn deed(self) -> &'static str
+        ensures { result.now ≡ spec.deed_named self }
+    {
+        match self {
+            Name::Fsync => "an fsync",
+            Name::Read => "a read",
+            Name::Write => "a write",
+            _ => "a no-op",
+        }
+    }
+
     /// What the tokens behind it say, one each.
     pub(crate) fn kinds(self) -> &'static [Kind]
         ensures { result.now ≡ spec.kinds_of self }
@@ -104,5 +155,34 @@ impl Name {
             Name::Op => Sqe::with_opcode(parts.code, user_data, flags),
             Name::Raw => entry_of_bytes(parts.bytes.all()),
         }
+    }
+}
+
+/// Appends the operation that an entry names, as the form of its fill does.
+pub fn push_operation<M: TextMemory>(
+    memory: &M,
+    text: &mut String,
+    entry: &Sqe,
+) -> Result<(), AllocError>
+    ensures bytes { OnOk result
+        (string_bytes text.new ≡ string_bytes text.old ++ spec.operation_text entry.now) }
+    ensures granted { ((n : ℕ) → M.grants memory.now n) → IsOk result }
+{
+    if entry.is_cancel_all() {
+        push_text(memory, text, "cancelall")
+    } else {
+        push_code(memory, text, entry.opcode())
+    }
+}
+
+/// Appends the operation of this number.
+fn push_code<M: TextMemory>(memory: &M, text: &mut String, code: u8) -> Result<(), AllocError>
+    ensures bytes { OnOk result
+        (string_bytes text.new ≡ string_bytes text.old ++ spec.named_text code) }
+    ensures granted { ((n : ℕ) → M.grants memory.now n) → IsOk result }
+{
+    match Name::of_code(code) {
+        Some(name) => push_text(memory, text, name.text()),
+        None => push_named(memory, text, "op ", u64::from(code)),
     }
 }

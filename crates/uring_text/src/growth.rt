@@ -59,6 +59,21 @@ pub fn push_number<M: TextMemory>(
     push_text(memory, text, buffer.format(number))
 }
 
+/// Appends a word, with the blanks around it, and a number, as `push_text` does.
+pub fn push_named<M: TextMemory>(
+    memory: &M,
+    text: &mut String,
+    word: &str,
+    number: u64,
+) -> Result<(), AllocError>
+    ensures bytes { OnOk result
+        (string_bytes text.new ≡ string_bytes text.old ++ word.now ++ decimal number) }
+    ensures granted { ((n : ℕ) → M.grants memory.now n) → IsOk result }
+{
+    push_text(memory, text, word)?;
+    push_number(memory, text, number)
+}
+
 /// Appends a number with a sign in decimal digits, as `push_text` does.
 pub fn push_signed<M: TextMemory>(
     memory: &M,

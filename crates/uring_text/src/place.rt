@@ -5,6 +5,7 @@ ghost use Rattle.uring_text.specs.Places.{is_of_kind, kind_text, place_text};
 
 use crate::data_tokens::{data, entry_bytes};
 use crate::flag_tokens::flag_bits;
+use crate::forms::names_text;
 use crate::number_tokens::{file, number, operation, small_number};
 
 /// A kind of token that stands for a value.
@@ -120,7 +121,7 @@ pub(crate) fn place_text(place: Place) -> &'static str
         Place::Step => {
             "fill, index, tail, head, begin, take, end, issue, finish, flush, cqtail, reap, cqhead, close or next"
         }
-        Place::Form => "nop, fsync, read, write, cancel, cancelall, op or raw",
+        Place::Form => names_text(),
         Place::Shown => "counts, sizes, overflow, requests, why or file",
         Place::Token(kind) => kind_text(kind),
         Place::Answer => "` = ` and an answer (uring trace reads steps alone)",

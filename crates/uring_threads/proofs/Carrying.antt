@@ -1,11 +1,11 @@
 -- What the lanes of the workers have carried, as the trace goes on.
-use Rattle.std.proofs.Common.{◌≡◌, ◌≢◌, ℕ, ◌<◌, ◌≤◌, ◌==◌, Bool, cond, List, [], ◌∷◌, ◌++◌, length, get_or, count_by, Some, None, ℤ, refl, sym, subst, ap, ap₂, ◌∙◌, inl, inr, arith, append-nil}
+use Rattle.std.proofs.Common.{◌≡◌, ◌≢◌, ℕ, ◌<◌, ◌==◌, Bool, cond, List, [], ◌∷◌, ◌++◌, length, get_or, count_by, Option, Some, None, ℤ, refl, sym, subst, ap, ap₂, ◌∙◌, inl, inr, arith, append-nil}
 use Rattle.std.specs.List.{filter}
 use Rattle.std.proofs.lemmas.Bool.{eq-eqb, ne_eqb, cases_eq}
 use Rattle.std.proofs.lemmas.List.Elements.{filter-append}
 use Rattle.std.proofs.lemmas.List.Sums.{sum_by-append}
 use Rattle.uring_entry.specs.Setup.{Setup}
-use Rattle.uring_entry.specs.Requests.{entry_of, no_bytes}
+use Rattle.uring_entry.specs.Requests.{no_bytes}
 use Rattle.uring_entry.specs.declared.operation.Op.{Op}
 use Rattle.uring_laws.specs.Finishes.{done_in, done_by}
 use Rattle.uring_core.specs.Histories.{Event, History, world, history_of}
@@ -18,9 +18,7 @@ use Rattle.uring_core.specs.declared.answer.Answer.TheVariants as answer
 use Rattle.uring_core.proofs.Following.{history_of_cons, history_of_append}
 use Rattle.uring_workers.specs.declared.job.Job.{Job}
 use Rattle.uring_workers.specs.declared.work_lanes.WorkLanes.{WorkLanes}
-use Rattle.uring_threads.specs.Collected.{Collects, CollectsSeen}
-use Rattle.uring_workers.specs.declared.job.JobResult.{JobResult}
-use Rattle.std.specs.Prelude.{Result, Ok, Err, IfOk, OnErr}
+use Rattle.uring_threads.specs.Collected.{Collects}
 use Rattle.std.proofs.Math.ListN.{set}
 use Rattle.std.proofs.lemmas.List.{length-set, get_or-set_same, get_or-set_other}
 use Rattle.uring_threads.specs.Dispatched.{HaveCarried, AreTakenIn}
@@ -30,7 +28,7 @@ use Rattle.uring_threads.specs.Delivered.{OnlyPosts}
 use Rattle.uring_threads.proofs.Posting.{end_posts, accepted_issued}
 use Rattle.uring_threads.proofs.TraceSteps.{grown}
 use Rattle.uring_threads.specs.Kept.{Kept, now, Grows, history}
-use Rattle.uring_threads.specs.Tallies.{Tally, Appends, issues_request, most_results, takes_result}
+use Rattle.uring_threads.specs.Tallies.{Tally, Appends, issues_request, takes_result}
 use Rattle.uring_workers.specs.Work.{place_of, results_of}
 use Rattle.uring_threads.specs.Dealt.{job_by, jobs_in, jobs_at, jobs_to, done_by_worker}
 use Rattle.uring_threads.proofs.Collecting.{grown_history}
@@ -45,28 +43,45 @@ jobs_other : (place : Op → ℕ) (k : ℕ) (jobs : List Job) (j : Job) → plac
     → jobs_at place k (jobs ++ j ∷ []) ≡ jobs_at place k jobs
 jobs_other place k jobs j other = filter-append (λ i. place i.op == k) jobs (j ∷ []) ∙ ap (λ (b : Bool). jobs_at place k jobs ++ cond b (j ∷ []) []) (ne_eqb (place j.op) k other) ∙ append-nil (jobs_at place k jobs)
 
--- Nothing is sent or taken in by an event that starts no request and takes in no result.
+-- Nothing is sent by events that issue no request, and nothing taken in by those that finish none.
 
-quiet_event : (w : World) (e : Event) → count_by issues_request (e ∷ []) ≡ 0
-    → count_by takes_result (e ∷ []) ≡ 0 → (job_by w e ≡ None) × (done_by w e ≡ None)
-quiet_event w (step.Issue n, answer.Run) none idle = absurd (omega (arith, none))
-quiet_event w (step.Finish n, a) none idle = absurd (omega (arith, idle))
-quiet_event w (s, a) none idle = (refl, refl)
+no_job : (w : World) (e : Event) → count_by issues_request (e ∷ []) ≡ 0 → job_by w e ≡ None
+no_job w (step.Issue n, answer.Run) none = absurd (omega (arith, none))
+no_job w (s, a) none = refl
 
--- nor by several
-quiet_events : (g : Setup) (events : List Event) (h : History) → count_by issues_request events ≡ 0
-    → count_by takes_result events ≡ 0
-    → (jobs_in g (history_of events ++ h) ≡ jobs_in g h)
-    × (done_in g (history_of events ++ h) ≡ done_in g h)
-quiet_events g [] h none idle = (refl, refl)
-quiet_events g (e ∷ later) h none idle =
-    let issues = sum_by-append (λ x. cond (issues_request x) 1 0) (e ∷ []) later in
-    let results = sum_by-append (λ x. cond (takes_result x) 1 0) (e ∷ []) later in
-    let here = quiet_event (world g h) e (omega (arith, none, issues)) (omega (arith, idle, results)) in
-    let next = quiet_events g later (e ∷ h) (omega (arith, none, issues)) (omega (arith, idle, results)) in (
-      ap (jobs_in g) (history_of_cons e later h) ∙ next.0 ∙ ap (with_told (jobs_in g h)) here.0,
-      ap (done_in g) (history_of_cons e later h) ∙ next.1 ∙ ap (with_told (done_in g h)) here.1,
-    )
+no_result : (w : World) (e : Event) → count_by takes_result (e ∷ []) ≡ 0 → done_by w e ≡ None
+no_result w (step.Finish n, a) none = absurd (omega (arith, none))
+no_result w (s, a) none = refl
+
+no_jobs : (g : Setup) (events : List Event) (h : History) → count_by issues_request events ≡ 0
+    → jobs_in g (history_of events ++ h) ≡ jobs_in g h
+no_jobs g [] h none = refl
+no_jobs g (e ∷ later) h none =
+    let both = sum_by-append (λ x. cond (issues_request x) 1 0) (e ∷ []) later in
+    ap (jobs_in g) (history_of_cons e later h) ∙ no_jobs g later (e ∷ h) (omega (arith, none, both)) ∙ ap (with_told (jobs_in g h)) (no_job (world g h) e (omega (arith, none, both)))
+
+no_results : (g : Setup) (events : List Event) (h : History) → count_by takes_result events ≡ 0
+    → done_in g (history_of events ++ h) ≡ done_in g h
+no_results g [] h none = refl
+no_results g (e ∷ later) h none =
+    let both = sum_by-append (λ x. cond (takes_result x) 1 0) (e ∷ []) later in
+    ap (done_in g) (history_of_cons e later h) ∙ no_results g later (e ∷ h) (omega (arith, none, both)) ∙ ap (with_told (done_in g h)) (no_result (world g h) e (omega (arith, none, both)))
+
+-- the history with the events that were appended
+appended_history : (a b : Kept) (t : Tally) (p : Appends a b t) → history b ≡ history_of p.events ++ history a
+appended_history a b t p = ap history_of p.trace ∙ sym (append-nil (history_of (a.trace ++ p.events))) ∙ history_of_append a.trace p.events [] ∙ ap (λ h. history_of p.events ++ h) (append-nil (history a))
+
+pub jobs_stay : (a b : Kept) (t : Tally) → Appends a b t → t.issues ≡ 0 → (workers k : ℕ)
+    → jobs_to b.setup workers k (history b) ≡ jobs_to a.setup workers k (history a)
+jobs_stay a b t p none workers k =
+    ap₂ (λ (s : Setup) h. jobs_to s workers k h) p.setup (appended_history a b t p)
+    ∙ ap (jobs_at (place_of workers a.setup.files) k) (no_jobs a.setup p.events (history a) (ap (λ (u : Tally). u.issues) p.tally ∙ none))
+
+pub done_stays : (a b : Kept) (t : Tally) → Appends a b t → t.finishes ≡ 0 → (workers k : ℕ)
+    → done_by_worker b.setup workers k (history b) ≡ done_by_worker a.setup workers k (history a)
+done_stays a b t p none workers k =
+    ap₂ (λ (s : Setup) h. done_by_worker s workers k h) p.setup (appended_history a b t p)
+    ∙ ap (filter (λ d. place_of workers a.setup.files d.op == k)) (no_results a.setup p.events (history a) (ap (λ (u : Tally). u.finishes) p.tally ∙ none))
 
 -- the jobs sent and the operations done stay
 pub record WorkStays (old new : Kept) : Type 0 where
@@ -78,14 +93,7 @@ pub record WorkStays (old new : Kept) : Type 0 where
 
 pub quiet_stays : (a b : Kept) (t : Tally) → Appends a b t → t.issues ≡ 0 → t.finishes ≡ 0
     → WorkStays a b
-quiet_stays a b t p none idle =
-    let g : Setup = a.setup in
-    let told_so : history b ≡ history_of p.events ++ history a = ap history_of p.trace ∙ sym (append-nil (history_of (a.trace ++ p.events))) ∙ history_of_append a.trace p.events [] ∙ ap (λ h. history_of p.events ++ h) (append-nil (history a)) in
-    let quiet = quiet_events g p.events (history a) (ap (λ (u : Tally). u.issues) p.tally ∙ none) (ap (λ (u : Tally). u.finishes) p.tally ∙ idle) in
-    record {
-      jobs = λ workers k. ap₂ (λ (s : Setup) h. jobs_to s workers k h) p.setup told_so ∙ ap (jobs_at (place_of workers g.files) k) quiet.0;
-      done = λ workers k. ap₂ (λ (s : Setup) h. done_by_worker s workers k h) p.setup told_so ∙ ap (filter (λ d. place_of workers g.files d.op == k)) quiet.1;
-    }
+quiet_stays a b t p none idle = record { jobs = jobs_stay a b t p none; done = done_stays a b t p idle }
 
 pub carried_stays : (a b : Kept) (lanes : List WorkLanes) → WorkStays a b → HaveCarried a lanes
     → HaveCarried b lanes
@@ -111,8 +119,12 @@ ended_stays a b n issued = by_answer issued.0 issued.1 issued.2 where
       }
   by_answer _ g ended = absurd ended
 
-pub ended_only : (a b : Kept) (n : ℕ) → IssuedAs a b n None → OnlyPosts (now a) (now b)
-ended_only a b n issued = by_answer issued.0 issued.1 issued.2 where
+-- of the rings only more is posted by it
+pub issued_posts : (a b : Kept) (n : ℕ) (told : Option Op) → IssuedAs a b n told
+    → OnlyPosts (now a) (now b)
+issued_posts a b n (Some op) issued =
+    subst (OnlyPosts (now a)) (sym (grown a b (step.Issue n) answer.Run issued.0)) (record { submission = refl; accepted = refl; is_closed = refl; reaped = refl; head = refl })
+issued_posts a b n None issued = by_answer issued.0 issued.1 issued.2 where
   by_answer : (x : Answer) → Grows a b (step.Issue n, x) → IsEnded x → OnlyPosts (now a) (now b)
   by_answer (answer.Ended res bytes) g ended = subst (OnlyPosts (now a)) (sym (grown a b (step.Issue n) (answer.Ended res bytes) g)) (only_posts a n res bytes)
   by_answer _ g ended = absurd ended
@@ -177,14 +189,6 @@ carried_collected a b n place old new carried p many here others = λ k d within
             results = ap (λ (l : WorkLanes). results_received l) stays ∙ before.results ∙ ap results_of (sym done);
           }
     ]
-
--- so some were, also where memory was refused
-pub some_collected : {E : Type 0} (r : Result ℕ E) (a b : Kept) (workers place : ℕ) (seen : List JobResult)
-    → IfOk r (λ n. CollectsSeen a b workers place n seen)
-    → OnErr r ((n : ℕ) × (n ≤ most_results) × Collects a b workers place n)
-    → (n : ℕ) × Collects a b workers place n
-some_collected (Ok n) a b workers place seen ok err = (n, ok.collected)
-some_collected (Err e) a b workers place seen ok (n, most, collected) = (n, collected)
 
 -- with these lanes in their place
 pub carried_set : (a b : Kept) (n place : ℕ) (old : List WorkLanes) (y d : WorkLanes)

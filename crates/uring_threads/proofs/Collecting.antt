@@ -1,9 +1,9 @@
 -- What is sent and taken in, as a result is taken in: the operation is the last of its worker's, and all else stays.
-use Rattle.std.proofs.Common.{◌≡◌, ℕ, ◌+◌, ◌<◌, arith, Bool, true, false, List, [], ◌∷◌, ◌++◌, length, if◌then◌else◌, refl, sym, subst, ap, ap₂, ◌∙◌, inl, inr}
-use Rattle.std.specs.Prelude.{slice_index_or, Result, Ok, Err, OnErr, OnOk}
+use Rattle.std.proofs.Common.{◌≡◌, ℕ, ◌+◌, ◌<◌, arith, Bool, true, false, List, [], ◌∷◌, length, if◌then◌else◌, refl, sym, subst, ap, ap₂, ◌∙◌, inl, inr}
+use Rattle.std.specs.Prelude.{slice_index_or, Result, Ok, Err, OnErr}
 use mathlib.Core.List.{IsPrefix}
 use Rattle.std.proofs.lemmas.Bool.{both_ways, cases_eq}
-use Rattle.std.proofs.lemmas.List.{map-append, length_push}
+use Rattle.std.proofs.lemmas.List.{length_push}
 use Rattle.uring_entry.specs.Preparation.{operation_of}
 use Rattle.uring_entry.specs.Requests.{entry_of, is_running, with_ended}
 use Rattle.uring_entry.specs.Setup.{Setup}
@@ -19,19 +19,19 @@ use Rattle.uring_core.specs.declared.answer.Answer.{Answer}
 use Rattle.uring_core.specs.declared.answer.Answer.TheVariants as answer
 use Rattle.uring_core.proofs.Following.{history_of_snoc}
 use Rattle.uring_workers.specs.declared.job.JobResult.{JobResult}
-use Rattle.uring_threads.specs.Collected.{CanBeTaken, OthersStay, Collects, CollectsNext, CollectsSeen, NextStays, NoneComes, TakesNext, Wait}
-use Rattle.uring_threads.specs.Dispatched.{AreTakenIn}
+use Rattle.uring_threads.specs.Collected.{CanBeTaken, OthersStay, Collects, CollectsNext, CollectsSeen, NextStays, NoneComes, Wait}
 use Rattle.uring_threads.specs.Delivered.{OnlyPosts}
 use Rattle.uring_threads.specs.Kept.{Kept, now, Grows, IsUnmoved, history}
 use Rattle.uring_threads.specs.Settled.{IsWork, IsTakenIn, finish_of}
-use Rattle.uring_workers.specs.Work.{place_of, result_of, results_of}
+use Rattle.uring_workers.specs.Work.{place_of}
 use Rattle.uring_threads.specs.Dealt.{jobs_to, done_by_worker}
 use Rattle.uring_threads.specs.Tallies.{finishes_counted, results_taken_in}
 use Rattle.uring_threads.proofs.LeftAt.{done_by_own, done_other}
-use Rattle.uring_threads.proofs.Posting.{posts_none, posts_then, end_posts}
-use Rattle.uring_threads.proofs.Recording.{records_none, records_one, finishes_then}
+use Rattle.uring_threads.proofs.Posting.{end_posts}
+use Rattle.uring_threads.proofs.Recording.{records_one}
+use Rattle.uring_threads.proofs.Repeating.{repeats_none, repeats_then}
 use Rattle.uring_threads.proofs.Settling.{results_run}
-use Rattle.uring_threads.proofs.TraceSteps.{grown, appends_none, appends_one, appends_then, unmoved_now}
+use Rattle.uring_threads.proofs.TraceSteps.{grown, appends_one, unmoved_now}
 
 -- the history of a trace that is one event longer
 pub grown_history : (a b : Kept) (e : Event) → Grows a b e → history b ≡ e ∷ history a
@@ -54,14 +54,6 @@ module _ (a b : Kept) (workers place : ℕ) (r : JobResult) (can : CanBeTaken a 
   end : Done
   end = record { number = r.number; op = operation_of (entry_of (now a).requests r.number); outcome = r.outcome }
 
-  pub result_taken : (results : List JobResult) → AreTakenIn a workers place results
-      → AreTakenIn b workers place (results ++ r ∷ [])
-  unfolding end
-  result_taken results taken =
-      ap (λ rs. rs ++ r ∷ []) taken
-      ∙ sym (map-append result_of (done_by_worker a.setup workers place (history a)) (end ∷ []))
-      ∙ ap results_of (sym (ap₂ (λ g h. done_by_worker g workers place h) grows.setup (grown_history a b (finish_of r) grows) ∙ done_by_own (place_of workers a.setup.files) place (done_in a.setup (history a)) end can.own))
-
   -- so this worker's are one more
   pub one_taken_in : results_taken_in workers place b ≡ results_taken_in workers place a + 1
   unfolding end
@@ -83,6 +75,18 @@ pub first_known : {known later : List JobResult} {seen popped : JobResult}
     → IsPrefix (seen ∷ []) known → known ≡ popped ∷ later → seen ≡ popped
 first_known {known} {later} {seen} {popped} first all =
     ap (λ rs. slice_index_or rs 0 seen) (first.1 ∙ all)
+
+-- no result is seen, or the first that is can't be taken in
+pub none_stays : (kept : Kept) (workers place : ℕ) (seen : List JobResult) → length seen ≡ 0
+    → NextStays kept workers place seen
+none_stays kept workers place [] none = tt
+none_stays kept workers place (r ∷ later) none = absurd (omega (arith, none))
+
+pub first_stays : (kept : Kept) (workers place : ℕ) {known : List JobResult} {seen : JobResult}
+    → IsPrefix (seen ∷ []) known → (CanBeTaken kept workers place seen.number → ⊥)
+    → NextStays kept workers place known
+first_stays kept workers place {known} {seen} first never =
+    subst (NextStays kept workers place) first.1 never
 
 -- Several results.
 
@@ -137,77 +141,66 @@ end_comes a b workers r grows = λ k number can.
     }
 
 -- none, and one more
-pub collects_none : (a b : Kept) (workers place : ℕ) → IsUnmoved a b → Collects a b workers place 0
-collects_none a b workers place u =
+pub collects_none : (workers place : ℕ) {a b : Kept} → IsUnmoved a b → Collects a b workers place 0
+collects_none workers place {a} {b} u =
     record {
-      tally = appends_none a b u;
-      row = ([], records_none a b u);
-      posts = subst (OnlyPosts (now a)) (sym (unmoved_now a b u)) (posts_none (now a));
-      idle = λ none. u.trace;
+      repeats = repeats_none step.Finish u;
       own = let same : results_taken_in workers place b ≡ results_taken_in workers place a = same_taken_in a b workers place u in omega (arith, same);
       others = same_others a b workers place u;
       none_comes = same_comes a b workers u;
     }
 
-pub collects_then : (a b c : Kept) (workers place n m sum : ℕ) → n + m ≡ sum
-    → Collects a b workers place n → Collects b c workers place m → Collects a c workers place sum
-collects_then a b c workers place n m sum e p q =
+collects_first : {a b : Kept} {workers place : ℕ} (r : JobResult) → CanBeTaken a workers place r.number
+    → Grows a b (finish_of r) → Collects a b workers place 1
+collects_first {a} {b} {workers} {place} r can grows =
     record {
-      tally = appends_then a b c (finishes_counted n) (finishes_counted m) (finishes_counted sum) p.tally q.tally (ap finishes_counted e);
-      row = finishes_then a b c p.row q.row;
-      posts = posts_then (now a) (now b) (now c) p.posts q.posts;
-      idle = λ none. q.idle (omega (arith, none, e)) ∙ p.idle (omega (arith, none, e));
-      own = omega (arith, p.own, q.own, e);
-      others = then_others a b c workers place p.others q.others;
-      none_comes = λ k number can. p.none_comes k number (q.none_comes k number can);
+      repeats = record {
+        numbers = r.number ∷ [];
+        row = records_one a b (step.Finish r.number) (answer.Ended r.outcome.res r.outcome.bytes) grows;
+        tally = appends_one a b (finish_of r) (finishes_counted 1) grows refl refl;
+        posts = posts_end a b r grows;
+      };
+      own = one_taken_in a b workers place r can grows;
+      others = others_stay a b workers place r can grows;
+      none_comes = end_comes a b workers r grows;
     }
 
+pub collects_then : {a b c : Kept} {workers place n m : ℕ} → Collects a b workers place n
+    → Collects b c workers place m → Collects a c workers place (n + m)
+collects_then {a} {b} {c} {workers} {place} {n} {m} p q = record {
+  repeats = repeats_then p.repeats q.repeats;
+  own = omega (arith, p.own, q.own);
+  others = then_others a b c workers place p.others q.others;
+  none_comes = λ k number can. p.none_comes k number (q.none_comes k number can);
+}
+
 -- the next one, after more room was asked for
-pub collects_one : (a b c : Kept) (workers place : ℕ) (before after seen : List JobResult) (more : Bool)
-    → IsUnmoved a b → OthersStay b c workers place
-    → TakesNext b c workers place before after seen more → CollectsNext a c workers place seen more
-collects_one a b c workers place before after seen true u others (r, _, can, grows) =
-    collects_then a b c workers place 0 1 1 refl (collects_none a b workers place u)
-    (record {
-      tally = appends_one b c (finish_of r) (finishes_counted 1) grows refl refl;
-      row = (r.number ∷ [], records_one b c (step.Finish r.number) (answer.Ended r.outcome.res r.outcome.bytes) grows);
-      posts = posts_end b c r grows;
-      idle = λ none. absurd (omega (arith, none));
-      own = one_taken_in b c workers place r can grows;
-      others = others;
-      none_comes = end_comes b c workers r grows;
-    })
-collects_one a b c workers place before after seen false u others (same, _, stays) = (
-  subst (λ k. Collects a k workers place 0) (sym same) (collects_none a b workers place u),
-  subst (λ k. NextStays k workers place seen) (sym same) stays,
-)
+pub collects_one : {a b c : Kept} {workers place : ℕ} (r : JobResult) → IsUnmoved a b
+    → CanBeTaken b workers place r.number → Grows b c (finish_of r) → Collects a c workers place 1
+collects_one {a} {b} {c} {workers} {place} r u can grows =
+    collects_then (collects_none workers place u) (collects_first r can grows)
 
 -- a turn's results, and a round more of them
-pub collects_more : (a b c : Kept) (workers place n : ℕ) (seen : List JobResult) (more : Bool)
+pub collects_more : {a b c : Kept} {workers place n : ℕ} (seen : List JobResult) (more : Bool)
     → more ≡ true → Collects a b workers place n → CollectsNext b c workers place seen more
     → Collects a c workers place (n + 1)
-collects_more a b c workers place n seen true e p q =
-    collects_then a b c workers place n 1 (n + 1) refl p q
-collects_more a b c workers place n seen false e p q = absurd (let f : false ≡ true = e in cc)
+collects_more seen true e p q = collects_then p q
+collects_more seen false e p q = absurd (let f : false ≡ true = e in cc)
 
-pub collects_no_more : (a b c : Kept) (workers place n : ℕ) (seen : List JobResult) (more : Bool)
+pub collects_no_more : {a b c : Kept} {workers place n : ℕ} (seen : List JobResult) (more : Bool)
     → more ≡ false → n < 64 → Collects a b workers place n
     → CollectsNext b c workers place seen more → CollectsSeen a c workers place n seen
-collects_no_more a b c workers place n seen false e few p q = record {
-  collected = collects_then a b c workers place n 0 n (omega arith) p q.0;
+collects_no_more {a} {b} {c} {workers} {place} {n} seen false e few p q = record {
+  collected = subst (Collects a c workers place) (omega arith) (collects_then p q.0);
   most = omega (arith, few);
   rest = λ fewer. q.1;
 }
-collects_no_more a b c workers place n seen true e few p q = absurd (let f : true ≡ false = e in cc)
+collects_no_more seen true e few p q = absurd (let f : true ≡ false = e in cc)
 
 -- what holds anyway holds of an error
 pub on_err : {X E P : Type 0} (result : Result X E) → P → OnErr result P
 on_err (Ok x) p = tt
 on_err (Err e) p = p
-
-pub on_ok : {X E P : Type 0} (result : Result X E) → P → OnOk result P
-on_ok (Ok x) p = p
-on_ok (Err e) p = tt
 
 -- All that wait.
 

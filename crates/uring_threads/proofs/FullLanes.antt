@@ -1,6 +1,6 @@
 -- A worker's lane for jobs that shows no room has carried as many jobs as it holds, so as many requests were started.
-use Rattle.std.proofs.Common.{◌≡◌, ◌+◌, ◌<◌, ◌≤◌, ◌==◌, List, [], ◌∷◌, length, get_or, cond, count_by, inl, inr, refl, sym, subst, ap, ◌∙◌, arith}
-use Rattle.std.specs.Prelude.{◌⊎◌, None, Result, Ok, Err, IfOk, OnErr, Bool}
+use Rattle.std.proofs.Common.{◌≡◌, ◌+◌, ◌<◌, ◌≤◌, ◌==◌, List, [], ◌∷◌, length, get_or, cond, count_by, inl, inr, refl, ap, arith}
+use Rattle.std.specs.Prelude.{◌⊎◌, None, Result, Ok, Err, IfOk, Bool}
 use Rattle.std.proofs.lemmas.List.{length-append}
 use Rattle.std.proofs.lemmas.List.Sums.{length-filter, count_by-le-length}
 use Rattle.uring_entry.specs.Setup.{Setup}
@@ -11,15 +11,13 @@ use Rattle.uring_core.specs.declared.step.Step.TheVariants as step
 use Rattle.uring_core.specs.declared.answer.Answer.TheVariants as answer
 use Rattle.uring_core.proofs.Following.{history_of_cons}
 use Rattle.uring_threads.specs.Dispatched.{HaveCarried}
-use Rattle.uring_workers.specs.WorkLanes.{HoldJobs, HoldResults, AreSameLanes, SomeIsFull}
-use Rattle.uring_threads.specs.Kept.{Kept, now, history, next_in}
-use Rattle.uring_threads.specs.Tallies.{Tally, Appends, starts_request}
-use Rattle.uring_threads.specs.Turns.{Counts}
+use Rattle.uring_workers.specs.WorkLanes.{HoldJobs, SomeIsFull}
+use Rattle.uring_threads.specs.Kept.{Kept, history, next_in}
+use Rattle.uring_threads.specs.Tallies.{starts_request}
 use Rattle.uring_workers.specs.Work.{place_of}
 use Rattle.uring_threads.specs.Dealt.{job_in, job_by, jobs_in}
 use Rattle.uring_workers.proofs.LaneFacts.{lane_full}
 use Rattle.uring_workers.specs.declared.job.Job.{Job}
-use Rattle.uring_threads.specs.declared.turns.Turn.{Turn}
 use Rattle.uring_workers.specs.declared.work_lanes.WorkLanes.{WorkLanes}
 use Rattle.uring_threads.proofs.Times.{times, times_append, times_counts}
 
@@ -56,19 +54,6 @@ some_full k (d ∷ lanes) carried hold full =
       times_counts starts_request k.trace,
     )
 
--- the same lanes hold as many jobs
-pub hold_stays : (old new : List WorkLanes) → AreSameLanes old new → HoldJobs old → HoldJobs new
-hold_stays old new same hold = λ k d low.
-    let before : k < length old = omega (arith, low, same.many) in
-    (same.jobs k d before).1 ∙ hold k d before
-
--- and as many results
-pub short_stays : (old new : List WorkLanes) → AreSameLanes old new → HoldResults old
-    → HoldResults new
-short_stays old new same short = λ k d low.
-    let before : k < length old = omega (arith, low, same.many) in
-    subst (λ n. n ≤ 64) (sym (same.results k d before).1) (short k d before)
-
 -- so as long as fewer requests were started, no lane keeps one from being issued
 pub next_is_none : {X E : Type 0} (r : Result X E) (k : Kept) (lanes : List WorkLanes)
     → IfOk r (λ turn. (next_in k ≡ None) ⊎ SomeIsFull lanes) → HaveCarried k lanes
@@ -76,9 +61,3 @@ pub next_is_none : {X E : Type 0} (r : Result X E) (k : Kept) (lanes : List Work
     → IfOk r (λ turn. count_by starts_request k.trace < 64 → next_in k ≡ None)
 next_is_none (Ok x) k lanes left carried hold = λ few. elim left [ inl none ↦ none | inr full ↦ absurd (omega (arith, few, some_full k lanes carried hold full)) ]
 next_is_none (Err e) k lanes left carried hold = tt
-
--- a turn leaves the set-up
-pub setup_stays : {E : Type 0} (r : Result Turn E) (a b : Kept) → IfOk r (Counts a b)
-    → OnErr r ((t : Tally) × Appends a b t) → b.setup ≡ a.setup
-setup_stays (Ok x) a b counts err = counts.appends.setup
-setup_stays (Err e) a b counts err = err.1.setup

@@ -26,4 +26,6 @@ mod FullLanes
 mod Closing
 pub mod SameEnds
 pub mod Recording
+mod Repeating
+mod SameLanes
 pub mod Reporting

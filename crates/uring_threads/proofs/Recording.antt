@@ -1,11 +1,10 @@
 -- What each event adds to the steps of the trace, and how rows of steps add up.
-use Rattle.std.proofs.Common.{◌≡◌, ℕ, ◌+◌, ◌<◌, Bool, true, false, not, cond, List, [], ◌∷◌, ◌++◌, map, take, length, count_by, inl, get_or, replicate, sum, zero, suc, refl, sym, subst, ap, ap₂, ◌∙◌, arith, append_assoc, append-nil}
+use Rattle.std.proofs.Common.{◌≡◌, ℕ, ◌+◌, ◌<◌, List, [], ◌∷◌, ◌++◌, map, take, length, inl, get_or, replicate, sum, zero, suc, refl, sym, subst, ap, ap₂, ◌∙◌, arith, append_assoc, append-nil}
 use Rattle.std.specs.Prelude.{Result, IfOk}
-use Rattle.std.proofs.lemmas.List.{append_cancel_left, map-append, replicate_more, take_more, length-take-le}
-use Rattle.std.proofs.lemmas.List.Sums.{sum_by-append, sum_by-cons, sum_by_push}
+use Rattle.std.proofs.lemmas.List.{map-append, replicate_more, take_more, length-take-le}
+use Rattle.std.proofs.lemmas.List.Sums.{sum_by-cons, sum_by_push}
 use Rattle.uring_entry.specs.Setup.{Setup}
 use Rattle.uring_entry.specs.Submission.{Submission}
-use Rattle.uring_core.specs.Histories.{Event}
 use Rattle.uring_core.specs.declared.step.Step.{Step}
 use Rattle.uring_core.specs.declared.step.Step.TheVariants as step
 use Rattle.uring_core.specs.declared.answer.Answer.{Answer}
@@ -13,10 +12,10 @@ use Rattle.uring_ports.specs.declared.item.Item.{Item}
 use Rattle.uring_ports.specs.declared.pulled.Pulled.{Pulled}
 use Rattle.uring_ports.specs.declared.pulled.Pulled.TheVariants as pulled
 use Rattle.uring_ports.specs.Ports.{Put, Pulls}
-use Rattle.uring_threads.specs.EventRows.{step_of, steps_of, Records, item_row, items_row, call_row, delivery_row, AreOfTurn, IsAgain, IsPulled, IsTaken, RecordsIntake, RecordsFinishes, RecordsIssues, RecordsTurn}
+use Rattle.uring_threads.specs.EventRows.{step_of, steps_of, Records, item_row, items_row, call_row, delivery_row, AreOfTurn, IsAgain, IsPulled, IsTaken, RecordsIntake, RecordsTurn, Repeats}
 use Rattle.uring_threads.specs.Calls.{calls_row, refused_row}
 use Rattle.uring_threads.specs.Kept.{Kept, now, Grows, IsUnmoved}
-use Rattle.uring_threads.specs.Tallies.{Tally, Appends, finishes_counted, issues_counted, is_refused, issues_request, takes_result}
+use Rattle.uring_threads.specs.Tallies.{Tally}
 use Rattle.uring_threads.specs.declared.calls.CallMade.TheVariants as made
 use Rattle.uring_threads.specs.declared.intake.Intake.{Intake}
 use Rattle.uring_threads.specs.declared.intake.Intake.TheVariants as intake
@@ -97,13 +96,7 @@ call_refused a b c done (n ∷ later) count some many p q =
     records_then a b c (calls_row done (n ∷ later)) (step.Begin (n + sum later) ∷ []) p
     (subst (λ k. Records b c (step.Begin k ∷ [])) (sym many ∙ sum_by-cons (λ x. x) n later ∙ omega arith) q)
 
--- items that were put and published
-pub put_recorded : (a b c : Kept) (items : List Item) (x : Answer) → Records a b (items_row 0 items)
-    → Grows b c (step.StoreTail, x)
-    → Records a c (items_row 0 items ++ step.StoreTail ∷ [])
-put_recorded a b c items x p g = records_then a b c (items_row 0 items) (step.StoreTail ∷ []) p (records_one b c step.StoreTail x g)
-
--- and the calls that took them
+-- items that were put and published, and the calls that took them
 pub taken_recorded : (a b c : Kept) (items : List Item) (begun : List Step)
     → Records a b (items_row 0 items ++ step.StoreTail ∷ []) → Records b c begun
     → Records a c (items_row 0 items ++ step.StoreTail ∷ begun)
@@ -122,20 +115,6 @@ delivery_recorded a b c d e f (suc n) x y z some u g h p k =
     (records_then b c f (step.Flush ∷ []) (step.LoadCqTail ∷ replicate (suc n) step.Reap ++ step.StoreCqHead ∷ []) (records_one b c step.Flush x g)
     (records_then c d f (step.LoadCqTail ∷ []) (replicate (suc n) step.Reap ++ step.StoreCqHead ∷ []) (records_one c d step.LoadCqTail y h)
     (records_then d e f (replicate (suc n) step.Reap) (step.StoreCqHead ∷ []) p (records_one e f step.StoreCqHead z k))))
-
--- results of one time after those of another
-pub finishes_then : (a b c : Kept) → RecordsFinishes a b → RecordsFinishes b c → RecordsFinishes a c
-finishes_then a b c p q = (p.0 ++ q.0, records_then a b c (map step.Finish p.0) (map step.Finish q.0) p.1 q.1 ∙ ap (λ zs. steps_of a ++ zs) (sym (map-append step.Finish p.0 q.0)))
-
--- requests issued at one time after those of another
-pub issues_then : (a b c : Kept) → RecordsIssues a b → RecordsIssues b c → RecordsIssues a c
-issues_then a b c p q = (p.0 ++ q.0, records_then a b c (map step.Issue p.0) (map step.Issue q.0) p.1 q.1 ∙ ap (λ zs. steps_of a ++ zs) (sym (map-append step.Issue p.0 q.0)))
-
--- the next request that is issued, after more room was asked for
-pub issues_more : (a b c d : Kept) (n : ℕ) → RecordsIssues a b → IsUnmoved b c
-    → Records c d (step.Issue n ∷ [])
-    → RecordsIssues a d
-issues_more a b c d n p u q = issues_then a b d p (n ∷ [], records_then b c d [] (step.Issue n ∷ []) (records_none b c u) q)
 
 -- nothing was begun again, and nothing was pulled
 pub none_again : (g : Setup) (l : Submission) (i : Intake) → IsAgain g l i []
@@ -174,71 +153,21 @@ pub records_nothing : (a : Kept) → Records a a []
 records_nothing a = sym (append-nil (steps_of a))
 
 -- a whole turn
-pub turn_recorded : {E : Type 0} (a b c d e : Kept) (i : Intake) (before after : Put) (n : ℕ) (answer : Result Turn E)
-    → RecordsIntake a b i before after → (f : RecordsFinishes b c) → (s : RecordsIssues c d)
-    → Records d e (delivery_row n) → IfOk answer (λ turn. AreOfTurn turn f.0 s.0 n)
-    → RecordsTurn a e i before after answer
-turn_recorded a b c d e i before after n answer r f s q told =
+pub turn_recorded : {E : Type 0} (a b c d e : Kept) (i : Intake) (before after : Put) (n : ℕ) (answer : Result Turn E) (t u : Tally)
+    → RecordsIntake a b i before after → (f : Repeats b c step.Finish t)
+    → (s : Repeats c d step.Issue u) → Records d e (delivery_row n)
+    → IfOk answer (λ turn. AreOfTurn turn f.numbers s.numbers n) → RecordsTurn a e i before after answer
+turn_recorded a b c d e i before after n answer t u r f s q told =
     record {
       again = r.again;
       pulled = r.pulled;
-      finished = f.0;
-      issued = s.0;
+      finished = f.numbers;
+      issued = s.numbers;
       delivered = n;
       is_again = r.is_again;
       is_pulled = r.is_pulled;
-      row = records_then a d e (r.again ++ r.pulled ++ map step.Finish f.0 ++ map step.Issue s.0) (delivery_row n)
-          (records_then a c d (r.again ++ r.pulled ++ map step.Finish f.0) (map step.Issue s.0)
-          (records_then a b c (r.again ++ r.pulled) (map step.Finish f.0) r.row f.1) s.1) q;
+      row = records_then a d e (r.again ++ r.pulled ++ map step.Finish f.numbers ++ map step.Issue s.numbers) (delivery_row n)
+          (records_then a c d (r.again ++ r.pulled ++ map step.Finish f.numbers) (map step.Issue s.numbers)
+          (records_then a b c (r.again ++ r.pulled) (map step.Finish f.numbers) r.row f.row) s.row) q;
       told = told;
     }
-
--- How many.
-
-finish_steps : (events : List Event) (numbers : List ℕ)
-    → map step_of events ≡ map step.Finish numbers
-    → length numbers ≡ count_by takes_result events
-finish_steps [] [] e = refl
-finish_steps [] (n ∷ ns) e = absurd (cc)
-finish_steps (x ∷ es) [] e = absurd (cc)
-finish_steps ((s, a) ∷ es) (n ∷ ns) e =
-    let first : s ≡ step.Finish n = cc in
-    let rest : map step_of es ≡ map step.Finish ns = cc in
-    let one : count_by takes_result ((step.Finish n, a) ∷ es) ≡ 1 + count_by takes_result es = sum_by-append (λ e. cond (takes_result e) 1 0) ((step.Finish n, a) ∷ []) es in
-    subst (λ s. suc (length ns) ≡ count_by takes_result ((s, a) ∷ es)) (sym first) (omega (arith, one, finish_steps es ns rest))
-
--- an Issue that wasn't refused
-issued_or : (b : Bool) → ◌≡◌ {A = ℕ} (cond (not b) 1 0) 0 → b ≡ true
-issued_or true e = refl
-issued_or false e = absurd (omega (arith, e))
-
-issue_steps : (events : List Event) (numbers : List ℕ)
-    → map step_of events ≡ map step.Issue numbers → count_by is_refused events ≡ 0
-    → length numbers ≡ count_by issues_request events
-issue_steps [] [] e served = refl
-issue_steps [] (n ∷ ns) e served = absurd (cc)
-issue_steps (x ∷ es) [] e served = absurd (cc)
-issue_steps ((s, a) ∷ es) (n ∷ ns) e served =
-    let first : s ≡ step.Issue n = cc in
-    let rest : map step_of es ≡ map step.Issue ns = cc in
-    let fine : count_by is_refused ((step.Issue n, a) ∷ es) ≡ 0 = subst (λ s. count_by is_refused ((s, a) ∷ es) ≡ 0) first served in
-    let parts : count_by is_refused ((step.Issue n, a) ∷ es) ≡ 0 + cond (not (issues_request (step.Issue n, a))) 1 0 + count_by is_refused es = sum_by-append (λ e. cond (is_refused e) 1 0) ((step.Issue n, a) ∷ []) es in
-    let one : issues_request (step.Issue n, a) ≡ true = issued_or (issues_request (step.Issue n, a)) (omega (arith, fine, parts)) in
-    let many : count_by issues_request ((step.Issue n, a) ∷ es) ≡ 1 + count_by issues_request es = sum_by-append (λ e. cond (issues_request e) 1 0) ((step.Issue n, a) ∷ []) es ∙ ap (λ (b : Bool). 0 + cond b 1 0 + count_by issues_request es) one in
-    subst (λ s. suc (length ns) ≡ count_by issues_request ((s, a) ∷ es)) (sym first) (omega (arith, many, issue_steps es ns rest (omega (arith, fine, parts))))
-
--- the steps of the events that were appended
-appended_steps : (a b : Kept) (t : Tally) (steps : List Step) (p : Appends a b t) → Records a b steps
-    → map step_of p.events ≡ steps
-appended_steps a b t steps p r = append_cancel_left (steps_of a) (map step_of p.events) steps (sym (ap (map step_of) p.trace ∙ map-append step_of a.trace p.events) ∙ r)
-
--- as many Finishes and Issues as were counted
-pub finishes_many : (a b : Kept) (n : ℕ) (f : RecordsFinishes a b) → Appends a b (finishes_counted n)
-    → length f.0 ≡ n
-finishes_many a b n f p =
-    finish_steps p.events f.0 (appended_steps a b (finishes_counted n) (map step.Finish f.0) p f.1) ∙ ap (λ (t : Tally). t.finishes) p.tally
-
-pub issues_many : (a b : Kept) (n : ℕ) (s : RecordsIssues a b) → Appends a b (issues_counted n)
-    → length s.0 ≡ n
-issues_many a b n s p =
-    issue_steps p.events s.0 (appended_steps a b (issues_counted n) (map step.Issue s.0) p s.1) p.served ∙ ap (λ (t : Tally). t.issues) p.tally

@@ -24,6 +24,10 @@ grown_length a b e g = ap length g.trace ∙ length_push a.trace e
 pub unmoved_now : (a b : Kept) → IsUnmoved a b → now b ≡ now a
 unmoved_now a b u = ap₂ (λ (k : Setup) es. world k (history_of es)) u.setup u.trace
 
+-- nothing happened
+pub still : (a : Kept) → IsUnmoved a a
+still a = record { trace = refl; room = omega arith; setup = refl }
+
 -- Tallies.
 
 tally_append : (es fs : List Event) → tally_of (es ++ fs) ≡ both (tally_of es) (tally_of fs)

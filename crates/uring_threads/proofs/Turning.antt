@@ -1,44 +1,65 @@
--- The dispatcher's ties stay through the parts of a turn, and their tallies add up.
-use Rattle.std.proofs.Common.{◌≡◌, ℕ, List, [], ◌++◌, refl, sym, subst, ap, ap₂, ◌∙◌, arith}
-use Rattle.std.specs.Prelude.{◌⊎◌, ◌+◌, ◌-◌, ◌^◌, length, nat_lt, None, Result, Ok, Err, IfOk, OnOk}
+-- The parts of a turn put together: what went through the dispatcher's hands stays tied to its trace, and what they appended adds up.
+use Rattle.std.proofs.Common.{◌≡◌, ℕ, List, [], ◌++◌, refl, sym, subst, ap, ◌∙◌, arith, false, true}
+use Rattle.std.specs.Prelude.{◌+◌, ◌-◌, ◌^◌, length, nat_lt, Result, Ok, Err, IfOk, OnOk, OnErr, IsErr, IsOk}
+use Rattle.std.proofs.lemmas.Bool.{false≢true}
+use Rattle.std.proofs.lemmas.Result.{IfOk-weaker, IfOk-from_err}
 use Rattle.uring_entry.specs.Requests.{Requests}
 use Rattle.uring_entry.specs.Setup.{Setup}
 use Rattle.uring_entry.specs.Layout.{Cqe, Sqe}
 use Rattle.uring_entry.specs.Submission.{Submission, published_items}
 use Rattle.uring_laws.specs.Standing.{Stands}
-use Rattle.uring_ports.specs.Ports.{Put}
-use Rattle.uring_threads.specs.Delivered.{KeepsAllBut, OnlyPosts}
-use Rattle.uring_threads.specs.Dispatched.{HaveCarried}
-use Rattle.uring_workers.specs.WorkLanes.{AreSameLanes, OnlyReceives, SomeIsFull}
+use Rattle.uring_ports.specs.Ports.{Put, Sizes}
 use Rattle.uring_linux.specs.Drains.{Drains}
 use Rattle.uring_rules.specs.Rules.{next_of}
 use Rattle.uring_core.specs.World.{World, requests_of}
+use Rattle.uring_core.specs.declared.step.Step.TheVariants as step
+use Rattle.uring_workers.specs.WorkLanes.{AreSameLanes}
+use Rattle.uring_workers.specs.declared.work_lanes.WorkLanes.{WorkLanes}
+use Rattle.uring_threads.specs.Calls.{calls_left}
+use Rattle.uring_threads.specs.Delivered.{KeepsAllBut, OnlyPosts}
+use Rattle.uring_threads.specs.Dispatched.{HaveCarried}
+use Rattle.uring_threads.specs.EventRows.{AreOfTurn, Records, RecordsIntake, RecordsTurn, Repeats, delivery_row}
 use Rattle.uring_threads.specs.Kept.{Kept, now, IsUnmoved, next_in}
 use Rattle.uring_threads.specs.Kernel.{Kernel, IsKernel}
-use Rattle.uring_threads.specs.Served.{HasServed}
+use Rattle.uring_threads.specs.Served.{HasServed, Turns}
 use Rattle.uring_threads.specs.Taking.{TakesIn}
-use Rattle.uring_threads.specs.Tallies.{Tally, Appends, both, none_counted, issues_counted, finishes_counted, reaps_counted}
-use Rattle.uring_threads.specs.Calls.{calls_left}
+use Rattle.uring_threads.specs.Tallies.{Tally, Appends, TakesFewResults, issues_counted, finishes_counted, reaps_counted}
 use Rattle.uring_threads.specs.Turns.{AreTies, Counts, IsDelivered, IsGivenUpAsSpent, Tied, ClosesOnce, waiting_in}
 use Rattle.uring_threads.specs.declared.intake.Intake.{Intake}
 use Rattle.uring_threads.specs.declared.intake.Intake.TheVariants as intake
 use Rattle.uring_threads.specs.declared.turns.Turn.{Turn}
-use Rattle.uring_workers.specs.declared.work_lanes.WorkLanes.{WorkLanes}
 use Rattle.uring_threads.proofs.Carrying.{quiet_stays, carried_stays}
-use Rattle.uring_threads.proofs.Closing.{once_stays, once_unmoved}
-use Rattle.uring_threads.proofs.TraceSteps.{unmoved_now, appends_none, appends_then}
+use Rattle.uring_threads.proofs.Closing.{once_stays}
+use Rattle.uring_threads.proofs.Collecting.{on_err}
+use Rattle.uring_threads.proofs.FewResults.{few_between}
+use Rattle.uring_threads.proofs.FullLanes.{next_is_none}
+use Rattle.uring_threads.proofs.Recording.{records_none, turn_recorded}
+use Rattle.uring_threads.proofs.Repeating.{finishes_many, issues_many, repeats_idle, repeats_none}
+use Rattle.uring_threads.proofs.SameLanes.{hold_stays, lanes_none, lanes_then, short_stays}
+use Rattle.uring_threads.proofs.TraceSteps.{appends_none, appends_then, still, unmoved_now}
 
--- a call or the close mark was taken in
-pub ties_taken : (a b : Kept) (pulled later : Put) (delivered : List Cqe) (i j : Intake) (lanes : List WorkLanes) (n : ℕ)
-    → AreTies a pulled delivered i lanes → TakesIn a b n → Tied a.setup (now b) later j
-    → (ClosesOnce a i → ClosesOnce b j) → (now b).completions ≡ (now a).completions
-    → AreTies b later delivered j lanes
-ties_taken a b pulled later delivered i j lanes n t p tied once same =
+-- What was taken in: a call, or the close mark.
+pub record HasTaken (old : Kernel) (b : Kept) (pulled : Put) (reaped : List Cqe) (i : Intake) (n : ℕ) : Type 0 where
+  pub taken : TakesIn old.kept b n
+  pub row : RecordsIntake old.kept b old.intake old.pulled pulled
+  pub ties : AreTies b pulled reaped i old.lanes
+
+pub has_taken : (old : Kernel) (b : Kept) (pulled : Put) (reaped : List Cqe) (i : Intake) (n : ℕ)
+    → AreTies old.kept old.pulled old.reaped old.intake old.lanes → TakesIn old.kept b n
+    → RecordsIntake old.kept b old.intake old.pulled pulled → Tied old.kept.setup (now b) pulled i
+    → (ClosesOnce old.kept old.intake → ClosesOnce b i)
+    → (now b).completions ≡ (now old.kept).completions → reaped ≡ old.reaped
+    → HasTaken old b pulled reaped i n
+has_taken old b pulled reaped i n t p row tied once same none =
     record {
-      tied = subst (λ (g : Setup). Tied g (now b) later j) (sym p.appends.setup) tied;
-      once = once t.once;
-      delivered = subst (λ l. IsDelivered l delivered) (sym same) t.delivered;
-      carried = carried_stays a b lanes (quiet_stays a b _ p.appends refl refl) t.carried;
+      taken = p;
+      row = row;
+      ties = record {
+        tied = subst (λ (g : Setup). Tied g (now b) pulled i) (sym p.appends.setup) tied;
+        once = once t.once;
+        delivered = subst (λ l. IsDelivered l reaped) (sym same) (subst (IsDelivered (now old.kept).completions) (sym none) t.delivered);
+        carried = carried_stays old.kept b old.lanes (quiet_stays old.kept b _ p.appends refl refl) t.carried;
+      };
     }
 
 -- a call that was given up stays so where no request was accepted
@@ -50,45 +71,60 @@ given_up_stays w v (intake.Spent count) same given =
     ap (λ (es : List Sqe). nat_lt (2 ^ 63 - 1) (length es + count)) same ∙ given
 given_up_stays w v intake.Closed same given = tt
 
--- requests were issued or ended
-pub ties_posted : (a b : Kept) (pulled : Put) (delivered : List Cqe) (i : Intake) (lanes later : List WorkLanes) (t : Tally)
-    → AreTies a pulled delivered i lanes → Appends a b t → t.closes ≡ 0 → OnlyPosts (now a) (now b)
-    → HaveCarried b later → AreTies b pulled delivered i later
-ties_posted a b pulled delivered i lanes later t s p closes posts carried =
-    record {
-      tied = subst (λ (g : Setup). Tied g (now b) pulled i) (sym p.setup)
-          (record {
-            published = λ good. ap (λ l. published_items l) posts.submission ∙ s.tied.published good;
-            calls = ap (λ (l : Submission). l.calls ++ calls_left a.setup l) posts.submission ∙ s.tied.calls;
-            stands = subst (λ l. Stands l [] (waiting_in i)) (sym posts.submission) s.tied.stands;
-            spent = given_up_stays (now a) (now b) i posts.accepted s.tied.spent;
-            closed = posts.is_closed ∙ s.tied.closed;
-            shut = s.tied.shut;
-          });
-      once = once_stays a b t i p closes s.once;
-      delivered = record { reaped = posts.reaped ∙ s.delivered.reaped; head = posts.head ∙ s.delivered.head };
-      carried = carried;
-    }
+-- what waits and what was pulled stay tied where the submission ring stays, and no request is accepted
+tied_stays : (a b : Kept) (pulled : Put) (i : Intake) → b.setup ≡ a.setup
+    → (now b).submission ≡ (now a).submission
+    → (now b).requests.accepted ≡ (now a).requests.accepted
+    → (now b).is_closed ≡ (now a).is_closed → Tied a.setup (now a) pulled i
+    → Tied b.setup (now b) pulled i
+tied_stays a b pulled i setup ring accepted closed t =
+    subst (λ (g : Setup). Tied g (now b) pulled i) (sym setup)
+    (record {
+      published = λ good. ap (λ l. published_items l) ring ∙ t.published good;
+      calls = ap (λ (l : Submission). l.calls ++ calls_left a.setup l) ring ∙ t.calls;
+      stands = subst (λ l. Stands l [] (waiting_in i)) (sym ring) t.stands;
+      spent = given_up_stays (now a) (now b) i accepted t.spent;
+      closed = closed ∙ t.closed;
+      shut = t.shut;
+    })
 
--- completions were delivered
-pub ties_delivered : (a b : Kept) (pulled : Put) (before delivered : List Cqe) (i : Intake) (lanes : List WorkLanes) (t : Tally)
-    → AreTies a pulled before i lanes → Appends a b t → t.issues ≡ 0 → t.finishes ≡ 0 → t.closes ≡ 0
-    → KeepsAllBut (now a) (now b)
-    → IsDelivered (now b).completions delivered → AreTies b pulled delivered i lanes
-ties_delivered a b pulled before delivered i lanes t s p issues finishes closes keeps now_delivered =
+-- results were taken in, or requests issued
+ties_posted : {a b : Kept} {pulled : Put} {reaped : List Cqe} {i : Intake} {lanes later : List WorkLanes} (t : Tally)
+    → AreTies a pulled reaped i lanes → Appends a b t → t.closes ≡ 0 → OnlyPosts (now a) (now b)
+    → HaveCarried b later → AreTies b pulled reaped i later
+ties_posted {a} {b} {pulled} {reaped} {i} t s p closes posts carried = record {
+  tied = tied_stays a b pulled i p.setup posts.submission posts.accepted posts.is_closed s.tied;
+  once = once_stays a b t i p closes s.once;
+  delivered = record { reaped = posts.reaped ∙ s.delivered.reaped; head = posts.head ∙ s.delivered.head };
+  carried = carried;
+}
+
+-- What was delivered, so many completions.
+pub record HasDelivered (a b : Kept) (n : ℕ) (reaped : List Cqe) : Type 0 where
+  pub tally : Appends a b (reaps_counted n)
+  pub row : Records a b (delivery_row n)
+  pub idle : n ≡ 0 → b.trace ≡ a.trace
+  pub keeps : KeepsAllBut (now a) (now b)
+  pub delivered : IsDelivered (now b).completions reaped
+
+pub delivers_none : {a b : Kept} {reaped : List Cqe} → IsUnmoved a b → KeepsAllBut (now a) (now b)
+    → IsDelivered (now b).completions reaped → HasDelivered a b 0 reaped
+delivers_none {a} {b} u keeps delivered = record {
+  tally = appends_none a b u;
+  row = records_none a b u;
+  idle = λ none. u.trace;
+  keeps = keeps;
+  delivered = delivered;
+}
+
+ties_delivered : {a b : Kept} {pulled : Put} {before reaped : List Cqe} {i : Intake} {lanes : List WorkLanes} {n : ℕ}
+    → AreTies a pulled before i lanes → HasDelivered a b n reaped → AreTies b pulled reaped i lanes
+ties_delivered {a} {b} {pulled} {before} {reaped} {i} {lanes} s d =
     record {
-      tied = subst (λ (g : Setup). Tied g (now b) pulled i) (sym p.setup)
-          (record {
-            published = λ good. ap (λ l. published_items l) keeps.submission ∙ s.tied.published good;
-            calls = ap (λ (l : Submission). l.calls ++ calls_left a.setup l) keeps.submission ∙ s.tied.calls;
-            stands = subst (λ l. Stands l [] (waiting_in i)) (sym keeps.submission) s.tied.stands;
-            spent = given_up_stays (now a) (now b) i (ap (λ (r : Requests). r.accepted) keeps.requests) s.tied.spent;
-            closed = keeps.is_closed ∙ s.tied.closed;
-            shut = s.tied.shut;
-          });
-      once = once_stays a b t i p closes s.once;
-      delivered = now_delivered;
-      carried = carried_stays a b lanes (quiet_stays a b t p issues finishes) s.carried;
+      tied = tied_stays a b pulled i d.tally.setup d.keeps.submission (ap (λ (r : Requests). r.accepted) d.keeps.requests) d.keeps.is_closed s.tied;
+      once = once_stays a b _ i d.tally refl s.once;
+      delivered = d.delivered;
+      carried = carried_stays a b lanes (quiet_stays a b _ d.tally refl refl) s.carried;
     }
 
 tally_is : (i n f r c x i' n' f' r' c' x' : ℕ) → i' ≡ i → n' ≡ n → f' ≡ f → r' ≡ r → c' ≡ c → x' ≡ x
@@ -96,41 +132,129 @@ tally_is : (i n f r c x i' n' f' r' c' x' : ℕ) → i' ≡ i → n' ≡ n → f
 tally_is i n f r c x i' n' f' r' c' x' a b d e g h = rw (a, b, d, e, g, h) refl
 
 -- the four parts of a turn add up
-pub counts_all : (a b c d e : Kept) (popped finished issued delivered : ℕ) → TakesIn a b popped
-    → Appends b c (finishes_counted finished) → (finished ≡ 0 → c.trace ≡ b.trace)
-    → Appends c d (issues_counted issued) → (issued ≡ 0 → d.trace ≡ c.trace)
-    → Appends d e (reaps_counted delivered) → (delivered ≡ 0 → IsUnmoved d e)
-    → Counts a e (record { popped = popped; issued = issued; finished = finished; delivered = delivered })
-counts_all a b c d e popped finished issued delivered p q q_idle r r_idle s s_idle =
-    let qr : Appends b d (record { items = 0; issues = issued; finishes = finished; reaps = 0; calls = 0; closes = 0 }) =
-    appends_then b c d (finishes_counted finished) (issues_counted issued) _ q r (ap₂ (λ n m. record { items = 0; issues = n; finishes = m; reaps = 0; calls = 0; closes = 0 }) (omega arith) (omega arith)) in
-    let rest : Appends b e (record { items = 0; issues = issued; finishes = finished; reaps = delivered; calls = 0; closes = 0 }) =
-    appends_then b d e _ (reaps_counted delivered) _ qr s (tally_is 0 issued finished delivered 0 0 _ _ _ _ _ _ refl (omega arith) (omega arith) (omega arith) refl refl) in
+counts_all : (a b c d e : Kept) (n f s k : ℕ) → TakesIn a b n → Appends b c (finishes_counted f)
+    → (f ≡ 0 → c.trace ≡ b.trace) → Appends c d (issues_counted s) → (s ≡ 0 → d.trace ≡ c.trace)
+    → Appends d e (reaps_counted k) → (k ≡ 0 → e.trace ≡ d.trace)
+    → Counts a e (record { popped = n; issued = s; finished = f; delivered = k })
+counts_all a b c d e n f s k p q q_idle r r_idle t t_idle =
+    let qr : Appends b d (record { items = 0; issues = s; finishes = f; reaps = 0; calls = 0; closes = 0 }) = appends_then b c d _ _ _ q r (tally_is 0 s f 0 0 0 _ _ _ _ _ _ refl (omega arith) (omega arith) refl refl refl) in
+    let rest : Appends b e (record { items = 0; issues = s; finishes = f; reaps = k; calls = 0; closes = 0 }) = appends_then b d e _ _ _ qr t (tally_is 0 s f k 0 0 _ _ _ _ _ _ refl (omega arith) (omega arith) (omega arith) refl refl) in
     record {
       calls = p.calls;
       closes = p.closes;
-      appends = appends_then a b e _ _ _ p.appends rest (tally_is popped issued finished delivered p.calls p.closes _ _ _ _ _ _ (omega arith) (omega arith) (omega arith) (omega arith) (omega arith) (omega arith));
-      idle = λ none.
-          (s_idle (omega (arith, none))).trace ∙ r_idle (omega (arith, none)) ∙ q_idle (omega (arith, none)) ∙ p.idle (omega (arith, none));
+      appends = appends_then a b e _ _ _ p.appends rest (tally_is n s f k p.calls p.closes _ _ _ _ _ _ (omega arith) (omega arith) (omega arith) (omega arith) (omega arith) (omega arith));
+      idle = λ none. t_idle (omega (arith, none)) ∙ r_idle (omega (arith, none)) ∙ q_idle (omega (arith, none)) ∙ p.idle (omega (arith, none));
     }
 
--- the ties before a delivery: a call was taken in, results were, and requests were issued
-pub ties_worked : (a b c d : Kept) (pulled later : Put) (before delivered : List Cqe) (i j : Intake) (lanes collected issued : List WorkLanes) (n : ℕ) (t u : Tally)
-    → AreTies a pulled before i lanes → TakesIn a b n → Tied a.setup (now b) later j
-    → (ClosesOnce a i → ClosesOnce b j) → (now b).completions ≡ (now a).completions
-    → delivered ≡ before
-    → Appends b c t → t.closes ≡ 0 → OnlyPosts (now b) (now c) → HaveCarried c collected
-    → Appends c d u → u.closes ≡ 0 → OnlyPosts (now c) (now d) → HaveCarried d issued
-    → AreTies d later delivered j issued
-ties_worked a b c d pulled later before delivered i j lanes collected issued n t u s p tied once same reaped q q_closes q_posts q_carried r r_closes r_posts r_carried =
-    subst (λ l. AreTies d later l j issued) (sym reaped)
-    (ties_posted c d later before j collected issued u (ties_posted b c later before j lanes collected t (ties_taken a b pulled later before i j lanes n s p tied once same) q q_closes q_posts q_carried) r r_closes r_posts r_carried)
+-- What the parts of a turn have done, up to where it ends.
+pub record Goes (old : Kernel) (kept : Kept) (pulled : Put) (reaped : List Cqe) (i : Intake) (lanes : List WorkLanes) (turn : Turn) : Type 0 where
+  pub ties : AreTies kept pulled reaped i lanes
+  pub counts : Counts old.kept kept turn
+  pub rows : RecordsTurn {E = Unit {0}} old.kept kept old.intake old.pulled pulled (Ok turn)
+  pub few : TakesFewResults (length old.lanes) old.kept kept
+  pub same : AreSameLanes old.lanes lanes
 
--- where nothing was delivered
-pub ties_unmoved : (a b : Kept) (pulled : Put) (before delivered : List Cqe) (i : Intake) (lanes : List WorkLanes)
-    → AreTies a pulled before i lanes → IsUnmoved a b → KeepsAllBut (now a) (now b)
-    → IsDelivered (now b).completions delivered → AreTies b pulled delivered i lanes
-ties_unmoved a b pulled before delivered i lanes s u keeps reaped = ties_delivered a b pulled before delivered i lanes none_counted s (appends_none a b u) refl refl refl keeps reaped
+pub goes : {old : Kernel} {b c d e : Kept} {pulled : Put} {before reaped : List Cqe} {i : Intake} {ms ns : List WorkLanes} {n f s k : ℕ}
+    → HasTaken old b pulled before i n → Repeats b c step.Finish (finishes_counted f)
+    → TakesFewResults (length old.lanes) b c → HaveCarried c ms → AreSameLanes old.lanes ms
+    → Repeats c d step.Issue (issues_counted s) → HaveCarried d ns → AreSameLanes ms ns
+    → HasDelivered d e k reaped
+    → Goes old e pulled reaped i ns (record { popped = n; issued = s; finished = f; delivered = k })
+goes {old} {b} {c} {d} {e} {pulled} {before} {reaped} {i} {ms} {ns} {n} {f} {s} {k} t p few carried same q later others r =
+    let finished = finishes_many p in
+    let issued = issues_many q in
+    record {
+      ties = ties_delivered (ties_posted (issues_counted s) (ties_posted (finishes_counted f) t.ties p.tally refl p.posts carried) q.tally refl q.posts later) r;
+      counts = counts_all old.kept b c d e n f s k t.taken p.tally (λ none. repeats_idle p (finished ∙ none)) q.tally (λ none. repeats_idle q (issued ∙ none)) r.tally r.idle;
+      rows = turn_recorded old.kept b c d e old.intake old.pulled pulled k (Ok _) _ _ t.row p q r.row (record { finishes = finished; issues = issued; reaps = refl });
+      few = few_between (length old.lanes) old.kept b c e _ _ t.taken.appends refl few (appends_then c d e _ _ _ q.tally r.tally refl) refl;
+      same = lanes_then old.lanes ms ns same others;
+    }
+
+-- Up to an earlier end.
+
+keeps_all : (w : World) → KeepsAllBut w w
+keeps_all w = record { submission = refl; requests = refl; drains = refl; is_closed = refl; posted = refl }
+
+pub goes_issued : {old : Kernel} {b c d : Kept} {pulled : Put} {reaped : List Cqe} {i : Intake} {ms ns : List WorkLanes} {n f s : ℕ}
+    → HasTaken old b pulled reaped i n → Repeats b c step.Finish (finishes_counted f)
+    → TakesFewResults (length old.lanes) b c → HaveCarried c ms → AreSameLanes old.lanes ms
+    → Repeats c d step.Issue (issues_counted s) → HaveCarried d ns → AreSameLanes ms ns
+    → Goes old d pulled reaped i ns (record { popped = n; issued = s; finished = f; delivered = 0 })
+goes_issued {d = d} {s = s} t p few carried same q later others =
+    let ties = ties_posted (issues_counted s) (ties_posted _ t.ties p.tally refl p.posts carried) q.tally refl q.posts later in
+    goes t p few carried same q later others (delivers_none (still d) (keeps_all (now d)) ties.delivered)
+
+pub goes_collected : {old : Kernel} {b c : Kept} {pulled : Put} {reaped : List Cqe} {i : Intake} {ms : List WorkLanes} {n f : ℕ}
+    → HasTaken old b pulled reaped i n → Repeats b c step.Finish (finishes_counted f)
+    → TakesFewResults (length old.lanes) b c → HaveCarried c ms → AreSameLanes old.lanes ms
+    → Goes old c pulled reaped i ms (record { popped = n; issued = 0; finished = f; delivered = 0 })
+goes_collected {c = c} {ms = ms} t p few carried same = goes_issued t p few carried same (repeats_none step.Issue (still c)) carried (lanes_none ms)
+
+pub goes_taken : {old : Kernel} {b : Kept} {pulled : Put} {reaped : List Cqe} {i : Intake} {n : ℕ}
+    → HasTaken old b pulled reaped i n
+    → Goes old b pulled reaped i old.lanes (record { popped = n; issued = 0; finished = 0; delivered = 0 })
+goes_taken {old} {b} t = goes_collected t (repeats_none step.Finish (still b)) (λ k. omega arith) t.ties.carried (lanes_none old.lanes)
+
+-- The turn that they make, with its answer.
+
+rows_told : {E : Type 0} (a b : Kept) (i : Intake) (before after : Put) (turn : Turn) (answer : Result Turn E)
+    → RecordsTurn {E = Unit {0}} a b i before after (Ok turn) → IfOk answer (λ made. made ≡ turn)
+    → RecordsTurn a b i before after answer
+rows_told a b i before after turn answer r same =
+    record {
+      again = r.again;
+      pulled = r.pulled;
+      finished = r.finished;
+      issued = r.issued;
+      delivered = r.delivered;
+      is_again = r.is_again;
+      is_pulled = r.is_pulled;
+      row = r.row;
+      told = IfOk-weaker answer _ _ (λ made e. subst (λ t. AreOfTurn t r.finished r.issued r.delivered) (sym e) r.told) same;
+    }
+
+pub turned : {E : Type 0} (granted : Type 0) (old new : Kernel) (turn : Turn) (answer : Result Turn E)
+    → IsKernel old → Goes old new.kept new.pulled new.reaped new.intake new.lanes turn
+    → new.pairing ≡ old.pairing → new.sizes ≡ old.sizes → IfOk answer (λ made. made ≡ turn)
+    → IfOk answer (HasServed old new) → OnErr answer (new.dropped ≡ old.dropped)
+    → (granted → IsOk answer) → Turns granted old new answer
+turned granted old new turn answer is g pairing sizes same served not_stored ok =
+    let setup = g.counts.appends.setup in
+    let hold = hold_stays old.lanes new.lanes g.same is.hold in
+    record {
+      is = record {
+        sq = ap (λ (s : Sizes). s.sq) sizes ∙ is.sq ∙ ap (λ (s : Setup). s.sq) (sym setup);
+        cq = ap (λ (s : Sizes). s.cq) sizes ∙ is.cq ∙ ap (λ (s : Setup). s.cq) (sym setup);
+        some = omega (arith, is.some, g.same.many);
+        few = omega (arith, is.few, g.same.many);
+        hold = hold;
+        short = short_stays old.lanes new.lanes g.same is.short;
+        ties = g.ties;
+      };
+      turned = record {
+        served = served;
+        next = next_is_none answer new.kept new.lanes (IfOk-weaker answer _ _ (λ made s. s.none_left) served) g.ties.carried hold;
+        err = on_err answer (_, g.counts.appends);
+        rows = rows_told old.kept new.kept old.intake old.pulled new.pulled turn answer g.rows same;
+        few_results = g.few;
+        not_stored = not_stored;
+      };
+      setup = setup;
+      lanes = g.same;
+      pairing = pairing;
+      sizes = sizes;
+      ok = ok;
+    }
+
+-- if memory was refused
+pub refused : {E : Type 0} (granted : Type 0) (old new : Kernel) (turn : Turn) (answer : Result Turn E)
+    → IsErr answer → IsKernel old
+    → Goes old new.kept new.pulled new.reaped new.intake new.lanes turn
+    → new.pairing ≡ old.pairing → new.sizes ≡ old.sizes → new.dropped ≡ old.dropped
+    → (granted → false ≡ true) → Turns granted old new answer
+refused granted old new turn answer err is g pairing sizes dropped never =
+    turned granted old new turn answer is g pairing sizes (IfOk-from_err answer _ err) (IfOk-from_err answer _ err) (on_err answer dropped) (λ all. absurd (false≢true (never all)))
 
 -- The dispatcher's end where nothing happened but that its trace may have more memory.
 pub kernel_unmoved : (k : Kernel) (kept : Kept) → IsUnmoved k.kept kept → IsKernel k
@@ -145,61 +269,8 @@ kernel_unmoved k kept u is =
       few = is.few;
       hold = is.hold;
       short = is.short;
-      ties = record {
-        tied = subst (λ (g : Setup). Tied g (now kept) k.pulled k.intake) (sym sizes) (subst (λ w. Tied k.kept.setup w k.pulled k.intake) (sym same) is.ties.tied);
-        once = once_unmoved k.kept kept k.intake u is.ties.once;
-        delivered = subst (λ (w : World). IsDelivered w.completions k.reaped) (sym same) is.ties.delivered;
-        carried = carried_stays k.kept kept k.lanes (quiet_stays k.kept kept none_counted (appends_none k.kept kept u) refl refl) is.ties.carried;
-      };
+      ties = ties_delivered is.ties (delivers_none u (subst (KeepsAllBut (now k.kept)) (sym same) (keeps_all (now k.kept))) (subst (λ (w : World). IsDelivered w.completions k.reaped) (sym same) is.ties.delivered));
     }
-
--- some events, and then some
-pub some_then : (a b c : Kept) (t u : Tally) → Appends a b t → Appends b c u
-    → (x : Tally) × Appends a c x
-some_then a b c t u p q = (both t u, appends_then a b c t u (both t u) p q refl)
-
--- results were received twice
-pub receives_then : (a b c : WorkLanes) → OnlyReceives a b → OnlyReceives b c → OnlyReceives a c
-receives_then a b c p q =
-    let x = p.ring in
-    let y = q.ring in
-    record { jobs = q.jobs ∙ p.jobs; ring = ((y.0.0 ∙ x.0.0, y.0.1 ∙ x.0.1, y.0.2 ∙ x.0.2, y.0.3 ∙ x.0.3), y.1 ∙ x.1) }
-
--- the same lanes twice
-pub lanes_then : (a b c : List WorkLanes) → AreSameLanes a b → AreSameLanes b c → AreSameLanes a c
-lanes_then a b c p q =
-    record {
-      many = q.many ∙ p.many;
-      jobs = λ k d low.
-          let x = p.jobs k d low in
-          let y = q.jobs k d (omega (arith, low, p.many)) in
-          ((y.0.0 ∙ x.0.0, y.0.1 ∙ x.0.1, y.0.2 ∙ x.0.2, y.0.3 ∙ x.0.3), y.1 ∙ x.1);
-      results = λ k d low.
-          let x = p.results k d low in
-          let y = q.results k d (omega (arith, low, p.many)) in
-          ((y.0.0 ∙ x.0.0, y.0.1 ∙ x.0.1, y.0.2 ∙ x.0.2, y.0.3 ∙ x.0.3), y.1 ∙ x.1);
-    }
-
--- what a turn did, of an end whose lanes were lent to it and came back
-pub served_with : (old new : Kernel) (turn : Turn) (lent back : List WorkLanes) → back ≡ new.lanes
-    → HasServed (record old { lanes = lent }) new turn → HasServed old (record new { lanes = back }) turn
-served_with old new turn lent back same s =
-    record {
-      counts = s.counts;
-      begun = s.begun;
-      pulls = s.pulls;
-      none_left = subst (λ ls. (next_in new.kept ≡ None) ⊎ SomeIsFull ls) (sym same) s.none_left;
-      all = s.all;
-      most = s.most;
-      looked = s.looked;
-      stored = s.stored;
-    }
-
--- what follows of a turn that returned Ok from three facts of it
-pub with_ok : {X E : Type 0} (r : Result X E) (P Q : X → Type 0) (A B : Type 0)
-    → ((x : X) → P x → A → B → Q x) → IfOk r P → OnOk r A → OnOk r B → IfOk r Q
-with_ok (Ok x) P Q A B follows p a b = follows x p a b
-with_ok (Err e) P Q A B follows p a b = tt
 
 -- what can be issued next stays where only the completion ring changes
 pub same_next : (a b : Kept) → KeepsAllBut (now a) (now b) → b.setup ≡ a.setup → next_in b ≡ next_in a
@@ -207,3 +278,9 @@ same_next a b keeps same =
     ap (λ (g : Setup). next_of g.linux (requests_of (now b))) same
     ∙ ap (λ (r : Requests). next_of a.setup.linux (record { requests = r; drains = (now b).drains })) keeps.requests
     ∙ ap (λ (d : Drains). next_of a.setup.linux (record { requests = (now a).requests; drains = d })) keeps.drains
+
+-- what follows of a turn that returned Ok from three facts of it
+pub with_ok : {X E : Type 0} (r : Result X E) (P Q : X → Type 0) (A B : Type 0)
+    → ((x : X) → P x → A → B → Q x) → IfOk r P → OnOk r A → OnOk r B → IfOk r Q
+with_ok (Ok x) P Q A B follows p a b = follows x p a b
+with_ok (Err e) P Q A B follows p a b = tt

@@ -11,7 +11,9 @@ use Rattle.uring_ports.specs.declared.pulled.Pulled.{Pulled}
 use Rattle.uring_ports.specs.declared.pulled.Pulled.TheVariants as pulled
 use Rattle.uring_ports.specs.Ports.{Put, Pulls}
 use Rattle.uring_threads.specs.Calls.{AreBegun, calls_of, calls_left}
+use Rattle.uring_threads.specs.Delivered.{OnlyPosts}
 use Rattle.uring_threads.specs.Kept.{Kept, now}
+use Rattle.uring_threads.specs.Tallies.{Tally, Appends}
 use Rattle.uring_threads.specs.declared.calls.CallMade.{CallMade}
 use Rattle.uring_threads.specs.declared.calls.CallMade.TheVariants as made
 use Rattle.uring_threads.specs.declared.intake.Intake.{Intake}
@@ -84,13 +86,12 @@ pub record RecordsIntake (old new : Kept) (i : Intake) (before after : Put) : Ty
   pub is_pulled : IsPulled old.setup before after pulled
   pub row : Records old new (again ++ pulled)
 
--- Results are taken in, each by a Finish, and nothing else is recorded.
-abbrev pub RecordsFinishes : Kept → Kept → Type 0
-RecordsFinishes old new = (numbers : List ℕ) × Records old new (map step.Finish numbers)
-
--- Requests are issued, and nothing else is recorded.
-abbrev pub RecordsIssues : Kept → Kept → Type 0
-RecordsIssues old new = (numbers : List ℕ) × Records old new (map step.Issue numbers)
+-- Glue. Results are taken in, or requests issued, each by one such step: nothing else is recorded, so much is counted, and of the rings only more is posted.
+pub record Repeats (old new : Kept) (kind : ℕ → Step) (t : Tally) : Type 0 where
+  pub numbers : List ℕ
+  pub row : Records old new (map kind numbers)
+  pub tally : Appends old new t
+  pub posts : OnlyPosts (now old) (now new)
 
 -- So many results, issues and completions are those of a turn.
 pub record AreOfTurn (turn : Turn) (finished issued : List ℕ) (delivered : ℕ) : Type 0 where

@@ -1,15 +1,14 @@
 //! Results that came back from workers.
 ghost use Rattle.std.specs.Prelude.{◌≡◌, ℕ, ◌+◌, ◌<◌, ◌≤◌, ◌↔◌, [], ◌∷◌, ◌++◌, length, IsTrue, IsOk, IfOk, OnOk, OnErr};
-ghost use Rattle.uring_threads.specs.Delivered.{OnlyPosts};
-ghost use Rattle.uring_threads.specs.Dispatched.{HaveCarried, AreTakenIn};
+ghost use Rattle.uring_core.specs.declared.step.Step.TheVariants as step;
 ghost use Rattle.uring_workers.specs.WorkLanes.{AreSameLanes, OnlyReceives, results_received, results_seen};
-ghost use Rattle.uring_threads.specs.EventRows.{RecordsFinishes};
-ghost use Rattle.uring_threads.specs.Kept.{now};
-ghost use Rattle.uring_threads.specs.Tallies.{Appends, TakesFewResults, finishes_counted, most_results, results_taken_in};
-ghost use Rattle.uring_threads.specs.Collected.{CanBeTaken, Collects, CollectsFew, CollectsNext, CollectsSeen, NoneComes, OtherLanesStay, OthersStay, SeesNoMore, TakesAll, TakesNext, TakesSeen, Wait};
+ghost use Rattle.uring_workers.specs.declared.job.JobResult.{JobResult};
+ghost use Rattle.uring_threads.specs.Collected.{CanBeTaken, Collects, CollectsNext, CollectsSeen, TakesAll, TakesSeen, Wait};
+ghost use Rattle.uring_threads.specs.Dispatched.{HaveCarried, AreTakenIn};
+ghost use Rattle.uring_threads.specs.EventRows.{Repeats};
 ghost use Rattle.uring_threads.specs.Kept.{Grows};
 ghost use Rattle.uring_threads.specs.Settled.{finish_of};
-ghost use Rattle.uring_workers.specs.declared.job.JobResult.{JobResult};
+ghost use Rattle.uring_threads.specs.Tallies.{TakesFewResults, finishes_counted, most_results};
 
 use crate::kept::Kept;
 use std::alloc::AllocError;
@@ -27,55 +26,22 @@ pub fn collect_all<M: Memory>(
     requires carried { HaveCarried kept.old lanes.old }
     ensures carried { HaveCarried kept.new lanes.new }
     ensures lanes { AreSameLanes lanes.old lanes.new }
-    ensures posts { OnlyPosts (now kept.old) (now kept.new) }
     ensures few { TakesFewResults (length lanes.old) kept.old kept.new }
 
     // Of each worker, fewer than 64 only if no other result is seen, or the next can't be taken in.
     ensures seen { OnOk result (TakesSeen kept.old kept.new lanes.new) }
-    ensures tally { IfOk result (λ count. Appends kept.old kept.new (finishes_counted count)) }
-    ensures row { RecordsFinishes kept.old kept.new }
-    ensures idle { IfOk result (λ count. count ≡ 0 → kept.new.trace ≡ kept.old.trace) }
-    ensures err { OnErr result ((count : ℕ) × Appends kept.old kept.new (finishes_counted count)) }
-    ensures granted { ((n : ℕ) → M.grants memory.now n) → IsOk result }
-{
-    let mut count = 0;
-    for place in 0..lanes.len() {
-        count += collect_at(memory, kept, lanes, place as u32)?;
-    }
-    Ok(count)
-}
-
-/// Takes in results of the worker at this place, at most 64, and returns how many. Conditions: there is such a worker, and there are at most 8.
-fn collect_at<M: Memory>(
-    memory: &M,
-    kept: &mut Kept,
-    lanes: &mut [WorkLanes],
-    place: u32,
-) -> Result<u64, AllocError>
-    requires place { place < length lanes.old }
-    requires few { length lanes.old ≤ 8 }
-    requires carried { HaveCarried kept.old lanes.old }
-    ensures carried { HaveCarried kept.new lanes.new }
-    ensures lanes { AreSameLanes lanes.old lanes.new }
-    ensures posts { OnlyPosts (now kept.old) (now kept.new) }
-    ensures few { CollectsFew kept.old kept.new (length lanes.old) place }
-    ensures own { IfOk result
-        (λ count. results_taken_in (length lanes.old) place kept.new
-        ≡ results_taken_in (length lanes.old) place kept.old + count) }
-    ensures none_comes { NoneComes kept.old kept.new (length lanes.old) }
-    ensures others { OtherLanesStay lanes.old lanes.new place }
-    ensures tally { IfOk result (λ count. Appends kept.old kept.new (finishes_counted count)) }
-    ensures row { RecordsFinishes kept.old kept.new }
-    ensures most { IfOk result (λ count. count ≤ 64) }
-
-    // Fewer than 64 only if no other result is seen, or the next can't be taken in.
-    ensures seen { IfOk result (λ count. count < 64 → SeesNoMore kept.new lanes.new place) }
-    ensures idle { IfOk result (λ count. count ≡ 0 → kept.new.trace ≡ kept.old.trace) }
-    ensures err { OnErr result ((count : ℕ) × Appends kept.old kept.new (finishes_counted count)) }
+    ensures ok { IfOk result
+        (λ count. Repeats kept.old kept.new step.Finish (finishes_counted count)) }
+    ensures err { OnErr result
+        ((count : ℕ) × Repeats kept.old kept.new step.Finish (finishes_counted count)) }
     ensures granted { ((n : ℕ) → M.grants memory.now n) → IsOk result }
 {
     let workers = lanes.len() as u32;
-    collect(memory, kept, &mut lanes[place as usize], place, workers)
+    let mut count = 0;
+    for place in 0..lanes.len() {
+        count += collect(memory, kept, &mut lanes[place], place as u32, workers)?;
+    }
+    Ok(count)
 }
 
 /// Takes in the results of a worker that are seen, at most 64 of them, and returns how many. `AllocError`: room for the next event was refused; what was taken in until then is recorded, and nothing more was taken.
@@ -97,15 +63,15 @@ pub fn collect<M: Memory>(
     ensures granted { ((n : ℕ) → M.grants memory.now n) → IsOk result }
 {
     for count in 0..LANE_LENGTH {
-        if !collect_next(memory, kept, lanes, place, workers)? {
+        if !collect_one(memory, kept, lanes, place, workers)? {
             return Ok(count as u64);
         }
     }
     Ok(LANE_LENGTH as u64)
 }
 
-/// Takes in the next result of a worker, if one is seen, with room for it asked for first.
-fn collect_next<M: Memory>(
+/// Takes in the next result of a worker, if one is seen, with room for it asked for first: it ends its request, which is recorded. A result of a request that doesn't run, or of one that is another worker's, stays in the lane.
+pub fn collect_one<M: Memory>(
     memory: &M,
     kept: &mut Kept,
     lanes: &mut WorkLanes,
@@ -125,30 +91,13 @@ fn collect_next<M: Memory>(
         return Ok(false);
     }
     kept.reserve(memory, 1)?;
-    Ok(collect_one(kept, lanes, place, workers))
-}
-
-/// Takes in the next result of a worker, if one is seen: it ends its request, which is recorded. A result of a request that doesn't run, or of one that is another worker's, stays in the lane. Condition: there is room in the trace for one event.
-pub fn collect_one(kept: &mut Kept, lanes: &mut WorkLanes, place: u32, workers: u32) -> bool
-    requires room { length kept.old.trace < kept.old.room }
-    requires workers { 0 < workers }
-    requires taken { AreTakenIn kept.old workers place (results_received lanes.old) }
-    ensures taken { AreTakenIn kept.new workers place (results_received lanes.new) }
-    ensures next { TakesNext kept.old kept.new workers place (results_received lanes.old)
-        (results_received lanes.new) (results_seen lanes.new) result }
-    ensures others { OthersStay kept.old kept.new workers place }
-    ensures lanes { OnlyReceives lanes.old lanes.new }
-{
-    if lanes.results.is_empty() {
-        return false;
-    }
     let next = lanes.results.peek_known().number;
     if !is_at(kept, next, place, workers) {
-        return false;
+        return Ok(false);
     }
     let result = lanes.results.pop_known();
     kept.finish(result.number, result.outcome);
-    true
+    Ok(true)
 }
 
 /// Whether the request of this number runs and is this worker's.

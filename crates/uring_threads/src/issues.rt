@@ -4,10 +4,9 @@ ghost use Rattle.uring_files.specs.Operations.{IsForFiles};
 ghost use Rattle.uring_core.specs.declared.step.Step.TheVariants as step;
 ghost use Rattle.uring_threads.specs.Dispatched.{HaveCarried};
 ghost use Rattle.uring_workers.specs.WorkLanes.{ShowRoom, SomeIsFull, AreSameLanes};
-ghost use Rattle.uring_threads.specs.Delivered.{OnlyPosts};
 ghost use Rattle.uring_threads.specs.Issued.{IssuedAs};
-ghost use Rattle.uring_threads.specs.EventRows.{Records, RecordsIssues};
-ghost use Rattle.uring_threads.specs.Kept.{now, next_in};
+ghost use Rattle.uring_threads.specs.EventRows.{Records, Repeats};
+ghost use Rattle.uring_threads.specs.Kept.{next_in};
 ghost use Rattle.uring_threads.specs.Tallies.{Appends, issues_counted};
 
 use crate::kept::Kept;
@@ -48,9 +47,7 @@ fn issue_one(kept: &mut Kept, lanes: &mut [WorkLanes], number: u64)
     requires carried { HaveCarried kept.old lanes.old }
     ensures carried { HaveCarried kept.new lanes.new }
     ensures lanes { AreSameLanes lanes.old lanes.new }
-    ensures stays { OnlyPosts (now kept.old) (now kept.new) }
-    ensures tally { Appends kept.old kept.new (issues_counted 1) }
-    ensures row { Records kept.old kept.new (step.Issue number ∷ []) }
+    ensures repeats { Repeats kept.old kept.new step.Issue (issues_counted 1) }
 {
     if let Some(op) = issue_next(kept, number) {
         let place = place_of(&op, lanes.len() as u32, kept.setup().files());
@@ -71,13 +68,12 @@ pub fn issue_all<M: Memory>(
     requires carried { HaveCarried kept.old lanes.old }
     ensures carried { HaveCarried kept.new lanes.new }
     ensures lanes { AreSameLanes lanes.old lanes.new }
-    ensures stays { OnlyPosts (now kept.old) (now kept.new) }
-    ensures tally { IfOk result (λ count. Appends kept.old kept.new (issues_counted count)) }
-    ensures row { RecordsIssues kept.old kept.new }
     ensures none_left { IfOk result
         (λ count. (next_in kept.new ≡ None) ⊎ SomeIsFull lanes.new) }
-    ensures idle { IfOk result (λ count. count ≡ 0 → kept.new.trace ≡ kept.old.trace) }
-    ensures err { OnErr result ((count : ℕ) × Appends kept.old kept.new (issues_counted count)) }
+    ensures ok { IfOk result
+        (λ count. Repeats kept.old kept.new step.Issue (issues_counted count)) }
+    ensures err { OnErr result
+        ((count : ℕ) × Repeats kept.old kept.new step.Issue (issues_counted count)) }
     ensures granted { ((n : ℕ) → M.grants memory.now n) → IsOk result }
 {
     for count in 0..u64::MAX {

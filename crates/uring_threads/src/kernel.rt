@@ -1,5 +1,5 @@
 //! The dispatcher's end.
-ghost use Rattle.std.specs.Prelude.{◌≡◌, ℕ, ◌↔◌, ◌+◌, ◌*◌, ◌<◌, ◌≤◌, [], length, count_by, false, None, IsTrue, IsOk, IfOk, IfErr, OnErr, OnOk, vec_capacity};
+ghost use Rattle.std.specs.Prelude.{◌≡◌, ℕ, ◌↔◌, ◌+◌, ◌*◌, ◌<◌, ◌≤◌, [], length, false, IsTrue, IsOk, IfOk, IfErr, OnOk, vec_capacity};
 ghost use Rattle.uring_entry.specs.Completions.{unreaped};
 ghost use Rattle.uring_entry.specs.Setup.{IsWithinLimits};
 ghost use Rattle.uring_core.specs.Histories.{IsLawfulApart, history_of};
@@ -7,10 +7,8 @@ ghost use Rattle.uring_ports.specs.Dropped.{WereStored};
 ghost use Rattle.uring_ports.specs.Items.{AreItems};
 ghost use Rattle.uring_ports.specs.Ports.{nothing_put, sizes_of, items_of_calls, LeavesItems, LeavesCompletions};
 ghost use Rattle.uring_workers.specs.WorkLanes.{AreSameLanes, HaveCarriedNone, HoldJobs, HoldResults, numbers_of_lanes};
-ghost use Rattle.uring_threads.specs.EventRows.{RecordsTurn};
-ghost use Rattle.uring_threads.specs.Kept.{now, next_in};
-ghost use Rattle.uring_threads.specs.Served.{HasServed};
-ghost use Rattle.uring_threads.specs.Tallies.{Tally, Appends, TakesFewResults, starts_request};
+ghost use Rattle.uring_threads.specs.Kept.{now};
+ghost use Rattle.uring_threads.specs.Served.{HasTurned};
 ghost use Rattle.uring_threads.specs.declared.intake.Intake.TheVariants.{Ready};
 
 use crate::intake::Intake;
@@ -84,23 +82,7 @@ impl<P: KernelPort> Kernel<P> {
     ///
     /// `AllocError`: the system is out of memory, for the trace or for a call, which then waits. All events made until then are recorded, nothing that was pulled or received is lost, and a later turn goes on.
     pub fn turn(&mut self) -> Result<Turn, AllocError>
-        ensures served { IfOk result (HasServed self.old self.new) }
-
-        // As long as fewer than 64 requests were started, none is left that can be issued.
-        ensures next { IfOk result
-            (λ turn. count_by starts_request self.new.kept.trace < 64
-            → next_in self.new.kept ≡ None) }
-        ensures err { OnErr result ((t : Tally) × Appends self.old.kept self.new.kept t) }
-
-        // Its events are rows of steps, one behind the other, also if memory was refused.
-        ensures rows { RecordsTurn self.old.kept self.new.kept self.old.intake self.old.pulled
-            self.new.pulled result }
-
-        // Of each worker at most 64 results are taken in, also if memory was refused.
-        ensures few_results { TakesFewResults (length self.old.lanes) self.old.kept self.new.kept }
-
-        // A turn that returned an error stored no dropped word.
-        ensures not_stored { OnErr result (self.new.dropped ≡ self.old.dropped) }
+        ensures turned { HasTurned self.old self.new result }
 
         // Nothing else changes.
         ensures setup { self.new.kept.setup ≡ self.old.kept.setup }
@@ -115,15 +97,7 @@ impl<P: KernelPort> Kernel<P> {
 
     /// As `turn`, by this memory. If it grants whatever is asked for, there is no error.
     pub fn turn_in<M: Memory>(&mut self, memory: &M) -> Result<Turn, AllocError>
-        ensures served { IfOk result (HasServed self.old self.new) }
-        ensures next { IfOk result
-            (λ turn. count_by starts_request self.new.kept.trace < 64
-            → next_in self.new.kept ≡ None) }
-        ensures err { OnErr result ((t : Tally) × Appends self.old.kept self.new.kept t) }
-        ensures rows { RecordsTurn self.old.kept self.new.kept self.old.intake self.old.pulled
-            self.new.pulled result }
-        ensures few_results { TakesFewResults (length self.old.lanes) self.old.kept self.new.kept }
-        ensures not_stored { OnErr result (self.new.dropped ≡ self.old.dropped) }
+        ensures turned { HasTurned self.old self.new result }
         ensures setup { self.new.kept.setup ≡ self.old.kept.setup }
         ensures lanes { AreSameLanes self.old.lanes self.new.lanes }
         ensures numbers { numbers_of_lanes self.new.lanes ≡ numbers_of_lanes self.old.lanes }

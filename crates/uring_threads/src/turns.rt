@@ -1,13 +1,11 @@
 //! A turn of the dispatcher.
-ghost use Rattle.std.specs.Prelude.{◌≡◌, ℕ, ◌<◌, ◌≤◌, length, false, IsOk, IfOk, OnOk, OnErr, vec_capacity};
+ghost use Rattle.std.specs.Prelude.{◌≡◌, ℕ, ◌≤◌, false, IsOk, IfOk, OnOk, OnErr, vec_capacity};
 ghost use Rattle.uring_entry.specs.Submission.{dropped};
 ghost use Rattle.uring_ports.specs.Dropped.{with_word};
-ghost use Rattle.uring_workers.specs.WorkLanes.{AreSameLanes};
-ghost use Rattle.uring_threads.specs.EventRows.{RecordsTurn};
 ghost use Rattle.uring_threads.specs.Kept.{now};
-ghost use Rattle.uring_threads.specs.Served.{HasServed};
-ghost use Rattle.uring_threads.specs.Tallies.{Tally, Appends, TakesFewResults};
-ghost use Rattle.uring_threads.specs.Turns.{AreTies, awaits_memory};
+ghost use Rattle.uring_threads.specs.Kernel.{IsKernel};
+ghost use Rattle.uring_threads.specs.Served.{Turns};
+ghost use Rattle.uring_threads.specs.Turns.{awaits_memory};
 
 use crate::collect::collect_all;
 use crate::deliveries::deliver;
@@ -46,38 +44,15 @@ pub fn make_turn<M: Memory, P: KernelPort>(
     intake: &mut Intake,
     lanes: &mut [WorkLanes],
 ) -> Result<Turn, AllocError>
-    requires sq { (P.sizes port.old).sq ≡ kept.old.setup.sq }
-    requires cq { (P.sizes port.old).cq ≡ kept.old.setup.cq }
+    requires is { IsKernel
+        (record { kept = kept.old; intake = intake.old; lanes = lanes.old; pairing = P.pairing port.old; sizes = P.sizes port.old; pulled = P.pulled port.old; saw_calls = P.saw_calls port.old; reaped = P.delivered port.old; free = P.free port.old; room_looks = P.room_looks port.old; dropped = P.dropped port.old }) }
     requires items { kept.old.setup.sq ≤ vec_capacity items.old }
-    requires some { 0 < length lanes.old }
-    requires few { length lanes.old ≤ 8 }
-    requires ties { AreTies kept.old (P.pulled port.old)
-        (P.delivered port.old) intake.old lanes.old }
-    ensures ties { AreTies kept.new (P.pulled port.new)
-        (P.delivered port.new) intake.new lanes.new }
 
     // What it does, said of the dispatcher's end that these are of.
-    ensures served { IfOk result (λ turn. HasServed
+    ensures turned { Turns ((n : ℕ) → M.grants memory.now n)
         (record { kept = kept.old; intake = intake.old; lanes = lanes.old; pairing = P.pairing port.old; sizes = P.sizes port.old; pulled = P.pulled port.old; saw_calls = P.saw_calls port.old; reaped = P.delivered port.old; free = P.free port.old; room_looks = P.room_looks port.old; dropped = P.dropped port.old })
-        (record { kept = kept.new; intake = intake.new; lanes = lanes.new; pairing = P.pairing port.new; sizes = P.sizes port.new; pulled = P.pulled port.new; saw_calls = P.saw_calls port.new; reaped = P.delivered port.new; free = P.free port.new; room_looks = P.room_looks port.new; dropped = P.dropped port.new }) turn) }
-    ensures err { OnErr result ((t : Tally) × Appends kept.old kept.new t) }
-
-    // Its events are rows of steps, one behind the other, also if memory was refused.
-    ensures rows { RecordsTurn kept.old kept.new intake.old (P.pulled port.old)
-        (P.pulled port.new) result }
-
-    // Of each worker at most 64 results are taken in, also if memory was refused.
-    ensures few_results { TakesFewResults (length lanes.old) kept.old kept.new }
-
-    // A turn that returned an error stored no dropped word.
-    ensures not_stored { OnErr result (P.dropped port.new ≡ P.dropped port.old) }
-
-    // Nothing else changes.
-    ensures lanes { AreSameLanes lanes.old lanes.new }
+        (record { kept = kept.new; intake = intake.new; lanes = lanes.new; pairing = P.pairing port.new; sizes = P.sizes port.new; pulled = P.pulled port.new; saw_calls = P.saw_calls port.new; reaped = P.delivered port.new; free = P.free port.new; room_looks = P.room_looks port.new; dropped = P.dropped port.new }) result }
     ensures items { vec_capacity items.old ≤ vec_capacity items.new }
-    ensures pairing { P.pairing port.new ≡ P.pairing port.old }
-    ensures sizes { P.sizes port.new ≡ P.sizes port.old }
-    ensures granted { ((n : ℕ) → M.grants memory.now n) → IsOk result }
 {
     let popped = take_in(memory, kept, port, items, intake)?;
     let finished = collect_all(memory, kept, lanes)?;

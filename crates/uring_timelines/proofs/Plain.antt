@@ -1,56 +1,51 @@
 -- No outcome tells what a file counts: operations give the same on files without their counts, and leave the same bytes.
-use Rattle.std.proofs.Common.{◌≡◌, ◌&&◌, ℕ, ℤ, zero, suc, pos, negsuc, Bool, true, false, List, [], ◌∷◌, Option, Some, None, length, map, take, get_or, refl, sym, ap, ◌∙◌, inl, inr, ◌++◌, ◌+◌, ◌<◌, arith}
-use Rattle.std.specs.Prelude.{not, replicate, slice_get, slice_set, slice_index_or, if◌then◌else◌}
+use Rattle.std.proofs.Common.{◌≡◌, ℕ, ℤ, zero, suc, pos, negsuc, Bool, true, false, List, [], ◌∷◌, Option, Some, None, length, map, take, get_or, refl, sym, ap, ◌∙◌, inl, inr, ◌++◌, ◌+◌, ◌<◌, arith}
+use Rattle.std.specs.Prelude.{replicate, slice_get, slice_set, slice_index_or, if◌then◌else◌}
 use Rattle.std.specs.Option.{option_map, option_map_or}
-use Rattle.std.specs.Ordering.{int_eq}
 use Rattle.std.proofs.Math.ListN.{get_or-map}
 use Rattle.std.proofs.lemmas.Option.{get_or_from_slice_get, slice_get-get_or, slice_get-map, slice_get_past}
 use Rattle.std.proofs.lemmas.Bool.{cases_lt}
-use Rattle.std.proofs.lemmas.List.{ext_get_or, length-map, length-set, map-set, take_all, take_more}
+use Rattle.std.proofs.lemmas.List.{ext_get_or, length-map, map-set, take_all, take_more}
 use Rattle.uring_entry.specs.declared.operation.Op.{Op}
-use Rattle.uring_entry.specs.declared.operation.Op.TheVariants.{Nop, Read, Write, Fsync, Cancel}
 use Rattle.uring_entry.specs.declared.operation.Outcome.{Outcome}
-use Rattle.uring_files.specs.Contents.{FileContents, empty_file, read_outcome, is_too_long, is_past_end, with_writes_synced, written}
-use Rattle.uring_files.specs.Operations.{IsOutcome, after, ended_with, file_of, is_lengthening, on_file, result_of, with_changed}
+use Rattle.uring_files.specs.Contents.{FileContents, empty_file, file_of_bytes}
+use Rattle.uring_files.specs.Operations.{IsOutcome, after, file_of, is_lengthening, on_file, result_of, with_changed}
+use Rattle.uring_files.proofs.OperationCases.{Task, IsTask, cases, many_after}
 use Rattle.uring_timelines.specs.Moves.{plain}
 
 file_plain : (files : List FileContents) (fd : ℤ) → file_of (map plain files) fd ≡ option_map plain (file_of files fd)
 file_plain files (pos fd) = slice_get-map plain files fd
 file_plain files (negsuc below) = refl
 
-read_plain : (file : Option FileContents) (off len : ℕ)
-    → on_file (option_map plain file) (read_outcome off len) ≡ on_file file (read_outcome off len)
-read_plain None off len = refl
-read_plain (Some f) off len = refl
-
-same_plain : (file : Option FileContents) (o : Outcome)
-    → on_file (option_map plain file) (λ f. o) ≡ on_file file (λ f. o)
-same_plain None o = refl
-same_plain (Some f) o = refl
+same_on : (file : Option FileContents) (t : Task) → IsTask t
+    → on_file (option_map plain file) t.ends ≡ on_file file t.ends
+same_on None t is = refl
+same_on (Some f) t is = is.same_end (plain f) f refl
 
 pub result_plain : (files : List FileContents) (op : Op) → result_of (map plain files) op ≡ result_of files op
-result_plain files (Read fd off len) =
-    ap (λ (f : Option FileContents). on_file f (read_outcome off len)) (file_plain files fd) ∙ read_plain (file_of files fd) off len
-result_plain files (Write fd off len bytes) =
-    ap (λ (f : Option FileContents). on_file f (λ x. ended_with (if is_too_long off len then negsuc 26 else pos len))) (file_plain files fd) ∙ same_plain (file_of files fd) (ended_with (if is_too_long off len then negsuc 26 else pos len))
-result_plain files (Fsync fd) =
-    ap (λ (f : Option FileContents). on_file f (λ x. ended_with (pos 0))) (file_plain files fd) ∙ same_plain (file_of files fd) (ended_with (pos 0))
-result_plain files Nop = refl
-result_plain files (Cancel target all) = refl
+result_plain files op = elim (cases op) [
+  | inl idle ↦ idle.ends (map plain files) ∙ sym (idle.ends files)
+  | inr busy ↦
+      busy.1.ends (map plain files)
+      ∙ ap (λ (f : Option FileContents). on_file f busy.0.ends) (file_plain files busy.0.fd)
+      ∙ same_on (file_of files busy.0.fd) busy.0 busy.2
+      ∙ sym (busy.1.ends files)
+]
 
-longer_plain : (file : Option FileContents) (p : Bool) (off len : ℕ)
-    → option_map_or (λ (f : FileContents). p && is_past_end off len f) (option_map plain file) false ≡ option_map_or (λ (f : FileContents). p && is_past_end off len f) file false
-longer_plain None p off len = refl
-longer_plain (Some f) p off len = refl
+longer_plain : (file : Option FileContents) (t : Task) → IsTask t
+    → option_map_or t.lengthens (option_map plain file) false ≡ option_map_or t.lengthens file false
+longer_plain None t is = refl
+longer_plain (Some f) t is = is.same_growth (plain f) f refl
 
 pub lengthens_plain : (files : List FileContents) (op : Op) → is_lengthening (map plain files) op ≡ is_lengthening files op
-lengthens_plain files (Write fd off len bytes) =
-    ap (λ (f : Option FileContents). option_map_or (λ x. not (is_too_long off len) && is_past_end off len x) f false) (file_plain files fd)
-    ∙ longer_plain (file_of files fd) (not (is_too_long off len)) off len
-lengthens_plain files (Read fd off len) = refl
-lengthens_plain files (Fsync fd) = refl
-lengthens_plain files Nop = refl
-lengthens_plain files (Cancel target all) = refl
+lengthens_plain files op = elim (cases op) [
+  | inl idle ↦ idle.lengthens (map plain files) ∙ sym (idle.lengthens files)
+  | inr busy ↦
+      busy.1.lengthens (map plain files)
+      ∙ ap (λ (f : Option FileContents). option_map_or busy.0.lengthens f false) (file_plain files busy.0.fd)
+      ∙ longer_plain (file_of files busy.0.fd) busy.0 busy.2
+      ∙ sym (busy.1.lengthens files)
+]
 
 -- what they give on plain ones they give on these, and the other way round
 
@@ -89,36 +84,19 @@ either_plain false files fd change same = plain_twice files
 
 pub after_plain : (files : List FileContents) (op : Op) (res : ℤ)
     → map plain (after (map plain files) op res) ≡ map plain (after files op res)
-after_plain files (Write fd off len bytes) res =
-    either_plain (int_eq res (pos len)) files fd (written off (take len bytes)) (λ f. refl)
-after_plain files (Fsync fd) res =
-    either_plain (int_eq res (pos 0)) files fd with_writes_synced (λ f. refl)
-after_plain files (Read fd off len) res = plain_twice files
-after_plain files Nop res = plain_twice files
-after_plain files (Cancel target all) res = plain_twice files
+after_plain files op res = elim (cases op) [
+  | inl idle ↦
+      ap (λ fs. map plain fs) (idle.after (map plain files) res) ∙ plain_twice files ∙ sym (ap (λ fs. map plain fs) (idle.after files res))
+  | inr busy ↦
+      ap (λ fs. map plain fs) (busy.1.after (map plain files) res)
+      ∙ either_plain (busy.0.changes res) files busy.0.fd busy.0.change (λ f. ap (λ bytes. file_of_bytes bytes) (busy.2.same_bytes (plain f) f refl))
+      ∙ sym (ap (λ fs. map plain fs) (busy.1.after files res))
+]
 
 -- they stay as many
-
-changed_length : (files : List FileContents) (fd : ℤ) (change : FileContents → FileContents)
-    → length (with_changed files fd change) ≡ length files
-changed_length files (pos fd) change =
-    length-set files fd (change (slice_index_or files fd empty_file))
-changed_length files (negsuc below) change = refl
-
-either_length : (b : Bool) (files : List FileContents) (fd : ℤ) (change : FileContents → FileContents)
-    → length (if b then with_changed files fd change else files) ≡ length files
-either_length true files fd change = changed_length files fd change
-either_length false files fd change = refl
-
 pub after_length : (files : List FileContents) (op : Op) (res : ℤ)
     → length (map plain (after files op res)) ≡ length files
-after_length files op res = length-map (after files op res) plain ∙ length_after files op res where
-  length_after : (files : List FileContents) (op : Op) (res : ℤ) → length (after files op res) ≡ length files
-  length_after files (Write fd off len bytes) res = either_length (int_eq res (pos len)) files fd (written off (take len bytes))
-  length_after files (Fsync fd) res = either_length (int_eq res (pos 0)) files fd with_writes_synced
-  length_after files (Read fd off len) res = refl
-  length_after files Nop res = refl
-  length_after files (Cancel target all) res = refl
+after_length files op res = length-map (after files op res) plain ∙ many_after files op res
 
 -- new ones count nothing
 pub plain_new : (count : ℕ) → map plain (replicate count empty_file) ≡ replicate count empty_file

@@ -4,12 +4,12 @@ ghost use Rattle.std.specs.Prelude.{◌≡◌, ◌↔◌, true, map, IfOk, IsTru
 ghost use Rattle.uring_timelines.specs.Moves.{FitsEnd, MayTake, awaits, end_in, plain};
 ghost use Rattle.uring_timelines.specs.Search.{Adds, AreTakers};
 
-use crate::apply::{called_for, ended_with, is_for_files};
+use crate::apply::ended_with;
 use crate::mark::{End, Mark};
 use crate::running::{Running, look};
 use std::alloc::{AllocError, Global};
 use uring_entry::{Outcome, errno};
-use uring_files::Files;
+use uring_files::{Files, is_for_files};
 
 /// An operation that takes effect, and its outcome.
 #[derive(Clone, Copy, Debug, PartialEq, Eq)]
@@ -61,7 +61,7 @@ fn add_takers(
         return Ok(());
     }
     let wanted = end_of(left, number);
-    let called = called_for(files, &one.op);
+    let called = files.called_for(&one.op);
     add_taker(&wanted, number, called, takers)?;
     if files.lengthens(&one.op) {
         add_taker(&wanted, number, ended_with(-errno::ENOMEM), takers)?;

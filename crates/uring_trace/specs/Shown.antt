@@ -1,10 +1,8 @@
 -- What is answered to a question of an explanation, by the world in which it is asked. The texts are our own rule.
-use Rattle.std.specs.Prelude.{ℕ, zero, suc, Bool, ◌==◌, List, [], ◌∷◌, ◌++◌, length, drop, Option, Some, None, codes, if◌then◌else◌}
+use Rattle.std.specs.Prelude.{ℕ, zero, suc, Bool, List, [], ◌∷◌, ◌++◌, length, drop, Option, Some, None, codes}
 use Rattle.std.specs.Fmt.{decimal}
 use Rattle.uring_entry.specs.Setup.{Setup}
-use Rattle.uring_entry.specs.Layout.{Cqe, Sqe, opcode_of, user_data_of}
-use Rattle.uring_entry.specs.Preparation.{is_cancel_all}
-use Rattle.uring_entry.specs.declared.opcode.TheConstants.{NOP, FSYNC, ASYNC_CANCEL, READ, WRITE}
+use Rattle.uring_entry.specs.Layout.{Cqe, Sqe, user_data_of}
 use Rattle.uring_entry.specs.Completions.{Completions}
 use Rattle.uring_entry.specs.Requests.{entry_outstanding, outstanding_in, running_in}
 use Rattle.uring_linux.specs.LinuxRequests.{LinuxRequests}
@@ -16,6 +14,7 @@ use Rattle.uring_core.specs.World.{World, requests_of}
 use Rattle.uring_core.specs.CalledFor.{files_of}
 use Rattle.uring_core.specs.declared.cores.Counts.{Counts}
 use Rattle.uring_text.specs.Completions.{completion_text}
+use Rattle.uring_text.specs.Forms.{operation_text}
 use Rattle.uring_trace.specs.Reasons.{why_text}
 use Rattle.uring_trace.specs.declared.questions.Question.{Question}
 use Rattle.uring_trace.specs.declared.questions.Question.TheVariants as question
@@ -58,19 +57,6 @@ list_text (c ∷ completions) = listed_text (Some c) ++ list_text completions
 abbrev pub overflow_text : List Cqe → List ℕ
 overflow_text completions =
     codes "overflow " ++ decimal (length completions) ++ list_text completions
-
--- the operation that an entry names, as the form of its fill does
-abbrev pub named_text : ℕ → List ℕ
-named_text code =
-    if code == NOP then codes "nop" else
-    if code == FSYNC then codes "fsync" else
-    if code == READ then codes "read" else
-    if code == WRITE then codes "write" else
-    if code == ASYNC_CANCEL then codes "cancel" else
-    codes "op " ++ decimal code
-
-abbrev pub operation_text : Sqe → List ℕ
-operation_text e = if is_cancel_all e then codes "cancelall" else named_text (opcode_of e)
 
 -- a request behind a comma and a space, if it is outstanding: its number, its user data, its operation, and how it stands
 abbrev pub row_text : ℕ → Option Sqe → Why → List ℕ

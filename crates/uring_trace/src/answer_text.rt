@@ -7,7 +7,7 @@ ghost use Rattle.uring_trace.specs.Text.{text_of};
 
 use std::alloc::{AllocError, Global};
 use uring_machine::Answer;
-use uring_text::{TextMemory, push_completion_in, push_number, push_signed, push_text};
+use uring_text::{TextMemory, push_completion_in, push_named, push_signed, push_text};
 
 /// Appends the text of an answer, without the end of its line.
 pub fn push_answer(alloc: Global, text: &mut String, answer: &Answer) -> Result<(), AllocError>
@@ -58,21 +58,6 @@ pub fn push_answer_in<M: TextMemory>(
         Answer::Nothing => push_text(memory, text, "none"),
         Answer::Next(number) => push_named(memory, text, "next ", *number),
     }
-}
-
-/// Appends a word, with the blanks around it, and a number.
-pub(crate) fn push_named<M: TextMemory>(
-    memory: &M,
-    text: &mut String,
-    word: &str,
-    number: u64,
-) -> Result<(), AllocError>
-    ensures bytes { OnOk result
-        (string_bytes text.new ≡ string_bytes text.old ++ word.now ++ decimal number) }
-    ensures granted { ((n : ℕ) → M.grants memory.now n) → IsOk result }
-{
-    push_text(memory, text, word)?;
-    push_number(memory, text, number)
 }
 
 /// Appends the end of a request.

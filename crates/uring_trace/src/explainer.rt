@@ -8,7 +8,7 @@ ghost use Rattle.uring_trace.specs.Explanations.{bad_note, Telling};
 ghost use Rattle.uring_trace.specs.Explaining.{TellsStep, TellsShown};
 ghost use Rattle.uring_trace.specs.Flaws.{line_flaw};
 
-use crate::answer_text::{push_answer_in, push_named};
+use crate::answer_text::push_answer_in;
 use crate::chosen::{chosen_text, push_behind};
 use crate::flaws::{Language, push_line_flaw_in};
 use crate::questions::{Question, read_question};
@@ -18,7 +18,7 @@ use crate::step_lines::read_line;
 use std::alloc::{AllocError, Global};
 use uring_machine::{Machine, Setup, Step};
 use uring_memory::Memory;
-use uring_text::{KeptLine, TextMemory, TraceFault, push_text};
+use uring_text::{KeptLine, TextMemory, TraceFault, push_named, push_text};
 
 /// Explains lines as their bytes come: a machine, what is kept of the unfinished line, and the number of that line.
 #[derive(Drop)]

@@ -7,10 +7,9 @@ ghost use Rattle.uring_core.specs.World.{requests_of};
 ghost use Rattle.uring_machine.specs.Machine.{Fits};
 ghost use Rattle.uring_trace.specs.Reasons.{asked, sought, end_reason, finding, standing, kept_reason, reason_text, why_text, found_text, doom_text, since_text, numbered};
 
-use crate::answer_text::push_named;
 use std::alloc::AllocError;
 use uring_machine::{Answer, Doom, Fault, Found, Machine, Since, Step, Why};
-use uring_text::{TextMemory, push_number, push_text};
+use uring_text::{TextMemory, push_named, push_number, push_text};
 
 /// The reason of an answer.
 #[derive(Clone, Copy, Debug, PartialEq, Eq)]

@@ -5,13 +5,12 @@ ghost use Rattle.uring_core.specs.Histories.{History, world};
 ghost use Rattle.uring_machine.specs.Machine.{Fits};
 ghost use Rattle.uring_trace.specs.Shown.{shown, counts_text, sizes_text, overflow_of, overflow_text, listed_text, file_text};
 
-use crate::answer_text::push_named;
 use crate::questions::Question;
 use crate::reason_text::push_why_in;
 use crate::requests_text::push_requests;
 use std::alloc::AllocError;
 use uring_machine::{Counts, Cqe, FileState, Machine, Setup};
-use uring_text::{TextMemory, push_completion_in, push_text};
+use uring_text::{TextMemory, push_completion_in, push_named, push_text};
 
 /// Appends what is answered to a question, without the end of its line, by this memory. If it grants whatever is asked for, there is no error.
 pub(crate) fn push_shown<M: TextMemory>(

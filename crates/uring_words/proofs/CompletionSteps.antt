@@ -6,40 +6,15 @@ use Rattle.uring_entry.specs.IndexWords.{word_of}
 use Rattle.uring_entry.specs.Layout.{Cqe}
 use Rattle.uring_ports.specs.Dropped.{WereHad}
 use Rattle.uring_words.specs.Completion.Layout.{tail_index, head_index, dropped_index}
-use Rattle.uring_words.specs.Completion.Rule.{last_of, tail_seen, AreSized, Agree}
+use Rattle.uring_words.specs.Completion.Rule.{last_of, tail_seen, Agree}
 use Rattle.uring_words.specs.Completion.Steps.{dropped_stored, head_loaded, all_given, tail_loaded, dropped_loaded}
 use Rattle.uring_words.specs.Places.{place_of}
 use Rattle.uring_words.specs.Slots.{held_from, StandFrom}
 use Rattle.uring_words.specs.declared.completion.view.AppSide.{AppSide}
 use Rattle.uring_words.specs.declared.completion.view.KernelSide.{KernelSide}
-use Rattle.uring_words.proofs.SlotActs.{with_given, with_given-length, stands_else, stands_given, given_stand, stand_both, taken_more, more_length, more_stands}
+use Rattle.uring_words.proofs.Handing.{after, after-length, take_others, all_here, all_others}
+use Rattle.uring_words.proofs.SlotActs.{stands_else, stand_both}
 use Rattle.uring_words.proofs.Standing.{some_size, place_below, next_turn}
-
--- the sizes of the table after a store
-resized : (words : List ℕ) (homes homes' : List (Option Cqe)) (i w : ℕ) (a b : AppSide) (d e : KernelSide)
-    → b.start ≡ a.start → b.size ≡ a.size → e.start ≡ d.start → e.size ≡ d.size
-    → length homes' ≡ length homes → AreSized words homes a d → AreSized (set words i w) homes' b e
-resized words homes homes' i w a b d e start size start' size' same s = record {
-  start = start ∙ s.start ∙ sym start';
-  size = size ∙ s.size ∙ sym size';
-  power = rw size' s.power;
-  limit = rw size' s.limit;
-  many = length-set words i w ∙ s.many;
-  cells = same ∙ s.cells ∙ sym size';
-}
-
--- and where no word is stored
-rehomed : (words : List ℕ) (homes homes' : List (Option Cqe)) (a b : AppSide) (d e : KernelSide)
-    → b.start ≡ a.start → b.size ≡ a.size → e.start ≡ d.start → e.size ≡ d.size
-    → length homes' ≡ length homes → AreSized words homes a d → AreSized words homes' b e
-rehomed words homes homes' a b d e start size start' size' same s = record {
-  start = start ∙ s.start ∙ sym start';
-  size = size ∙ s.size ∙ sym size';
-  power = rw size' s.power;
-  limit = rw size' s.limit;
-  many = s.many;
-  cells = same ∙ s.cells ∙ sym size';
-}
 
 -- how many were put
 pub put_many : (words : List ℕ) (homes : List (Option Cqe)) (a : AppSide) (d : KernelSide)
@@ -55,6 +30,7 @@ pub keeps_tail_stored : (words : List ℕ) (homes : List (Option Cqe)) (a : AppS
     → Agree words homes a d → length d.put < d.end → w ≡ word_of d.start (length d.put + 1)
     → Agree (set words tail_index w) (set homes (place_of d.start d.size (length d.put)) (some c)) a (record d { put = d.put ++ c ∷ [] })
 keeps_tail_stored words homes a d w c h room is_word =
+    let s = h.sized in
     let n : ℕ = length d.put in
     let place : ℕ = place_of d.start d.size n in
     let homes' : List (Option Cqe) = set homes place (some c) in
@@ -62,10 +38,10 @@ keeps_tail_stored words homes a d w c h room is_word =
     let many : length (d.put ++ c ∷ []) ≡ n + 1 = length-append d.put (c ∷ []) in
     let put = put_many words homes a d h in
     let all = h.all in
-    let long = h.sized.many in
+    let long = s.many in
     let below : place < length homes = rw h.sized.cells (place_below d.start d.size n (some_size d.size h.sized.power)) in
     record {
-      sized = resized words homes homes' tail_index w a a d (record d { put = d.put ++ c ∷ [] }) refl refl refl refl (length-set homes place (some c)) h.sized;
+      sized = record { start = s.start; size = s.size; power = s.power; limit = s.limit; many = length-set words tail_index w ∙ s.many; cells = length-set homes place (some c) ∙ s.cells };
       room = omega arith;
       tail = get_or-set_same words tail_index w 0 (omega arith) ∙ is_word ∙ ap (word_of d.start) (sym many);
       head = get_or-set_other words tail_index head_index w 0 (λ e. omega arith) ∙ h.head;
@@ -114,9 +90,10 @@ had_last v vs (w ∷ ws) h =
 pub keeps_dropped_stored : (words : List ℕ) (homes : List (Option Cqe)) (a : AppSide) (d : KernelSide) (w : ℕ)
     → Agree words homes a d → w < 2 ^ 32 → Agree (set words dropped_index w) homes a (dropped_stored d w)
 keeps_dropped_stored words homes a d w h is_small =
-    let long = h.sized.many in
+    let s = h.sized in
+    let long = s.many in
     record {
-      sized = resized words homes homes dropped_index w a a d (dropped_stored d w) refl refl refl refl refl h.sized;
+      sized = record { start = s.start; size = s.size; power = s.power; limit = s.limit; many = length-set words dropped_index w ∙ s.many; cells = s.cells };
       room = h.room;
       tail = get_or-set_other words dropped_index tail_index w 0 (λ e. omega arith) ∙ h.tail;
       head = get_or-set_other words dropped_index head_index w 0 (λ e. omega arith) ∙ h.head;
@@ -134,18 +111,18 @@ keeps_dropped_stored words homes a d w h is_small =
 -- the head is loaded, and the dispatcher takes what is free
 pub keeps_head_loaded : (words : List ℕ) (homes : List (Option Cqe)) (a : AppSide) (d : KernelSide) (blank : List Cqe)
     → (h : Agree words homes a d) → length d.put + length blank ≡ d.end
-    → Agree words (taken_more d.start d.size homes (length d.put) blank h.free) a (head_loaded d (length a.got + d.size))
+    → Agree words (after homes (held_from d.start d.size (length d.put) blank) (held_from d.start d.size (length d.put) (blank ++ h.free))) a (head_loaded d (length a.got + d.size))
 keeps_head_loaded words homes a d blank h ends =
+    let s = h.sized in
     let fits = few_cells words homes a d h in
-    let power = h.sized.power in
     let n : ℕ = length d.put in
-    let homes' : List (Option Cqe) = taken_more d.start d.size homes n blank h.free in
+    let old = held_from d.start d.size n blank in
+    let new = held_from d.start d.size n (blank ++ h.free) in
     let put = put_many words homes a d h in
     let all = h.all in
     let room = h.room in
-    let long = length-append blank h.free in
     record {
-      sized = rehomed words homes homes' a a d (head_loaded d (length a.got + d.size)) refl refl refl refl (more_length d.start d.size homes n blank h.free) h.sized;
+      sized = record { start = s.start; size = s.size; power = s.power; limit = s.limit; many = s.many; cells = after-length homes old new ∙ s.cells };
       room = omega arith;
       tail = h.tail;
       head = h.head;
@@ -153,7 +130,7 @@ keeps_head_loaded words homes a d blank h ends =
       small = h.small;
       rest = h.rest;
       begins = h.begins;
-      stand = more_stands d.start d.size power fits homes n (tail_seen a) blank h.free h.rest (λ x y l m o q. ((λ e. omega arith), omega arith, omega arith)) h.stand;
+      stand = take_others d.start d.size h.sized.power fits homes h.sized.cells n blank h.free (tail_seen a) h.rest (λ x y l m o q. ((λ e. omega arith), omega arith, omega arith)) h.stand;
       free = [];
       all = omega arith;
       stand_free = tt;
@@ -163,17 +140,18 @@ keeps_head_loaded words homes a d blank h ends =
 -- the dispatcher gives back its cells
 pub keeps_all_given : (words : List ℕ) (homes : List (Option Cqe)) (a : AppSide) (d : KernelSide) (blank : List Cqe)
     → Agree words homes a d → length d.put + length blank ≡ d.end
-    → Agree words (with_given homes (held_from d.start d.size (length d.put) blank)) a (all_given d)
+    → Agree words (after homes (held_from d.start d.size (length d.put) blank) []) a (all_given d)
 keeps_all_given words homes a d blank h ends =
+    let s = h.sized in
     let fits = few_cells words homes a d h in
-    let power = h.sized.power in
+    let power = s.power in
     let n : ℕ = length d.put in
-    let held = held_from d.start d.size n blank in
+    let old = held_from d.start d.size n blank in
     let put = put_many words homes a d h in
     let all = h.all in
     let long = length-append blank h.free in
     record {
-      sized = rehomed words homes (with_given homes held) a a d (all_given d) refl refl refl refl (with_given-length homes held) h.sized;
+      sized = record { start = s.start; size = s.size; power = s.power; limit = s.limit; many = s.many; cells = after-length homes old [] ∙ s.cells };
       room = omega arith;
       tail = h.tail;
       head = h.head;
@@ -181,31 +159,30 @@ keeps_all_given words homes a d blank h ends =
       small = h.small;
       rest = h.rest;
       begins = h.begins;
-      stand = stands_given d.start d.size power fits homes n (tail_seen a) blank h.rest (λ x y l m o q. ((λ e. omega arith), omega arith, omega arith)) h.stand;
+      stand = all_others d.start d.size power fits homes n blank (tail_seen a) h.rest (λ x y l m o q. ((λ e. omega arith), omega arith, omega arith)) h.stand;
       free = blank ++ h.free;
       all = omega arith;
-      stand_free = stand_both d.start d.size power fits (with_given homes held) n d.end blank h.free (sym ends)
-          (given_stand d.start d.size power fits homes n blank h.sized.cells (omega arith))
-          (stands_given d.start d.size power fits homes n d.end blank h.free (λ x y l m o q. ((λ e. omega arith), omega arith, omega arith)) h.stand_free);
+      stand_free = stand_both d.start d.size power fits (after homes old []) n d.end blank h.free (sym ends)
+          (all_here d.start d.size power fits homes n blank h.sized.cells (omega arith))
+          (all_others d.start d.size power fits homes n blank d.end h.free (λ x y l m o q. ((λ e. omega arith), omega arith, omega arith)) h.stand_free);
       loaded = h.loaded;
     }
 
 -- the tail is loaded, and the application takes all that was put
 pub keeps_tail_loaded : (words : List ℕ) (homes : List (Option Cqe)) (a : AppSide) (d : KernelSide)
     → (h : Agree words homes a d)
-    → Agree words (taken_more d.start d.size homes (length a.got) a.known h.rest) (tail_loaded a h.rest) d
+    → Agree words (after homes (held_from d.start d.size (length a.got) a.known) (held_from d.start d.size (length a.got) (a.known ++ h.rest))) (tail_loaded a h.rest) d
 keeps_tail_loaded words homes a d h =
+    let s = h.sized in
     let fits = few_cells words homes a d h in
-    let power = h.sized.power in
-    let b : AppSide = tail_loaded a h.rest in
     let n : ℕ = length a.got in
-    let homes' : List (Option Cqe) = taken_more d.start d.size homes n a.known h.rest in
+    let old = held_from d.start d.size n a.known in
+    let new = held_from d.start d.size n (a.known ++ h.rest) in
     let put = put_many words homes a d h in
     let all = h.all in
     let room = h.room in
-    let long = length-append a.known h.rest in
     record {
-      sized = rehomed words homes homes' a b d d refl refl refl refl (more_length d.start d.size homes n a.known h.rest) h.sized;
+      sized = record { start = s.start; size = s.size; power = s.power; limit = s.limit; many = s.many; cells = after-length homes old new ∙ s.cells };
       room = h.room;
       tail = h.tail;
       head = h.head;
@@ -216,7 +193,7 @@ keeps_tail_loaded words homes a d h =
       stand = tt;
       free = h.free;
       all = h.all;
-      stand_free = more_stands d.start d.size power fits homes n d.end a.known h.rest h.free (λ x y l m o q. ((λ e. omega arith), omega arith, omega arith)) h.stand_free;
+      stand_free = take_others d.start d.size h.sized.power fits homes h.sized.cells n a.known h.rest d.end h.free (λ x y l m o q. ((λ e. omega arith), omega arith, omega arith)) h.stand_free;
       loaded = h.loaded;
     }
 
@@ -224,7 +201,7 @@ keeps_tail_loaded words homes a d h =
 pub keeps_dropped_loaded : (words : List ℕ) (homes : List (Option Cqe)) (a : AppSide) (d : KernelSide)
     → Agree words homes a d → Agree words homes (dropped_loaded a (last_of 0 d.dropped)) d
 keeps_dropped_loaded words homes a d h = record {
-  sized = rehomed words homes homes a (dropped_loaded a (last_of 0 d.dropped)) d d refl refl refl refl refl h.sized;
+  sized = record { start = h.sized.start; size = h.sized.size; power = h.sized.power; limit = h.sized.limit; many = h.sized.many; cells = h.sized.cells };
   room = h.room;
   tail = h.tail;
   head = h.head;
@@ -244,8 +221,9 @@ pub keeps_head_stored : (words : List ℕ) (homes : List (Option Cqe)) (a : AppS
     → Agree words homes a d → a.known ≡ c ∷ cs → w ≡ word_of d.start (length a.got + 1)
     → Agree (set words head_index w) (set homes (place_of d.start d.size (length a.got)) (some c)) (record a { got = a.got ++ c ∷ []; known = cs }) d
 keeps_head_stored words homes a d w c cs h is is_word =
+    let s = h.sized in
     let fits = few_cells words homes a d h in
-    let power = h.sized.power in
+    let power = s.power in
     let n : ℕ = length a.got in
     let place : ℕ = place_of d.start d.size n in
     let homes' : List (Option Cqe) = set homes place (some c) in
@@ -255,11 +233,11 @@ keeps_head_stored words homes a d w c cs h is is_word =
     let put = put_many words homes a d h in
     let all = h.all in
     let room = h.room in
-    let long = h.sized.many in
+    let long = s.many in
     let below : place < length homes = rw h.sized.cells (place_below d.start d.size n (some_size d.size power)) in
     let seen : tail_seen a ≡ tail_seen b = omega arith in
     record {
-      sized = resized words homes homes' head_index w a b d d refl refl refl refl (length-set homes place (some c)) h.sized;
+      sized = record { start = s.start; size = s.size; power = s.power; limit = s.limit; many = length-set words head_index w ∙ s.many; cells = length-set homes place (some c) ∙ s.cells };
       room = h.room;
       tail = get_or-set_other words head_index tail_index w 0 (λ e. omega arith) ∙ h.tail;
       head = get_or-set_same words head_index w 0 (omega arith) ∙ is_word ∙ ap (word_of d.start) (sym many);

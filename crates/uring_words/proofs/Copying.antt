@@ -1,6 +1,8 @@
 -- Calls as they are written, published, read and taken.
-use Rattle.std.proofs.Common.{◌≡◌, ℕ, ◌+◌, ◌<◌, ◌≤◌, true, false, List, [], ◌∷◌, ◌++◌, drop, take, length, refl, sym, ◌∙◌, ap, subst, arith, length-append, length-take-le, take_all, take-append-drop}
+use Rattle.std.proofs.Common.{◌≡◌, ℕ, ◌+◌, ◌%◌, ◌^◌, ◌<◌, ◌≤◌, true, false, List, [], ◌∷◌, ◌++◌, drop, take, length, refl, sym, ◌∙◌, ap, subst, arith, length-append, length-take-le, take_all, take-append-drop}
+use Rattle.std.proofs.lemmas.List.{length-drop}
 use mathlib.Core.Option.{none}
+use Rattle.atomic_table.specs.Seated.{TableId}
 use Rattle.atomic_table.specs.Table.{Allows, rest, step, turned}
 use Rattle.uring_entry.specs.IndexWords.{word_of}
 use Rattle.uring_ports.specs.declared.item.Item.{Item}
@@ -10,7 +12,7 @@ use Rattle.uring_ports.specs.Ports.{Pulls, with_call}
 use Rattle.uring_words.specs.Places.{place_of}
 use Rattle.uring_words.specs.Slots.{held_from}
 use Rattle.uring_words.specs.Submission.Calls.{AreWhole, all_more, has_close_mark, items_of, put_of}
-use Rattle.uring_words.specs.Submission.Ends.{AreRead, ReaderRests, ReadsCall}
+use Rattle.uring_words.specs.Submission.Ends.{AreRead, End, IsWriter, ReaderRests, ReadsCall, Writes, tail_behind}
 use Rattle.uring_words.specs.Submission.Rule.{BothAgree}
 use Rattle.uring_words.specs.Submission.Steps.{Holder, with_first_behind, head_stored, tail_stored, StoresHead, StoresTail}
 use Rattle.uring_words.specs.declared.sides.View.{View}
@@ -20,53 +22,78 @@ use Rattle.uring_words.specs.declared.submission.view.Position.{Position}
 use Rattle.uring_words.specs.declared.submission.view.Position.TheVariants as position
 use Rattle.uring_words.proofs.CallLemmas.{holds_call, holds_close, more_length, more_append, never_open, close_is_first}
 use Rattle.uring_words.proofs.Plays.{stores_head, stores_tail}
+use Rattle.uring_words.proofs.Standing.{at_place}
 use Rattle.uring_words.proofs.Turning.{part_done, next_of, stands_first, is_next, goes_behind, turns_behind}
 
--- The application's seat, whose places begin with these values, has written the items of a front. v is what it knows.
-module _ (v : View AppSide KernelSide) (blank : List Position) (front : List Item) (last : Position) where
+-- The application's end, which callers see as e, and which has room for a front and one position more, has written the front; word: the index word of the place behind it.
+module _ {seat table : TableId} {v : View AppSide KernelSide} {held : List (ℕ × Position)} {size tail end : ℕ} (i : IsWriter seat table v held size tail end)
+    (e : End) (seen : record { table = seat; knows = v } ≡ e) (front : List Item) (last : Position) (room : length e.knows.app.published + (length front + 1) ≤ e.knows.app.end)
+    (m : Holder) (word : ℕ) (wrote : Writes (v, held) m (all_more front)) (at : word ≡ tail_behind (v, held) (length front)) where
   abbrev written : List Position
   written = all_more front ++ last ∷ []
 
   abbrev left : List Position
-  left = drop (length (all_more front) + 1) blank
+  left = drop (length (all_more front) + 1) i.blank
 
-  -- The place behind them is first, and is written too.
-  module _ (place : ℕ) (m : Holder) (is : m ≡ (v, with_first_behind v.app.start v.app.size (length v.app.published) (drop (length (all_more front)) blank) (all_more front)))
-      (room : length front + 1 ≤ length blank) (at : place ≡ place_of v.app.start v.app.size (length v.app.published + length front)) where
-    here : place ≡ place_of v.app.start v.app.size (length v.app.published + length (all_more front))
-    here = at ∙ ap (λ (k : ℕ). place_of v.app.start v.app.size (length v.app.published + k)) (sym (more_length front))
+  many : length written ≡ length front + 1
+  many = omega (arith, length-append (all_more front) (last ∷ []), more_length front)
 
-    pub last_stands_first : (x : Position) × (m.1 ≡ (place, x) ∷ rest m.1)
-    last_stands_first = stands_first v.app.start v.app.size (length v.app.published) (length (all_more front)) place blank (all_more front) m v is (omega (arith, more_length front)) here
+  enough : length (all_more front) < length i.blank
+  enough =
+      let r = subst (λ (x : End). length x.knows.app.published + (length front + 1) ≤ x.knows.app.end) (sym seen) room in
+      omega (arith, i.many, more_length front)
 
-    pub last_goes_behind : (after : Holder) → after ≡ (m.0, rest m.1 ++ (place, last) ∷ [])
-        → after ≡ (v, with_first_behind v.app.start v.app.size (length v.app.published) left written)
-    last_goes_behind after moved =
-        let many : length (all_more front) + 1 ≡ length written = sym (length-append (all_more front) (last ∷ [])) in
-        goes_behind v.app.start v.app.size (length v.app.published) (length (all_more front)) place blank (all_more front) m v is (omega (arith, more_length front)) here last after refl moved
-        ∙ ap (λ (k : ℕ). (v, held_from v.app.start v.app.size (length v.app.published + k) left ++ held_from v.app.start v.app.size (length v.app.published) written)) many
+  place : word % size ≡ place_of v.app.start v.app.size (length v.app.published + length (all_more front))
+  place =
+      (at_place v.app.start size v.app.size (length v.app.published + length front) word i.fits.sized i.fits.power at).0
+      ∙ ap (λ (k : ℕ). place_of v.app.start v.app.size (length v.app.published + k)) (sym (more_length front))
 
--- the tail is stored behind what was written
-pub tail_allowed : (slots id : ℕ) (m : Holder) (word : ℕ) (v : View AppSide KernelSide) (blank written : List Position)
-    → m ≡ (v, with_first_behind v.app.start v.app.size (length v.app.published) blank written)
-    → v.is_app ≡ true → length v.app.published + (length written + length blank) ≡ v.app.end
-    → length written + length blank ≤ v.app.size → v.app.size ≤ 4096
-    → word ≡ word_of v.app.start (length v.app.published + length written)
-    → AreWhole (v.app.published ++ written)
-    → Allows BothAgree slots id m 0 (λ _. word) (λ _. StoresTail (step slots 0 word 0 none) m word)
-tail_allowed slots id m word v blank written is is_app many few limit is_word whole =
-    let P : Holder → Type 0 = λ x. Allows BothAgree slots id x 0 (λ _. word) (λ _. StoresTail (step slots 0 word 0 none) x word) in
-    subst P (sym is) (stores_tail slots id (v, with_first_behind v.app.start v.app.size (length v.app.published) blank written) word blank written is_app refl many few limit is_word whole)
+  -- the place behind the front is first
+  pub last_stands_first : (x : Position) × (m.1 ≡ (word % size, x) ∷ rest m.1)
+  last_stands_first = stands_first v.app.start v.app.size (length v.app.published) (length (all_more front)) (word % size) i.blank (all_more front) m v (wrote i.blank i.holds) enough place
 
--- and with it that is published
-pub tail_published : (slots : ℕ) (m after : Holder) (word : ℕ) (v : View AppSide KernelSide) (blank written : List Position)
-    → m ≡ (v, with_first_behind v.app.start v.app.size (length v.app.published) blank written)
-    → word ≡ word_of v.app.start (length v.app.published + length written)
-    → StoresTail (step slots 0 word 0 none) m word after
-    → after ≡ (record v { app = tail_stored v.app written }, held_from v.app.start v.app.size (length v.app.published + length written) blank)
-tail_published slots m after word v blank written is is_word told =
-    let P : Holder → Type 0 = λ x. StoresTail (step slots 0 word 0 none) x word after in
-    subst P is told blank written refl is_word
+  -- The last position is written there.
+  module _ (after : Holder) (moved : after ≡ (m.0, rest m.1 ++ (word % size, last) ∷ [])) where
+    all_written : after ≡ (v, with_first_behind v.app.start v.app.size (length v.app.published) left written)
+    all_written =
+        goes_behind v.app.start v.app.size (length v.app.published) (length (all_more front)) (word % size) i.blank (all_more front) m v (wrote i.blank i.holds) enough place last after refl moved
+        ∙ ap (λ (k : ℕ). (v, held_from v.app.start v.app.size (length v.app.published + k) left ++ held_from v.app.start v.app.size (length v.app.published) written)) (sym (length-append (all_more front) (last ∷ [])))
+
+    behind : (word + 1) % 2 ^ 32 ≡ word_of v.app.start (length v.app.published + length written)
+    behind = omega (arith, at, many)
+
+    -- the tail is stored
+    pub tail_allowed : (slots id : ℕ) → AreWhole (e.knows.app.published ++ written)
+        → Allows BothAgree slots id after 0 (λ _. (word + 1) % 2 ^ 32) (λ _. StoresTail (step slots 0 ((word + 1) % 2 ^ 32) 0 none) after ((word + 1) % 2 ^ 32))
+    tail_allowed slots id whole =
+        let next : ℕ = (word + 1) % 2 ^ 32 in
+        let P : Holder → Type 0 = λ x. Allows BothAgree slots id x 0 (λ _. next) (λ _. StoresTail (step slots 0 next 0 none) x next) in
+        let short = length-drop (length (all_more front) + 1) i.blank in
+        let whole' = subst (λ (x : End). AreWhole (x.knows.app.published ++ written)) (sym seen) whole in
+        subst P (sym all_written) (stores_tail slots id v (with_first_behind v.app.start v.app.size (length v.app.published) left written) next left written i.is_app refl (omega (arith, enough, many, more_length front, i.many)) (omega (arith, enough, many, more_length front, i.few, i.fits.sized)) (omega (arith, i.fits.most, i.fits.sized)) behind whole')
+
+    -- and with it what was written is published
+    module _ (slots : ℕ) (stored : Holder) (told : StoresTail (step slots 0 ((word + 1) % 2 ^ 32) 0 none) after ((word + 1) % 2 ^ 32) stored) where
+      pub tail_published : stored ≡ (record v { app = tail_stored v.app written }, held_from v.app.start v.app.size (length v.app.published + length written) left)
+      tail_published =
+          let next : ℕ = (word + 1) % 2 ^ 32 in
+          let P : Holder → Type 0 = λ x. StoresTail (step slots 0 next 0 none) x next stored in
+          subst P all_written told left written refl behind
+
+      pub publishes : IsWriter seat table stored.0 stored.1 size ((word + 1) % 2 ^ 32) end
+      publishes =
+          let longer = length-append v.app.published written in
+          let short = length-drop (length (all_more front) + 1) i.blank in
+          rw tail_published (record {
+            fits = i.fits;
+            is_app = i.is_app;
+            tail_word = behind ∙ ap (word_of v.app.start) (sym longer);
+            end_word = i.end_word;
+            blank = left;
+            holds = ap (λ (k : ℕ). held_from v.app.start v.app.size k left) (sym longer);
+            many = omega (arith, enough, many, more_length front, i.many);
+            few = omega (arith, i.few);
+          })
 
 -- the items that positions hold, one position more
 items_more : (ps qs : List Position) → items_of (ps ++ qs) ≡ items_of ps ++ items_of qs
@@ -147,7 +174,7 @@ pub head_allowed : (slots id : ℕ) (b m : Holder) (what : Pulled) (items : List
 head_allowed slots id b m what items next r is_kernel few =
     let d = b.0.kernel in
     let P : Holder → Type 0 = λ x. Allows BothAgree slots id x 1 (λ _. next) (λ _. StoresHead (step slots 1 next 0 none) x next) in
-    subst P (sym r.is) (stores_head slots id (b.0, with_first_behind d.start d.size (length d.taken) r.others r.read) next r.others r.read is_kernel refl r.known few r.next_word)
+    subst P (sym r.is) (stores_head slots id b.0 (with_first_behind d.start d.size (length d.taken) r.others r.read) next r.others r.read is_kernel refl r.known few r.next_word)
 
 -- and with it that is taken
 pub head_taken : (slots : ℕ) (b m after : Holder) (what : Pulled) (items : List Item) (next : ℕ) → (r : ReadsCall b m what items next)

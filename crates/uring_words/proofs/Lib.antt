@@ -9,6 +9,7 @@ mod KernelSteps
 mod CompletionSteps
 pub mod Plays
 pub mod CompletionPlays
+pub mod CompletionEnds
 pub mod CallLemmas
 pub mod Copying
 pub mod FirstTable

@@ -73,12 +73,6 @@ module _ {S : Type 0} where
   taken_more start size homes k xs ys =
       with_taken (with_given homes (held_from start size k xs)) (held_from start size k (xs ++ ys))
 
-  pub more_length : (start size : ℕ) (homes : List (Option S)) (k : ℕ) (xs ys : List S)
-      → length (taken_more start size homes k xs ys) ≡ length homes
-  more_length start size homes k xs ys =
-      with_taken-length (with_given homes (held_from start size k xs)) (held_from start size k (xs ++ ys))
-      ∙ with_given-length homes (held_from start size k xs)
-
   -- the act of such a seat, which is told what it holds and what it is to hold
   abbrev pub changes : List (ℕ × S) → List (ℕ × S) → Act S
   changes held after = gives_all held (takes_all after)

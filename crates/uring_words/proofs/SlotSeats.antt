@@ -9,19 +9,20 @@ use Rattle.uring_words.specs.Sides.{Knows, both_know, app_part, kernel_part, bot
 use Rattle.uring_words.specs.Slots.{SidesAgree, app_has, kernel_has, parts_of_both}
 use Rattle.uring_words.specs.declared.sides.View.{View}
 use Rattle.uring_words.proofs.Seats.{at_longer, only_seat, app_seats, kernel_seats}
+use Rattle.uring_words.proofs.SlotActs.{changes, changes-carried}
 
 module _ {S A D : Type 0} {Agree : List ℕ → List (Option S) → A → D → Type 0} where
   -- A step of the application's seat, if the agreement is kept whatever the words, the slots at home and what the dispatcher knows are.
-  pub app_step : (slots id i : ℕ) (f : ℕ → ℕ) (me : Me S (View A D)) (then : ℕ → Me S (View A D) → Type 0)
-      → me.0.is_app ≡ true
-      → ((words : List ℕ) (homes : List (Option S)) (d : D) → Agree words homes me.0.app d → (me.0.is_kernel ≡ true → me.0.kernel ≡ d) → (b : A) × (act : Act S) × Valid homes me.1 act × Agree (set words i (f (get_or words i 0))) (homes_after homes me.1 act) b d × then (get_or words i 0) (app_has me b (carried_after me.1 act)))
-      → Allows (SidesAgree Agree) slots id me i f then
-  app_step slots id i f me then is_app asked s kept _ at _ =
-      let knows = kept.seats id me.0 at in
+  pub app_step : (slots id i : ℕ) (f : ℕ → ℕ) (v : View A D) (held : List (ℕ × S)) (then : ℕ → Me S (View A D) → Type 0)
+      → v.is_app ≡ true
+      → ((words : List ℕ) (homes : List (Option S)) (d : D) → Agree words homes v.app d → (v.is_kernel ≡ true → v.kernel ≡ d) → (b : A) × (act : Act S) × Valid homes held act × Agree (set words i (f (get_or words i 0))) (homes_after homes held act) b d × then (get_or words i 0) (app_has (v, held) b (carried_after held act)))
+      → Allows (SidesAgree Agree) slots id (v, held) i f then
+  app_step slots id i f v held then is_app asked s kept _ at _ =
+      let knows = kept.seats id v at in
       let mine = knows.app is_app in
       let P : A → Type 0 = λ a. Agree s.words s.homes a kept.kernel in
       let r = asked s.words s.homes kept.kernel (subst P (sym mine.1) kept.agree) (λ is. (knows.kernel is).1) in (
-        record me.0 { app = r.0 },
+        record v { app = r.0 },
         r.1,
         r.2,
         record {
@@ -30,22 +31,22 @@ module _ {S A D : Type 0} {Agree : List ℕ → List (Option S) → A → D → 
           app = r.0;
           kernel = kept.kernel;
           agree = r.3;
-          seats = app_seats s.views id kept.app_seat kept.kernel_seat kept.app r.0 kept.kernel me.0 is_app at kept.seats;
+          seats = app_seats s.views id kept.app_seat kept.kernel_seat kept.app r.0 kept.kernel v is_app at kept.seats;
         },
         r.4,
       )
 
   -- The same of the dispatcher's seat.
-  pub kernel_step : (slots id i : ℕ) (f : ℕ → ℕ) (me : Me S (View A D)) (then : ℕ → Me S (View A D) → Type 0)
-      → me.0.is_kernel ≡ true
-      → ((words : List ℕ) (homes : List (Option S)) (a : A) → Agree words homes a me.0.kernel → (me.0.is_app ≡ true → me.0.app ≡ a) → (e : D) × (act : Act S) × Valid homes me.1 act × Agree (set words i (f (get_or words i 0))) (homes_after homes me.1 act) a e × then (get_or words i 0) (kernel_has me e (carried_after me.1 act)))
-      → Allows (SidesAgree Agree) slots id me i f then
-  kernel_step slots id i f me then is_kernel asked s kept _ at _ =
-      let knows = kept.seats id me.0 at in
+  pub kernel_step : (slots id i : ℕ) (f : ℕ → ℕ) (v : View A D) (held : List (ℕ × S)) (then : ℕ → Me S (View A D) → Type 0)
+      → v.is_kernel ≡ true
+      → ((words : List ℕ) (homes : List (Option S)) (a : A) → Agree words homes a v.kernel → (v.is_app ≡ true → v.app ≡ a) → (e : D) × (act : Act S) × Valid homes held act × Agree (set words i (f (get_or words i 0))) (homes_after homes held act) a e × then (get_or words i 0) (kernel_has (v, held) e (carried_after held act)))
+      → Allows (SidesAgree Agree) slots id (v, held) i f then
+  kernel_step slots id i f v held then is_kernel asked s kept _ at _ =
+      let knows = kept.seats id v at in
       let mine = knows.kernel is_kernel in
       let P : D → Type 0 = λ d. Agree s.words s.homes kept.app d in
       let r = asked s.words s.homes kept.app (subst P (sym mine.1) kept.agree) (λ is. (knows.app is).1) in (
-        record me.0 { kernel = r.0 },
+        record v { kernel = r.0 },
         r.1,
         r.2,
         record {
@@ -54,10 +55,36 @@ module _ {S A D : Type 0} {Agree : List ℕ → List (Option S) → A → D → 
           app = kept.app;
           kernel = r.0;
           agree = r.3;
-          seats = kernel_seats s.views id kept.app_seat kept.kernel_seat kept.app kept.kernel r.0 me.0 is_kernel at kept.seats;
+          seats = kernel_seats s.views id kept.app_seat kept.kernel_seat kept.app kept.kernel r.0 v is_kernel at kept.seats;
         },
         r.4,
       )
+
+  -- What a step that hands slots over asks, at which word i becomes f of what it was, and the words become so: the slots that the seat holds (old), those that it is to hold (new), what its side is to know, that these slots may be handed over, that the agreement is kept, and what the step tells.
+  module _ (slots id i : ℕ) (f : ℕ → ℕ) (after_words : List ℕ → List ℕ) (same : (words : List ℕ) → after_words words ≡ set words i (f (get_or words i 0))) (v : View A D) (held : List (ℕ × S)) (then : ℕ → Me S (View A D) → Type 0) where
+    -- of the application's seat
+    pub app_hands : v.is_app ≡ true
+        → ((words : List ℕ) (homes : List (Option S)) (d : D) → Agree words homes v.app d → (v.is_kernel ≡ true → v.kernel ≡ d) → (old new : List (ℕ × S)) × (b : A) × (held ≡ old) × Valid homes old (changes old new) × Agree (after_words words) (homes_after homes old (changes old new)) b d × then (get_or words i 0) (app_has (v, held) b new))
+        → Allows (SidesAgree Agree) slots id (v, held) i f then
+    app_hands is_app asked =
+        app_step slots id i f v held then is_app (λ words homes d h both.
+        let r = asked words homes d h both in
+        let act : Act S = changes r.0 r.1 in
+        let P : List (ℕ × S) → List ℕ → List (ℕ × S) → Type 0 = λ old ws new. Valid homes old act × Agree ws (homes_after homes old act) r.2 d × then (get_or words i 0) (app_has (v, held) r.2 new) in
+        let p = subst (λ c. P c (set words i (f (get_or words i 0))) (carried_after c act)) (sym r.3) (subst (λ ws. P r.0 ws (carried_after r.0 act)) (same words) (subst (P r.0 (after_words words)) (sym (changes-carried r.0 r.1)) (r.4, r.5, r.6))) in
+        (r.2, act, p.0, p.1, p.2))
+
+    -- of the dispatcher's
+    pub kernel_hands : v.is_kernel ≡ true
+        → ((words : List ℕ) (homes : List (Option S)) (a : A) → Agree words homes a v.kernel → (v.is_app ≡ true → v.app ≡ a) → (old new : List (ℕ × S)) × (e : D) × (held ≡ old) × Valid homes old (changes old new) × Agree (after_words words) (homes_after homes old (changes old new)) a e × then (get_or words i 0) (kernel_has (v, held) e new))
+        → Allows (SidesAgree Agree) slots id (v, held) i f then
+    kernel_hands is_kernel asked =
+        kernel_step slots id i f v held then is_kernel (λ words homes a h both.
+        let r = asked words homes a h both in
+        let act : Act S = changes r.0 r.1 in
+        let P : List (ℕ × S) → List ℕ → List (ℕ × S) → Type 0 = λ old ws new. Valid homes old act × Agree ws (homes_after homes old act) a r.2 × then (get_or words i 0) (kernel_has (v, held) r.2 new) in
+        let p = subst (λ c. P c (set words i (f (get_or words i 0))) (carried_after c act)) (sym r.3) (subst (λ ws. P r.0 ws (carried_after r.0 act)) (same words) (subst (P r.0 (after_words words)) (sym (changes-carried r.0 r.1)) (r.4, r.5, r.6))) in
+        (r.2, act, p.0, p.1, p.2))
 
   -- a new table keeps the rule, if what its first seat knows agrees
   pub opens_with : (words : List ℕ) (slots : List S) (a : A) (d : D) → Agree words (map some slots) a d

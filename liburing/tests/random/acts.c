@@ -130,9 +130,102 @@ void remove_one(struct model *model, const struct request *removal, int32_t res)
     target->is_cancelled = true;
 }
 
+/* ---- cancels with flags ---- */
+
+/* Whether an operation is carried out on a file. */
+static bool has_file(const struct action *action)
+{
+    uint8_t code = action->code;
+    bool is_transfer = is_read(action) || is_write(action);
+    return is_transfer || code == IORING_OP_POLL_ADD || code == IORING_OP_FSYNC || code == IORING_OP_FALLOCATE || code == IORING_OP_FADVISE || code == IORING_OP_SYNC_FILE_RANGE;
+}
+
+/* Whether a request is what a cancel looks for. */
+static bool is_sought(const struct request *cancel, const struct request *request)
+{
+    const struct action *sought = cancel->action, *action = request->action;
+    if (request == cancel || request->is_ended || request->is_faulty || action->code == IORING_OP_ASYNC_CANCEL)
+        return false;
+    if (sought->scope & IORING_ASYNC_CANCEL_ANY)
+        return true;
+    if (sought->scope & IORING_ASYNC_CANCEL_FD)
+        return has_file(action) && action->object == sought->object && action->is_registered == sought->is_registered;
+    return request->index == sought->target;
+}
+
+enum finding { NOT_FOUND, MAY_BE_FOUND, FOUND };
+
+/* Whether a cancel finds what it looks for: what waits, or could start now. One that doesn't wait may run just now, and isn't found then; one
+ * that isn't loose has its file only when it runs. */
+static enum finding finding_of(const struct model *model, const struct request *cancel, const struct request *request)
+{
+    bool is_in_turn = request->is_doomed ? can_end(model, request) : can_start(model, request);
+    if (!is_sought(cancel, request) || request->is_cancelled || !is_in_turn)
+        return NOT_FOUND;
+    bool has_waited = can_wait(model, request), is_one_choice = is_in_order(model) || model->program->is_ends;
+    bool has_its_file = request->is_loose || !(cancel->action->scope & IORING_ASYNC_CANCEL_FD) || (is_in_order(model) && request < cancel);
+    bool is_certain = (has_waited || is_one_choice || request->is_doomed) && has_its_file && !request->may_be_cancelled && !may_have_been_cancelled(model, request);
+    /* A cancel that is seen late may have ended before this one was submitted. */
+    bool was_there = !model->is_late || request->call <= cancel->call;
+    return is_certain && was_there ? FOUND : MAY_BE_FOUND;
+}
+
+static bool is_of_all(const struct request *cancel)
+{
+    return cancel->action->scope & (IORING_ASYNC_CANCEL_ALL | IORING_ASYNC_CANCEL_ANY);
+}
+
+/* How many it finds for certain, and how many at most; a cancel of one finds the first. */
+static void count_found(const struct model *model, const struct request *cancel, int32_t *least, int32_t *most)
+{
+    *least = *most = 0;
+    for (const struct request *request = model->requests; request < model->requests + model->count; request++) {
+        enum finding finding = finding_of(model, cancel, request);
+        if (finding == NOT_FOUND || (*least > 0 && !is_of_all(cancel)))
+            continue;
+        *most += 1;
+        *least += finding == FOUND;
+    }
+}
+
+/* It has found all that it may have, or only what is certain, or some. */
+static void mark_found(struct model *model, const struct request *cancel, bool is_every, bool is_least)
+{
+    bool is_over = false;
+    for (struct request *request = model->requests; request < model->requests + model->count && !is_over; request++) {
+        enum finding finding = finding_of(model, cancel, request);
+        bool is_certain = finding == FOUND ? is_every || is_of_all(cancel) : finding == MAY_BE_FOUND && is_every;
+        is_over = finding == FOUND && !is_of_all(cancel);
+        request->is_cancelled |= is_certain;
+        request->may_be_cancelled |= !is_certain && finding != NOT_FOUND && !is_least;
+    }
+}
+
+void cancel_by_flags(struct model *model, const struct request *cancel, int32_t res)
+{
+    int32_t least, most;
+    bool has_nothing = cancel->action->scope & IORING_ASYNC_CANCEL_FD && (cancel->failure != 0 || is_no_file(model, cancel->action));
+    /* (the pipe's end may have been closed since) */
+    if (has_nothing && model->is_late && cancel->failure == 0 && cancel->action->object == PIPE_IN)
+        return;
+    if (has_nothing && res != -EBADF)
+        wrong(model, "cancel %u ends with %" PRId32 ", and its descriptor isn't open", cancel->index, res);
+    if (has_nothing)
+        return;
+    count_found(model, cancel, &least, &most);
+    int32_t count = is_of_all(cancel) ? res : res == 0 ? 1 : res == -ENOENT ? 0 : -1;
+    bool is_right = count >= least && count <= most;
+    if (!is_of_all(cancel))
+        is_right = count == 0 ? least == 0 : count == 1 && most > 0;
+    if (!is_right)
+        wrong(model, "cancel %u ends with %" PRId32 ", and finds %" PRId32 " to %" PRId32, cancel->index, res, least, most);
+    if (count > 0)
+        mark_found(model, cancel, count == most, is_of_all(cancel) && count == least);
+}
+
 /* ---- messages ---- */
 
-static struct model *receiver_of(const struct model *model, const struct request *request)
+struct model *receiver_of(const struct model *model, const struct request *request)
 {
     return model->others[request->action->target];
 }
@@ -177,6 +270,7 @@ void see_message(struct model *model, unsigned index, int32_t res)
         if (!sender->has_overflowed)
             force_before(sender, request);
         message->is_seen = true;
+        count_message(model);
         return;
     }
     wrong(model, "message %u is shown, and wasn't submitted", index);

@@ -34,8 +34,10 @@ void fire(struct model *model, const struct request *timeout)
 {
     if (model->is_kernel)
         return;
-    expect_stuck(model, "can go on while time passes");
     int64_t end = end_of_timeout(timeout);
+    /* (a linked one whose time was over then may have fired in the call before, beside one that ended that) */
+    if (timeout->action->code == IORING_OP_TIMEOUT || end > model->call->began)
+        expect_stuck(model, "can go on while time passes");
     for (const struct request *other = model->requests; other < model->requests + model->count; other++) {
         int64_t end_of_other = other == timeout || other->may_have_fired ? -1 : end_of_timeout(other);
         bool is_equal = end_of_other == end && model->slack == 0;
@@ -186,7 +188,8 @@ static void judge_policy(struct model *model)
 {
     const struct call *call = model->call;
     bool has_overflowed = call->flags & IORING_SQ_CQ_OVERFLOW;
-    if (is_policy(model, "lazy") && !call->is_getting && call->tail != call->tail_before)
+    bool has_eventfd = model->program->rings[model->ring].telling != NO_EVENTFD;
+    if (is_policy(model, "lazy") && !has_eventfd && !call->is_getting && call->tail != call->tail_before)
         wrong(model, "a lazy ring goes on, and nobody waits");
     /* A peek that finds nothing lets time pass. */
     if (is_vain_peek(call) && !has_overflowed && !is_seeded(model)) {
@@ -194,8 +197,10 @@ static void judge_policy(struct model *model)
         if (has_timeouts(model) && !has_linked_timeouts(model) && !has_pipe_reads(model, true))
             wrong(model, "a peek finds nothing, and a timeout runs");
     }
-    if (is_policy(model, "order") && !has_overflowed && !(call->is_fired && call->min_complete == 0))
-        expect_stuck(model, "can go on in order");
+    /* Whoever sleeps on an eventfd calls no more. */
+    model->is_at_rest = (is_policy(model, "order") || has_eventfd) && !has_overflowed && !(call->is_fired && call->min_complete == 0);
+    if (model->is_at_rest)
+        expect_stuck(model, has_eventfd ? "can go on, and an eventfd is to tell" : "can go on in order");
 }
 
 void judge_call(struct model *model)

@@ -108,8 +108,9 @@ static int64_t any_time(void)
     return (int64_t)below(4000) * units[below(5)] + (one_in(2) ? 0 : (int64_t)below(1000000000));
 }
 
-static uint8_t any_flags(const struct action *action, uint16_t index, bool is_plain, bool is_skipping)
+static uint8_t any_flags(const struct action *action, uint16_t index, const struct program *program, bool is_skipping)
 {
+    bool is_plain = program->is_plain;
     uint8_t flags = 0;
     static const uint8_t links[] = {0, IOSQE_IO_LINK, IOSQE_IO_HARDLINK, IOSQE_IO_LINK | IOSQE_IO_HARDLINK}, weights[] = {55, 32, 11, 2};
     flags |= links[weighed(weights, 4)];
@@ -120,10 +121,10 @@ static uint8_t any_flags(const struct action *action, uint16_t index, bool is_pl
     /* What ends unseen is to have no effect that others see. */
     bool is_sync = action->code == IORING_OP_FSYNC && (action->object == LOG || action->object == CELLS);
     bool is_own = is_transfer(action) && !is_of_sockets(action) && !is_selecting(action) && action->object == CELLS && action->cell == index;
-    bool is_quiet = action->code == IORING_OP_NOP || is_sync || is_own || (action->code == IORING_OP_TIMEOUT && !action->is_success);
+    bool is_quiet = action->code == IORING_OP_NOP || is_sync || is_own || (action->code == IORING_OP_TIMEOUT && !action->is_success && !action->tally);
     if (is_plain)
         is_quiet = action->code == IORING_OP_NOP && !flags && is_skipping;
-    if (is_quiet && one_in(5))
+    if (is_quiet && !program->has_scopes && one_in(5))
         flags |= IOSQE_CQE_SKIP_SUCCESS;
     return flags;
 }
@@ -179,11 +180,38 @@ static int64_t time_behind(const struct action *before, bool is_plain)
     return before && before->object == PIPE_OUT && one_in(2) ? (int64_t)below(1500000) : any_time();
 }
 
+/* The last entry of a ring before this action that a removal may find, or none. */
+static uint16_t last_removable(const struct program *program, const struct action *removal, uint16_t index)
+{
+    uint8_t code = removal->code == IORING_OP_POLL_REMOVE ? IORING_OP_POLL_ADD : IORING_OP_TIMEOUT;
+    while (index-- > 0) {
+        const struct action *action = &program->actions[index];
+        if (action->kind == PUT && action->ring == removal->ring && action->code == code)
+            return index;
+    }
+    return MOST_ACTIONS;
+}
+
 static uint16_t any_target(const struct program *program, const struct action *action, uint16_t index)
 {
     if (action->code == IORING_OP_MSG_RING)
         return (uint16_t)below(program->ring_count);
+    bool is_removal = action->code == IORING_OP_POLL_REMOVE || action->code == IORING_OP_TIMEOUT_REMOVE;
+    if (is_removal && one_in(2))
+        return last_removable(program, action, index);
     return (uint16_t)(program->is_plain || index == 0 || one_in(6) ? MOST_ACTIONS : index - 1 - below(index < 12 ? index : 12));
+}
+
+/* By flags a cancel looks for others than one request, mostly for those of the pipe. */
+static void choose_scope(const struct program *program, struct action *action)
+{
+    static const uint8_t scopes[] = {0, IORING_ASYNC_CANCEL_ALL, IORING_ASYNC_CANCEL_FD, IORING_ASYNC_CANCEL_FD | IORING_ASYNC_CANCEL_ALL, IORING_ASYNC_CANCEL_ANY, IORING_ASYNC_CANCEL_ANY | IORING_ASYNC_CANCEL_ALL}, weights[] = {4, 3, 6, 6, 3, 2};
+    static const uint8_t objects[OBJECTS] = {4, 2, 3, 8, 2, 2, 2};
+    action->scope = scopes[weighed(weights, sizeof scopes)];
+    action->object = (enum object)weighed(objects, OBJECTS);
+    /* (which file a request on the one that is taken out and put in again has isn't known) */
+    bool can_be_registered = program->rings[action->ring].has_registered && action->scope & IORING_ASYNC_CANCEL_FD && action->object != OTHER_LOG;
+    action->is_registered = can_be_registered && one_in(3);
 }
 
 static void choose_entry(struct program *program, struct action *action, struct progress *progress)
@@ -213,7 +241,11 @@ static void choose_entry(struct program *program, struct action *action, struct 
     action->is_success = one_in(3);
     action->target = any_target(program, action, index);
     action->turn = one_in(5) ? (uint16_t)below(16) : 0;
-    action->flags |= any_flags(action, index, is_plain, progress->is_skipping);
+    if (action->code == IORING_OP_TIMEOUT && one_in(3))
+        action->tally = (uint8_t)(1 + below(4));
+    if (action->code == IORING_OP_ASYNC_CANCEL && program->has_scopes)
+        choose_scope(program, action);
+    action->flags |= any_flags(action, index, program, progress->is_skipping);
     action->flaw = any_flaw(action, is_plain);
     progress->before[action->ring] = action;
     progress->published[action->ring]++;
@@ -240,14 +272,23 @@ static void choose_call(struct program *program, struct action *action, struct p
 
 static void choose_action(struct program *program, struct progress *progress)
 {
-    static const enum action_kind kinds[] = {PUT, ENTER, REAP, PUT_WORD, FEED, END_FEED, FORK, REOPEN, PROVIDE, UPDATE};
-    static const uint8_t weights[] = {60, 22, 12, 1, 4, 1, 1, 1, 3, 2}, plain[] = {60, 22, 12, 1, 0, 0, 0, 0, 0, 0};
+    static const enum action_kind kinds[] = {PUT, ENTER, REAP, PUT_WORD, FEED, END_FEED, FORK, REOPEN, PROVIDE, UPDATE, SILENCE, SIP};
+    static const uint8_t weights[] = {60, 22, 12, 1, 4, 1, 1, 1, 3, 2, 2, 3}, plain[] = {60, 22, 12, 1, 0, 0, 0, 0, 0, 0, 0, 0};
     struct action *action = &program->actions[program->count];
     *action = (struct action){.ring = (uint8_t)below(program->ring_count), .count = (uint16_t)(1 + below(8)), .turn = (uint16_t)below(3)};
-    enum action_kind kind = kinds[weighed(program->is_plain ? plain : weights, 10)];
+    enum action_kind kind = kinds[weighed(program->is_plain ? plain : weights, sizeof weights)];
+    /* What was written is read again, mostly whole, so that a call finds nothing of it. */
+    if (program->count > 0 && action[-1].kind == FEED && one_in(3)) {
+        action->ring = action[-1].ring;
+        action->count = (uint16_t)(one_in(4) ? action->count : 100);
+        kind = SIP;
+    }
     if ((kind == FORK || kind == REOPEN) && (program->is_threaded || program->has_messages || !one_in(2)))
         kind = REAP;
     if ((kind == PROVIDE || kind == UPDATE) && !program->rings[action->ring].has_registered)
+        kind = REAP;
+    /* (a message comes at any time) */
+    if (kind == SILENCE && (!program->rings[action->ring].telling || program->has_messages))
         kind = REAP;
     if (kind == PUT && progress->published[action->ring] >= program->rings[action->ring].entries)
         kind = ENTER;
@@ -280,6 +321,8 @@ static void choose_ring(struct program *program, struct ring_options *ring)
     ring->is_polled = one_in(4);
     ring->has_registered = one_in(2);
     ring->has_sockets = !program->is_plain && one_in(3);
+    if (!program->is_plain && one_in(3))
+        ring->telling = one_in(3) ? OF_LATER : OF_ALL;
 }
 
 static void choose_faults(struct program *program)
@@ -314,6 +357,7 @@ void generate(struct program *program, uint64_t seed)
     program->ring_count = (uint8_t)(one_in(3) ? 1 + below(MOST_RINGS) : 1);
     program->is_threaded = !program->is_plain && program->ring_count > 1 && one_in(2);
     program->has_messages = !program->is_plain && !program->is_threaded && one_in(4);
+    program->has_scopes = !program->is_plain && one_in(3);
     progress.is_skipping = one_in(2);
     for (int i = 0; i < program->ring_count; i++)
         choose_ring(program, &program->rings[i]);

@@ -39,6 +39,7 @@ struct request {
     bool is_ended, is_doomed;
     bool is_cancelled;                  /* a cancel found it running, or its timeout did */
     bool may_be_found_again;            /* by another cancel */
+    bool may_be_cancelled;              /* a cancel may have found it, or another in its place */
     bool is_faulty;
     bool is_refused;                    /* a drain in a ring that has skipped success */
     bool is_silent;                     /* doomed, and posts nothing: by Linux's rules */
@@ -47,6 +48,11 @@ struct request {
     bool has_fired, may_have_fired;     /* of a linked timeout: in a call that shows nothing of it */
     bool may_have_found;                /* a provided buffer, since it could start */
     int64_t since;                      /* the virtual time at which it could start; negative: not yet */
+    uint32_t call;                      /* which call accepted it */
+    bool may_be_fed, was_fed;           /* of a poll: its pipe was written to while it may have run, or ran for certain; */
+    bool may_be_told, is_told;          /* the application read that again, and it may be told all the same, or is */
+    bool may_have_begun, has_begun;     /* of a timeout that counts completions: it may run, or does for certain, */
+    uint32_t tally_least, tally_most;   /* from so many completions on, at least and at most */
 };
 
 /* A call, and what the application sees behind it. */
@@ -54,6 +60,7 @@ struct call {
     uint32_t to_submit, min_complete;
     bool is_getting;
     int64_t limit, deadline;            /* the deadline: in virtual time, or negative */
+    int64_t began;                      /* in virtual time */
     int64_t elapsed;                    /* really */
     long result;
     uint32_t accepted;                  /* by the model */
@@ -82,12 +89,16 @@ struct model {
     int32_t published[MOST_ACTIONS];    /* an action for each position, or negative: its word names no slot */
     uint32_t published_count, taken, dropped;
     int64_t now, slack;                 /* virtual time, and how much later it may be */
+    uint32_t tally;                     /* how many completions were seen that count for timeouts */
+    uint32_t call_number;
+    uint32_t told_least, told_most;     /* of how many completions an eventfd is to be told, since it was last read */
     bool has_file;                      /* OTHER_LOG is registered */
     uint8_t queue[PROVIDED];            /* the buffers that are provided, the next first */
     uint32_t queue_length, queue_flags; /* and the flags of a completion that took one */
     struct model *others[MOST_RINGS];   /* the models of all rings, which send messages to one another */
     struct message *messages;           /* by the sender's action */
     bool is_late;                       /* what is seen next may have ended before this call */
+    bool is_at_rest;                    /* behind the last call all ran that could */
     bool has_overflowed;                /* completions that aren't seen yet are outside of the ring */
     struct call *call;
     struct things *things;
@@ -122,8 +133,9 @@ void expect_stuck(struct model *model, const char *what);
 /* How many requests are to post completions still. */
 uint32_t count_awaited(const struct model *model);
 
-/* Whether a read of the pipe is outstanding; or one that may have been started. */
+/* Whether a read of the pipe is outstanding; or one that may have been started. And whether a request takes what comes out of the pipe, or waits for it. */
 bool has_pipe_reads(const struct model *model, bool is_started);
+bool is_pipe_read(const struct model *model, const struct request *request);
 
 /* Whether a timeout runs, or one that is linked behind a request that runs. */
 bool has_timeouts(const struct model *model);
@@ -150,6 +162,31 @@ bool is_timeout(const struct request *request);
 void force(struct model *model, struct request *request, const char *why);
 void force_before(struct model *model, const struct request *request);
 
+/* The application has written to the pipe, or read of it; and a call begins, in which polls that ran are told of what was written, though it
+ * was read again. What the ring's own requests read isn't told. */
+void note_feed(struct model *model);
+void note_sip(struct model *model);
+void note_heard(struct model *model);
+
+/* ---- tallies.c: timeouts that end once so many completions were posted ---- */
+
+/* Whether a timeout may have counted enough, or has for certain. */
+bool may_have_counted(const struct model *model, const struct request *timeout);
+bool has_counted(const struct model *model, const struct request *timeout);
+
+/* Timeouts begin to count that may, since something has ended or was accepted; those before one that is seen in order have begun, and all
+ * that can start where nothing can go on. */
+void note_tallies(struct model *model);
+void note_begun_before(struct model *model, const struct request *seen);
+void note_all_begun(struct model *model);
+
+/* A completion is seen, which counts or doesn't, and which an eventfd is told of. */
+void count_message(struct model *model);
+void count_end(struct model *model, const struct request *request, bool is_by_itself);
+
+/* Which is told of so often. */
+void judge_told(struct model *model, uint64_t told, bool is_silenced);
+
 /* ---- linux.c: what Linux's rules make of drains and of ends ---- */
 
 /* An entry's operation and its flags are known: whatever other fault it has, its drain and its skip count. */
@@ -175,16 +212,23 @@ bool may_have_been_cancelled(const struct model *model, const struct request *re
 /* The policy is one that goes by the order of submission. */
 bool is_in_order(const struct model *model);
 
+/* Whether a request can end without waiting. */
+bool can_end(const struct model *model, const struct request *request);
+
 /* ---- acts.c ---- */
 
 /* A cancel, a removal or a message has ended with this result. */
 void cancel(struct model *model, const struct request *cancel, int32_t res);
+void cancel_by_flags(struct model *model, const struct request *cancel, int32_t res);
 void remove_one(struct model *model, const struct request *removal, int32_t res);
 void send_one(struct model *model, const struct request *request, int32_t res);
 
 /* Whether one that drains, or a member of its chain, is outstanding, so that messages wait: by Linux's rules none does; and whether a message is to be seen. */
 bool has_drains(const struct model *model);
 bool has_due_messages(const struct model *model);
+
+/* The ring to which a message goes. */
+struct model *receiver_of(const struct model *model, const struct request *request);
 
 /* A message is shown. */
 void see_message(struct model *model, unsigned index, int32_t res);
@@ -196,6 +240,9 @@ bool carry_out(struct model *model, const struct request *request, int32_t res);
 
 /* The result that is a success, of a request that posts none then. */
 int32_t success_of(const struct request *request);
+
+/* The descriptor of what an action is about isn't open, or no file is registered by its number. */
+bool is_no_file(const struct model *model, const struct action *action);
 
 /* Byte `at` of what an action writes, and of what the application feeds. */
 uint8_t written_byte(unsigned index, uint32_t at);

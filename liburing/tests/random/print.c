@@ -36,20 +36,36 @@ static void print_transfer(FILE *out, const struct action *action)
         fprintf(out, "%s%u", i ? "+" : ", bytes ", action->sizes[i]);
 }
 
+static const char *const objects[] = {"log", "other log", "cells", "pipe", "pipe", "zeros", "no file"};
+
+static void print_scope(FILE *out, const struct action *action)
+{
+    bool is_all = action->scope & IORING_ASYNC_CANCEL_ALL;
+    if (action->scope & IORING_ASYNC_CANCEL_ANY)
+        fputs(is_all ? " of all" : " of any", out);
+    else if (action->scope & IORING_ASYNC_CANCEL_FD)
+        fprintf(out, " of %s on %s %s", is_all ? "all" : "one", objects[action->object], action->object == PIPE_IN ? "to write" : "");
+    else
+        fprintf(out, "%s of %u", is_all ? " of all" : "", action->target);
+}
+
 static void print_entry(FILE *out, const struct action *action)
 {
-    static const char *const objects[] = {"log", "other log", "cells", "pipe", "pipe", "zeros", "no file"};
     static const char *const flaws[] = {"", ", bad code", ", bad flag", ", bad priority", ", bad pointer", ", bad time", ", bad data"};
     fprintf(out, "put %s", code_name(action->code));
     switch (action->code) {
     case IORING_OP_TIMEOUT:
     case IORING_OP_LINK_TIMEOUT:
         fprintf(out, " of %" PRId64 " ns%s", action->time, action->is_success ? ", a success" : "");
+        if (action->tally)
+            fprintf(out, ", or %u completions", action->tally);
         break;
     case IORING_OP_MSG_RING:
         fprintf(out, " to ring %u", action->target);
         break;
     case IORING_OP_ASYNC_CANCEL:
+        print_scope(out, action);
+        break;
     case IORING_OP_POLL_REMOVE:
     case IORING_OP_TIMEOUT_REMOVE:
         fprintf(out, " of %u", action->target);
@@ -114,6 +130,12 @@ static void print_action(FILE *out, const struct action *action)
     case UPDATE:
         fputs("register the other log, or don't any more", out);
         break;
+    case SIP:
+        fprintf(out, "read %u bytes of the pipe", action->count * 8u);
+        break;
+    case SILENCE:
+        fputs("tell the eventfd nothing, or again", out);
+        break;
     }
 }
 
@@ -129,7 +151,8 @@ void print_program(FILE *out, const struct program *program)
     fputc('\n', out);
     for (int i = 0; i < program->ring_count; i++) {
         const struct ring_options *ring = &program->rings[i];
-        fprintf(out, "  ring %d: %u entries, %u completions, flags %#x%s%s%s\n", i, ring->entries, ring->completions, ring->flags, ring->is_polled ? ", polls" : "", ring->has_registered ? ", with files and buffers" : "", ring->has_sockets ? ", sockets" : "");
+        static const char *const tellings[] = {"", ", an eventfd", ", an eventfd of what ends later"};
+        fprintf(out, "  ring %d: %u entries, %u completions, flags %#x%s%s%s%s\n", i, ring->entries, ring->completions, ring->flags, ring->is_polled ? ", polls" : "", ring->has_registered ? ", with files and buffers" : "", ring->has_sockets ? ", sockets" : "", tellings[ring->telling]);
     }
     for (int i = 0; i < program->count; i++) {
         if (program->actions[i].kind == NOTHING)

@@ -26,7 +26,9 @@ enum action_kind {
     FORK,       /* has a child call on the ring, and then on one of its own */
     REOPEN,     /* closes the ring, whatever is outstanding, and makes another */
     PROVIDE,    /* provides at most `count` of the buffers again that were taken */
-    UPDATE      /* takes OTHER_LOG out of the registered files, or puts it in again */
+    UPDATE,     /* takes OTHER_LOG out of the registered files, or puts it in again */
+    SIP,        /* reads at most `count` times 8 bytes of the pipe itself, if there are some */
+    SILENCE     /* says in the completion ring's flags that its eventfd is to be told nothing, or is again */
 };
 
 /* What an entry is about. Each ring has its own. */
@@ -67,7 +69,9 @@ struct action {
     int32_t offset;                 /* of LOG, -1 for the file's position; of CELLS, within the cell */
     uint16_t cell;                  /* the action whose cell it reads or writes */
     int64_t time;                   /* of a timeout, in nanoseconds */
+    uint8_t tally;                  /* and how many completions end it too; 0: none do */
     bool is_success;                /* it may end with success */
+    uint8_t scope;                  /* of a cancel: IORING_ASYNC_CANCEL_ALL, FD and ANY; by its object, as a registered file or not */
     uint16_t target;                /* of a cancel or a removal: the action whose entry it is to find; of a message: the ring */
     uint16_t turn;                  /* how far its slot is from the next in order, or of a word, from the last slot */
     /* A call. */
@@ -85,12 +89,16 @@ struct fault {
 
 enum { NO_FAULT, FAULT_EIO, FAULT_ENOSPC, FAULT_SHORT };
 
+/* The eventfd that is registered: it is told of all completions, or of what ends behind the call that submitted it. */
+enum telling { NO_EVENTFD, OF_ALL, OF_LATER };
+
 struct ring_options {
     uint16_t entries, completions;  /* completions: 0 for twice the entries */
     uint32_t flags;
     bool is_polled;
     bool has_registered;            /* files, buffers and provided buffers */
     bool has_sockets;               /* in the pipe's place */
+    enum telling telling;
 };
 
 struct program {
@@ -102,6 +110,7 @@ struct program {
     bool has_drains;        /* by Linux's rules: drains that aren't refused */
     bool is_threaded;       /* each ring is used by a thread of its own */
     bool has_messages;      /* rings send messages to one another */
+    bool has_scopes;        /* cancels have flags: so each end is seen */
     uint16_t fault_rate;
     uint8_t fault_count, ring_count;
     struct fault faults[MOST_FAULTS];

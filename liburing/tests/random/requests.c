@@ -4,7 +4,6 @@
 #include <errno.h>
 #include <inttypes.h>
 #include <linux/io_uring.h>
-#include <poll.h>
 #include <stdarg.h>
 #include <string.h>
 #include <unistd.h>
@@ -49,7 +48,7 @@ static void accept_one(struct model *model, unsigned index, bool is_behind)
     uint16_t group = (uint16_t)(model->group_count - 1);
     bool is_fault = is_faulty(model, action, is_behind);
     struct request *request = &model->requests[model->count++];
-    *request = (struct request){.action = action, .index = (uint16_t)index, .group = group, .since = -1, .is_faulty = is_fault, .failure = failure_of(model, action, index)};
+    *request = (struct request){.action = action, .index = (uint16_t)index, .group = group, .since = -1, .is_faulty = is_fault, .failure = failure_of(model, action, index), .call = model->call_number};
     model->has_drain[group] |= (action->flags & IOSQE_IO_DRAIN) != 0;
     if (model->is_linux)
         note_flags(model, request, !is_behind);
@@ -83,6 +82,7 @@ static void note_starts(struct model *model)
         if (request->since < 0)
             request->since = model->now;
     }
+    note_tallies(model);
 }
 
 /* One that is behind no link and no drain finds its file at once. */
@@ -152,44 +152,6 @@ bool can_start(const struct model *model, const struct request *request)
     return is_in_turn(model, request) && !model->is_deferred[request->group];
 }
 
-bool is_stream(const struct model *model, const struct request *request)
-{
-    const struct action *action = request->action;
-    bool is_pipe = action->object == PIPE_OUT || action->object == PIPE_IN;
-    if (request->failure != 0)
-        return false;
-    if (is_of_sockets(action))
-        return is_pipe && model->program->rings[model->ring].has_sockets;
-    if (action->code == IORING_OP_POLL_ADD)
-        return true;
-    return (is_read(action) || is_write(action)) && (is_pipe || action->object == ZEROS);
-}
-
-/* Whether a request takes what comes out of the pipe, or waits for it. */
-static bool is_pipe_read(const struct model *model, const struct request *request)
-{
-    const struct action *action = request->action;
-    return action->object == PIPE_OUT && (is_read(action) || action->code == IORING_OP_POLL_ADD) && is_stream(model, request);
-}
-
-/* One that is to take a provided buffer, and has found none, ends; one that has found one waits, though another has taken that. */
-bool may_be_blocked(const struct model *model, const struct request *request)
-{
-    const struct things *things = model->things;
-    const struct action *action = request->action;
-    if (!is_pipe_read(model, request) || action->is_impatient || request->is_cancelled || request->is_doomed)
-        return false;
-    if (is_selecting(action) ? !request->may_have_found : is_read(action) && length_of(action) == 0)
-        return false;
-    return things->read == things->written && !things->is_fed_out;
-}
-
-bool is_blocked(const struct model *model, const struct request *request)
-{
-    bool may_have_found_none = is_selecting(request->action) && model->queue_length == 0;
-    return may_be_blocked(model, request) && !may_have_found_none;
-}
-
 bool is_timeout(const struct request *request)
 {
     return request->action->code == IORING_OP_TIMEOUT && !request->is_doomed && !request->is_cancelled;
@@ -206,16 +168,6 @@ uint32_t count_awaited(const struct model *model)
     for (uint32_t i = 0; i < model->count; i++)
         count += !model->requests[i].is_ended && !is_skipping(&model->requests[i]) && !model->requests[i].is_silent;
     return count;
-}
-
-bool has_pipe_reads(const struct model *model, bool is_started)
-{
-    for (uint32_t i = 0; i < model->count; i++) {
-        const struct request *request = &model->requests[i];
-        if (!request->is_ended && is_pipe_read(model, request) && (!is_started || can_start(model, request)))
-            return true;
-    }
-    return false;
 }
 
 bool has_timeouts(const struct model *model)
@@ -311,14 +263,14 @@ bool may_have_been_cancelled(const struct model *model, const struct request *re
     return next < model->requests + model->count && next->group == request->group && next->may_have_fired;
 }
 
-/* Whether a request can end without waiting. */
-static bool can_end(const struct model *model, const struct request *request)
+bool can_end(const struct model *model, const struct request *request)
 {
     if (request->is_ended)
         return false;
     if (request->is_doomed)
         return !model->is_linux || is_in_turn(model, request);
-    return (can_start(model, request) && !is_timeout(request) && !may_be_blocked(model, request) && !may_have_been_cancelled(model, request));
+    bool is_running_out = is_timeout(request) && !has_counted(model, request);
+    return can_start(model, request) && !is_running_out && !may_be_blocked(model, request) && !may_have_been_cancelled(model, request);
 }
 
 void expect_stuck(struct model *model, const char *what)
@@ -326,6 +278,7 @@ void expect_stuck(struct model *model, const char *what)
     for (struct request *request = model->requests; request < model->requests + model->count; request++)
         if (can_end(model, request))
             force(model, request, what);
+    note_all_begun(model);
 }
 
 /* ---- completions ---- */
@@ -342,6 +295,7 @@ static void expect_order(struct model *model, const struct request *seen)
     for (struct request *request = model->requests; request < seen; request++)
         if (can_end(model, request) && !(has_pipes && is_stream(model, request)))
             force(model, request, "comes first in order");
+    note_begun_before(model, seen);
 }
 
 static struct request *outstanding(struct model *model, uint64_t user_data)
@@ -365,6 +319,7 @@ static void end_doomed(struct model *model, struct request *request, int32_t res
         wrong(model, "entry %u ends with a completion, and is to be silent", request->index);
     if (res != wanted)
         wrong(model, "entry %u ends with %" PRId32 ", and is to end with %" PRId32, request->index, res, wanted);
+    count_end(model, request, false);
     end(model, request, false);
 }
 
@@ -385,8 +340,8 @@ static bool has_acted(struct model *model, const struct request *request, int32_
 {
     switch (request->action->code) {
     case IORING_OP_ASYNC_CANCEL:
-        (request->action->flags & LINKS ? remove_one : cancel)(model, request, res);
-        return res == 0;
+        (request->action->scope ? cancel_by_flags : request->action->flags & LINKS ? remove_one : cancel)(model, request, res);
+        return res >= 0;
     case IORING_OP_POLL_REMOVE:
     case IORING_OP_TIMEOUT_REMOVE:
         remove_one(model, request, res);
@@ -402,15 +357,21 @@ static bool has_acted(struct model *model, const struct request *request, int32_
 static void see_end(struct model *model, uint64_t user_data, int32_t res)
 {
     struct request *request = outstanding(model, user_data);
+    /* (behind a message to its own ring the sender ends at once) */
+    bool has_sent = request->action->code == IORING_OP_MSG_RING && model->messages && model->messages[request->index].is_seen && receiver_of(model, request) == model;
+    model->tally -= has_sent;
     if (is_in_order(model) && request->action->code != IORING_OP_TIMEOUT && !is_pipe_read(model, request))
         expect_order(model, request);
+    model->tally += has_sent;
     if (request->is_doomed) {
         end_doomed(model, request, res);
         return;
     }
     force_before(model, request);
-    bool is_cut = !request->is_cancelled && res == -ECANCELED && is_cut_off(model, request);
-    if (is_cut || (request->is_cancelled && res == -ECANCELED)) {
+    bool may_be_cancelled = request->is_cancelled || request->may_be_cancelled;
+    bool is_cut = !may_be_cancelled && res == -ECANCELED && is_cut_off(model, request);
+    if (is_cut || (may_be_cancelled && res == -ECANCELED)) {
+        count_end(model, request, false);
         end(model, request, false);
         return;
     }
@@ -421,6 +382,7 @@ static void see_end(struct model *model, uint64_t user_data, int32_t res)
     bool is_success = has_acted(model, request, res);
     if (is_success && is_skipping(request))
         wrong(model, "entry %u succeeds with a completion that it skips", request->index);
+    count_end(model, request, true);
     end(model, request, is_success);
 }
 

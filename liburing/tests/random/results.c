@@ -95,7 +95,7 @@ static void write_bytes(struct model *model, const struct request *request, uint
 }
 
 /* A registered file stays open, whatever is closed: that it isn't there is found out at the start. */
-static bool is_no_file(const struct model *model, const struct action *action)
+bool is_no_file(const struct model *model, const struct action *action)
 {
     const struct things *things = model->things;
     if (action->is_registered)
@@ -279,7 +279,8 @@ static bool has_result(struct model *model, const struct request *request, int f
     bool is_pipe_read = request->action->object == PIPE_OUT && (is_read(request->action) || request->action->code == IORING_OP_POLL_ADD) && whole >= 0;
     /* What comes late may have found less in its pipe, or nothing. */
     bool is_less = res > 0 ? res < whole : request->action->is_impatient && res == -EAGAIN;
-    return res == whole || (is_pipe_read && model->is_late && is_less);
+    bool is_told = request->may_be_told && res == POLLIN;
+    return res == whole || (is_pipe_read && model->is_late && is_less) || is_told;
 }
 
 static void carry_out_with(struct model *model, const struct request *request, int fault, int32_t res)
@@ -298,6 +299,12 @@ static void carry_out_with(struct model *model, const struct request *request, i
 
 bool carry_out(struct model *model, const struct request *request, int32_t res)
 {
+    if (is_timeout(request) && request->action->tally && res == 0) {
+        if (!may_have_counted(model, request))
+            wrong(model, "timeout %u ends before so many completions came", request->index);
+        model->call->is_fired = true;
+        return true;
+    }
     if (is_blocked(model, request))
         wrong(model, "entry %u reads of an empty pipe: %" PRId32, request->index, res);
     int first = listed_fault(model, request), last = first == NO_FAULT && model->program->fault_rate && !model->is_kernel ? FAULT_SHORT : first;

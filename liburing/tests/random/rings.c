@@ -154,6 +154,11 @@ struct completion completion_at(const struct ring *ring, uint32_t position)
     return (struct completion){cell->user_data, cell->res, cell->flags};
 }
 
+void store_cq_flags(struct ring *ring, uint32_t flags)
+{
+    __atomic_store_n(word_at(ring->cq, ring->params.cq_off.flags), flags, __ATOMIC_RELEASE);
+}
+
 void store_head(struct ring *ring, uint32_t position)
 {
     __atomic_store_n(word_at(ring->cq, ring->params.cq_off.head), position, __ATOMIC_RELEASE);

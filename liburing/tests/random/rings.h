@@ -55,4 +55,7 @@ bool is_readable(const struct ring *ring);
 struct completion completion_at(const struct ring *ring, uint32_t position);
 void store_head(struct ring *ring, uint32_t position);
 
+/* Stores the completion ring's flags, which are the application's. */
+void store_cq_flags(struct ring *ring, uint32_t flags);
+
 #endif

@@ -1,12 +1,10 @@
-/* Runs the actions of a program, and tells the model what was done and what is seen. */
+/* Carries the actions of a program out, and tells the model what was done and what is seen. */
 #define _GNU_SOURCE
 #include "run.h"
 #include "world.h"
 
 #include <errno.h>
-#include <pthread.h>
 #include <signal.h>
-#include <stdlib.h>
 #include <string.h>
 #include <sys/wait.h>
 #include <time.h>
@@ -30,7 +28,7 @@ static uint32_t count_pending(const struct world *world)
 }
 
 /* By Linux's rules what is deferred depends on what has ended. So a ring that drains shows all: no entry is published whose success would be
- * skipped behind a drain; nor one that drains, if a completion could overflow, unless it is refused. */
+ * skipped behind a drain, or whose failure would end others unseen; nor one that drains, if a completion could overflow, unless it is refused. */
 static bool hides(const struct world *world, const struct action *action)
 {
     bool has_skipped = action->flags & IOSQE_CQE_SKIP_SUCCESS && counts(action), has_drained = false;
@@ -41,7 +39,8 @@ static bool hides(const struct world *world, const struct action *action)
         has_skipped |= before && before->flags & IOSQE_CQE_SKIP_SUCCESS && counts(before);
     }
     bool is_unknown_drain = action->flags & IOSQE_IO_DRAIN && !has_skipped && !world->program->has_drains;
-    return !world->program->is_manual && (is_unknown_drain || (action->flags & IOSQE_CQE_SKIP_SUCCESS && world->program->has_drains && has_drained));
+    bool is_unseen = action->flags & IOSQE_CQE_SKIP_SUCCESS && world->program->has_drains && (has_drained || action->flags & LINKS);
+    return !world->program->is_manual && (is_unknown_drain || is_unseen);
 }
 
 static void put(struct world *world, unsigned index, bool is_entry)
@@ -165,6 +164,9 @@ static void enter(struct world *world, uint32_t to_submit, uint32_t min_complete
     call.ready_before = call.ready;
     model->is_late = world->is_kernel || call.flags & IORING_SQ_CQ_OVERFLOW;
     model->call = &call;
+    call.began = model->now;
+    model->call_number++;
+    note_heard(model);
     take(model, to_submit);
     call.limit = limit_of(world, &call, limit);
     if (call.limit >= 0 && min_complete > 0 && call.accepted == to_submit)
@@ -177,6 +179,7 @@ static void enter(struct world *world, uint32_t to_submit, uint32_t min_complete
     look(world, &call);
     see_all(world);
     judge_call(model);
+    look_at_telling(world);
     while (taken < model->taken)
         spoil(world, taken++);
     model->call = NULL;
@@ -233,6 +236,13 @@ static bool has_pipe_writes(const struct world *world)
     return false;
 }
 
+/* Only if it is known what was read. */
+static void act_sip(struct world *world, uint32_t count)
+{
+    if (!(sq_flags(&world->ring) & IORING_SQ_CQ_OVERFLOW) && !has_pipe_writes(world))
+        sip(world, count);
+}
+
 /* Only if it is known which buffers were taken. */
 static void act_provide(struct world *world, uint32_t count)
 {
@@ -256,7 +266,7 @@ static void act_update(struct world *world)
     update_files(world);
 }
 
-static void act(struct world *world, unsigned index)
+void act(struct world *world, unsigned index)
 {
     const struct action *action = &world->program->actions[index];
     switch (action->kind) {
@@ -292,13 +302,16 @@ static void act(struct world *world, unsigned index)
     case UPDATE:
         act_update(world);
         break;
+    case SIP:
+        act_sip(world, action->count * 8u);
+        break;
+    case SILENCE:
+        silence(world);
+        break;
     }
 }
 
-/* ---- a program ---- */
-
-/* Goes on until nothing is outstanding; then a wait for one more is in vain. */
-static void finish(struct world *world)
+void finish(struct world *world)
 {
     struct model *model = &world->model;
     for (int round = 0; count_awaited(model) > 0 || count_pending(world) > 0; round++) {
@@ -317,77 +330,4 @@ static void finish(struct world *world)
         seen = world->seen;
         enter(world, 0, world->is_kernel ? 0 : 1, true, 0, false);
     } while (seen != world->seen);
-}
-
-static void *run_ring(void *at)
-{
-    struct world *world = at;
-    for (unsigned i = 0; i < world->program->count; i++)
-        if (world->program->actions[i].ring == world->index)
-            act(world, i);
-    finish(world);
-    return NULL;
-}
-
-static void run_threads(struct world *worlds, unsigned count)
-{
-    pthread_t threads[MOST_RINGS];
-    for (unsigned i = 0; i < count; i++)
-        if (pthread_create(&threads[i], NULL, run_ring, &worlds[i]) != 0)
-            wrong(&worlds[i].model, "no thread");
-    for (unsigned i = 0; i < count; i++)
-        pthread_join(threads[i], NULL);
-}
-
-/* The models of all rings know one another. */
-static void let_talk(struct world *worlds, unsigned count)
-{
-    static struct message messages[MOST_ACTIONS];
-    memset(messages, 0, sizeof messages);
-    for (unsigned i = 0; i < count; i++) {
-        worlds[i].model.messages = messages;
-        for (unsigned other = 0; other < count; other++)
-            worlds[i].model.others[other] = &worlds[other].model;
-    }
-}
-
-/* Messages of a ring that came to rest later are seen now, unless one that posts nothing drains still. */
-static void judge_messages(struct world *world)
-{
-    finish(world);
-    for (unsigned i = 0; i < MOST_ACTIONS; i++) {
-        const struct message *message = &world->model.messages[i];
-        if (message->is_sent && !message->is_seen && !has_drains(&world->model) && world->program->actions[i].target == world->index)
-            wrong(&world->model, "message %u is lost", i);
-    }
-}
-
-void run_program(const struct program *program, bool is_kernel, struct outcome *outcome)
-{
-    struct world *worlds = calloc(program->ring_count, sizeof *worlds);
-    memset(outcome, 0, sizeof *outcome);
-    for (unsigned i = 0; i < program->ring_count; i++) {
-        worlds[i].program = program;
-        worlds[i].index = i;
-        worlds[i].is_kernel = is_kernel;
-        worlds[i].outcome = outcome;
-        worlds[i].others = worlds;
-        make_world(&worlds[i]);
-    }
-    if (program->has_messages)
-        let_talk(worlds, program->ring_count);
-    if (program->is_threaded)
-        run_threads(worlds, program->ring_count);
-    for (unsigned i = 0; i < program->count && !program->is_threaded; i++)
-        act(&worlds[program->actions[i].ring], i);
-    for (unsigned i = 0; i < program->ring_count && !program->is_threaded; i++)
-        finish(&worlds[i]);
-    for (unsigned i = 0; i < program->ring_count; i++) {
-        if (program->has_messages)
-            judge_messages(&worlds[i]);
-        judge_world(&worlds[i]);
-        free(worlds[i].is_used);
-        free(worlds[i].provided_ring);
-    }
-    free(worlds);
 }

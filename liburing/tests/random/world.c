@@ -8,6 +8,7 @@
 #include <stdlib.h>
 #include <string.h>
 #include <stddef.h>
+#include <sys/eventfd.h>
 #include <sys/mman.h>
 #include <sys/socket.h>
 #include <unistd.h>
@@ -105,6 +106,36 @@ static void register_all(struct world *world)
         provide(world, buffer);
 }
 
+/* ---- what an eventfd is told ---- */
+
+static void register_telling(struct world *world)
+{
+    enum telling telling = world->program->rings[world->index].telling;
+    world->telling = world->is_silenced = 0;
+    if (telling == NO_EVENTFD)
+        return;
+    world->telling = move(world, eventfd(0, EFD_NONBLOCK), OBJECTS + 1);
+    long result = register_at_ring(&world->ring, telling == OF_ALL ? IORING_REGISTER_EVENTFD : IORING_REGISTER_EVENTFD_ASYNC, &world->telling, 1);
+    if (result != 0)
+        wrong(&world->model, "registering an eventfd ends with %ld", result);
+}
+
+void look_at_telling(struct world *world)
+{
+    uint64_t told = 0;
+    if (!world->telling)
+        return;
+    if (read(world->telling, &told, sizeof told) < 0 && errno != EAGAIN)
+        wrong(&world->model, "the eventfd can't be read");
+    judge_told(&world->model, told, world->is_silenced);
+}
+
+void silence(struct world *world)
+{
+    world->is_silenced = !world->is_silenced;
+    store_cq_flags(&world->ring, world->is_silenced ? IORING_CQ_EVENTFD_DISABLED : 0);
+}
+
 /* The rings that the process has made, which the layer counts. */
 static unsigned rings_made;
 
@@ -131,6 +162,7 @@ void make_world_ring(struct world *world)
     world->seen = 0;
     if (options->has_registered)
         register_all(world);
+    register_telling(world);
 }
 
 void make_world(struct world *world)
@@ -182,6 +214,7 @@ static void write_timeout(struct world *world, struct io_uring_sqe *entry, unsig
     entry->addr = (uintptr_t)&world->times[index];
     entry->len = 1;
     entry->timeout_flags = action->is_success && action->code == IORING_OP_TIMEOUT ? IORING_TIMEOUT_ETIME_SUCCESS : 0;
+    entry->off = action->tally;
 }
 
 static void write_flaw(struct io_uring_sqe *entry, enum flaw flaw)
@@ -224,8 +257,9 @@ void write_entry(struct world *world, struct io_uring_sqe *entry, unsigned index
     case IORING_OP_ASYNC_CANCEL:
     case IORING_OP_POLL_REMOVE:
     case IORING_OP_TIMEOUT_REMOVE:
-        entry->fd = 0;
-        entry->addr = user_data_of(action->target);
+        entry->fd = action->scope & IORING_ASYNC_CANCEL_FD ? entry->fd : 0;
+        entry->addr = action->scope & (IORING_ASYNC_CANCEL_FD | IORING_ASYNC_CANCEL_ANY) ? 0 : user_data_of(action->target);
+        entry->cancel_flags = action->scope | (action->is_registered && index % 2 ? IORING_ASYNC_CANCEL_FD_FIXED : 0);
         break;
     case IORING_OP_FALLOCATE:
         entry->off = (uint64_t)action->offset;
@@ -261,6 +295,25 @@ void feed(struct world *world, uint32_t count)
     if (write(world->feed, bytes, count) != (ssize_t)count)
         wrong(&world->model, "the pipe is full");
     things->written += count;
+    note_feed(&world->model);
+}
+
+/* Sees that bytes that were read are the next of the pipe. */
+static void check_read(struct world *world, const uint8_t *found, ssize_t got)
+{
+    struct things *things = &world->things;
+    if (got <= 0 || got > things->written - things->read || memcmp(found, things->piped + things->read, (size_t)got) != 0)
+        wrong(&world->model, "the pipe holds something else");
+    things->read += (uint32_t)got;
+}
+
+void sip(struct world *world, uint32_t count)
+{
+    uint8_t found[256];
+    if (world->things.read == world->things.written)
+        return;
+    check_read(world, found, read(world->fds[PIPE_OUT], found, count < sizeof found ? count : sizeof found));
+    note_sip(&world->model);
 }
 
 void end_feed(struct world *world)
@@ -291,12 +344,8 @@ static void judge_pipe(struct world *world)
     struct things *things = &world->things;
     uint8_t found[4096];
     end_feed(world);
-    while (things->read < things->written) {
-        ssize_t got = read(world->fds[PIPE_OUT], found, sizeof found);
-        if (got <= 0 || got > things->written - things->read || memcmp(found, things->piped + things->read, (size_t)got) != 0)
-            wrong(&world->model, "the pipe holds something else at the end");
-        things->read += (uint32_t)got;
-    }
+    while (things->read < things->written)
+        check_read(world, found, read(world->fds[PIPE_OUT], found, sizeof found));
     if (read(world->fds[PIPE_OUT], found, 1) != 0)
         wrong(&world->model, "the pipe holds more at the end");
 }

@@ -24,6 +24,8 @@ struct world {
     struct __kernel_timespec times[MOST_ACTIONS];
     int fds[OBJECTS];
     int feed;                           /* the pipe's end for the application, or negative */
+    int telling;                        /* the eventfd, or 0 */
+    bool is_silenced;                   /* it is to be told nothing */
     bool *is_used;                      /* slots that a published position names */
     int32_t slots[MOST_ACTIONS];        /* the slot of each position, or negative */
     uint32_t seen;                      /* completions that the model has seen */
@@ -39,6 +41,10 @@ void judge_world(struct world *world);
 /* Writes an entry of an action. */
 void write_entry(struct world *world, struct io_uring_sqe *entry, unsigned index);
 
+/* Carries an action out; and goes on until nothing is outstanding, behind which a wait for one more is in vain. */
+void act(struct world *world, unsigned index);
+void finish(struct world *world);
+
 /* Spoils what the application may reuse once a position is taken. */
 void spoil(struct world *world, uint32_t position);
 
@@ -48,8 +54,13 @@ bool provide(struct world *world, unsigned buffer);
 /* Takes OTHER_LOG out of the registered files, or puts it in again. */
 void update_files(struct world *world);
 
-/* Writes bytes to the pipe, if its end is open. */
+/* How often the eventfd was told behind a call; and has it told nothing, or again. */
+void look_at_telling(struct world *world);
+void silence(struct world *world);
+
+/* Writes bytes to the pipe, if its end is open; reads some that are there; and closes that end. */
 void feed(struct world *world, uint32_t count);
+void sip(struct world *world, uint32_t count);
 void end_feed(struct world *world);
 
 #endif

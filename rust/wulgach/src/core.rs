@@ -2,7 +2,8 @@ use crate::answer::{Answer, Completion};
 use crate::entry::Entry;
 use crate::error::{made, Error};
 use crate::ffi::{self, Place};
-use crate::reading::{self, found, Counts, Operation};
+use crate::operation::{Operation, NO_OPERATION};
+use crate::reading::{self, found, Counts};
 use crate::setup::Setup;
 use crate::step::Step;
 use crate::why::{self, Why};
@@ -164,10 +165,10 @@ impl Core {
     /// What the request of this number asks for, if it is running.
     pub fn running_op(&self, number: u64) -> Option<Operation> {
         // SAFETY: as in `counts`.
-        found(reading::NO_OPERATION, |operation| unsafe {
+        found(NO_OPERATION, |operation| unsafe {
             ffi::wulgach_core_running_op(self.place.get(), number, operation)
         })
-        .map(|operation| reading::operation(&operation))
+        .map(|operation| Operation::of(&operation))
     }
 
     /// The least request from this number on, any number, that can be issued: that `Step::Issue` starts or ends. `None` exactly if there is none. It looks once at each 4,096 numbers that it passes.

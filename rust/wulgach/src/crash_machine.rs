@@ -1,7 +1,8 @@
 use crate::answer::{Answer, Completion};
 use crate::error::Error;
 use crate::ffi::{self, Place};
-use crate::reading::{self, found, Counts, FileState, Operation};
+use crate::operation::{Operation, NO_OPERATION};
+use crate::reading::{self, found, Counts, FileState};
 use crate::setup::Setup;
 use crate::step::Step;
 use crate::volume::{read, read_all, Volume};
@@ -160,10 +161,10 @@ impl CrashMachine {
     /// What the request of this number asks for, if it is running.
     pub fn running_op(&self, number: u64) -> Option<Operation> {
         // SAFETY: as in `is_lost`.
-        found(reading::NO_OPERATION, |operation| unsafe {
+        found(NO_OPERATION, |operation| unsafe {
             ffi::wulgach_crash_machine_running_op(self.place.get(), number, operation)
         })
-        .map(|operation| reading::operation(&operation))
+        .map(|operation| Operation::of(&operation))
     }
 
     /// How many requests can be issued.

@@ -18,26 +18,6 @@ pub struct Counts {
     pub reaped: u64,
 }
 
-/// What a running request asks for.
-#[derive(Clone, Copy, Debug, PartialEq, Eq)]
-pub enum Operation {
-    /// Nothing.
-    Nop,
-    /// `len` bytes of a file, 0 to 64, from an offset on.
-    Read { fd: i32, off: u64, len: u32 },
-    /// The first `len` of these bytes put into a file at an offset.
-    Write {
-        fd: i32,
-        off: u64,
-        len: u32,
-        bytes: [u8; 64],
-    },
-    /// The writes of a file so far noted as safe.
-    Fsync { fd: i32 },
-    /// The end of another request, or of all that don't run. A cancel never runs: it ends as it is issued.
-    Cancel { target: u64, all: bool },
-}
-
 /// How a file of a machine stands.
 #[derive(Clone, Copy, Debug, PartialEq, Eq)]
 pub struct FileState {
@@ -61,16 +41,6 @@ pub(crate) const NO_COMPLETION: ffi::Completion = ffi::Completion {
     res: 0,
     bytes: [0; 64],
 };
-pub(crate) const NO_OPERATION: ffi::Operation = ffi::Operation {
-    code: 0,
-    fd: 0,
-    off: 0,
-    target: 0,
-    len: 0,
-    all: 0,
-    bytes: [0; 64],
-};
-
 pub(crate) const NO_FILE: ffi::File = ffi::File {
     writes: 0,
     synced: 0,
@@ -105,28 +75,5 @@ pub(crate) fn completion(words: &ffi::Completion) -> Completion {
         user_data: words.user_data,
         res: words.res,
         bytes: words.bytes,
-    }
-}
-
-pub(crate) fn operation(words: &ffi::Operation) -> Operation {
-    match words.code {
-        0 => Operation::Nop,
-        3 => Operation::Fsync { fd: words.fd },
-        14 => Operation::Cancel {
-            target: words.target,
-            all: words.all != 0,
-        },
-        22 => Operation::Read {
-            fd: words.fd,
-            off: words.off,
-            len: words.len,
-        },
-        23 => Operation::Write {
-            fd: words.fd,
-            off: words.off,
-            len: words.len,
-            bytes: words.bytes,
-        },
-        code => unreachable!("no operation has the code {code}"),
     }
 }

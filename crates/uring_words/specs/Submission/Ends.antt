@@ -87,6 +87,14 @@ pub record ReaderRests (d : KernelSide) : Type 0 where
   pub known : AreWhole (d.taken ++ d.known)
   pub whole : AreWhole d.taken
 
+-- the positions that an application's seat has published
+abbrev pub published_of : Holder → List Position
+published_of h = h.0.app.published
+
+-- the positions that a dispatcher's seat has taken
+abbrev pub taken_of : Holder → List Position
+taken_of h = h.0.kernel.taken
+
 -- the positions that a dispatcher's seat knows to be there
 abbrev pub known_of : Holder → List Position
 known_of h = h.0.kernel.known

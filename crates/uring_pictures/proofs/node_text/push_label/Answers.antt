@@ -1,7 +1,7 @@
 use Rattle.std.specs.Prelude.{codes, string_bytes, decimal}
 use Rattle.std.proofs.lemmas.Result.{on_ok_weaker}
 use Rattle.uring_entry.specs.Layout.{user_data_of}
-use Rattle.uring_trace.specs.Shown.{operation_text}
+use Rattle.uring_text.specs.Forms.{operation_text}
 use Rattle.uring_pictures.specs.Graphs.{flags_text, standing_text}
 use Rattle.uring_pictures.proofs.Arrows.{labelled}
 use Rattle.uring_pictures.proofs.node_text.push_label.Goals as goal

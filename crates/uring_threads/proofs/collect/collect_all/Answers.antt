@@ -1,92 +1,46 @@
+use Rattle.std.proofs.Common.{◌≡◌, ◌+◌, ◌<◌, rules, length, get_or, refl, subst, arith}
 use Rattle.std.proofs.lemmas.Bool.{false≢true}
 use Rattle.std.proofs.lemmas.Result.{IfOk-from_err}
-use Rattle.std.proofs.Common.{rules, ◌≡◌, ◌+◌, length, refl, subst, ◌∙◌, arith}
-use Rattle.uring_threads.specs.Kept.{now}
-use Rattle.uring_threads.specs.Tallies.{finishes_counted}
+use Rattle.uring_workers.specs.WorkLanes.{results_received}
+use Rattle.uring_threads.specs.Dispatched.{AreTakenIn}
 use Rattle.uring_threads.proofs.Collecting.{on_err}
-use Rattle.uring_threads.proofs.FewResults.{SeenBefore, few_at, few_in_all, seen_at, seen_in_all}
-use Rattle.uring_threads.proofs.Posting.{posts_then}
-use Rattle.uring_threads.proofs.Recording.{finishes_then}
-use Rattle.uring_threads.proofs.TraceSteps.{appends_then}
-use Rattle.uring_threads.proofs.Turning.{lanes_then}
+use Rattle.uring_threads.proofs.FewResults.{collects_at, collects_nothing, few_in_all, seen_at, seen_in_all}
 use Rattle.uring_threads.proofs.collect.collect_all.Goals as goal
 
-pub returns-in_err-count-clause-err : goal.returns-in_err-count-clause-err
-returns-in_err-count-clause-err g c =
-    let later = c.in_err-count.ensures.err in
-    on_err c.from_residual.result (c.loop-place.count + later.0, appends_then _ _ _ _ _ _ c.loop-place.invariant.tally later.1 refl)
+pub loop-place-init : goal.loop-place-init
+loop-place-init g c = record {
+  collected = collects_nothing c.args.lanes.now c.args.kept.now c.requires.carried;
+  seen = λ k low. absurd (omega (arith, low));
+}
 
-pub returns-in_err-count-clause-row : goal.returns-in_err-count-clause-row
-returns-in_err-count-clause-row g c =
-    finishes_then c.args.kept.now c.loop-place.kept c.collect_at.new.kept c.loop-place.invariant.row c.collect_at.ensures.row
-
-pub returns-clause-few : goal.returns-clause-few
-returns-clause-few g c = few_in_all (length c.args.lanes.now) c.loop-place.place c.args.kept.now c.loop-place.kept c.loop-place.invariant.few
-
-pub returns-in_err-count-clause-few : goal.returns-in_err-count-clause-few
-returns-in_err-count-clause-few g c =
-    few_in_all (length c.args.lanes.now) (c.loop-place.place + 1) c.args.kept.now c.collect_at.new.kept
-    (few_at c.args.lanes.now c.loop-place.lanes c.loop-place.place c.args.kept.now c.loop-place.kept c.collect_at.new.kept c.loop-place.invariant.lanes c.loop-place.invariant.few c.collect_at.ensures.few)
-
-pub returns-clause-seen : goal.returns-clause-seen
-returns-clause-seen g c =
-    let end : c.loop-place.place ≡ length c.args.lanes.now = search (rules, arith) in
-    seen_in_all c.args.lanes.now c.loop-place.lanes c.args.kept.now c.loop-place.kept c.loop-place.invariant.lanes
-    (subst (λ n. SeenBefore (length c.args.lanes.now) n c.args.kept.now c.loop-place.kept c.loop-place.lanes) end c.loop-place.invariant.seen)
+pub collect-requires-clause-taken : goal.collect-requires-clause-taken
+collect-requires-clause-taken g c =
+    let p = c.loop-place.invariant.collected in
+    let low : c.loop-place.place < length c.loop-place.lanes = omega (arith, c.loop-place-test.true, p.same.many) in
+    subst (λ n. AreTakenIn c.loop-place.kept n c.loop-place.place (results_received (get_or c.loop-place.lanes c.loop-place.place c.index-lanes-place.result))) p.same.many (p.carried c.loop-place.place c.index-lanes-place.result low).results
 
 pub loop-place-preserved : goal.loop-place-preserved
 loop-place-preserved g c =
+    let i = c.loop-place.invariant in
+    let low : c.loop-place.place < length c.loop-place.lanes = omega (arith, c.loop-place-test.true, i.collected.same.many) in
+    let p = c.in_ok-count.ensures.ok in
     record {
-      most = omega (arith, c.loop-place.invariant.most, c.in_ok-count.ensures.most);
-      carried = c.collect_at.ensures.carried;
-      lanes = lanes_then c.args.lanes.now c.loop-place.lanes c.collect_at.new.lanes c.loop-place.invariant.lanes c.collect_at.ensures.lanes;
-      posts = posts_then (now c.args.kept.now) (now c.loop-place.kept) (now c.collect_at.new.kept) c.loop-place.invariant.posts c.collect_at.ensures.posts;
-      tally = appends_then c.args.kept.now c.loop-place.kept c.collect_at.new.kept (finishes_counted c.loop-place.count) (finishes_counted c.in_ok-count.field-0) (finishes_counted (c.loop-place.count + c.in_ok-count.field-0)) c.loop-place.invariant.tally c.in_ok-count.ensures.tally refl;
-      row = finishes_then c.args.kept.now c.loop-place.kept c.collect_at.new.kept c.loop-place.invariant.row c.collect_at.ensures.row;
-      few = few_at c.args.lanes.now c.loop-place.lanes c.loop-place.place c.args.kept.now c.loop-place.kept c.collect_at.new.kept c.loop-place.invariant.lanes c.loop-place.invariant.few c.collect_at.ensures.few;
-      seen = seen_at c.args.lanes.now c.loop-place.lanes c.collect_at.new.lanes c.loop-place.place c.in_ok-count.field-0 c.args.kept.now c.loop-place.kept c.collect_at.new.kept c.loop-place.invariant.lanes c.collect_at.ensures.lanes c.loop-place.invariant.few c.collect_at.ensures.few
-          c.in_ok-count.ensures.own c.collect_at.ensures.none_comes c.collect_at.ensures.others c.in_ok-count.ensures.seen c.loop-place.invariant.seen;
-      idle = λ none. c.in_ok-count.ensures.idle (omega (arith, none)) ∙ c.loop-place.invariant.idle (omega (arith, none));
+      collected = collects_at c.collect.new.lanes c.index-lanes-place.result i.collected low p.collected p.most c.collect.ensures.lanes c.collect.ensures.taken;
+      seen = seen_at c.collect.new.lanes i.collected low p i.seen;
     }
 
-pub returns-in_err-count-clause-granted : goal.returns-in_err-count-clause-granted
-returns-in_err-count-clause-granted g c = λ all. absurd (false≢true (c.in_err-count.ensures.granted all))
+pub returns : goal.returns
+returns g c =
+    let i = c.loop-place.invariant in
+    let end : c.loop-place.place ≡ length c.args.lanes.now = search (rules, arith) in
+    record { carried = i.collected.carried; lanes = i.collected.same; few = few_in_all i.collected; seen = seen_in_all c.args.kept.now c.loop-place.kept i.collected.same end i.seen; ok = i.collected.repeats; err = tt; granted = λ all. refl }
 
-pub collect_at-requires-clause-carried : goal.collect_at-requires-clause-carried
-collect_at-requires-clause-carried g c = c.loop-place.invariant.carried
-
-pub returns-in_err-count-clause-carried : goal.returns-in_err-count-clause-carried
-returns-in_err-count-clause-carried g c = c.collect_at.ensures.carried
-
-pub returns-in_err-count-clause-lanes : goal.returns-in_err-count-clause-lanes
-returns-in_err-count-clause-lanes g c = lanes_then c.args.lanes.now c.loop-place.lanes c.collect_at.new.lanes c.loop-place.invariant.lanes c.collect_at.ensures.lanes
-
-pub returns-in_err-count-clause-posts : goal.returns-in_err-count-clause-posts
-returns-in_err-count-clause-posts g c = posts_then (now c.args.kept.now) (now c.loop-place.kept) (now c.collect_at.new.kept) c.loop-place.invariant.posts c.collect_at.ensures.posts
-
-pub returns-in_err-count-clause-seen : goal.returns-in_err-count-clause-seen
-returns-in_err-count-clause-seen g c = IfOk-from_err c.from_residual.result _ c.from_residual.ensures.0
-
-pub returns-in_err-count-clause-tally : goal.returns-in_err-count-clause-tally
-returns-in_err-count-clause-tally g c = IfOk-from_err c.from_residual.result _ c.from_residual.ensures.0
-
-pub returns-in_err-count-clause-idle : goal.returns-in_err-count-clause-idle
-returns-in_err-count-clause-idle g c = IfOk-from_err c.from_residual.result _ c.from_residual.ensures.0
-
-pub returns-clause-carried : goal.returns-clause-carried
-returns-clause-carried g c = c.loop-place.invariant.carried
-
-pub returns-clause-lanes : goal.returns-clause-lanes
-returns-clause-lanes g c = c.loop-place.invariant.lanes
-
-pub returns-clause-posts : goal.returns-clause-posts
-returns-clause-posts g c = c.loop-place.invariant.posts
-
-pub returns-clause-tally : goal.returns-clause-tally
-returns-clause-tally g c = c.loop-place.invariant.tally
-
-pub returns-clause-row : goal.returns-clause-row
-returns-clause-row g c = c.loop-place.invariant.row
-
-pub returns-clause-idle : goal.returns-clause-idle
-returns-clause-idle g c = c.loop-place.invariant.idle
+pub returns-in_err-count : goal.returns-in_err-count
+returns-in_err-count g c =
+    let i = c.loop-place.invariant in
+    let low : c.loop-place.place < length c.loop-place.lanes = omega (arith, c.loop-place-test.true, i.collected.same.many) in
+    let some = c.in_err-count.ensures.err in
+    let p = collects_at c.collect.new.lanes c.index-lanes-place.result i.collected low some.2 some.1 c.collect.ensures.lanes c.collect.ensures.taken in
+    let r = c.from_residual.result in
+    let err = c.from_residual.ensures.0 in
+    record { carried = p.carried; lanes = p.same; few = few_in_all p; seen = IfOk-from_err r _ err; ok = IfOk-from_err r _ err; err = on_err r (c.loop-place.count + some.0, p.repeats); granted = λ all. absurd (false≢true (c.in_err-count.ensures.granted all)) }

@@ -1,31 +1,37 @@
-use Rattle.std.proofs.Common.{◌++◌, [], ◌∷◌, ◌∙◌, ap, refl, subst}
-use Rattle.uring_workers.specs.WorkLanes.{results_received}
+use Rattle.std.proofs.Common.{refl, subst, length, arith, ◌+◌}
+use Rattle.std.proofs.lemmas.Bool.{false≢true}
 use Rattle.uring_threads.specs.Collected.{CanBeTaken}
 use Rattle.uring_threads.specs.Kept.{Grows}
 use Rattle.uring_threads.specs.Settled.{finish_of}
-use Rattle.uring_threads.proofs.Collecting.{first_known, takes_in, result_taken, others_stay}
+use Rattle.uring_threads.proofs.Collecting.{collects_none, collects_one, first_known, first_stays, none_stays, on_err, takes_in}
+use Rattle.uring_threads.proofs.TraceSteps.{still}
+use Rattle.uring_threads.proofs.collect.collect_one.Given.{Over}
 use Rattle.uring_threads.proofs.collect.collect_one.Goals as goal
 
 -- the result that was looked at can be taken in, and it is the one that was popped
-popped_can : (c : goal.After-finish)
-    → CanBeTaken c.args.kept.now c.args.workers c.args.place c.pop_known-result.result.number
-popped_can c =
-    subst (λ r. CanBeTaken c.args.kept.now c.args.workers c.args.place r.number) (first_known c.peek_known.ensures c.pop_known-result.ensures.received.1) (c.if-not-is_at.ensures.0 refl)
+popped_can : (g : Over) (c : goal.After-finish g)
+    → CanBeTaken c.reserve.new.self c.args.workers c.args.place c.pop_known-result.result.number
+popped_can g c =
+    subst (λ r. CanBeTaken c.reserve.new.self c.args.workers c.args.place r.number) (first_known c.peek_known.ensures c.pop_known-result.ensures.received.1) (c.if-not-is_at.ensures.0 refl)
 
 -- and that was recorded
-grows : (c : goal.After-finish)
-    → Grows c.args.kept.now c.finish.new.self (finish_of c.pop_known-result.result)
-grows c = takes_in c.args.kept.now c.finish.new.self c.args.workers c.args.place c.pop_known-result.result c.finish.result (popped_can c) c.finish.ensures.outcome c.finish.ensures.grows
+grows : (g : Over) (c : goal.After-finish g)
+    → Grows c.reserve.new.self c.finish.new.self (finish_of c.pop_known-result.result)
+grows g c = takes_in c.reserve.new.self c.finish.new.self c.args.workers c.args.place c.pop_known-result.result c.finish.result (popped_can g c) c.finish.ensures.outcome c.finish.ensures.grows
 
-pub returns-clause-taken : goal.returns-clause-taken
-returns-clause-taken c =
-    rw (c.pop_known-result.ensures.received.0, c.is_empty.ensures.looked.1)
-    (result_taken c.args.kept.now c.finish.new.self c.args.workers c.args.place c.pop_known-result.result (popped_can c) (grows c) (results_received c.args.lanes.now) c.requires.taken)
+pub returns-then-is_empty-clause-ok : goal.returns-then-is_empty-clause-ok
+returns-then-is_empty-clause-ok g c = (collects_none c.args.workers c.args.place (still c.args.kept.now), none_stays c.args.kept.now c.args.workers c.args.place _ (c.if-is_empty.ensures.value.0 refl))
 
-pub returns-clause-next : goal.returns-clause-next
-returns-clause-next c =
-    let r = c.pop_known-result.result in
-    (r, c.pop_known-result.ensures.received.0 ∙ ap (λ rs. rs ++ r ∷ []) c.is_empty.ensures.looked.1, popped_can c, grows c)
+pub returns-then-not-is_at-clause-ok : goal.returns-then-not-is_at-clause-ok
+returns-then-not-is_at-clause-ok g c =
+    (collects_none c.args.workers c.args.place c.reserve.ensures.unmoved, first_stays c.reserve.new.self c.args.workers c.args.place c.peek_known.ensures (λ can. absurd (false≢true (c.if-not-is_at.ensures.1 can))))
 
-pub returns-clause-others : goal.returns-clause-others
-returns-clause-others c = others_stay c.args.kept.now c.finish.new.self c.args.workers c.args.place c.pop_known-result.result (popped_can c) (grows c)
+pub returns-in_err-reserve-clause-err : goal.returns-in_err-reserve-clause-err
+returns-in_err-reserve-clause-err g c =
+    on_err c.from_residual.result (collects_none c.args.workers c.args.place c.reserve.ensures.unmoved)
+
+pub returns-clause-ok : goal.returns-clause-ok
+returns-clause-ok g c = collects_one c.pop_known-result.result c.reserve.ensures.unmoved (popped_can g c) (grows g c)
+
+pub returns-in_err-reserve-clause-granted : goal.returns-in_err-reserve-clause-granted
+returns-in_err-reserve-clause-granted g c = λ all. absurd (false≢true (c.in_err-reserve.ensures.granted (length c.args.kept.now.trace + 1) (all (length c.args.kept.now.trace + 1)) (omega arith)))

@@ -1,10 +1,9 @@
-use Rattle.std.proofs.Common.{◌≡◌, ◌≤◌, ◌^◌, length}
+use Rattle.std.proofs.Common.{◌≤◌, ◌^◌, length}
+use Rattle.uring_core.specs.declared.step.Step.TheVariants as step
 use Rattle.uring_threads.specs.Dispatched.{HaveCarried}
+use Rattle.uring_threads.specs.EventRows.{Repeats}
 use Rattle.uring_workers.specs.WorkLanes.{AreSameLanes}
-use Rattle.uring_threads.specs.Delivered.{OnlyPosts}
-use Rattle.uring_threads.specs.EventRows.{RecordsIssues}
-use Rattle.uring_threads.specs.Kept.{now}
-use Rattle.uring_threads.specs.Tallies.{Appends, issues_counted}
+use Rattle.uring_threads.specs.Tallies.{issues_counted}
 use Rattle.uring_threads.proofs.issues.issue_all.Given as goal
 
 -- so many requests were issued, each with an event of its own
@@ -14,8 +13,5 @@ invariant-loop-count g l = record {
   limit : l.count ≤ 2 ^ 63;
   carried : HaveCarried l.kept l.lanes;
   lanes : AreSameLanes l.initial.lanes l.lanes;
-  stays : OnlyPosts (now l.initial.kept) (now l.kept);
-  tally : Appends l.initial.kept l.kept (issues_counted l.count);
-  row : RecordsIssues l.initial.kept l.kept;
-  idle : l.count ≡ 0 → l.kept.trace ≡ l.initial.kept.trace;
+  repeats : Repeats l.initial.kept l.kept step.Issue (issues_counted l.count);
 }

@@ -1,8 +1,8 @@
-use Rattle.std.proofs.Common.{◌≡◌, ◌<◌, length, subst, sym, ap, ◌∙◌}
+use Rattle.std.proofs.Common.{[], ◌∷◌, ◌≡◌, ◌<◌, length, subst, sym, ap, ◌∙◌}
 use Rattle.uring_entry.specs.Setup.{Setup}
 use Rattle.uring_threads.specs.Issued.{IssuedAs}
 use Rattle.uring_workers.specs.Work.{place_of}
-use Rattle.uring_threads.proofs.Carrying.{carried_ended, carried_run, ended_only}
+use Rattle.uring_threads.proofs.Carrying.{carried_ended, carried_run, issued_posts}
 use Rattle.uring_threads.proofs.Dealing.{dealt_by_file}
 use Rattle.uring_threads.proofs.issues.issue_one.Goals as goal
 
@@ -18,5 +18,18 @@ pub returns-in_default-clause-carried : goal.returns-in_default-clause-carried
 returns-in_default-clause-carried c =
     carried_ended c.args.kept.now c.issue_next.new.kept c.args.number c.args.lanes.now (subst (IssuedAs c.args.kept.now c.issue_next.new.kept c.args.number) c.in_default.is c.issue_next.ensures.issued) c.requires.carried
 
-pub returns-in_default-clause-stays : goal.returns-in_default-clause-stays
-returns-in_default-clause-stays c = ended_only c.args.kept.now c.issue_next.new.kept c.args.number (subst (IssuedAs c.args.kept.now c.issue_next.new.kept c.args.number) c.in_default.is c.issue_next.ensures.issued)
+pub returns-in-Some-clause-repeats : goal.returns-in-Some-clause-repeats
+returns-in-Some-clause-repeats c = record {
+  numbers = c.args.number ∷ [];
+  row = c.issue_next.ensures.row;
+  tally = c.issue_next.ensures.tally;
+  posts = issued_posts c.args.kept.now c.issue_next.new.kept c.args.number c.issue_next.result c.issue_next.ensures.issued;
+}
+
+pub returns-in_default-clause-repeats : goal.returns-in_default-clause-repeats
+returns-in_default-clause-repeats c = record {
+  numbers = c.args.number ∷ [];
+  row = c.issue_next.ensures.row;
+  tally = c.issue_next.ensures.tally;
+  posts = issued_posts c.args.kept.now c.issue_next.new.kept c.args.number c.issue_next.result c.issue_next.ensures.issued;
+}

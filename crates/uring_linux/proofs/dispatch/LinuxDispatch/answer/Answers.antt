@@ -1,3 +1,4 @@
+use Rattle.std.specs.Prelude.{option_copied}
 use Rattle.std.proofs.Common.{rules, w32, arith, sym, ◌∙◌, ap, subst, true, false, refl}
 use Rattle.std.proofs.lemmas.Int.{to_z-of_z}
 use Rattle.uring_linux.specs.Issues.{ended_with}
@@ -12,29 +13,29 @@ use Rattle.uring_linux.proofs.dispatch.LinuxDispatch.answer.Goals as goal
 pub returns-in_default-clause-issued : goal.returns-in_default-clause-issued
 returns-in_default-clause-issued c = λ l g.
     let h = shown c.self.inside.window c.self.inside.drains c.self.inside.has_skipped c.self.inside.room c.self.inside.is_between_calls l (subst (λ (d : LinuxDispatch). ShowsRequests d l) (sym c.self.view_is) g) in
-    sym (asked l c.args.n false _ _ _ _ (outside_ended _ l.requests c.args.n h (sym c.in_default.is ∙ c.copy.ensures)) refl refl refl refl)
+    sym (asked l c.args.n false _ _ _ _ (outside_ended _ l.requests c.args.n h (ap option_copied (sym c.in_default.is) ∙ c.get.ensures)) refl refl refl refl)
 
 pub returns-then-request-clause-issued : goal.returns-then-request-clause-issued
 returns-then-request-clause-issued c = λ l g.
     let h = shown c.self.inside.window c.self.inside.drains c.self.inside.has_skipped c.self.inside.room c.self.inside.is_between_calls l (subst (λ (d : LinuxDispatch). ShowsRequests d l) (sym c.self.view_is) g) in
-    let t = h.told c.args.n c.in-Some.request (sym c.in-Some.ensures) in
+    let t = h.told c.args.n c.in-Some.request.now (sym c.in-Some.ensures) in
     sym (asked l c.args.n false _ _ _ _ (outstanding_ended _ l.requests c.args.n t c.if-request.true) refl refl refl refl)
 
 pub returns-then-request-2-clause-issued : goal.returns-then-request-2-clause-issued
 returns-then-request-2-clause-issued c = λ l g.
     let h = shown c.self.inside.window c.self.inside.drains c.self.inside.has_skipped c.self.inside.room c.self.inside.is_between_calls l (subst (λ (d : LinuxDispatch). ShowsRequests d l) (sym c.self.view_is) g) in
     let here = sym c.in-Some.ensures in
-    let t = h.told c.args.n c.in-Some.request here in
+    let t = h.told c.args.n c.in-Some.request.now here in
     sym (asked l c.args.n true true _ _ _ (outstanding_going _ _ l.requests c.args.n h here c.if-request.false) (sym t.running ∙ c.if-request-2.true) refl refl refl)
 
 pub is_right_behind-requires : goal.is_right_behind-requires
-is_right_behind-requires c = at_within _ c.args.n c.in-Some.request (sym c.in-Some.ensures)
+is_right_behind-requires c = at_within _ c.args.n c.in-Some.request.now (sym c.in-Some.ensures)
 
 pub returns-then-is_right_behind-clause-issued : goal.returns-then-is_right_behind-clause-issued
 returns-then-is_right_behind-clause-issued c = λ l g.
     let h = shown c.self.inside.window c.self.inside.drains c.self.inside.has_skipped c.self.inside.room c.self.inside.is_between_calls l (subst (λ (d : LinuxDispatch). ShowsRequests d l) (sym c.self.view_is) g) in
     let here = sym c.in-Some.ensures in
-    let t = h.told c.args.n c.in-Some.request here in
+    let t = h.told c.args.n c.in-Some.request.now here in
     sym
     (asked l c.args.n true false false _ _ (outstanding_going _ _ l.requests c.args.n h here c.if-request.false) (sym t.running ∙ c.if-request-2.false)
     (c.is_right_behind.ensures l.requests h c.if-is_right_behind.true) refl refl)
@@ -43,7 +44,7 @@ pub returns-then-not-is_in_turn-clause-issued : goal.returns-then-not-is_in_turn
 returns-then-not-is_in_turn-clause-issued c = λ l g.
     let h = shown c.self.inside.window c.self.inside.drains c.self.inside.has_skipped c.self.inside.room c.self.inside.is_between_calls l (subst (λ (d : LinuxDispatch). ShowsRequests d l) (sym c.self.view_is) g) in
     let here = sym c.in-Some.ensures in
-    let t = h.told c.args.n c.in-Some.request here in
+    let t = h.told c.args.n c.in-Some.request.now here in
     let m = c.group_of-group.ensures.member l.requests c.args.n h here in
     let kept = c.group_of-group.ensures.kept l.requests c.args.n h here in
     sym
@@ -54,7 +55,7 @@ pub returns-then-is_doomed-clause-issued : goal.returns-then-is_doomed-clause-is
 returns-then-is_doomed-clause-issued c = λ l g.
     let h = shown c.self.inside.window c.self.inside.drains c.self.inside.has_skipped c.self.inside.room c.self.inside.is_between_calls l (subst (λ (d : LinuxDispatch). ShowsRequests d l) (sym c.self.view_is) g) in
     let here = sym c.in-Some.ensures in
-    let t = h.told c.args.n c.in-Some.request here in
+    let t = h.told c.args.n c.in-Some.request.now here in
     let m = c.group_of-group.ensures.member l.requests c.args.n h here in
     let kept = c.group_of-group.ensures.kept l.requests c.args.n h here in
     let ended = rw (to_z-of_z w32 c.doomed_result.result (search rules)) at c.ended.ensures in
@@ -69,7 +70,7 @@ returns-then-is_deferred-clause-issued c = λ l g.
     let f = subst (λ (d : LinuxDispatch). ShowsRequests d l) (sym c.self.view_is) g in
     let h = shown c.self.inside.window c.self.inside.drains c.self.inside.has_skipped c.self.inside.room c.self.inside.is_between_calls l f in
     let here = sym c.in-Some.ensures in
-    let t = h.told c.args.n c.in-Some.request here in
+    let t = h.told c.args.n c.in-Some.request.now here in
     let m = c.group_of-group.ensures.member l.requests c.args.n h here in
     let kept = c.group_of-group.ensures.kept l.requests c.args.n h here in
     sym
@@ -82,7 +83,7 @@ returns-clause-issued c = λ l g.
     let f = subst (λ (d : LinuxDispatch). ShowsRequests d l) (sym c.self.view_is) g in
     let h = shown c.self.inside.window c.self.inside.drains c.self.inside.has_skipped c.self.inside.room c.self.inside.is_between_calls l f in
     let here = sym c.in-Some.ensures in
-    let t = h.told c.args.n c.in-Some.request here in
+    let t = h.told c.args.n c.in-Some.request.now here in
     let m = c.group_of-group.ensures.member l.requests c.args.n h here in
     let kept = c.group_of-group.ensures.kept l.requests c.args.n h here in
     let idle = sym t.running ∙ c.if-request-2.false in
@@ -96,9 +97,9 @@ returns-clause-issued c = λ l g.
 pub returns-then-is_doomed-clause-open : goal.returns-then-is_doomed-clause-open
 returns-then-is_doomed-clause-open c = λ e.
     subst (λ (d : LinuxDispatch). IsOpen d.held.window c.args.n false) c.self.view_is
-    (open_at c.self.inside.window c.args.n c.in-Some.request false (sym c.in-Some.ensures) c.if-request.false c.if-request-2.false)
+    (open_at c.self.inside.window c.args.n c.in-Some.request.now false (sym c.in-Some.ensures) c.if-request.false c.if-request-2.false)
 
 pub returns-clause-open : goal.returns-clause-open
 returns-clause-open c = λ e.
     subst (λ (d : LinuxDispatch). IsOpen d.held.window c.args.n false) c.self.view_is
-    (open_at c.self.inside.window c.args.n c.in-Some.request false (sym c.in-Some.ensures) c.if-request.false c.if-request-2.false)
+    (open_at c.self.inside.window c.args.n c.in-Some.request.now false (sym c.in-Some.ensures) c.if-request.false c.if-request-2.false)

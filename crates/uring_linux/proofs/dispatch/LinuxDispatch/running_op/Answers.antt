@@ -21,5 +21,5 @@ pub returns : goal.returns
 returns c = λ l g.
     let h = shown c.self.inside.window c.self.inside.drains c.self.inside.has_skipped c.self.inside.room c.self.inside.is_between_calls l (subst (λ (d : LinuxDispatch). ShowsRequests d l) (sym c.self.view_is) g) in
     let t = h.told c.args.n c.in-Some.request (sym c.in-Some.ensures) in
-    ap Some (c.operation.ensures ∙ ap operation_of t.entry)
+    ap Some (c.of.ensures ∙ ap operation_of t.entry)
     ∙ sym (ap (λ b. if b then Some (operation_of (entry_of l.requests c.args.n)) else None) (sym t.running ∙ c.if-not-request.false))

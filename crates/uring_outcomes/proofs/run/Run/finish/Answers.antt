@@ -3,7 +3,7 @@ use Rattle.std.specs.Int.{w32}
 use Rattle.std.proofs.lemmas.Int.{to_z-of_z}
 use Rattle.uring_entry.specs.declared.operation.Outcome.{Outcome}
 use Rattle.uring_files.specs.Contents.{max_len}
-use Rattle.uring_outcomes.proofs.Faulting.{called_granted}
+use Rattle.uring_files.proofs.OperationCases.{result_granted}
 use Rattle.uring_outcomes.proofs.Moving.{called_for}
 use Rattle.uring_outcomes.proofs.RunSteps.{running_asks, running_told, finish_between, finishes}
 use Rattle.uring_outcomes.proofs.run.Run.finish.Goals as goal
@@ -31,4 +31,4 @@ pub returns-then-outcome-clause-granted : goal.returns-then-outcome-clause-grant
 returns-then-outcome-clause-granted g c = λ all.
     let same = to_z-of_z w32 c.apply_in-outcome.result.res (search rules) in
     let called = c.apply_in-outcome.ensures.granted max_len (all max_len) (omega arith) in
-    absurd (called_granted c.args.self.now.files c.in-Some.op (sym (ap (λ (o : Outcome). o.res) called) ∙ (sym same ∙ ap (to_z w32) c.if-outcome.true)))
+    absurd (result_granted c.args.self.now.files c.in-Some.op (sym (ap (λ (o : Outcome). o.res) called) ∙ (sym same ∙ ap (to_z w32) c.if-outcome.true)))

@@ -1,5 +1,6 @@
 use Rattle.std.proofs.Common.{ℕ, ◌+◌, ◌%◌, ◌<◌, length, take, arith, sym, ap, ◌∙◌, rules}
 use Rattle.uring_words.specs.Submission.Calls.{all_more}
+use Rattle.uring_words.specs.Submission.Ends.{known_of}
 use Rattle.uring_words.proofs.Copying.{one_read, front_more, reads_last, reads_close, call_ends}
 use Rattle.uring_words.proofs.Standing.{at_place}
 use Rattle.uring_words.proofs.Turning.{stands_first}
@@ -7,11 +8,12 @@ use Rattle.uring_words.proofs.submission.reader.read_call.Goals as goal
 
 pub read_first-position-requires-clause-first : goal.read_first-position-requires-clause-first
 read_first-position-requires-clause-first c =
-    let d = c.args.seat.now.me.0.kernel in
+    let v = c.args.seat.now.me.0 in
+    let d = v.kernel in
     let k : ℕ = c.loop.counter in
     let inv = c.loop.invariant in
     let at = at_place d.start c.args.size d.size (length d.taken + k) c.loop.next c.requires.held.sized c.requires.held.power inv.next in
-    stands_first d.start d.size (length d.taken) k (c.loop.next % c.args.size) d.known (take k d.known) c.loop.seat.me c.args.seat.now.me.0 inv.read (omega (arith, c.loop-test.true, c.requires.known.0)) at.0
+    stands_first d.start d.size (length d.taken) k (c.loop.next % c.args.size) d.known (take k d.known) c.loop.seat.me v inv.read (omega (arith, c.loop-test.true, c.requires.known.0)) at.0
 
 pub returns-in-Last-clause-read : goal.returns-in-Last-clause-read
 returns-in-Last-clause-read c =
@@ -53,4 +55,4 @@ loop-preserved c =
     }
 
 pub unreachable-requires : goal.unreachable-requires
-unreachable-requires c = call_ends c.args.seat.now.me.0.kernel.known c.loop.counter c.loop.items.items c.requires.whole (omega (arith, c.requires.some, c.requires.known.0)) (omega (arith, c.loop-test.false, c.requires.known.0)) c.loop.invariant.goes_on
+unreachable-requires c = call_ends (known_of c.args.seat.now.me) c.loop.counter c.loop.items.items c.requires.whole (omega (arith, c.requires.some, c.requires.known.0)) (omega (arith, c.loop-test.false, c.requires.known.0)) c.loop.invariant.goes_on

@@ -9,11 +9,12 @@ use Rattle.uring_words.proofs.submission.reader.read_items.Goals as goal
 
 pub read_first-position-requires-clause-first : goal.read_first-position-requires-clause-first
 read_first-position-requires-clause-first c =
-    let d = c.args.seat.now.me.0.kernel in
+    let v = c.args.seat.now.me.0 in
+    let d = v.kernel in
     let k : ℕ = c.loop.counter in
     let inv = c.loop.invariant in
     let at = at_place d.start c.args.size d.size (length d.taken + k) c.loop.next c.requires.held.sized c.requires.held.power inv.next in
-    stands_first d.start d.size (length d.taken) k (c.loop.next % c.args.size) d.known (take k d.known) c.loop.seat.me c.args.seat.now.me.0 inv.read (omega (arith, c.loop-test.true, c.requires.known)) at.0
+    stands_first d.start d.size (length d.taken) k (c.loop.next % c.args.size) d.known (take k d.known) c.loop.seat.me v inv.read (omega (arith, c.loop-test.true, c.requires.known)) at.0
 
 longer : (old new first more added part : List Item) → old ≡ first ++ part → new ≡ old ++ added → more ≡ part ++ added
     → new ≡ first ++ more

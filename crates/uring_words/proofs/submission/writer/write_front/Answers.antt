@@ -10,15 +10,17 @@ use Rattle.uring_words.proofs.submission.writer.write_front.Goals as goal
 
 pub write_first-requires-clause-first : goal.write_first-requires-clause-first
 write_first-requires-clause-first c =
-    let a = c.args.seat.now.me.0.app in
+    let v = c.args.seat.now.me.0 in
+    let a = v.app in
     let inv = c.loop-item.invariant in
     let room = c.requires.held in
     let at = at_place a.start c.args.size a.size (length a.published + c.loop-item.item-index) c.loop-item.next c.requires.held.sized c.requires.held.power inv.next in
-    stands_first a.start a.size (length a.published) c.loop-item.item-index (c.loop-item.next % c.args.size) room.blank (all_more (take c.loop-item.item-index c.args.items.now)) c.loop-item.seat.me c.args.seat.now.me.0 (inv.written room.blank room.holds) (omega (arith, room.many, c.loop-item-test.true)) at.0
+    stands_first a.start a.size (length a.published) c.loop-item.item-index (c.loop-item.next % c.args.size) room.blank (all_more (take c.loop-item.item-index c.args.items.now)) c.loop-item.seat.me v (inv.written room.blank room.holds) (omega (arith, room.many, c.loop-item-test.true)) at.0
 
 pub loop-item-preserved : goal.loop-item-preserved
 loop-item-preserved c =
-    let a = c.args.seat.now.me.0.app in
+    let v = c.args.seat.now.me.0 in
+    let a = v.app in
     let n : ℕ = length a.published in
     let k : ℕ = c.loop-item.item-index in
     let items = c.args.items.now in
@@ -33,13 +35,14 @@ loop-item-preserved c =
       next = omega (arith, inv.next);
       written = λ blank holds.
           let all : length room.blank ≡ length blank = sym (held-length a.start a.size n room.blank) ∙ ap length (sym room.holds ∙ holds) ∙ held-length a.start a.size n blank in
-          goes_behind a.start a.size n k (c.loop-item.next % c.args.size) blank (all_more (take k items)) c.loop-item.seat.me c.args.seat.now.me.0 (inv.written blank holds) (omega (arith, room.many, c.loop-item-test.true)) at.0 (position.More x) c.write_first.new.seat.me many c.write_first.ensures.written
-          ∙ ap (λ ps. (c.args.seat.now.me.0, part_done a.start a.size n (k + 1) blank ps)) longer;
+          goes_behind a.start a.size n k (c.loop-item.next % c.args.size) blank (all_more (take k items)) c.loop-item.seat.me v (inv.written blank holds) (omega (arith, room.many, c.loop-item-test.true)) at.0 (position.More x) c.write_first.new.seat.me many c.write_first.ensures.written
+          ∙ ap (λ ps. (v, part_done a.start a.size n (k + 1) blank ps)) longer;
     }
 
 pub returns-clause-written : goal.returns-clause-written
 returns-clause-written c =
-    let a = c.args.seat.now.me.0.app in
+    let v = c.args.seat.now.me.0 in
+    let a = v.app in
     let n : ℕ = length a.published in
     let k : ℕ = c.loop-item.item-index in
     let items = c.args.items.now in
@@ -47,5 +50,5 @@ returns-clause-written c =
     let many : k ≡ length (all_more items) = omega (arith, more_length items, c.loop-item-test.false, c.loop-item.auto.item-index-end) in
     λ blank holds.
     c.loop-item.invariant.written blank holds
-    ∙ ap (λ xs. (c.args.seat.now.me.0, part_done a.start a.size n k blank (all_more xs))) all
-    ∙ ap (λ (m : ℕ). (c.args.seat.now.me.0, part_done a.start a.size n m blank (all_more items))) many
+    ∙ ap (λ xs. (v, part_done a.start a.size n k blank (all_more xs))) all
+    ∙ ap (λ (m : ℕ). (v, part_done a.start a.size n m blank (all_more items))) many

@@ -6,8 +6,8 @@ use Rattle.uring_words.specs.declared.submission.view.Position.{Position}
 use Rattle.uring_words.proofs.submission.writer.write_front.Given as goal
 
 abbrev pub invariant-loop-item : goal.invariant-loop-item
-invariant-loop-item l = let a = l.fn.seat.me.0.app in record {
+invariant-loop-item l = let v = l.fn.seat.me.0 in let a = v.app in record {
   table : l.seat.table_id ≡ l.fn.seat.table_id;
   next : l.next ≡ word_of a.start (length a.published + l.item-index);
-  written : (blank : List Position) → l.fn.seat.me.1 ≡ held_from a.start a.size (length a.published) blank → l.seat.me ≡ (l.fn.seat.me.0, held_from a.start a.size (length a.published + l.item-index) (drop l.item-index blank) ++ held_from a.start a.size (length a.published) (all_more (take l.item-index l.items)));
+  written : (blank : List Position) → l.fn.seat.me.1 ≡ held_from a.start a.size (length a.published) blank → l.seat.me ≡ (v, held_from a.start a.size (length a.published + l.item-index) (drop l.item-index blank) ++ held_from a.start a.size (length a.published) (all_more (take l.item-index l.items)));
 }

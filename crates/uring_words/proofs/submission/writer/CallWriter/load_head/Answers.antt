@@ -5,4 +5,4 @@ use Rattle.uring_words.proofs.submission.writer.CallWriter.load_head.Goals as go
 pub load-head-requires : goal.load-head-requires
 load-head-requires c =
     let i = c.self.invariant in
-    rw c.deref.ensures (i.fits.same_table, omega (arith, i.fits.many), loads_head _ _ _ i.blank i.is_app i.holds i.many)
+    rw c.deref.ensures (i.fits.same_table, omega (arith, i.fits.many), loads_head _ _ _ _ i.blank i.is_app i.holds i.many)

@@ -1,0 +1,173 @@
+/* By what operations are carried out: with the calls that the manual pages say they are like, made by hand, and the numbers of the C library's header. */
+#define _GNU_SOURCE
+#include "wulgach_calls.h"
+
+#include <stdio.h>
+#include <stdlib.h>
+#include <string.h>
+#include <sys/syscall.h>
+
+static void demand(bool holds, const char *what)
+{
+    if (!holds) {
+        printf("FAILED: %s\n", what);
+        exit(1);
+    }
+}
+
+enum { NOP, READV, WRITEV, FSYNC, READ_FIXED, WRITE_FIXED, POLL_ADD, POLL_REMOVE, SYNC_FILE_RANGE, SENDMSG, RECVMSG, TIMEOUT, TIMEOUT_REMOVE, ACCEPT, ASYNC_CANCEL, LINK_TIMEOUT, CONNECT, FALLOCATE, OPENAT, CLOSE, FILES_UPDATE, STATX, READ, WRITE, FADVISE, MADVISE, SEND, RECV, OPENAT2, EPOLL_CTL, SPLICE, PROVIDE_BUFFERS, REMOVE_BUFFERS, TEE, SHUTDOWN, RENAMEAT, UNLINKAT, MKDIRAT, SYMLINKAT, LINKAT, MSG_RING, FSETXATTR, SETXATTR, FGETXATTR, GETXATTR, SOCKET, SEND_ZC = 47, SENDMSG_ZC };
+
+/* Each field of an entry has a number of its own, and so has what is held. */
+enum { FD = -100, OFF = 1001, ADDR = 1002, LEN = 1003, FLAGS = 1004, ON = 11, FROM = 12, PATH = 21, SECOND = 22, HOW = 23, VALUE = 24, IN = 25, OUT = 26 };
+
+#define AT_FOLDER ((uint64_t)FD)
+
+static struct wulgach_submission entry_of(uint8_t code)
+{
+    return (struct wulgach_submission){.opcode = code, .fd = FD, .off = OFF, .addr = ADDR, .len = LEN, .op_flags = FLAGS};
+}
+
+static struct wulgach_means means_of(struct wulgach_submission entry)
+{
+    const struct wulgach_held held = {.fd = ON, .second_fd = FROM, .path = PATH, .second_path = SECOND, .how = HOW, .value = VALUE, .offset_in = IN, .offset_out = OUT};
+    struct wulgach_means means;
+    memset(&means, 0xff, sizeof means);
+    wulgach_means_of(&entry, &held, &means);
+    return means;
+}
+
+/* A row of the table: an operation, by what it is carried out, and the call. */
+struct row {
+    uint8_t code;
+    uint32_t kind;
+    uint64_t words[7];
+};
+
+static const struct row rows[] = {
+    {FSYNC, WULGACH_BY_SYNC, {SYS_fsync, ON}},
+    {SYNC_FILE_RANGE, WULGACH_BY_CALL, {SYS_sync_file_range, ON, OFF, LEN, FLAGS}},
+    {SENDMSG, WULGACH_BY_SEND, {SYS_sendmsg, ON, VALUE, FLAGS | 0x4040}},
+    {SEND, WULGACH_BY_SEND, {SYS_sendmsg, ON, VALUE, FLAGS | 0x4040}},
+    {SEND_ZC, WULGACH_BY_SEND, {SYS_sendmsg, ON, VALUE, FLAGS | 0x4040}},
+    {SENDMSG_ZC, WULGACH_BY_SEND, {SYS_sendmsg, ON, VALUE, FLAGS | 0x4040}},
+    {RECVMSG, WULGACH_BY_RECEIVE_MESSAGE, {SYS_recvmsg, ON, VALUE, FLAGS | 0x40}},
+    {RECV, WULGACH_BY_RECEIVE, {SYS_recvmsg, ON, VALUE, FLAGS | 0x40}},
+    {ACCEPT, WULGACH_BY_CALL, {SYS_accept4, ON, ADDR, OFF, FLAGS}},
+    {CONNECT, WULGACH_BY_CONNECT, {SYS_connect, ON, VALUE, OFF}},
+    {FALLOCATE, WULGACH_BY_CALL, {SYS_fallocate, ON, LEN, OFF, ADDR}},
+    {OPENAT, WULGACH_BY_CALL, {SYS_openat, AT_FOLDER, PATH, FLAGS, LEN}},
+    {CLOSE, WULGACH_BY_CLOSE, {SYS_close, AT_FOLDER}},
+    {STATX, WULGACH_BY_CALL, {SYS_statx, AT_FOLDER, PATH, FLAGS, LEN, OFF}},
+    {FADVISE, WULGACH_BY_CALL, {SYS_fadvise64, ON, OFF, ADDR, FLAGS}},
+    {MADVISE, WULGACH_BY_CALL, {SYS_madvise, ADDR, OFF, FLAGS}},
+    {OPENAT2, WULGACH_BY_CALL, {SYS_openat2, AT_FOLDER, PATH, HOW, 24}},
+    {EPOLL_CTL, WULGACH_BY_CALL, {SYS_epoll_ctl, AT_FOLDER, LEN, OFF, VALUE}},
+    {SPLICE, WULGACH_BY_SPLICE, {SYS_splice, FROM, IN, ON, OUT, LEN, FLAGS | 2}},
+    {TEE, WULGACH_BY_SPLICE, {SYS_tee, FROM, ON, LEN, FLAGS | 2}},
+    {SHUTDOWN, WULGACH_BY_CALL, {SYS_shutdown, ON, LEN}},
+    {RENAMEAT, WULGACH_BY_CALL, {SYS_renameat2, AT_FOLDER, PATH, LEN, SECOND, FLAGS}},
+    {UNLINKAT, WULGACH_BY_CALL, {SYS_unlinkat, AT_FOLDER, PATH, FLAGS}},
+    {MKDIRAT, WULGACH_BY_CALL, {SYS_mkdirat, AT_FOLDER, PATH, LEN}},
+    {SYMLINKAT, WULGACH_BY_CALL, {SYS_symlinkat, PATH, AT_FOLDER, SECOND}},
+    {LINKAT, WULGACH_BY_CALL, {SYS_linkat, AT_FOLDER, PATH, LEN, SECOND, FLAGS}},
+    {FSETXATTR, WULGACH_BY_CALL, {SYS_fsetxattr, ON, SECOND, VALUE, LEN, FLAGS}},
+    {SETXATTR, WULGACH_BY_CALL, {SYS_setxattr, PATH, SECOND, VALUE, LEN, FLAGS}},
+    {FGETXATTR, WULGACH_BY_CALL, {SYS_fgetxattr, ON, SECOND, OFF, LEN}},
+    {GETXATTR, WULGACH_BY_CALL, {SYS_getxattr, PATH, SECOND, OFF, LEN}},
+    {SOCKET, WULGACH_BY_CALL, {SYS_socket, AT_FOLDER, OFF, LEN}},
+    {NOP, WULGACH_BY_NOTHING, {0}},
+    {READ, WULGACH_BY_TRANSFER, {0}},
+    {WRITEV, WULGACH_BY_TRANSFER, {0}},
+    {POLL_ADD, WULGACH_BY_POLL, {0}},
+    {POLL_REMOVE, WULGACH_BY_OTHERS, {0}},
+    {TIMEOUT_REMOVE, WULGACH_BY_OTHERS, {0}},
+    {ASYNC_CANCEL, WULGACH_BY_OTHERS, {0}},
+    {TIMEOUT, WULGACH_BY_TIMEOUT, {0}},
+    {LINK_TIMEOUT, WULGACH_BY_LINKED_TIMEOUT, {0}},
+    {PROVIDE_BUFFERS, WULGACH_BY_PROVISION, {0}},
+    {REMOVE_BUFFERS, WULGACH_BY_PROVISION_REMOVAL, {0}},
+    {MSG_RING, WULGACH_BY_MESSAGE, {0}},
+};
+
+static bool is_call(const struct wulgach_system_call *call, const uint64_t words[7])
+{
+    return memcmp(call, words, sizeof *call) == 0;
+}
+
+#define IS_CALL(call, ...) is_call(&(call), (const uint64_t[7]){__VA_ARGS__})
+
+static void compare_rows(void)
+{
+    _Static_assert(sizeof(struct wulgach_system_call) == sizeof rows->words, "a call has seven words");
+    char what[40];
+    for (size_t i = 0; i < sizeof rows / sizeof *rows; i++) {
+        struct wulgach_means means = means_of(entry_of(rows[i].code));
+        snprintf(what, sizeof what, "operation %u", rows[i].code);
+        demand(means.kind == rows[i].kind && means.slot == 0 && is_call(&means.call, rows[i].words), what);
+    }
+}
+
+static void look_at_slots(void)
+{
+    struct wulgach_submission open = entry_of(OPENAT), socket = entry_of(SOCKET), accept = entry_of(ACCEPT), close = entry_of(CLOSE), update = entry_of(FILES_UPDATE);
+    open.file_index = socket.file_index = close.file_index = 5;
+    accept.file_index = UINT32_MAX;
+    demand(means_of(open).kind == WULGACH_BY_OPENING && means_of(open).slot == 5 && means_of(open).call.number == SYS_openat, "an open into a slot");
+    demand(means_of(socket).kind == WULGACH_BY_OPENING && means_of(accept).slot == UINT32_MAX, "a socket, any slot");
+    demand(means_of(close).kind == WULGACH_BY_SLOT_REMOVAL && means_of(close).slot == 4 && means_of(close).call.number == 0, "a close of a slot");
+    demand(means_of(update).kind == WULGACH_BY_FILES_UPDATE && means_of(update).slot == OFF, "an update of files");
+    update.off = UINT32_MAX;
+    demand(means_of(update).kind == WULGACH_BY_FILES_PLACING, "files where there is room");
+}
+
+static void look_at_variants(void)
+{
+    struct wulgach_submission sync = entry_of(FSYNC), splice = entry_of(SPLICE), socket = entry_of(SOCKET), advice = entry_of(FADVISE);
+    sync.op_flags = 1;
+    splice.addr = splice.off = UINT64_MAX;
+    splice.op_flags = 1u << 31 | 1;
+    socket.off = 1ull << 32 | 2;
+    advice.addr = 0;
+    demand(means_of(sync).call.number == SYS_fdatasync, "a sync of data");
+    struct wulgach_means means = means_of(splice);
+    demand(IS_CALL(means.call, SYS_splice, FROM, 0, ON, 0, LEN, 3), "a splice without offsets");
+    demand(means_of(socket).call.second == 2 && means_of(advice).call.third == LEN, "32 bits of a type, a short length");
+}
+
+static struct wulgach_system_call transfer(uint8_t code, uint32_t count, uint64_t length, uint64_t offset, uint32_t flags, bool is_stream, uint32_t step)
+{
+    struct wulgach_submission entry = {.opcode = code, .off = offset, .op_flags = flags};
+    struct wulgach_vectors vectors = {.fd = ON, .count = count, .vectors = VALUE, .buffer = ADDR, .length = length};
+    struct wulgach_transfer transfer = {.length = length, .is_stream = is_stream};
+    struct wulgach_system_call call;
+    wulgach_transfer_call(&entry, &vectors, &transfer, step, &call);
+    return call;
+}
+
+static void look_at_transfers(void)
+{
+    struct wulgach_system_call read = transfer(READ, 1, 8, 5, 0, false, WULGACH_CALL_PLAIN), at_once = transfer(READ, 1, 8, 5, 0, false, WULGACH_CALL_AT_ONCE), stream = transfer(READ, 1, 8, 5, 0, true, WULGACH_CALL_READY), two = transfer(READV, 2, 8, 5, 4, false, WULGACH_CALL_TRIED), write = transfer(WRITE, 1, 8, 5, 2, false, WULGACH_CALL_PLAIN), asked = transfer(WRITE_FIXED, 1, 8, 5, 2, true, WULGACH_CALL_NONBLOCKING), none = transfer(READ_FIXED, 1, 0, 5, 0, false, WULGACH_CALL_PLAIN);
+    demand(IS_CALL(read, SYS_pread64, ON, ADDR, 8, 5), "a read of one buffer");
+    demand(IS_CALL(at_once, SYS_preadv2, ON, VALUE, 1, 5, 0, 8), "one that is asked not to wait");
+    demand(IS_CALL(stream, SYS_preadv2, ON, VALUE, 1, UINT64_MAX), "one of a stream");
+    demand(IS_CALL(two, SYS_preadv2, ON, VALUE, 2, 5, 0, 4) && IS_CALL(none, SYS_preadv2, ON, VALUE, 1, 5), "of two vectors, of no bytes");
+    demand(IS_CALL(write, SYS_pwritev2, ON, VALUE, 1, 5, 0, 2) && IS_CALL(asked, SYS_pwritev2, ON, VALUE, 1, UINT64_MAX, 0, 10), "writes");
+}
+
+static void look_at_faults(void)
+{
+    demand(wulgach_can_have(READ, true, 0, WULGACH_GIVES_EIO) && wulgach_can_have(FSYNC, false, 0, WULGACH_GIVES_EIO) && !wulgach_can_have(NOP, false, 0, WULGACH_GIVES_EIO), "EIO");
+    demand(wulgach_can_have(WRITEV, false, 0, WULGACH_GIVES_ENOSPC) && wulgach_can_have(FALLOCATE, false, 0, WULGACH_GIVES_ENOSPC) && !wulgach_can_have(READ, false, 8, WULGACH_GIVES_ENOSPC), "ENOSPC");
+    demand(wulgach_can_have(READ, false, 2, WULGACH_GIVES_SHORT) && !wulgach_can_have(READ, false, 1, WULGACH_GIVES_SHORT) && !wulgach_can_have(READ, true, 2, WULGACH_GIVES_SHORT) && !wulgach_can_have(READ, false, 2, 4), "SHORT, and no fault");
+}
+
+int main(void)
+{
+    compare_rows();
+    look_at_slots();
+    look_at_variants();
+    look_at_transfers();
+    look_at_faults();
+    puts("calls: as called for");
+    return 0;
+}

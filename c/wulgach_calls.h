@@ -1,0 +1,94 @@
+/* Wulgach: by what an operation is carried out, which is a system call with its arguments or what whoever keeps the ring does itself, as
+ * decisions. The functions are in the library of wulgach.h, and proved as those are. The layer under liburing calls them.
+ */
+#ifndef WULGACH_CALLS_H
+#define WULGACH_CALLS_H
+
+#include "wulgach_waits.h"
+
+#ifdef __cplusplus
+extern "C" {
+#endif
+
+/* A system call of Linux on x86-64: its number, and its arguments. One that it hasn't is 0; of one of 32 bits the lower half counts. */
+struct wulgach_system_call {
+    uint64_t number;
+    uint64_t first, second, third, fourth, fifth, sixth;
+};
+
+/* What is held for a request when it is carried out: descriptors, and where the copies of what its entry points to stand, or 0. */
+struct wulgach_held {
+    int32_t fd;             /* that it is carried out on */
+    int32_t second_fd;      /* of a splice: where it reads */
+    uint64_t path;
+    uint64_t second_path;   /* or the name of an attribute */
+    uint64_t how;           /* a file is opened: struct open_how */
+    uint64_t value;         /* that is read; an address; or a message, struct msghdr */
+    uint64_t offset_in;     /* of a splice: of a copy of the offset where it reads, */
+    uint64_t offset_out;    /* and of that where it writes */
+};
+
+enum wulgach_by {
+    WULGACH_BY_NOTHING = 0,             /* a no-op, or what isn't served */
+    WULGACH_BY_TRANSFER = 1,            /* calls one after the other, as wulgach_transfer_next says */
+    WULGACH_BY_POLL = 2,                /* as wulgach_poll_result says */
+    WULGACH_BY_CALL = 3,                /* the call, whose result is the operation's; */
+    WULGACH_BY_OPENING = 4,             /* one that gives a descriptor, which is put into the slot, named as an entry does; */
+    WULGACH_BY_SYNC = 5,                /* one that waits until a file is on its disk; */
+    WULGACH_BY_CLOSE = 6,               /* a close, of what may not be closed; */
+    WULGACH_BY_CONNECT = 7,             /* one whose descriptor is asked not to wait meanwhile; */
+    WULGACH_BY_SPLICE = 8,              /* or one that doesn't wait */
+    WULGACH_BY_SEND = 9,                /* the message is sent, */
+    WULGACH_BY_RECEIVE = 10,            /* received, */
+    WULGACH_BY_RECEIVE_MESSAGE = 11,    /* or received, and its sizes and flags are told where the entry's message stands */
+    WULGACH_BY_SLOT_REMOVAL = 12,       /* what the slot has is taken out */
+    WULGACH_BY_FILES_PLACING = 13,      /* files are put where there is room, */
+    WULGACH_BY_FILES_UPDATE = 14,       /* or from the slot on */
+    WULGACH_BY_TIMEOUT = 15,
+    WULGACH_BY_LINKED_TIMEOUT = 16,
+    WULGACH_BY_PROVISION = 17,          /* buffers are provided, */
+    WULGACH_BY_PROVISION_REMOVAL = 18,  /* or removed */
+    WULGACH_BY_MESSAGE = 19,            /* a message to a ring */
+    WULGACH_BY_OTHERS = 20              /* a cancel, or a removal or an update of another request */
+};
+
+struct wulgach_means {
+    uint32_t kind;                      /* enum wulgach_by */
+    uint32_t slot;                      /* counts from 0, but where it is named as an entry does; 0 of the others */
+    struct wulgach_system_call call;    /* zeros of what makes none */
+};
+
+/* Writes by what the operation of an entry is carried out, for which this is held. Its fields are the arguments of the call that the
+ * manual page says it is like. */
+void wulgach_means_of(const struct wulgach_submission *entry, const struct wulgach_held *held, struct wulgach_means *means);
+
+/* The vectors of a transfer. */
+struct wulgach_vectors {
+    int32_t fd;         /* that they are moved from or to */
+    uint32_t count;
+    uint64_t vectors;   /* where they stand */
+    uint64_t buffer;    /* where the bytes of the first go, */
+    uint64_t length;    /* and how many it has */
+};
+
+/* Writes the call of a transfer's entry that is next, where that is a call (enum wulgach_try): at the entry's offset, or at none on a stream
+ * that has none; with the entry's flags, and with RWF_NOWAIT if it is asked not to wait. One buffer of which nothing is asked is read by
+ * pread64. */
+void wulgach_transfer_call(const struct wulgach_submission *entry, const struct wulgach_vectors *vectors, const struct wulgach_transfer *transfer, uint32_t step, struct wulgach_system_call *call);
+
+/* A fault that an operation is given, so that a test finds what its application does. */
+enum wulgach_given_fault {
+    WULGACH_GIVES_EIO = 1,      /* in a transfer, an fsync or a fallocate */
+    WULGACH_GIVES_ENOSPC = 2,   /* in a write or a fallocate */
+    WULGACH_GIVES_SHORT = 3     /* in a transfer of more than a byte, which never has to wait */
+};
+
+/* Whether the operation of this code can have a fault (enum wulgach_given_fault), which moves so many bytes, and may have to wait for its
+ * descriptor or never has to. */
+bool wulgach_can_have(uint8_t code, bool is_stream, uint64_t length, uint32_t fault);
+
+#ifdef __cplusplus
+}
+#endif
+
+#endif

@@ -1,0 +1,28 @@
+-- How a call names its ring, when files are found, and what goes on in one choice, in words that C can read.
+use Rattle.std.specs.Prelude.{ℕ, ℤ, pos, Bool, true, Option, Some, None}
+use Rattle.uring_enter.specs.declared.asked.Policy.{Policy}
+use Rattle.uring_enter.specs.declared.reaching.Naming.{Naming}
+use Rattle.uring_enter.specs.declared.reaching.Naming.TheVariants.{Refused, ByDescriptor, ByNumber}
+use Rattle.uring_enter.specs.declared.drains.WhenFound.{WhenFound}
+use Rattle.uring_enter.specs.declared.drains.WhenFound.TheVariants.{AtItsStart, ByTheCall, AsksStart}
+use Rattle.uring_enter.specs.Due.{is_one_choice}
+use Rattle.uring_c.specs.EnterForm.{policy_of}
+
+-- the error, or 0 of a descriptor and 1 of a number. Our own rule
+abbrev pub word_of_naming : Naming → ℤ
+word_of_naming (Refused fault) = fault
+word_of_naming ByDescriptor = pos 0
+word_of_naming ByNumber = pos 1
+
+-- kinds count in the order of `WhenFound`, from 0. Our own rule
+abbrev pub word_of_when : WhenFound → ℕ
+word_of_when AtItsStart = 0
+word_of_when ByTheCall = 1
+word_of_when AsksStart = 2
+
+abbrev pub is_one_choice_by : Option Policy → Bool → Bool
+is_one_choice_by None chooses_events = true
+is_one_choice_by (Some policy) chooses_events = is_one_choice policy chooses_events
+
+abbrev pub is_one_choice_of : ℕ → Bool → Bool
+is_one_choice_of word chooses_events = is_one_choice_by (policy_of word) chooses_events

@@ -1,0 +1,109 @@
+//! By what an operation is carried out, for C: the functions of `c/wulgach_calls.h`.
+ghost use Rattle.std.specs.Prelude.{◌≡◌};
+ghost use Rattle.uring_enter.specs.Means as spec;
+ghost use Rattle.uring_enter.specs.TransferCalls.{call_of};
+ghost use Rattle.uring_c.specs.MeansForm.{words, words_of_means, fault_of_word, can_have_one};
+ghost use Rattle.uring_c.specs.WaitForm.{task_of};
+
+use crate::wait_words::task;
+use uring_enter::{
+    Fault, Held, Means, Submission, SystemCall, Transfer, Vectors, can_have, means_of,
+    transfer_call,
+};
+
+/// By what an operation is carried out: `struct wulgach_means` of the header.
+#[repr(C)]
+#[derive(Clone, Copy, Drop)]
+pub struct MeansWords {
+    pub kind: u32,
+    pub slot: u32,
+    pub call: SystemCall,
+}
+
+/// Writes by what the operation of an entry is carried out, for which this is held.
+#[unsafe(no_mangle)]
+pub extern "C" fn wulgach_means_of(entry: &Submission, held: &Held, means: &mut MeansWords)
+    ensures { means.new ≡ words_of_means (spec.means_of entry.now held.now) }
+{
+    *means = means_words(means_of(entry, held));
+}
+
+const NO_CALL: SystemCall = SystemCall {
+    number: 0,
+    first: 0,
+    second: 0,
+    third: 0,
+    fourth: 0,
+    fifth: 0,
+    sixth: 0,
+};
+
+fn words(kind: u32, slot: u32, call: SystemCall) -> MeansWords
+    ensures { result ≡ words kind slot call }
+{
+    MeansWords { kind, slot, call }
+}
+
+fn means_words(means: Means) -> MeansWords
+    ensures { result ≡ words_of_means means }
+{
+    match means {
+        Means::Nothing => words(0, 0, NO_CALL),
+        Means::Transfer => words(1, 0, NO_CALL),
+        Means::Poll => words(2, 0, NO_CALL),
+        Means::Call(call) => words(3, 0, call),
+        Means::Opening(call, slot) => words(4, slot, call),
+        Means::Sync(call) => words(5, 0, call),
+        Means::Close(call) => words(6, 0, call),
+        Means::Connect(call) => words(7, 0, call),
+        Means::Splice(call) => words(8, 0, call),
+        Means::Send(call) => words(9, 0, call),
+        Means::Receive(call) => words(10, 0, call),
+        Means::ReceiveMessage(call) => words(11, 0, call),
+        Means::SlotRemoval(slot) => words(12, slot, NO_CALL),
+        Means::FilesPlacing => words(13, 0, NO_CALL),
+        Means::FilesUpdate(slot) => words(14, slot, NO_CALL),
+        Means::Timeout => words(15, 0, NO_CALL),
+        Means::LinkedTimeout => words(16, 0, NO_CALL),
+        Means::Provision => words(17, 0, NO_CALL),
+        Means::ProvisionRemoval => words(18, 0, NO_CALL),
+        Means::Message => words(19, 0, NO_CALL),
+        Means::Others => words(20, 0, NO_CALL),
+    }
+}
+
+/// Writes the call of a transfer's entry that is next, where this is what the library said is next of it.
+#[unsafe(no_mangle)]
+pub extern "C" fn wulgach_transfer_call(
+    entry: &Submission,
+    vectors: &Vectors,
+    transfer: &Transfer,
+    step: u32,
+    call: &mut SystemCall,
+)
+    ensures { call.new ≡ call_of entry.now vectors.now transfer.now (task_of step) }
+{
+    *call = transfer_call(entry, vectors, transfer, task(step));
+}
+
+/// Whether the operation of this code can have a fault, which moves so many bytes, and may have to wait for its descriptor or never has to.
+#[unsafe(no_mangle)]
+pub extern "C" fn wulgach_can_have(code: u8, is_stream: bool, length: u64, fault: u32) -> bool
+    ensures { result ≡ can_have_one code is_stream length (fault_of_word fault) }
+{
+    match fault_of(fault) {
+        Some(given) => can_have(code, is_stream, length, given),
+        None => false,
+    }
+}
+
+fn fault_of(word: u32) -> Option<Fault>
+    ensures { result ≡ fault_of_word word }
+{
+    match word {
+        1 => Some(Fault::Disk),
+        2 => Some(Fault::Room),
+        3 => Some(Fault::Short),
+        _ => None,
+    }
+}

@@ -1,0 +1,67 @@
+//! Whether a chain drains, who can start beside drains, and how long that is known, for C: functions of `c/wulgach_enter.h` and `c/wulgach_waits.h`.
+ghost use Rattle.std.specs.Prelude.{◌≡◌, ◌+◌, ◌<◌, ◌^◌, ℕ, length, List, [], ◌∷◌};
+ghost use Rattle.uring_enter.specs.Drainings.{Drainage, KeepsChain, KeepsDrains, keeps_startable, oldest_starts, when_found};
+ghost use Rattle.uring_enter.specs.Drainings as spec;
+ghost use Rattle.uring_c.specs.DecisionForm.{word_of_when};
+
+use uring_enter::{Chain, Drains, Member, WhenFound, lets_others_start};
+
+/// The first member of a chain has these flags.
+#[unsafe(no_mangle)]
+pub extern "C" fn wulgach_chain_first(chain: &mut Chain, flags: u8)
+    ensures { KeepsChain (flags ∷ []) chain.new }
+{
+    *chain = Chain::first(flags);
+}
+
+/// The next one has these.
+#[unsafe(no_mangle)]
+pub extern "C" fn wulgach_chain_sees(chain: &mut Chain, flags: u8)
+    ensures { (members : List ℕ) → KeepsChain members chain.old → length members + 1 < 2 ^ 64
+        → KeepsChain (flags ∷ members) chain.new }
+{
+    chain.sees(flags);
+}
+
+/// Returns when the files and the buffer of a request are found that a call has taken just now, as far as it is known whether the core lets it start.
+#[unsafe(no_mangle)]
+pub extern "C" fn wulgach_drains_find_file(
+    drains: &Drains,
+    request: &Member,
+    linux: bool,
+    knows_start: bool,
+    may_start: bool,
+) -> u32
+    ensures { (log : List Drainage) → KeepsDrains log drains.now
+        → result ≡ word_of_when (when_found log request.now linux knows_start may_start) }
+{
+    match drains.when_found(request, linux, knows_start, may_start) {
+        WhenFound::AtItsStart => 0,
+        WhenFound::ByTheCall => 1,
+        WhenFound::AsksStart => 2,
+    }
+}
+
+/// Whether the oldest outstanding request can start, if it hasn't.
+#[unsafe(no_mangle)]
+pub extern "C" fn wulgach_oldest_starts(drains: &Drains, linux: bool) -> bool
+    ensures { (log : List Drainage) → KeepsDrains log drains.now → result ≡ oldest_starts log linux }
+{
+    drains.oldest_starts(linux)
+}
+
+/// Whether it may be kept which requests the core lets start.
+#[unsafe(no_mangle)]
+pub extern "C" fn wulgach_keeps_startable(drains: &Drains) -> bool
+    ensures { (log : List Drainage) → KeepsDrains log drains.now → result ≡ keeps_startable log }
+{
+    drains.keeps_startable()
+}
+
+/// Whether the end of a request, which has failed or is a cancel's, may let others start than the next of its chain.
+#[unsafe(no_mangle)]
+pub extern "C" fn wulgach_lets_others_start(linux: bool, has_failed: bool, is_cancel: bool) -> bool
+    ensures { result ≡ spec.lets_others_start linux has_failed is_cancel }
+{
+    lets_others_start(linux, has_failed, is_cancel)
+}

@@ -1,0 +1,41 @@
+-- Which call moves the bytes of a transfer. preadv2(2) and pread(2): READV, READ_FIXED and READ are like the one, WRITEV, WRITE_FIXED and WRITE like pwritev2(2). io_uring_enter(2)
+use Rattle.std.specs.Prelude.{ℕ, Bool, true, false, not, ◌&&◌, ◌==◌, nat_le, Option, Some, None, if◌then◌else◌}
+use Rattle.std.specs.Int.RustNames.{bit_or}
+use Rattle.uring_enter.specs.declared.submission.Submission.{Submission}
+use Rattle.uring_enter.specs.declared.system_call.SystemCall.{SystemCall}
+use Rattle.uring_enter.specs.declared.transfer.Transfer.{Transfer}
+use Rattle.uring_enter.specs.declared.transfer.Task.{Task}
+use Rattle.uring_enter.specs.declared.transfer.Task.TheVariants.{Calls}
+use Rattle.uring_enter.specs.declared.transfer_calls.Vectors.{Vectors}
+use Rattle.uring_enter.specs.Needs.{is_read}
+use Rattle.uring_enter.specs.SystemCalls as sys
+use Rattle.uring_enter.specs.SystemCalls.{of_four, of_six, word_of}
+use Rattle.uring_enter.specs.Tries.{offset_of, asks_not_to_wait}
+
+-- a call that is made so is asked not to wait
+abbrev pub is_asked : Option Task → Bool
+is_asked (Some (Calls how)) = asks_not_to_wait how
+is_asked _ = false
+
+-- the flags of the entry, and of what is asked not to wait RWF_NOWAIT (8)
+abbrev pub flags_of : Submission → Option Task → ℕ
+flags_of e task = bit_or e.op_flags (if is_asked task then 8 else 0)
+
+-- one buffer, at an offset that a call without vectors takes
+abbrev pub is_one : Vectors → ℕ → Bool
+is_one v offset = v.count == 1 && not (v.length == 0) && nat_le offset 9223372036854775807
+
+-- an offset stands in two halves, and all of it in the first; none, where the file's position counts, is 2^64 - 1
+abbrev pub by_vectors : ℕ → Vectors → ℕ → ℕ → SystemCall
+by_vectors number v offset flags = of_six number (word_of v.fd) v.vectors v.count offset 0 flags
+
+-- both calls move the same bytes, where nothing is asked of them: so one buffer is read by the call that copies no vectors. Our own rule
+abbrev pub read_of : Vectors → ℕ → ℕ → SystemCall
+read_of v offset flags =
+    if flags == 0 && is_one v offset then of_four sys.pread64 (word_of v.fd) v.buffer v.length offset else
+    by_vectors sys.preadv2 v offset flags
+
+abbrev pub call_of : Submission → Vectors → Transfer → Option Task → SystemCall
+call_of e v t task =
+    if is_read e.opcode then read_of v (offset_of t e.off) (flags_of e task) else
+    by_vectors sys.pwritev2 v (offset_of t e.off) (flags_of e task)

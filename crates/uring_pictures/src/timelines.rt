@@ -1,0 +1,113 @@
+//! The run of a trace of which a timeline is drawn.
+
+ghost use Rattle.std.specs.Prelude.{◌≢◌, ℕ, [], IfOk, Err};
+ghost use Rattle.uring_entry.specs.Setup.{Setup};
+ghost use Rattle.uring_trace.specs.Explaining.{HasTold};
+ghost use Rattle.uring_pictures.specs.Drawings.{Reads};
+
+use crate::rows::Timeline;
+use crate::watching::watch_all;
+use std::alloc::Global;
+use std::io::{Read, Write};
+use uring_machine::Setup;
+use uring_text::{Calls, TextMemory, TraceFault, write_all};
+use uring_trace::Explainer;
+
+/// Reads the lines of an explanation from `reader`, makes their steps on a new machine of this set-up, and writes to `writer`, once the input has ended, a row for each request that was accepted: the numbers of the lines, from 1 on, at which it was accepted, started and ended, and at which its completion was posted and reaped, and `-` for what didn't happen. No answers are written. `Ok` tells whether a line was bad.
+///
+/// Each bad line is noted with its number on `errors`. After each step that changes a count it looks at every request, so it is for traces that one can read.
+///
+/// - `Read`: a read failed, or 2^64 - 1 reads were made. Nothing is drawn.
+/// - `Write`: a write failed or took no byte, or 2^64 - 1 writes were made. The timeline or the notes are cut short.
+/// - `Memory`: memory was refused. Nothing is drawn.
+pub fn timeline<R: Read, W: Write, E: Write>(
+    alloc: Global,
+    reader: &mut R,
+    writer: &mut W,
+    errors: &mut E,
+    setup: &Setup,
+) -> Result<bool, TraceFault>
+    ensures { IfOk result
+        (λ bad. Reads setup.now bad (R.remaining reader.old) (R.remaining reader.new) (E.contents errors.old) (E.contents errors.new)) }
+{
+    timeline_in(&alloc, alloc, reader, writer, errors, setup)
+}
+
+/// As `timeline`, by this memory. If it grants whatever is asked for, it never ends with `Memory`.
+pub fn timeline_in<M: TextMemory, R: Read, W: Write, E: Write>(
+    memory: &M,
+    alloc: Global,
+    reader: &mut R,
+    writer: &mut W,
+    errors: &mut E,
+    setup: &Setup,
+) -> Result<bool, TraceFault>
+    ensures lines { IfOk result
+        (λ bad. Reads setup.now bad (R.remaining reader.old) (R.remaining reader.new) (E.contents errors.old) (E.contents errors.new)) }
+    ensures granted { ((n : ℕ) → M.grants memory.now n) → result ≢ Err TraceFault.Memory }
+{
+    let mut explainer = Explainer::new_in(memory, alloc, setup)?;
+    let drawn = draw_all(memory, alloc, &mut explainer, reader, writer, errors);
+    drop(explainer);
+    drawn
+}
+
+/// Takes in all lines, and draws the timeline of their requests. Returns whether a line was bad.
+fn draw_all<M: TextMemory, R: Read, W: Write, E: Write>(
+    memory: &M,
+    alloc: Global,
+    explainer: &mut Explainer,
+    reader: &mut R,
+    writer: &mut W,
+    errors: &mut E,
+) -> Result<bool, TraceFault>
+    ensures lines { IfOk result
+        (λ bad. (setup : Setup) → HasTold setup explainer.old [] [] []
+        → Reads setup bad (R.remaining reader.old) (R.remaining reader.new) (E.contents errors.old) (E.contents errors.new)) }
+    ensures granted { ((n : ℕ) → M.grants memory.now n) → result ≢ Err TraceFault.Memory }
+{
+    let mut timeline = Timeline::new(alloc);
+    watch_and_write(
+        memory,
+        alloc,
+        explainer,
+        &mut timeline,
+        reader,
+        writer,
+        errors,
+    )
+}
+
+/// Takes in all lines, and writes the timeline. Returns whether a line was bad.
+fn watch_and_write<M: TextMemory, R: Read, W: Write, E: Write>(
+    memory: &M,
+    alloc: Global,
+    explainer: &mut Explainer,
+    timeline: &mut Timeline,
+    reader: &mut R,
+    writer: &mut W,
+    errors: &mut E,
+) -> Result<bool, TraceFault>
+    ensures lines { IfOk result
+        (λ bad. (setup : Setup) → HasTold setup explainer.old [] [] []
+        → Reads setup bad (R.remaining reader.old) (R.remaining reader.new) (E.contents errors.old) (E.contents errors.new)) }
+    ensures granted { ((n : ℕ) → M.grants memory.now n) → result ≢ Err TraceFault.Memory }
+{
+    let bad = watch_all(memory, alloc, explainer, timeline, reader, errors)?;
+    write_timeline(memory, alloc, timeline, writer)?;
+    Ok(bad)
+}
+
+/// Writes the timeline.
+fn write_timeline<M: TextMemory, W: Write>(
+    memory: &M,
+    alloc: Global,
+    timeline: &Timeline,
+    writer: &mut W,
+) -> Result<(), TraceFault>
+    ensures granted { ((n : ℕ) → M.grants memory.now n) → result ≢ Err TraceFault.Memory }
+{
+    let mut text = String::new(alloc);
+    timeline.push_rows(memory, &mut text)?;
+    write_all(writer, text.as_bytes(), &mut Calls::new())
+}

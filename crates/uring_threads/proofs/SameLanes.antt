@@ -1,0 +1,68 @@
+-- Lanes that stay the same, as they are looked at and as jobs and results go through them.
+use Rattle.std.proofs.Common.{ℕ, ◌<◌, ◌≤◌, List, length, get_or, refl, sym, subst, ◌∙◌, arith, inl, inr}
+use Rattle.std.proofs.Math.ListN.{set}
+use Rattle.std.proofs.lemmas.Bool.{cases_eq}
+use Rattle.std.proofs.lemmas.List.{length-set, get_or-set_same, get_or-set_other, get_or_default}
+use Rattle.uring_workers.specs.WorkLanes.{AreSameLanes, HoldJobs, HoldResults, OnlyReceives}
+use Rattle.uring_workers.specs.declared.work_lanes.WorkLanes.{WorkLanes}
+
+-- lanes that nothing went through
+pub lanes_none : (lanes : List WorkLanes) → AreSameLanes lanes lanes
+lanes_none lanes = record {
+  many = refl;
+  jobs = λ k d low. ((refl, refl, refl, refl), refl);
+  results = λ k d low. ((refl, refl, refl, refl), refl);
+}
+
+-- the same lanes twice
+pub lanes_then : (a b c : List WorkLanes) → AreSameLanes a b → AreSameLanes b c → AreSameLanes a c
+lanes_then a b c p q =
+    record {
+      many = q.many ∙ p.many;
+      jobs = λ k d low.
+          let x = p.jobs k d low in
+          let y = q.jobs k d (omega (arith, low, p.many)) in
+          ((y.0.0 ∙ x.0.0, y.0.1 ∙ x.0.1, y.0.2 ∙ x.0.2, y.0.3 ∙ x.0.3), y.1 ∙ x.1);
+      results = λ k d low.
+          let x = p.results k d low in
+          let y = q.results k d (omega (arith, low, p.many)) in
+          ((y.0.0 ∙ x.0.0, y.0.1 ∙ x.0.1, y.0.2 ∙ x.0.2, y.0.3 ∙ x.0.3), y.1 ∙ x.1);
+    }
+
+-- lanes from which results were received, in their place
+pub lanes_set : (lanes : List WorkLanes) (place : ℕ) (y d : WorkLanes) → place < length lanes
+    → OnlyReceives (get_or lanes place d) y → AreSameLanes lanes (set lanes place y)
+lanes_set lanes place y d low receives =
+    record {
+      many = length-set lanes place y;
+      jobs = λ k e within.
+          elim (cases_eq k place) [
+            | inl here ↦ rw (here, get_or-set_same lanes place y e low, receives.jobs, get_or_default lanes place d e low) ((refl, refl, refl, refl), refl)
+            | inr other ↦ rw (get_or-set_other lanes place k y e other) ((refl, refl, refl, refl), refl)
+          ];
+      results = λ k e within.
+          elim (cases_eq k place) [
+            | inl here ↦ rw (here, get_or-set_same lanes place y e low, get_or_default lanes place e d low) receives.ring
+            | inr other ↦ rw (get_or-set_other lanes place k y e other) ((refl, refl, refl, refl), refl)
+          ];
+    }
+
+-- results were received twice
+pub receives_then : (a b c : WorkLanes) → OnlyReceives a b → OnlyReceives b c → OnlyReceives a c
+receives_then a b c p q =
+    let x = p.ring in
+    let y = q.ring in
+    record { jobs = q.jobs ∙ p.jobs; ring = ((y.0.0 ∙ x.0.0, y.0.1 ∙ x.0.1, y.0.2 ∙ x.0.2, y.0.3 ∙ x.0.3), y.1 ∙ x.1) }
+
+-- the same lanes hold as many jobs
+pub hold_stays : (old new : List WorkLanes) → AreSameLanes old new → HoldJobs old → HoldJobs new
+hold_stays old new same hold = λ k d low.
+    let before : k < length old = omega (arith, low, same.many) in
+    (same.jobs k d before).1 ∙ hold k d before
+
+-- and as many results
+pub short_stays : (old new : List WorkLanes) → AreSameLanes old new → HoldResults old
+    → HoldResults new
+short_stays old new same short = λ k d low.
+    let before : k < length old = omega (arith, low, same.many) in
+    subst (λ n. n ≤ 64) (sym (same.results k d before).1) (short k d before)

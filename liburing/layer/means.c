@@ -1,0 +1,107 @@
+/* Which call an operation is carried out by, and with which arguments, is the library's decision. */
+#define _GNU_SOURCE
+#include "means.h"
+#include "cancels.h"
+#include "descriptors.h"
+#include "extras.h"
+#include "fault.h"
+#include "files.h"
+#include "groups.h"
+#include "passing.h"
+#include "ring.h"
+#include "sockets.h"
+#include "syncing.h"
+#include "timeouts.h"
+
+#include <errno.h>
+#include <unistd.h>
+
+int32_t make_call(const struct wulgach_system_call *call)
+{
+    long result = syscall((long)call->number, call->first, call->second, call->third, call->fourth, call->fifth, call->sixth);
+    return result < 0 ? -errno : (int32_t)result;
+}
+
+int32_t make_passing_call(const struct wulgach_system_call *call)
+{
+    return (int32_t)pass((long)call->number, (long)call->first, (long)call->second, (long)call->third, (long)call->fourth, (long)call->fifth, (long)call->sixth);
+}
+
+struct wulgach_held held_of(const struct request *request)
+{
+    return (struct wulgach_held){
+        .fd = request->fd,
+        .second_fd = request->second_fd,
+        .path = (uintptr_t)request->path,
+        .second_path = (uintptr_t)request->second_path,
+        .how = (uintptr_t)request->how,
+        .value = (uintptr_t)request->value,
+    };
+}
+
+static int32_t open_file(struct ring *ring, const struct wulgach_means *means)
+{
+    int32_t fd = make_call(&means->call);
+    return fd >= 0 ? install_file(ring, fd, means->slot) : fd;
+}
+
+static int32_t close_file(const struct request *request, const struct wulgach_system_call *call)
+{
+    int32_t fault = wulgach_holding_fault(request->entry.fd, is_ring(request->entry.fd));
+    return fault < 0 ? fault : make_call(call);
+}
+
+static int32_t carry_out_by(struct ring *ring, struct request *request, const struct wulgach_means *means)
+{
+    const struct io_uring_sqe *entry = &request->entry;
+    switch (means->kind) {
+    case WULGACH_BY_CALL:
+        return make_call(&means->call);
+    case WULGACH_BY_OPENING:
+        return open_file(ring, means);
+    case WULGACH_BY_SYNC:
+        return is_taken_for_synced(request->fd) ? 0 : make_call(&means->call);
+    case WULGACH_BY_CLOSE:
+        return close_file(request, &means->call);
+    case WULGACH_BY_CONNECT:
+        return begin_connect(request, &means->call);
+    case WULGACH_BY_SPLICE:
+        request->done = 1;
+        return make_call(&means->call);
+    case WULGACH_BY_SEND:
+    case WULGACH_BY_RECEIVE:
+    case WULGACH_BY_RECEIVE_MESSAGE:
+        return move_message(request, means);
+    case WULGACH_BY_SLOT_REMOVAL:
+        return remove_file(ring, means->slot);
+    case WULGACH_BY_FILES_PLACING:
+        return place_files(ring, entry->addr, entry->len);
+    case WULGACH_BY_FILES_UPDATE:
+        return update_files(ring, means->slot, entry->addr, 0, entry->len);
+    case WULGACH_BY_TIMEOUT:
+        return end_timeout(ring, request);
+    case WULGACH_BY_LINKED_TIMEOUT:
+        return wulgach_timeout_linked_outcome(request->has_fired);
+    case WULGACH_BY_PROVISION:
+        return provide_buffers(ring, entry);
+    case WULGACH_BY_PROVISION_REMOVAL:
+        return remove_buffers(ring, entry);
+    case WULGACH_BY_MESSAGE:
+        return send_message(ring, entry);
+    case WULGACH_BY_OTHERS:
+        return act_on_others(ring, request);
+    default:
+        stop_program("an operation is carried out by nothing");
+    }
+}
+
+int32_t carry_out_by_means(struct ring *ring, struct request *request)
+{
+    int64_t in = (int64_t)request->entry.splice_off_in, out = (int64_t)request->entry.off;
+    struct wulgach_held held = held_of(request);
+    struct wulgach_means means;
+    held.offset_in = (uintptr_t)&in;
+    held.offset_out = (uintptr_t)&out;
+    wulgach_means_of(submission_of(&request->entry), &held, &means);
+    return carry_out_by(ring, request, &means);
+}
