@@ -50,6 +50,38 @@ enum wulgach_found {
  * unless the ring goes by Linux's rules, and the core lets it start. Those of another may be what those before it open. */
 uint32_t wulgach_drains_find_file(const struct wulgach_drains *drains, const struct wulgach_member *request, bool linux_rules, bool knows_start, bool may_start);
 
+/* What an operation needs, in the order in which it is looked for. */
+enum wulgach_need {
+    WULGACH_NEEDS_FILE = 0,     /* the file that it is carried out on, */
+    WULGACH_NEEDS_SECOND = 1,   /* the one that it reads from, */
+    WULGACH_NEEDS_OPEN = 2,     /* that the first is open, */
+    WULGACH_NEEDS_BUFFER = 3,   /* its registered buffer, which has its bytes, */
+    WULGACH_NEEDS_KIND = 4,     /* and whether it may have to wait for its descriptor */
+    WULGACH_NEED_ENDS = 5,      /* something isn't there, and the request ends with its fault */
+    WULGACH_HAS_ALL = 6,
+    WULGACH_NEED_BEGINS = 7     /* what stands in the place of the last one at first */
+};
+
+/* Returns what is looked for next (enum wulgach_need), where what was looked for last has this fault, or 0: nothing that isn't needed, and
+ * all that is. */
+uint32_t wulgach_need_next(const struct wulgach_needs *needs, uint32_t last, int32_t fault);
+
+/* What an operation, or a call, looks for. */
+enum wulgach_missing {
+    WULGACH_NO_FILE = 0,            /* a descriptor isn't open, or a slot has no file: -9 (EBADF) */
+    WULGACH_NO_DIRECTION = 1,       /* a file isn't open for reading, or for writing: -9 */
+    WULGACH_NO_BUFFER = 2,          /* a registered buffer isn't there: -14 (EFAULT) */
+    WULGACH_NO_MEMORY = 3,          /* memory of the application's can't be read, or written: -14 */
+    WULGACH_NO_MEMORY_OWN = 4,      /* there is no memory for the requests that a call takes: -11 (EAGAIN) */
+    WULGACH_NO_PATH_END = 5,        /* a path doesn't end in 4,096 bytes: -36 (ENAMETOOLONG) */
+    WULGACH_NO_ROOM = 6,            /* a buffer has no room for what stands in front of a message: -14 */
+    WULGACH_NO_PROVIDED = 7,        /* a group has no buffer: -105 (ENOBUFS) */
+    WULGACH_NO_REQUEST = 8          /* there is no request that an update or a removal names: -2 (ENOENT) */
+};
+
+/* What it ends with that this isn't found (enum wulgach_missing). */
+int32_t wulgach_missing_fault(uint32_t what);
+
 /* ---- whether it may have to wait for its descriptor ---- */
 
 /* What a descriptor is. */

@@ -1,6 +1,7 @@
 /* What an operation needs, whether it has to wait, and what becomes of a try: with what the manual pages call for, written by hand. */
 #include "wulgach_waits.h"
 
+#include <errno.h>
 #include <stdio.h>
 #include <stdlib.h>
 
@@ -145,6 +146,33 @@ static void call(void)
     demand(turn(SPLICE, 0, begun, WULGACH_TURN_CALLS, -11) == 1000 + WULGACH_TURN_WAITS && turn(SPLICE, 2, begun, WULGACH_TURN_CALLS, -11) == -11 && turn(SPLICE, 0, begun, WULGACH_TURN_CALLS, 5) == 5, "a splice");
 }
 
+/* Looks for all that is needed, of which what stands at one place isn't there, and tells the order. */
+static uint64_t look_for_all(struct wulgach_needs needed, uint32_t missing)
+{
+    uint64_t order = 0;
+    uint32_t need = WULGACH_NEED_BEGINS;
+    int32_t fault = 0;
+    while ((need = wulgach_need_next(&needed, need, fault)) <= WULGACH_NEEDS_KIND) {
+        order = 10 * order + need + 1;
+        fault = need == missing ? -9 : 0;
+    }
+    return 10 * order + need;
+}
+
+static void look_for_needs(void)
+{
+    struct wulgach_needs none = {0}, file = {.needs_file = true}, splice = {.needs_file = true, .needs_second = true}, poll = {.needs_file = true, .asks_file = true}, fixed = {.needs_file = true, .uses_buffer = true}, nop = {.uses_buffer = true};
+    demand(look_for_all(none, 9) == 6 && look_for_all(file, 9) == 156 && look_for_all(splice, 9) == 1256 && look_for_all(poll, 9) == 1356 && look_for_all(fixed, 9) == 1456 && look_for_all(nop, 9) == 46, "all is there");
+    demand(look_for_all(fixed, WULGACH_NEEDS_FILE) == 15 && look_for_all(splice, WULGACH_NEEDS_SECOND) == 125 && look_for_all(fixed, WULGACH_NEEDS_BUFFER) == 145 && look_for_all(file, WULGACH_NEEDS_KIND) == 155, "the first that isn't there ends it");
+}
+
+static void miss(void)
+{
+    static const int32_t faults[] = {-EBADF, -EBADF, -EFAULT, -EFAULT, -EAGAIN, -ENAMETOOLONG, -EFAULT, -ENOBUFS, -ENOENT, 0};
+    for (uint32_t what = 0; what < sizeof faults / sizeof *faults; what++)
+        demand(wulgach_missing_fault(what) == faults[what], "what isn't found");
+}
+
 static void poll_one(void)
 {
     int32_t res = 7;
@@ -162,6 +190,8 @@ int main(void)
     transfer();
     call();
     poll_one();
+    look_for_needs();
+    miss();
     printf("waits: as called for\n");
     return 0;
 }

@@ -16,3 +16,5 @@ mod WayRuns
 mod DescriptorRuns
 mod LookoutRuns
 mod CallTryRuns
+mod NeedRuns
+mod DutyRuns
