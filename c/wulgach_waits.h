@@ -16,8 +16,7 @@ extern "C" {
 /* What the operation of an entry needs, of one that is a token, and of which kind it is. */
 struct wulgach_needs {
     bool needs_file;            /* an open file, */
-    bool asks_file;             /* of which is asked before whether it is open, */
-    bool is_registered;         /* and which the entry names by the slot of a table: IOSQE_FIXED_FILE */
+    bool is_registered;         /* which the entry names by the slot of a table: IOSQE_FIXED_FILE */
     bool needs_second;          /* a second one, that a splice or a tee reads from, */
     bool is_second_registered;  /* by the slot of a table: SPLICE_F_FD_IN_FIXED */
     bool uses_buffer;           /* a registered buffer */
@@ -33,6 +32,17 @@ struct wulgach_needs {
     bool fills_buffer;          /* and puts what belongs to that into its buffer, in front of the bytes */
     bool is_zero_copy;          /* it has a second completion, that its memory may be used again */
     uint32_t events;            /* for which its file is polled, as poll(2) has them; or 0 */
+    uint32_t sought;            /* what is looked for before it is carried out: the bit 1 << NEED of each (enum wulgach_need) */
+};
+
+/* What is looked for before an operation is carried out, by rising bits: the first that isn't there ends its request, and no other is looked
+ * for. */
+enum wulgach_need {
+    WULGACH_NEEDS_FILE = 0,     /* the file that it is carried out on */
+    WULGACH_NEEDS_SECOND = 1,   /* the one that it reads from */
+    WULGACH_NEEDS_OPEN = 2,     /* that the first is open */
+    WULGACH_NEEDS_BUFFER = 3,   /* its registered buffer, which has its bytes */
+    WULGACH_NEEDS_KIND = 4      /* what its descriptor is, and so whether it may have to wait for that */
 };
 
 /* Writes what the operation of an entry needs, and of which kind it is. */
@@ -49,22 +59,6 @@ enum wulgach_found {
  * it start. The call finds them if nothing links it, and no drain was ever accepted; or nothing that drains is outstanding, itself among that,
  * unless the ring goes by Linux's rules, and the core lets it start. Those of another may be what those before it open. */
 uint32_t wulgach_drains_find_file(const struct wulgach_drains *drains, const struct wulgach_member *request, bool linux_rules, bool knows_start, bool may_start);
-
-/* What an operation needs, in the order in which it is looked for. */
-enum wulgach_need {
-    WULGACH_NEEDS_FILE = 0,     /* the file that it is carried out on, */
-    WULGACH_NEEDS_SECOND = 1,   /* the one that it reads from, */
-    WULGACH_NEEDS_OPEN = 2,     /* that the first is open, */
-    WULGACH_NEEDS_BUFFER = 3,   /* its registered buffer, which has its bytes, */
-    WULGACH_NEEDS_KIND = 4,     /* and whether it may have to wait for its descriptor */
-    WULGACH_NEED_ENDS = 5,      /* something isn't there, and the request ends with its fault */
-    WULGACH_HAS_ALL = 6,
-    WULGACH_NEED_BEGINS = 7     /* what stands in the place of the last one at first */
-};
-
-/* Returns what is looked for next (enum wulgach_need), where what was looked for last has this fault, or 0: nothing that isn't needed, and
- * all that is. */
-uint32_t wulgach_need_next(const struct wulgach_needs *needs, uint32_t last, int32_t fault);
 
 /* What an operation, or a call, looks for. */
 enum wulgach_missing {

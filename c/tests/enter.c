@@ -200,13 +200,13 @@ static void reach_rings(void)
 static void do_duties(void)
 {
     running = "duties";
-    const uint32_t first = BIT(WULGACH_LOOKS_AFRESH) | BIT(WULGACH_HEARS_PIPES), last = BIT(WULGACH_SHOWS_FLAGS), pipes = BIT(WULGACH_WATCHES_PIPES), files = BIT(WULGACH_HOLDS_FILES), ends = BIT(WULGACH_SHOWS_ENDS), readiness = BIT(WULGACH_TELLS_READINESS), application = BIT(WULGACH_HEARS_APPLICATION);
-    check(wulgach_duties_at_begin(false, false) == first && wulgach_duties_at_begin(true, false) == (first | BIT(WULGACH_PASSES_TIME)) && wulgach_duties_at_begin(true, true) == first, "as it begins");
+    const uint32_t first = BIT(WULGACH_LOOKS_AFRESH), time = BIT(WULGACH_PASSES_TIME), files = BIT(WULGACH_HOLDS_FILES), pipes = BIT(WULGACH_WATCHES_PIPES), ends = BIT(WULGACH_SHOWS_ENDS), readiness = BIT(WULGACH_TELLS_READINESS), application = BIT(WULGACH_HEARS_APPLICATION), last = BIT(WULGACH_SHOWS_FLAGS);
+    check(wulgach_duties_at_begin(false, false) == first && wulgach_duties_at_begin(true, false) == (first | time) && wulgach_duties_at_begin(true, true) == first, "as it begins");
     check(wulgach_duties_at_rest(false, false) == 0 && wulgach_duties_at_rest(true, false) == ends && wulgach_duties_at_rest(false, true) == readiness, "as it rests");
     check(wulgach_duties_at_return(false, false, false, false) == last && wulgach_duties_at_return(true, false, false, false) == (files | pipes | last), "as it returns");
     check(wulgach_duties_at_return(false, true, true, true) == (pipes | ends | readiness | last), "with all but requests");
-    check(wulgach_duties_before(0) == application && wulgach_duties_before(22) == (ends | application), "before an operation");
-    check(ends < application && files < pipes && pipes < ends && ends < readiness && readiness < last, "their order");
+    check(wulgach_duties_before(0, true) == application && wulgach_duties_before(22, true) == (ends | application) && wulgach_duties_before(22, false) == application, "before an operation");
+    check(first < time && files < pipes && pipes < ends && ends < readiness && ends < application && readiness < last, "their order");
     check(wulgach_polls_writes(1) && !wulgach_polls_writes(0), "a sleep beside pipes");
 }
 

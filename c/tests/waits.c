@@ -146,24 +146,12 @@ static void call(void)
     demand(turn(SPLICE, 0, begun, WULGACH_TURN_CALLS, -11) == 1000 + WULGACH_TURN_WAITS && turn(SPLICE, 2, begun, WULGACH_TURN_CALLS, -11) == -11 && turn(SPLICE, 0, begun, WULGACH_TURN_CALLS, 5) == 5, "a splice");
 }
 
-/* Looks for all that is needed, of which what stands at one place isn't there, and tells the order. */
-static uint64_t look_for_all(struct wulgach_needs needed, uint32_t missing)
+static void seek(void)
 {
-    uint64_t order = 0;
-    uint32_t need = WULGACH_NEED_BEGINS;
-    int32_t fault = 0;
-    while ((need = wulgach_need_next(&needed, need, fault)) <= WULGACH_NEEDS_KIND) {
-        order = 10 * order + need + 1;
-        fault = need == missing ? -9 : 0;
-    }
-    return 10 * order + need;
-}
-
-static void look_for_needs(void)
-{
-    struct wulgach_needs none = {0}, file = {.needs_file = true}, splice = {.needs_file = true, .needs_second = true}, poll = {.needs_file = true, .asks_file = true}, fixed = {.needs_file = true, .uses_buffer = true}, nop = {.uses_buffer = true};
-    demand(look_for_all(none, 9) == 6 && look_for_all(file, 9) == 156 && look_for_all(splice, 9) == 1256 && look_for_all(poll, 9) == 1356 && look_for_all(fixed, 9) == 1456 && look_for_all(nop, 9) == 46, "all is there");
-    demand(look_for_all(fixed, WULGACH_NEEDS_FILE) == 15 && look_for_all(splice, WULGACH_NEEDS_SECOND) == 125 && look_for_all(fixed, WULGACH_NEEDS_BUFFER) == 145 && look_for_all(file, WULGACH_NEEDS_KIND) == 155, "the first that isn't there ends it");
+    const uint32_t file = 1u << WULGACH_NEEDS_FILE, second = 1u << WULGACH_NEEDS_SECOND, is_open = 1u << WULGACH_NEEDS_OPEN, buffer = 1u << WULGACH_NEEDS_BUFFER, kind = 1u << WULGACH_NEEDS_KIND;
+    demand(NEEDS(.opcode = NOP).sought == 0 && NEEDS(.opcode = 11).sought == 0 && NEEDS(.opcode = READ).sought == (file | kind) && NEEDS(.opcode = FSYNC).sought == (file | kind), "a file");
+    demand(NEEDS(.opcode = SPLICE).sought == (file | second | kind) && NEEDS(.opcode = 4).sought == (file | buffer | kind) && NEEDS(.opcode = 6).sought == (file | is_open | kind), "what else is looked for");
+    demand(file < second && second < is_open && is_open < buffer && buffer < kind, "its order");
 }
 
 static void miss(void)
@@ -190,7 +178,7 @@ int main(void)
     transfer();
     call();
     poll_one();
-    look_for_needs();
+    seek();
     miss();
     printf("waits: as called for\n");
     return 0;

@@ -111,8 +111,8 @@ int find_kind(struct request *request)
     return kind == WULGACH_KIND_WRONG ? wulgach_missing_fault(WULGACH_NO_DIRECTION) : 0;
 }
 
-/* Looks for what is needed next. Returns its fault, or 0. */
-static int look_for(struct ring *ring, struct request *request, uint32_t need)
+/* Looks for what is needed. Returns its fault, or 0. */
+static int look_for(struct ring *ring, struct request *request, enum wulgach_need need)
 {
     const struct io_uring_sqe *entry = &request->entry;
     const struct wulgach_needs *needs = &request->needs;
@@ -125,16 +125,16 @@ static int look_for(struct ring *ring, struct request *request, uint32_t need)
         return fcntl(request->fd, F_GETFD) < 0 ? wulgach_missing_fault(WULGACH_NO_FILE) : 0;
     case WULGACH_NEEDS_BUFFER:
         return use_buffer(ring, entry->buf_index, request->vectors, &request->buffer);
-    default:
+    case WULGACH_NEEDS_KIND:
         return find_kind(request);
     }
+    __builtin_unreachable();
 }
 
 void assign(struct ring *ring, struct request *request)
 {
-    uint32_t need = WULGACH_NEED_BEGINS;
     request->is_assigned = true;
     request->fd = request->entry.fd;
-    while ((need = wulgach_need_next(&request->needs, need, request->started)) <= WULGACH_NEEDS_KIND)
-        request->started = look_for(ring, request, need);
+    for (uint32_t sought = request->needs.sought; sought && request->started == 0; sought &= sought - 1)
+        request->started = look_for(ring, request, (enum wulgach_need)__builtin_ctz(sought));
 }

@@ -12,8 +12,6 @@ static void do_duty(struct ring *ring, enum wulgach_duty duty)
     switch (duty) {
     case WULGACH_LOOKS_AFRESH:
         look_afresh(ring);
-        return;
-    case WULGACH_HEARS_PIPES:
         hear_pipes(ring);
         return;
     case WULGACH_PASSES_TIME:
@@ -36,7 +34,9 @@ static void do_duty(struct ring *ring, enum wulgach_duty duty)
         return;
     case WULGACH_SHOWS_FLAGS:
         show_flags(ring);
+        return;
     }
+    __builtin_unreachable();
 }
 
 /* Does what is in a set, by rising bits. */
@@ -63,5 +63,5 @@ void do_duties_at_return(struct ring *ring)
 
 void do_duties_before(struct ring *ring, const struct request *request)
 {
-    do_all(ring, wulgach_duties_before(request->entry.opcode));
+    do_all(ring, wulgach_duties_before(request->entry.opcode, ring->completions.is_behind));
 }

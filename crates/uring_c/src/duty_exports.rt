@@ -38,24 +38,23 @@ pub extern "C" fn wulgach_duties_at_return(
 
 /// What it does before the operation of this code is carried out.
 #[unsafe(no_mangle)]
-pub extern "C" fn wulgach_duties_before(code: u8) -> u32
-    ensures { result ≡ word_of_duties (spec.before code) }
+pub extern "C" fn wulgach_duties_before(code: u8, has_ends: bool) -> u32
+    ensures { result ≡ word_of_duties (spec.before code has_ends) }
 {
-    duties_word(duties_before(code))
+    duties_word(duties_before(code, has_ends))
 }
 
 fn duties_word(duties: Duties) -> u32
     ensures { result ≡ word_of_duties duties }
 {
     bit(1, duties.looks_afresh)
-        | bit(2, duties.hears_pipes)
-        | bit(4, duties.passes_time)
-        | bit(8, duties.holds_files)
-        | bit(16, duties.watches_pipes)
-        | bit(32, duties.shows_ends)
-        | bit(64, duties.tells_readiness)
-        | bit(128, duties.hears_application)
-        | bit(256, duties.shows_flags)
+        | bit(2, duties.passes_time)
+        | bit(4, duties.holds_files)
+        | bit(8, duties.watches_pipes)
+        | bit(16, duties.shows_ends)
+        | bit(32, duties.tells_readiness)
+        | bit(64, duties.hears_application)
+        | bit(128, duties.shows_flags)
 }
 
 fn bit(weight: u32, is_due: bool) -> u32

@@ -16,5 +16,4 @@ mod WayRuns
 mod DescriptorRuns
 mod LookoutRuns
 mod CallTryRuns
-mod NeedRuns
 mod DutyRuns

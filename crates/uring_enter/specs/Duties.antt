@@ -4,7 +4,6 @@ use Rattle.uring_enter.specs.declared.duties.Duties.{Duties}
 
 pub data Duty : Type 0 where
   LooksAfresh : Duty
-  HearsPipes : Duty
   PassesTime : Duty
   HoldsFiles : Duty
   WatchesPipes : Duty
@@ -16,18 +15,16 @@ pub data Duty : Type 0 where
 -- the place of a duty among those of one moment: they are done by rising places
 abbrev pub place : Duty → ℕ
 place LooksAfresh = 0
-place HearsPipes = 1
-place PassesTime = 2
-place HoldsFiles = 3
-place WatchesPipes = 4
-place ShowsEnds = 5
-place TellsReadiness = 6
-place HearsApplication = 7
-place ShowsFlags = 8
+place PassesTime = 1
+place HoldsFiles = 2
+place WatchesPipes = 3
+place ShowsEnds = 4
+place TellsReadiness = 5
+place HearsApplication = 6
+place ShowsFlags = 7
 
 abbrev pub is_due : Duties → Duty → Bool
 is_due d LooksAfresh = d.looks_afresh
-is_due d HearsPipes = d.hears_pipes
 is_due d PassesTime = d.passes_time
 is_due d HoldsFiles = d.holds_files
 is_due d WatchesPipes = d.watches_pipes
@@ -36,11 +33,10 @@ is_due d TellsReadiness = d.tells_readiness
 is_due d HearsApplication = d.hears_application
 is_due d ShowsFlags = d.shows_flags
 
--- as a call begins, or has slept: others may have made descriptors ready meanwhile, so all that runs is looked at again; and what they wrote to pipes is heard before the ring writes anything itself, which isn't told. Where time is real, timeouts end that are over, before entries are submitted; behind a sleep one ends as the sleep says
+-- as a call begins, or has slept: others may have made descriptors ready meanwhile, so all that runs is looked at again, and what they wrote to pipes is heard, in whichever order, before the ring writes anything itself, which isn't told. Where time is real, timeouts end that are over, before entries are submitted; behind a sleep one ends as the sleep says
 abbrev pub at_begin : (is_time_real has_slept : Bool) → Duties
 at_begin is_time_real has_slept = record {
   looks_afresh = true;
-  hears_pipes = true;
   passes_time = is_time_real && not has_slept;
   holds_files = false;
   watches_pipes = false;
@@ -54,7 +50,6 @@ at_begin is_time_real has_slept = record {
 abbrev pub at_rest : (has_ends is_polled : Bool) → Duties
 at_rest has_ends is_polled = record {
   looks_afresh = false;
-  hears_pipes = false;
   passes_time = false;
   holds_files = false;
   watches_pipes = false;
@@ -68,7 +63,6 @@ at_rest has_ends is_polled = record {
 abbrev pub at_return : (runs has_watches has_ends is_polled : Bool) → Duties
 at_return runs has_watches has_ends is_polled = record {
   looks_afresh = false;
-  hears_pipes = false;
   passes_time = false;
   holds_files = runs;
   watches_pipes = runs || has_watches;
@@ -79,14 +73,13 @@ at_return runs has_watches has_ends is_polled = record {
 }
 
 -- before an operation is carried out: other threads see what has ended, however long it takes; a no-op (0) takes no time. Then it is heard what the application has reaped, since the kernel reads the head at each end
-abbrev pub before : ℕ → Duties
-before code = record {
+abbrev pub before : ℕ → (has_ends : Bool) → Duties
+before code has_ends = record {
   looks_afresh = false;
-  hears_pipes = false;
   passes_time = false;
   holds_files = false;
   watches_pipes = false;
-  shows_ends = not (code == 0);
+  shows_ends = has_ends && not (code == 0);
   tells_readiness = false;
   hears_application = true;
   shows_flags = false;

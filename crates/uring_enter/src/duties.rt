@@ -7,11 +7,8 @@ ghost use Rattle.uring_enter.specs.Duties.{ShowsAtLast, WatchesWhatIsHeld};
 /// What is to be done at a moment of a call, in the order in which it stands here.
 #[derive(Clone, Copy, Drop)]
 pub struct Duties {
-    /// All that runs is looked at afresh.
+    /// All that runs is looked at afresh, and what was written to pipes is heard.
     pub looks_afresh: bool,
-
-    /// What was written to pipes is heard.
-    pub hears_pipes: bool,
 
     /// The timeouts end whose time is over.
     pub passes_time: bool,
@@ -37,7 +34,6 @@ pub struct Duties {
 
 const NONE: Duties = Duties {
     looks_afresh: false,
-    hears_pipes: false,
     passes_time: false,
     holds_files: false,
     watches_pipes: false,
@@ -53,7 +49,6 @@ pub fn duties_at_begin(is_time_real: bool, has_slept: bool) -> Duties
 {
     Duties {
         looks_afresh: true,
-        hears_pipes: true,
         passes_time: is_time_real && !has_slept,
         ..NONE
     }
@@ -82,12 +77,12 @@ pub fn duties_at_return(runs: bool, has_watches: bool, has_ends: bool, is_polled
     }
 }
 
-/// Before the operation of this code is carried out.
-pub fn duties_before(code: u8) -> Duties
-    ensures { result ≡ spec.before code }
+/// Before the operation of this code is carried out. What is told: that something has ended which isn't shown.
+pub fn duties_before(code: u8, has_ends: bool) -> Duties
+    ensures { result ≡ spec.before code has_ends }
 {
     Duties {
-        shows_ends: code != 0,
+        shows_ends: has_ends && code != 0,
         hears_application: true,
         ..NONE
     }
