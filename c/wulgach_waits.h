@@ -52,13 +52,18 @@ void wulgach_needs_of(const struct wulgach_submission *entry, struct wulgach_nee
 enum wulgach_found {
     WULGACH_FOUND_AT_START = 0,     /* when it starts */
     WULGACH_FOUND_BY_CALL = 1,      /* by the call that has taken it */
-    WULGACH_ASKS_START = 2          /* so, if the core lets it start: that is asked */
+    WULGACH_FOUND_IN_TURN = 2,      /* by that call, as it starts, or before one behind it does, or the call sleeps or returns */
+    WULGACH_ASKS_START = 3          /* by the call, if the core lets it start: that is asked */
 };
 
 /* Returns when those of a request are found that a call has taken just now (enum wulgach_found), as far as it is known whether the core lets
  * it start. The call finds them if nothing links it, and no drain was ever accepted; or nothing that drains is outstanding, itself among that,
- * unless the ring goes by Linux's rules, and the core lets it start. Those of another may be what those before it open. */
-uint32_t wulgach_drains_find_file(const struct wulgach_drains *drains, const struct wulgach_member *request, bool linux_rules, bool knows_start, bool may_start);
+ * unless the ring goes by Linux's rules, and the core lets it start. Those of another may be what those before it open. Behind one of its
+ * call that may change slots it finds them in its turn. */
+uint32_t wulgach_drains_find_file(const struct wulgach_drains *drains, const struct wulgach_member *request, bool linux_rules, bool behind_change, bool knows_start, bool may_start);
+
+/* Whether the operation of an entry may change what the slots of its ring's table of files hold. */
+bool wulgach_changes_slots(const struct wulgach_submission *entry);
 
 /* What an operation, or a call, looks for. */
 enum wulgach_missing {

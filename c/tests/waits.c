@@ -13,7 +13,7 @@ static void demand(bool holds, const char *what)
     }
 }
 
-enum { NOP, READV, WRITEV, FSYNC, READ_FIXED, WRITE_FIXED, POLL_ADD, TIMEOUT = 11, ACCEPT = 13, CONNECT = 16, READ = 22, WRITE, SEND = 26, RECV, SPLICE = 30, TEE = 33, SEND_ZC = 47 };
+enum { NOP, READV, WRITEV, FSYNC, READ_FIXED, WRITE_FIXED, POLL_ADD, TIMEOUT = 11, ACCEPT = 13, CONNECT = 16, CLOSE = 19, FILES_UPDATE, READ = 22, WRITE, SEND = 26, RECV, SPLICE = 30, TEE = 33, SEND_ZC = 47 };
 
 static struct wulgach_needs needs(struct wulgach_submission entry)
 {
@@ -45,11 +45,14 @@ static void find_files(void)
     struct wulgach_chain chain;
     struct wulgach_member first = {.number = 4, .chain = 4}, second = {.number = 5, .chain = 4, .is_linked = true};
     wulgach_drains_begin(&drains);
-    demand(wulgach_drains_find_file(&drains, &first, false, false, false) == WULGACH_FOUND_BY_CALL && wulgach_drains_find_file(&drains, &second, false, true, true) == WULGACH_FOUND_AT_START, "behind a link");
+    demand(wulgach_drains_find_file(&drains, &first, false, false, false, false) == WULGACH_FOUND_BY_CALL && wulgach_drains_find_file(&drains, &second, false, true, true, true) == WULGACH_FOUND_AT_START, "behind a link");
+    demand(wulgach_drains_find_file(&drains, &first, false, true, false, false) == WULGACH_FOUND_IN_TURN, "behind a change of slots");
+    demand(wulgach_changes_slots(&(struct wulgach_submission){.opcode = CLOSE, .file_index = 1}) && !wulgach_changes_slots(&(struct wulgach_submission){.opcode = CLOSE}) && wulgach_changes_slots(&(struct wulgach_submission){.opcode = FILES_UPDATE}) && !wulgach_changes_slots(&(struct wulgach_submission){.opcode = READ, .file_index = 1}), "who changes slots");
     wulgach_chain_first(&chain, 2);
     wulgach_drains_accept(&drains, &chain);
-    demand(wulgach_drains_find_file(&drains, &first, false, true, true) == WULGACH_FOUND_AT_START && wulgach_drains_find_file(&drains, &first, true, false, true) == WULGACH_ASKS_START, "behind a drain");
-    demand(wulgach_drains_find_file(&drains, &first, true, true, true) == WULGACH_FOUND_BY_CALL && wulgach_drains_find_file(&drains, &first, true, true, false) == WULGACH_FOUND_AT_START, "as the core lets it start");
+    demand(wulgach_drains_find_file(&drains, &first, false, false, true, true) == WULGACH_FOUND_AT_START && wulgach_drains_find_file(&drains, &first, true, false, false, true) == WULGACH_ASKS_START, "behind a drain");
+    demand(wulgach_drains_find_file(&drains, &first, true, true, true, true) == WULGACH_FOUND_IN_TURN && wulgach_drains_find_file(&drains, &first, true, true, false, true) == WULGACH_ASKS_START, "behind both");
+    demand(wulgach_drains_find_file(&drains, &first, true, false, true, true) == WULGACH_FOUND_BY_CALL && wulgach_drains_find_file(&drains, &first, true, false, true, false) == WULGACH_FOUND_AT_START, "as the core lets it start");
     demand(wulgach_polls(&(struct wulgach_standing){.is_stream = true}) && !wulgach_polls(&(struct wulgach_standing){.has_found_buffer = true}), "whom a sleep polls for");
     demand(wulgach_keeps_open(&(struct wulgach_standing){.is_stream = true}, false, false) && !wulgach_keeps_open(&(struct wulgach_standing){.is_stream = true}, true, false) && !wulgach_keeps_open(&(struct wulgach_standing){.is_stream = true}, false, true) && !wulgach_keeps_open(&(struct wulgach_standing){0}, false, false), "whose file is kept open");
 }

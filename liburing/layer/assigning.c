@@ -138,3 +138,23 @@ void assign(struct ring *ring, struct request *request)
     for (uint32_t sought = request->needs.sought; sought && request->started == 0; sought &= sought - 1)
         request->started = look_for(ring, request, (enum wulgach_need)__builtin_ctz(sought));
 }
+
+void assign_in_turn(struct ring *ring, struct request *request)
+{
+    request->is_due = true;
+    if (ring->due_from == ring->due_end)
+        ring->due_from = request->number;
+    ring->due_end = request->number + 1;
+}
+
+void assign_before(struct ring *ring, uint64_t number)
+{
+    const struct requests *requests = &ring->requests;
+    uint64_t end = number < ring->due_end ? number : ring->due_end;
+    if (end <= ring->due_from)
+        return;
+    for (size_t place = count_before(requests, ring->due_from); place < requests->count && requests->rows[place]->number < end; place++)
+        if (requests->rows[place]->is_due && !requests->rows[place]->is_assigned)
+            assign(ring, requests->rows[place]);
+    ring->due_from = end;
+}

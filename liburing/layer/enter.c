@@ -8,6 +8,7 @@
 #include "duties.h"
 #include "enrolling.h"
 #include "fault.h"
+#include "operations.h"
 #include "outlook.h"
 #include "pipes.h"
 #include "policy.h"
@@ -143,6 +144,7 @@ static enum wulgach_reply_kind go_on_fully(struct ring *ring)
 static enum wulgach_reply_kind sleep_on(struct ring *ring, struct waiting *waiting, struct wulgach_reply *reply)
 {
     int error, fault = waiting->fault < 0 ? waiting->fault : read_mask(waiting);
+    assign_before(ring, UINT64_MAX);
     switch (wulgach_sleep_begins(fault, fault == 0 && watch_pipes(ring))) {
     case WULGACH_SLEEP_FAILS:
         reply->number = (uint32_t)-fault;
@@ -224,6 +226,7 @@ static int enter_ring(struct ring *ring, uint32_t flags, struct waiting *waiting
     ring->call_number++;
     do_duties_at_begin(ring, false);
     result = carry_call_out(ring, waiting, flags);
+    assign_before(ring, UINT64_MAX);
     do_duties_at_return(ring);
     return result;
 }

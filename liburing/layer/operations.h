@@ -18,6 +18,12 @@ int copy_behind(struct request *request, const struct request *before);
 /* Finds out what a request is carried out on: its file, its buffer, and whether it may have to wait. */
 void assign(struct ring *ring, struct request *request);
 
+/* Of the requests before this number those find out the same whose turn it is, and that haven't. */
+void assign_before(struct ring *ring, uint64_t number);
+
+/* Notes that a request, the last one, does so in its turn. */
+void assign_in_turn(struct ring *ring, struct request *request);
+
 /* Between these a descriptor is asked but once what it is, as long as no other is: the requests of a submission find theirs one right
  * after the other, and nothing is carried out meanwhile. */
 void begin_asking(void);

@@ -34,6 +34,7 @@ struct request {
     struct buffer *buffer;          /* the registered buffer that it uses, or NULL */
     struct wulgach_needs needs;     /* what its operation needs, and of which kind it is: as zeros, but of a token */
     bool is_assigned;               /* these are known: when it is accepted, or, behind a link or beside a drain, when it starts */
+    bool is_due;                    /* these are found in its turn: before one behind it starts, or the call sleeps or returns */
     bool is_tried;                  /* whether it may have to wait isn't known: it is tried first, */
     bool is_tried_at_once;          /* and nothing was asked of its descriptor, */
     bool was_tried;                 /* or it was */

@@ -108,27 +108,32 @@ static void mark_draining(struct ring *ring, size_t first, size_t end)
         rows[i]->is_draining = is_draining;
 }
 
-/* Whether the files of a request that was accepted just now are found at once. */
-static bool is_found_by_call(struct ring *ring, const struct request *request)
+/* A request that was accepted just now finds its files at once, if that is said, or in its turn; `behind` tells that one before it may change slots. */
+static void find_for(struct ring *ring, struct request *request, bool behind)
 {
-    uint32_t found = wulgach_drains_find_file(&ring->drains, &request->member, ring->is_linux, false, false);
+    uint32_t found = wulgach_drains_find_file(&ring->drains, &request->member, ring->is_linux, behind, false, false);
     if (found == WULGACH_ASKS_START)
-        found = wulgach_drains_find_file(&ring->drains, &request->member, ring->is_linux, true, can_issue(ring, request->number));
-    return found == WULGACH_FOUND_BY_CALL;
+        found = wulgach_drains_find_file(&ring->drains, &request->member, ring->is_linux, behind, true, can_issue(ring, request->number));
+    if (found == WULGACH_FOUND_BY_CALL)
+        assign(ring, request);
+    else if (found == WULGACH_FOUND_IN_TURN)
+        assign_in_turn(ring, request);
 }
 
 /* Of the requests from a row on, which are new: which drain, and on what those are carried out that wait for no other. */
 static void note_chains(struct ring *ring, size_t first)
 {
     struct request **rows = ring->requests.rows;
+    bool changes = false;
     begin_asking();
     for (size_t end; first < ring->requests.count; first = end) {
         for (end = first + 1; end < ring->requests.count && wulgach_is_one_chain(&rows[end]->member, &rows[first]->member);)
             end++;
         mark_draining(ring, first, end);
-        for (size_t i = first; i < end; i++)
-            if (is_found_by_call(ring, rows[i]))
-                assign(ring, rows[i]);
+        for (size_t i = first; i < end; i++) {
+            find_for(ring, rows[i], changes);
+            changes = changes || wulgach_changes_slots(submission_of(&rows[i]->entry));
+        }
     }
     end_asking();
 }

@@ -4,7 +4,7 @@ use Rattle.uring_enter.specs.declared.asked.Policy.{Policy}
 use Rattle.uring_enter.specs.declared.reaching.Naming.{Naming}
 use Rattle.uring_enter.specs.declared.reaching.Naming.TheVariants.{Refused, ByDescriptor, ByNumber}
 use Rattle.uring_enter.specs.declared.drains.WhenFound.{WhenFound}
-use Rattle.uring_enter.specs.declared.drains.WhenFound.TheVariants.{AtItsStart, ByTheCall, AsksStart}
+use Rattle.uring_enter.specs.declared.drains.WhenFound.TheVariants.{AtItsStart, ByTheCall, InItsTurn, AsksStart}
 use Rattle.uring_enter.specs.Due.{is_one_choice}
 use Rattle.uring_c.specs.EnterForm.{policy_of}
 
@@ -18,7 +18,8 @@ word_of_naming ByNumber = pos 1
 abbrev pub word_of_when : WhenFound → ℕ
 word_of_when AtItsStart = 0
 word_of_when ByTheCall = 1
-word_of_when AsksStart = 2
+word_of_when InItsTurn = 2
+word_of_when AsksStart = 3
 
 abbrev pub is_one_choice_by : Option Policy → Bool → Bool
 is_one_choice_by None chooses_events = true

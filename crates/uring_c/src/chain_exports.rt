@@ -2,9 +2,10 @@
 ghost use Rattle.std.specs.Prelude.{◌≡◌, ◌+◌, ◌<◌, ◌^◌, ℕ, length, List, [], ◌∷◌};
 ghost use Rattle.uring_enter.specs.Drainings.{Drainage, KeepsChain, KeepsDrains, keeps_startable, oldest_starts, when_found};
 ghost use Rattle.uring_enter.specs.Drainings as spec;
+ghost use Rattle.uring_enter.specs.Means.{changes_slots};
 ghost use Rattle.uring_c.specs.DecisionForm.{word_of_when};
 
-use uring_enter::{Chain, Drains, Member, WhenFound, lets_others_start};
+use uring_enter::{Chain, Drains, Member, Submission, WhenFound, changes_slots, lets_others_start};
 
 /// The first member of a chain has these flags.
 #[unsafe(no_mangle)]
@@ -29,17 +30,27 @@ pub extern "C" fn wulgach_drains_find_file(
     drains: &Drains,
     request: &Member,
     linux: bool,
+    behind_change: bool,
     knows_start: bool,
     may_start: bool,
 ) -> u32
     ensures { (log : List Drainage) → KeepsDrains log drains.now
-        → result ≡ word_of_when (when_found log request.now linux knows_start may_start) }
+        → result ≡ word_of_when (when_found log request.now linux behind_change knows_start may_start) }
 {
-    match drains.when_found(request, linux, knows_start, may_start) {
+    match drains.when_found(request, linux, behind_change, knows_start, may_start) {
         WhenFound::AtItsStart => 0,
         WhenFound::ByTheCall => 1,
-        WhenFound::AsksStart => 2,
+        WhenFound::InItsTurn => 2,
+        WhenFound::AsksStart => 3,
     }
+}
+
+/// Whether the operation of an entry may change what the slots of a ring's table of files hold.
+#[unsafe(no_mangle)]
+pub extern "C" fn wulgach_changes_slots(entry: &Submission) -> bool
+    ensures { result ≡ changes_slots entry.now }
+{
+    changes_slots(entry)
 }
 
 /// Whether the oldest outstanding request can start, if it hasn't.

@@ -46,6 +46,13 @@ close_of e =
     if e.file_index == 0 then Close (of_three sys.close (word_of e.fd) 0 0) else
     SlotRemoval (e.file_index - 1)
 
+-- whether an operation may change what the slots of the ring's table hold: FILES_UPDATE does; so do ACCEPT, OPENAT, OPENAT2 and SOCKET into a slot, and the close of one, where `file_index` names it
+abbrev pub changes_slots : Submission → Bool
+changes_slots e =
+    e.opcode == 20
+    || (e.opcode == 13 || e.opcode == 18 || e.opcode == 19 || e.opcode == 28 || e.opcode == 45)
+    && not (e.file_index == 0)
+
 -- operations on what is open
 abbrev pub of_descriptors : Submission → Held → Means
 of_descriptors e h =

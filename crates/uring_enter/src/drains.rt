@@ -3,9 +3,11 @@
 ghost use Rattle.std.specs.Prelude.{◌≡◌, ◌+◌, ◌<◌, ◌^◌, ℕ, length, List, [], ◌∷◌};
 ghost use Rattle.uring_enter.specs.Drainings.{Drainage, Accepted, Ended, KeepsChain, KeepsDrains, FindsInTime, drains, keeps_startable, oldest_starts, outstanding, may_post, when_found};
 ghost use Rattle.uring_enter.specs.Drainings as spec;
+ghost use Rattle.uring_enter.specs.Means.{changes_slots};
 
 use crate::core_entry::is_drain;
 use crate::member::Member;
+use crate::submission::Submission;
 
 /// The members of a chain, as they are seen one behind the other.
 #[repr(C)]
@@ -47,6 +49,9 @@ pub enum WhenFound {
 
     /// By the call that has taken it.
     ByTheCall,
+
+    /// By that call, each in its turn: as it starts, or before one behind it does, or the call sleeps or returns, whatever comes first.
+    InItsTurn,
 
     /// By the call, if the core lets it start: that is asked.
     AsksStart,
@@ -97,27 +102,28 @@ impl Drains {
         }
     }
 
-    /// When the files and the buffer of a request are found that a call has taken just now, as far as it is known whether the core lets it start.
+    /// When the files and the buffer of a request are found that a call has taken just now, as far as it is known whether the core lets it start. What is told besides: one before it in its call may change slots.
     pub fn when_found(
         &self,
         request: &Member,
         linux: bool,
+        behind_change: bool,
         knows_start: bool,
         may_start: bool,
     ) -> WhenFound
         ensures { (log : List Drainage) → KeepsDrains log self.now
-            → result ≡ when_found log request.now linux knows_start may_start }
+            → result ≡ when_found log request.now linux behind_change knows_start may_start }
     {
         if request.is_linked {
             WhenFound::AtItsStart
         } else if !self.has_drained {
-            WhenFound::ByTheCall
+            by_call(behind_change)
         } else if !linux && self.outstanding != 0 {
             WhenFound::AtItsStart
         } else if !knows_start {
             WhenFound::AsksStart
         } else if may_start {
-            WhenFound::ByTheCall
+            by_call(behind_change)
         } else {
             WhenFound::AtItsStart
         }
@@ -144,6 +150,27 @@ impl Drains {
             → result ≡ may_post log staged linux }
     {
         (linux || self.outstanding == 0) && staged == 0
+    }
+}
+
+fn by_call(behind_change: bool) -> WhenFound
+    ensures { result ≡ spec.by_call behind_change }
+{
+    if behind_change {
+        WhenFound::InItsTurn
+    } else {
+        WhenFound::ByTheCall
+    }
+}
+
+/// Whether the operation of an entry may change what the slots of a ring's table of files hold.
+pub fn changes_slots(entry: &Submission) -> bool
+    ensures { result ≡ changes_slots entry.now }
+{
+    match entry.opcode {
+        13 | 18 | 19 | 28 | 45 => entry.file_index != 0,
+        20 => true,
+        _ => false,
     }
 }
 

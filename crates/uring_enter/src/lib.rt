@@ -121,6 +121,7 @@ pub use descriptor::next_finding;
 pub use drains::Chain;
 pub use drains::Drains;
 pub use drains::WhenFound;
+pub use drains::changes_slots;
 pub use drains::finds_in_time;
 pub use drains::lets_others_start;
 pub use duties::Duties;
