@@ -110,11 +110,14 @@ struct wulgach_carried {
     uint32_t message_flags; /* of what was received: the flags of its message */
     bool has_message;       /* it has a message, as an operation of sockets */
     bool is_cancelled;      /* a cancel has found it */
+    bool is_missing;        /* it wasn't carried out: something that it needs isn't there */
 };
 
-/* Whether a result is a success to the links behind the request of an entry that was carried out so: it moved all of its length, if it is
- * to, and nothing that it has received was cut. */
-bool wulgach_has_succeeded(const struct wulgach_submission *entry, const struct wulgach_carried *carried, int32_t res);
+/* Whether a result is a success to the links behind the request of an entry that was carried out so, and to WULGACH_CQE_SKIP_SUCCESS: it
+ * moved all of its length, if it is to, and nothing that it has received was cut. By Linux's rules so is a failure of FSYNC,
+ * SYNC_FILE_RANGE, FALLOCATE, MADVISE, STATX, RENAMEAT, UNLINKAT, MKDIRAT, SYMLINKAT, LINKAT, SHUTDOWN and those of extended attributes,
+ * once it was carried out, but for -88 (ENOTSOCK) of a SHUTDOWN. */
+bool wulgach_has_succeeded(const struct wulgach_submission *entry, const struct wulgach_carried *carried, bool linux_rules, int32_t res);
 
 /* What a completion of a request tells of. */
 enum wulgach_part {
@@ -137,9 +140,11 @@ struct wulgach_success {
     bool takes_time;        /* a timeout with IORING_TIMEOUT_ETIME_SUCCESS */
     bool is_linked_timeout;
     bool is_cancelled;      /* a cancel has found it */
+    bool forgives;          /* its failure isn't marked as one: it breaks no link, and is skipped as a success is, */
+    bool wants_socket;      /* but for -88 (ENOTSOCK) */
 };
 
-/* Whether a result is a success to the links behind the request. A chain goes on behind a linked timeout, unless that was cancelled. */
+/* Whether a result is a success to the links behind the request, and to WULGACH_CQE_SKIP_SUCCESS. A chain goes on behind a linked timeout, unless that was cancelled. */
 bool wulgach_is_success(const struct wulgach_success *asked, int32_t res);
 
 /* A request that the core has ended by itself. */

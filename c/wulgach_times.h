@@ -137,7 +137,7 @@ void wulgach_times_pass(struct wulgach_times *times, const struct wulgach_timeou
  * next that is over first, and of equal ones the one that was submitted first. */
 int32_t wulgach_times_due(const struct wulgach_times *times, const struct wulgach_timeout *rows, size_t room, struct wulgach_timeout *timeout);
 
-/* The same of one whose count is reached. */
+/* The same of the one that started first of those whose count is reached. */
 int32_t wulgach_times_reached(const struct wulgach_times *times, const struct wulgach_timeout *rows, size_t room, struct wulgach_timeout *timeout);
 
 /* The same of the one that is to end where nothing else can go on and nobody waits: where time passes by itself one that is over,

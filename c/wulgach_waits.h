@@ -31,7 +31,7 @@ struct wulgach_needs {
     bool is_receive;            /* it receives a message, */
     bool fills_buffer;          /* and puts what belongs to that into its buffer, in front of the bytes */
     bool is_zero_copy;          /* it has a second completion, that its memory may be used again */
-    uint32_t events;            /* for which its file is polled, as poll(2) has them; or 0 */
+    uint32_t events;            /* for which its file is polled, as poll(2) has them, with POLLERR, POLLHUP, POLLNVAL and POLLRDHUP of a poll; or 0 */
     uint32_t sought;            /* what is looked for before it is carried out: the bit 1 << NEED of each (enum wulgach_need) */
 };
 
@@ -334,6 +334,14 @@ uint32_t wulgach_call_next(const struct wulgach_submission *entry, const struct 
 /* Writes what a poll for these events ends with, where `present` are there, 0 for none; `was_told`: something that its pipe had to be read
  * is gone. False, and nothing is written: it waits. */
 bool wulgach_poll_result(uint16_t events, uint16_t present, bool was_told, int32_t *res);
+
+/* Whether an epoll instance is asked for the poll of an entry, for its events and EPOLLET: it goes on, or it is for nothing that a descriptor
+ * which can't be polled has. The instance refuses such a descriptor with EPERM. */
+bool wulgach_asks_instance(const struct wulgach_submission *entry);
+
+/* What a poll for these events ends with whose descriptor can't be polled, as a file's, also if it goes on: those of POLLIN, POLLOUT, POLLRDNORM
+ * and POLLWRNORM that it is for, which poll(2) finds at once, or -22 (EINVAL) if it is for none. */
+int32_t wulgach_unpolled_result(uint16_t events);
 
 #ifdef __cplusplus
 }

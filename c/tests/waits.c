@@ -36,7 +36,7 @@ static void look_at_needs(void)
     demand(NEEDS(.opcode = READV).is_read && NEEDS(.opcode = WRITE).is_write && !NEEDS(.opcode = WRITE).is_read && !NEEDS(.opcode = FSYNC).is_write && NEEDS(.opcode = READ).is_read, "reads and writes");
     demand(NEEDS(.opcode = POLL_ADD).is_poll && NEEDS(.opcode = CONNECT).is_of_sockets && !NEEDS(.opcode = SPLICE).is_of_sockets && NEEDS(.opcode = SEND_ZC).is_zero_copy && !NEEDS(.opcode = SEND).is_zero_copy, "other kinds");
     demand(NEEDS(.opcode = RECV, .ioprio = 2).is_receive && !NEEDS(.opcode = RECV, .ioprio = 2).fills_buffer && NEEDS(.opcode = 10, .ioprio = 2).fills_buffer && !NEEDS(.opcode = 10).fills_buffer, "receives");
-    demand(NEEDS(.opcode = POLL_ADD, .op_flags = 0x10005).events == 5 && NEEDS(.opcode = READ).events == 1 && NEEDS(.opcode = CONNECT).events == 4 && NEEDS(.opcode = NOP).events == 0, "events");
+    demand(NEEDS(.opcode = POLL_ADD, .op_flags = 0x10005).events == 0x203d && NEEDS(.opcode = READ).events == 1 && NEEDS(.opcode = CONNECT).events == 4 && NEEDS(.opcode = NOP).events == 0, "events");
 }
 
 static void find_files(void)
@@ -84,8 +84,8 @@ static void finish(void)
     struct wulgach_needs none = {0}, timeout = {.is_timeout = true}, goes_on = {.goes_on = true}, selects = {.selects = true}, shot = {.goes_on = true, .selects = true};
     struct wulgach_course runs = {.has_started = true}, cancelled = {.has_started = true, .is_cancelled = true};
     struct wulgach_moment unknown = {0}, ready = {.knows_readiness = true, .is_ready = true}, not_ready = {.knows_readiness = true}, counted = {.knows_count = true, .has_counted = true}, no_buffer = {.knows_buffer = true}, no_posting = {.knows_posting = true}, posting = {.knows_posting = true, .may_post = true};
-    demand(wulgach_can_finish(&still, &none, &runs, &unknown) == WULGACH_LOOK_FINISHES && wulgach_can_finish(&waits, &none, &cancelled, &unknown) == WULGACH_LOOK_WAITS, "one that would have waited");
-    demand(wulgach_can_finish(&stream, &timeout, &cancelled, &unknown) == WULGACH_LOOK_FINISHES, "one that was cancelled");
+    demand(wulgach_can_finish(&still, &none, &runs, &unknown) == WULGACH_LOOK_FINISHES && wulgach_can_finish(&waits, &none, &runs, &unknown) == WULGACH_LOOK_WAITS, "one that would have waited");
+    demand(wulgach_can_finish(&stream, &timeout, &cancelled, &unknown) == WULGACH_LOOK_FINISHES && wulgach_can_finish(&waits, &none, &cancelled, &unknown) == WULGACH_LOOK_FINISHES, "one that was cancelled");
     demand(wulgach_can_finish(&still, &timeout, &runs, &unknown) == WULGACH_ASK_COUNT && wulgach_can_finish(&still, &timeout, &runs, &counted) == WULGACH_LOOK_FINISHES, "a timeout");
     demand(wulgach_can_finish(&stream, &goes_on, &runs, &unknown) == WULGACH_ASK_POSTING && wulgach_can_finish(&stream, &goes_on, &runs, &no_posting) == WULGACH_LOOK_WAITS, "one that goes on");
     demand(wulgach_can_finish(&stream, &selects, &runs, &unknown) == WULGACH_ASK_BUFFER && wulgach_can_finish(&stream, &selects, &runs, &no_buffer) == WULGACH_LOOK_FINISHES && wulgach_can_finish(&stream, &shot, &runs, &posting) == WULGACH_ASK_BUFFER, "one without a buffer");
@@ -169,6 +169,9 @@ static void poll_one(void)
     int32_t res = 7;
     demand(!wulgach_poll_result(5, 0, false, &res) && res == 7, "a poll that waits");
     demand(wulgach_poll_result(5, 4, true, &res) && res == 4 && wulgach_poll_result(5, 32, false, &res) && res == -9 && wulgach_poll_result(5, 0, true, &res) && res == 1, "its events");
+    struct wulgach_submission urgent = {.opcode = POLL_ADD, .op_flags = 2}, readable = {.opcode = POLL_ADD, .op_flags = 1}, edges = {.opcode = POLL_ADD, .op_flags = 1, .len = 1};
+    demand(wulgach_asks_instance(&urgent) && !wulgach_asks_instance(&readable) && wulgach_asks_instance(&edges), "an instance is asked");
+    demand(wulgach_unpolled_result(0x203b) == 1 && wulgach_unpolled_result(0xffff) == 0x145 && wulgach_unpolled_result(0x203a) == -22, "what can't be polled");
 }
 
 int main(void)

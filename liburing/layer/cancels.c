@@ -27,7 +27,6 @@ void cancel_request(struct ring *ring, struct request *request)
     look_again_at(ring, request);
     note_found(ring, request);
     note_fact(request, WULGACH_FACT_CANCELLED, 0);
-    request->standing.has_to_wait = false;
 }
 
 /* A request as a cancel sees it, but for whether it could start now. */

@@ -212,7 +212,16 @@ int32_t carry_out(struct ring *ring, struct request *request, enum injection fau
     return res;
 }
 
-bool is_success(const struct request *request, int32_t res)
+/* Whether a request ends so because something that it needs isn't there. A descriptor is asked only behind -9, which an open one may end with. */
+static bool is_missing(const struct request *request, int32_t res)
+{
+    if (request->started < 0)
+        return true;
+    int flags = res == -EBADF && request->needs.needs_file ? fcntl(request->fd, F_GETFL) : 0;
+    return flags < 0 || flags & O_PATH;
+}
+
+bool is_success(const struct ring *ring, const struct request *request, int32_t res)
 {
     const struct msghdr *received = request->needs.is_receive ? request->value : NULL;
     struct wulgach_carried carried = {
@@ -220,6 +229,7 @@ bool is_success(const struct request *request, int32_t res)
         .message_flags = received ? (uint32_t)received->msg_flags : 0,
         .has_message = request->value != NULL,
         .is_cancelled = request->course.is_cancelled,
+        .is_missing = is_missing(request, res),
     };
-    return wulgach_has_succeeded(submission_of(&request->entry), &carried, res);
+    return wulgach_has_succeeded(submission_of(&request->entry), &carried, ring->is_linux, res);
 }

@@ -57,8 +57,8 @@ bool can_have(const struct request *request, enum injection fault);
 /* Carries the operation out, and returns its result, or WOULD_WAIT. */
 int32_t carry_out(struct ring *ring, struct request *request, enum injection fault);
 
-/* Whether a result is a success, as links see it. */
-bool is_success(const struct request *request, int32_t res);
+/* Whether a result is a success, as links and IOSQE_CQE_SKIP_SUCCESS see it. */
+bool is_success(const struct ring *ring, const struct request *request, int32_t res);
 
 /* The name of an operation that is served, else "operation". */
 const char *operation_name(uint8_t code);

@@ -20,18 +20,42 @@ static short events_of(const struct request *request)
     return (short)request->needs.events;
 }
 
-int start_poll(struct request *request)
+static void drop_instance(struct request *request)
 {
-    request->is_of_pipe = is_poll_of_pipe(request);
-    struct epoll_event event = {.events = (uint16_t)events_of(request) | EPOLLET};
-    if (!request->needs.goes_on)
-        return 0;
     if (request->epoll >= 0)
         close(request->epoll);
+    request->epoll = -1;
+}
+
+/* Its descriptor can't be polled: poll(2) finds at once what it ends with, or it fails. */
+static int start_unpolled(struct request *request)
+{
+    int32_t res = wulgach_unpolled_result((uint16_t)events_of(request));
+    drop_instance(request);
+    request->needs.goes_on = false;
+    return res < 0 ? res : 0;
+}
+
+/* Asks an instance. One that ends with its first event doesn't keep it. */
+static int start_by_instance(struct request *request)
+{
+    struct epoll_event event = {.events = (uint16_t)events_of(request) | EPOLLET};
     request->epoll = epoll_create1(EPOLL_CLOEXEC);
     if (request->epoll < 0)
         return -errno;
-    return epoll_ctl(request->epoll, EPOLL_CTL_ADD, request->fd, &event) < 0 ? -errno : 0;
+    int error = epoll_ctl(request->epoll, EPOLL_CTL_ADD, request->fd, &event) < 0 ? errno : 0;
+    if (error == EPERM)
+        return start_unpolled(request);
+    if (!request->needs.goes_on)
+        drop_instance(request);
+    return -error;
+}
+
+int start_poll(struct request *request)
+{
+    request->is_of_pipe = is_poll_of_pipe(request);
+    drop_instance(request);
+    return wulgach_asks_instance(submission_of(&request->entry)) ? start_by_instance(request) : 0;
 }
 
 struct pollfd poll_of_poll(const struct request *request)

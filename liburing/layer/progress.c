@@ -113,7 +113,7 @@ static void finish_running(struct ring *ring, struct request *request)
         /* (one that goes on has those of its last event) */
         request->flags = wulgach_completion_flags(WULGACH_PART_CANCELLED, request->flags);
     }
-    int32_t told = is_success(request, res) ? TOLD_SUCCESS : TOLD_FAILURE;
+    int32_t told = is_success(ring, request, res) ? TOLD_SUCCESS : TOLD_FAILURE;
     if (request->needs.is_zero_copy)
         res = notify(ring, request, res);
     finish(ring, request->number, told);

@@ -4,6 +4,10 @@
 #define _GNU_SOURCE
 #include "engines.h"
 
+#include <fcntl.h>
+#include <poll.h>
+#include <sys/socket.h>
+
 enum { NO_OPERATION = 99 };
 
 static struct ring ring;
@@ -111,6 +115,109 @@ static void test_silent_members(void)
         check(results[0] == -ECANCELED && results[1] == -EINVAL);
     } else {
         EXPECT({0, -ECANCELED});
+    }
+    stop();
+}
+
+/* By Linux's rules a failure that the kernel doesn't mark breaks no link, and is skipped as a success is. */
+static void expect_unmarked(uint8_t code, int fd, int32_t res)
+{
+    put(&ring, code, 0, IOSQE_IO_LINK)->fd = fd;
+    put(&ring, IORING_OP_NOP, 1, 0);
+    submit(2);
+    EXPECT({0, res}, {1, is_by_manual() ? -ECANCELED : 0});
+    put(&ring, code, 2, IOSQE_CQE_SKIP_SUCCESS)->fd = fd;
+    submit(1);
+    if (is_by_manual())
+        EXPECT({2, res});
+    else
+        expect(0, NULL);
+}
+
+/* It is marked where its file is missing, or is no socket. */
+static void expect_marked(uint8_t code, int fd, int32_t res)
+{
+    put(&ring, code, 0, IOSQE_IO_LINK | IOSQE_CQE_SKIP_SUCCESS)->fd = fd;
+    put(&ring, IORING_OP_NOP, 1, 0);
+    submit(2);
+    if (is_by_manual())
+        EXPECT({0, res}, {1, -ECANCELED});
+    else
+        EXPECT({0, res});
+}
+
+static void test_unmarked_failures(void)
+{
+    begin(0);
+    int unconnected = socket(AF_INET, SOCK_STREAM, 0), path = open("/", O_PATH), for_reading = open("/proc/self/exe", O_RDONLY);
+    check(unconnected >= 0 && path >= 0 && for_reading >= 0);
+    expect_unmarked(IORING_OP_FSYNC, ends[0], -EINVAL);
+    expect_unmarked(IORING_OP_SYNC_FILE_RANGE, ends[0], -ESPIPE);
+    expect_unmarked(IORING_OP_SHUTDOWN, unconnected, -ENOTCONN);
+    expect_marked(IORING_OP_SHUTDOWN, ends[0], -ENOTSOCK);
+    expect_marked(IORING_OP_FSYNC, -1, -EBADF);
+    expect_marked(IORING_OP_FSYNC, path, -EBADF);
+    put_transfer(&ring, IORING_OP_FALLOCATE, 0, IOSQE_IO_LINK | IOSQE_CQE_SKIP_SUCCESS, for_reading, (void *)1, 0, 0);
+    put(&ring, IORING_OP_NOP, 1, 0);
+    submit(2);
+    if (is_by_manual())
+        EXPECT({0, -EBADF}, {1, -ECANCELED});
+    else
+        EXPECT({1, 0});
+    close(unconnected);
+    close(path);
+    close(for_reading);
+    stop();
+}
+
+/* Each poll is told that its peer has shut down, whatever it is for. */
+static void test_shut_down(void)
+{
+    int pair[2];
+    begin(0);
+    check(socketpair(AF_UNIX, SOCK_STREAM, 0, pair) == 0);
+    put_plain(&ring, IORING_OP_POLL_ADD, 0, pair[0])->poll32_events = POLLPRI;
+    submit(1);
+    expect(0, NULL);
+    check(shutdown(pair[1], SHUT_WR) == 0);
+    EXPECT({0, POLLRDHUP});
+    put_plain(&ring, IORING_OP_POLL_ADD, 1, pair[0])->poll32_events = POLLIN;
+    submit(1);
+    EXPECT({1, POLLIN | POLLRDHUP});
+    close(pair[0]);
+    close(pair[1]);
+    stop();
+}
+
+/* A poll of a file, or of a device without events, ends with what such a one always has, also if it goes on, or with -22. */
+static void expect_unpolled(int fd)
+{
+    put_plain(&ring, IORING_OP_POLL_ADD, 0, fd)->poll32_events = POLLIN | POLLPRI;
+    submit(1);
+    EXPECT({0, POLLIN});
+    struct io_uring_sqe *endless = put_plain(&ring, IORING_OP_POLL_ADD, 1, fd);
+    endless->poll32_events = POLLIN | POLLOUT;
+    endless->len = IORING_POLL_ADD_MULTI;
+    submit(1);
+    EXPECT({1, POLLIN | POLLOUT});
+    for (uint32_t multi = 0; multi <= IORING_POLL_ADD_MULTI; multi++) {
+        struct io_uring_sqe *urgent = put_plain(&ring, IORING_OP_POLL_ADD, 2, fd);
+        urgent->poll32_events = POLLPRI;
+        urgent->len = multi;
+        submit(1);
+        EXPECT({2, -EINVAL});
+    }
+}
+
+static void test_unpolled(void)
+{
+    static const char *const paths[] = {"/proc/self/exe", "/", "/dev/zero"};
+    begin(0);
+    for (size_t i = 0; i < sizeof paths / sizeof *paths; i++) {
+        int fd = open(paths[i], O_RDONLY);
+        check(fd >= 0);
+        expect_unpolled(fd);
+        close(fd);
     }
     stop();
 }
@@ -271,6 +378,9 @@ int main(int count, char **words)
     static const struct named tests[] = {
         {"refused drain", test_refused_drain},
         {"silent members", test_silent_members},
+        {"unmarked failures", test_unmarked_failures},
+        {"shut down", test_shut_down},
+        {"unpolled", test_unpolled},
         {"doomed in their turn", test_doomed_in_their_turn},
         {"cancels", test_cancels},
         {"drains", test_drains},

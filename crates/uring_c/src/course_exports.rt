@@ -138,12 +138,12 @@ pub extern "C" fn wulgach_course_notice(
     true
 }
 
-/// Whether a result is a success to the links behind the request of an entry that was carried out so.
+/// Whether a result is a success to the links behind the request of an entry that was carried out so, and to who posts, by Linux's rules or the manual pages'.
 #[unsafe(no_mangle)]
-pub extern "C" fn wulgach_has_succeeded(entry: &Submission, carried: &Carried, res: i32) -> bool
-    ensures { result ≡ is_success (success_of_entry entry.now carried.now) res }
+pub extern "C" fn wulgach_has_succeeded(entry: &Submission, carried: &Carried, linux: bool, res: i32) -> bool
+    ensures { result ≡ is_success (success_of_entry entry.now carried.now linux) res }
 {
-    has_succeeded(entry, carried, res)
+    has_succeeded(entry, carried, linux, res)
 }
 
 /// The flags of a completion, where those of a provided buffer that was taken are `of_buffer`, or 0.
@@ -154,7 +154,7 @@ pub extern "C" fn wulgach_completion_flags(of: u32, of_buffer: u32) -> u32
     completion_flags(part(of), of_buffer)
 }
 
-/// Whether a result is a success to the links behind the request.
+/// Whether a result is a success to the links behind the request, and to who posts.
 #[unsafe(no_mangle)]
 pub extern "C" fn wulgach_is_success(asked: &Success, res: i32) -> bool
     ensures { result ≡ is_success asked.now res }

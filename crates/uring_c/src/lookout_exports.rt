@@ -1,6 +1,6 @@
 //! What a ring looks out for, for C: functions of `c/wulgach_waits.h`.
 ghost use Rattle.std.specs.Prelude.{◌≡◌, ◌==◌, ◌+◌, ◌<◌, ◌^◌, not, List, [], ◌∷◌};
-ghost use Rattle.uring_enter.specs.Lookouts.{Happening, Found, Started, Left, Touched, Waited, Moved, Told, Heard, Opened, Ended, Changed, Woke, KeepsLookout, have_to_wait, has_changed, moments};
+ghost use Rattle.uring_enter.specs.Lookouts.{Happening, Found, Started, Left, Touched, Waited, Moved, Told, Heard, Opened, Ended, Changed, Woke, KeepsLookout, have_to_wait, has_changed, moments, passed};
 
 use uring_enter::{EndOfOne, Lookout};
 
@@ -15,7 +15,7 @@ pub extern "C" fn wulgach_lookout_begin(lookout: &mut Lookout)
 /// The first one that isn't passed over was looked at, and can't be finished.
 #[unsafe(no_mangle)]
 pub extern "C" fn wulgach_lookout_passes(lookout: &mut Lookout)
-    ensures { (log : List Happening) → KeepsLookout log lookout.old
+    ensures { (log : List Happening) → KeepsLookout log lookout.old → passed log + 1 < 2 ^ 64
         → KeepsLookout (Found lookout.old.count ∷ log) lookout.new }
 {
     lookout.passes();

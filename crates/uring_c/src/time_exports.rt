@@ -214,7 +214,7 @@ pub extern "C" fn wulgach_times_due(times: &Times, rows: &[Timeout], timeout: &m
     write_found(times.due(rows), timeout)
 }
 
-/// Writes one that runs whose count is reached, and returns 0, if any's is. Else returns -2, and writes nothing.
+/// Writes the one of those that run which started first of all whose count is reached, and returns 0, if any's is. Else returns -2, and writes nothing.
 #[unsafe(no_mangle)]
 pub extern "C" fn wulgach_times_reached(
     times: &Times,

@@ -14,7 +14,8 @@ use crate::wait_words::{
 };
 use uring_enter::{
     Call, Course, Known, Moment, Needs, Patience, Standing, Submission, Transfer, Trial,
-    is_impatient, needs_of, next_finding, next_look, next_step, next_turn, poll_result,
+    asks_instance, is_impatient, needs_of, next_finding, next_look, next_step, next_turn, poll_result,
+    unpolled_result,
 };
 
 /// Writes what the operation of an entry needs.
@@ -104,4 +105,20 @@ pub extern "C" fn wulgach_poll_result(
     };
     *res = ends;
     true
+}
+
+/// Whether an epoll instance is asked for the poll of an entry.
+#[unsafe(no_mangle)]
+pub extern "C" fn wulgach_asks_instance(entry: &Submission) -> bool
+    ensures { result ≡ called.asks_instance entry.now }
+{
+    asks_instance(entry)
+}
+
+/// What a poll for these events ends with whose descriptor can't be polled, also if it goes on.
+#[unsafe(no_mangle)]
+pub extern "C" fn wulgach_unpolled_result(events: u16) -> i32
+    ensures { result ≡ called.unpolled_result events }
+{
+    unpolled_result(events)
 }

@@ -60,11 +60,11 @@ rest false true selects mp lp bf mb af lb mr lr posts buffer ready is = waits_on
 rest false false selects mp lp bf mb af lb mr lr posts buffer ready is = is
 
 none_more : (bw aw k t g s selects mc lc mp lp bf mb af lb mr lr : Bool) → (bw ≡ true → ⊥) → (lc ≡ true → mc ≡ true) → (lp ≡ true → mp ≡ true) → (bf || mb ≡ true → af || lb ≡ true) → lr ≡ mr
-    → (if bw then false else if k then true else if t then mc else if g && not mp then false else if s then (selects && not bf && not mb || mr) else true) ≡ false
-    → (if aw then false else if k then true else if t then lc else if g && not lp then false else if s then (selects && not af && not lb || lr) else true) ≡ false
-none_more bw true k t g s selects mc lc mp lp bf mb af lb mr lr none counts posts buffer ready is = refl
-none_more true false k t g s selects mc lc mp lp bf mb af lb mr lr none counts posts buffer ready is = absurd (none refl)
-none_more false false true t g s selects mc lc mp lp bf mb af lb mr lr none counts posts buffer ready is = absurd (true≢false is)
+    → (if k then true else if bw then false else if t then mc else if g && not mp then false else if s then (selects && not bf && not mb || mr) else true) ≡ false
+    → (if k then true else if aw then false else if t then lc else if g && not lp then false else if s then (selects && not af && not lb || lr) else true) ≡ false
+none_more bw aw true t g s selects mc lc mp lp bf mb af lb mr lr none counts posts buffer ready is = absurd (true≢false is)
+none_more bw true false t g s selects mc lc mp lp bf mb af lb mr lr none counts posts buffer ready is = refl
+none_more true false false t g s selects mc lc mp lp bf mb af lb mr lr none counts posts buffer ready is = absurd (none refl)
 none_more false false false true g s selects mc false mp lp bf mb af lb mr lr none counts posts buffer ready is = refl
 none_more false false false true g s selects mc true mp lp bf mb af lb mr lr none counts posts buffer ready is = absurd (true≢false (sym (counts refl) ∙ is))
 none_more false false false false g s selects mc lc mp lp bf mb af lb mr lr none counts posts buffer ready is = rest g s selects mp lp bf mb af lb mr lr posts buffer ready is

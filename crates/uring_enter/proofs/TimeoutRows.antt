@@ -1,11 +1,12 @@
 -- Rows of timeouts.
-use Rattle.std.proofs.Common.{◌≡◌, ℕ, ◌+◌, ◌<◌, true, false, List, length, get_or, take, inl, inr, ap, subst, ◌∙◌}
+use Rattle.std.proofs.Common.{◌≡◌, ℕ, ◌+◌, ◌-◌, ◌<◌, ◌≤◌, true, false, List, [], ◌∷◌, ◌++◌, length, get_or, take, drop, inl, inr, sym, ap, subst, ◌∙◌, arith}
 use Rattle.std.specs.Prelude.{Contains}
 use Rattle.std.proofs.lemmas.Bool.{eq-eqb, ne_eqb, not_from_true, not_from_false}
-use Rattle.std.proofs.lemmas.List.{take_more}
+use Rattle.std.proofs.lemmas.List.{take_more, append_assoc}
+use Rattle.std.proofs.Math.Seq.{take-add}
 use Rattle.std.proofs.lemmas.List.Elements.{Contains-push_cases}
 use Rattle.uring_enter.specs.declared.timeout.Timeout.{Timeout}
-use Rattle.uring_enter.specs.Timeouts.{is_other, HasNone}
+use Rattle.uring_enter.specs.Timeouts.{is_other, is_reached_by, HasNone, NoneIsReached, IsFirstReached}
 
 pub none_more : (rows : List Timeout) (i : ℕ) (d : Timeout) (number : ℕ) → i < length rows
     → HasNone number (take i rows) → ((get_or rows i d).number ≡ number → ⊥) → HasNone number (take (i + 1) rows)
@@ -21,3 +22,34 @@ other_from number t apart = not_from_false _ (ne_eqb _ _ apart)
 
 pub no_other_from : (number : ℕ) (t : Timeout) → t.number ≡ number → is_other number t ≡ false
 no_other_from number t same = not_from_true _ (eq-eqb _ _ same)
+
+-- the first so many rows, about the one at a place
+split_at : (rows : List Timeout) (count i : ℕ) (t : Timeout) → i < count → count ≤ length rows → t ≡ get_or rows i t
+    → take count rows ≡ take i rows ++ t ∷ take (count - (i + 1)) (drop (i + 1) rows)
+split_at rows count i t below within at =
+    let rest : List Timeout = take (count - (i + 1)) (drop (i + 1) rows) in
+    let sum : count ≡ i + 1 + (count - (i + 1)) = omega arith in
+    ap (λ n. take n rows) sum ∙ take-add (i + 1) (count - (i + 1)) rows
+    ∙ ap (λ l. l ++ rest) (take_more rows i t (omega arith) ∙ ap (λ v. take i rows ++ v ∷ []) (sym at))
+    ∙ append_assoc (take i rows) (t ∷ []) rest
+
+-- the first one of the first so many rows that is found to be reached
+pub first_reached : (rows : List Timeout) (count i posted : ℕ) (t : Timeout) → i < count → count ≤ length rows → t ≡ get_or rows i t
+    → NoneIsReached (take i rows) posted → is_reached_by posted t ≡ true → IsFirstReached (take count rows) posted t
+first_reached rows count i posted t below within at none is = record {
+  before = take i rows;
+  behind = take (count - (i + 1)) (drop (i + 1) rows);
+  split = split_at rows count i t below within at;
+  reached = is;
+  first = none;
+}
+
+pub none_reached_more : (rows : List Timeout) (i posted : ℕ) (t : Timeout) → i < length rows → t ≡ get_or rows i t
+    → NoneIsReached (take i rows) posted → is_reached_by posted t ≡ false → NoneIsReached (take (i + 1) rows) posted
+none_reached_more rows i posted t below at none is u among =
+    let P : List Timeout → Type 0 = λ l. Contains l u in
+    let more : take (i + 1) rows ≡ take i rows ++ t ∷ [] = take_more rows i t below ∙ ap (λ v. take i rows ++ v ∷ []) (sym at) in
+    elim (Contains-push_cases (take i rows) t u (subst P more among)) [
+      | inl old ↦ none u old
+      | inr same ↦ sym (ap (λ v. is_reached_by posted v) same) ∙ is
+    ]

@@ -9,7 +9,7 @@ use Rattle.uring_enter.specs.declared.waiting_call.Doing.TheVariants.{Calls, Pol
 use Rattle.uring_enter.specs.declared.waiting_call.Turn.{Turn}
 use Rattle.uring_enter.specs.declared.waiting_call.Turn.TheVariants.{Does, Waits, Ends, EndsWithDone}
 use Rattle.uring_enter.specs.Clocks.{has_some}
-use Rattle.uring_enter.specs.Needs.{is_splice}
+use Rattle.uring_enter.specs.Needs.{is_splice, goes_on}
 use Rattle.uring_enter.specs.Readiness.{has_message_flags}
 use Rattle.uring_entry.specs.Errors.{error}
 
@@ -94,3 +94,15 @@ abbrev pub poll_result : ℕ → ℕ → Bool → Option ℤ
 poll_result events present was_told =
     if present == 0 then (if was_told then Some (pos (bit_and events 65)) else None) else
     if has_some present 32 then Some (error 9) else Some (pos present)
+
+-- what a descriptor always has that can't be polled, as that of a file, a folder or a device without events: POLLIN (1), POLLOUT (4), POLLRDNORM (64) and POLLWRNORM (256). poll(2)
+abbrev pub always_there : ℕ
+always_there = 325
+
+-- whether an epoll instance is asked for a poll: for one that goes on, since it tells of edges; and for one that names nothing of these, since it alone tells that a descriptor can't be polled. Our own rule
+abbrev pub asks_instance : Submission → Bool
+asks_instance e = goes_on e || not (has_some e.op_flags always_there)
+
+-- what a poll for these events ends with whose descriptor can't be polled, also if it goes on: with those of them that are always there, or -22 (EINVAL) if none is. What Linux 6.18 was seen to do
+abbrev pub unpolled_result : ℕ → ℤ
+unpolled_result events = if has_some events always_there then pos (bit_and events always_there) else error 22

@@ -1,5 +1,5 @@
 -- What a ring looks out for, by what has happened to it, the newest first: which of the requests that run are looked at again, whether what was written to pipes may be its own, and whether threads that sleep on it are woken. Our own rules: a request is looked at again once something has happened that can let it be finished. Requests that run stand by rising number, from place 0.
-use Rattle.std.specs.Prelude.{◌≡◌, ℕ, ◌+◌, ◌-◌, ◌<◌, Bool, true, false, not, ◌&&◌, ◌||◌, ◌==◌, nat_lt, ◌⊎◌, List, [], ◌∷◌, ◌++◌, if◌then◌else◌}
+use Rattle.std.specs.Prelude.{◌≡◌, ℕ, ◌+◌, ◌-◌, ◌<◌, min, Bool, true, false, not, ◌&&◌, ◌||◌, ◌==◌, nat_lt, ◌⊎◌, List, [], ◌∷◌, ◌++◌, if◌then◌else◌}
 use Rattle.uring_enter.specs.declared.needs.Needs.{Needs}
 use Rattle.uring_enter.specs.declared.ready.Standing.{Standing}
 use Rattle.uring_enter.specs.declared.ready.Moment.{Moment}
@@ -62,6 +62,19 @@ waits (Opened ∷ earlier) place = false
 waits (Ended end ∷ earlier) place = not (lets_others earlier end) && waits earlier place
 waits (_ ∷ earlier) place = waits earlier place
 
+-- how many of the first ones are passed over: one more for each that is looked at, in their turn; of those that have been, only those before one that starts, leaves or is touched; and none behind what can have changed any
+abbrev pub passed : List Happening → ℕ
+passed [] = 0
+passed (Found _ ∷ earlier) = passed earlier + 1
+passed (Started at ∷ earlier) = min (passed earlier) at
+passed (Left at ∷ earlier) = min (passed earlier) at
+passed (Touched at ∷ earlier) = min (passed earlier) at
+passed (Moved ∷ earlier) = 0
+passed (Told ∷ earlier) = 0
+passed (Opened ∷ earlier) = 0
+passed (Ended end ∷ earlier) = if lets_others earlier end then 0 else passed earlier
+passed (_ ∷ earlier) = passed earlier
+
 -- how often a descriptor may have become ready
 abbrev pub moments : List Happening → ℕ
 moments [] = 0
@@ -87,6 +100,7 @@ has_changed (_ ∷ earlier) = has_changed earlier
 
 -- glue: what is kept is that of a ring to which this has happened; the first ones, as many as are passed over, are known to wait
 pub record KeepsLookout (log : List Happening) (l : Lookout) : Type 0 where
+  pub passed : l.count ≡ passed log
   pub waiting : (place : ℕ) → place < l.count → waits log place ≡ true
   pub have_to_wait : l.have_to_wait ≡ have_to_wait log
   pub moment : l.moment ≡ moments log

@@ -77,10 +77,14 @@ abbrev pub can_make_ready : ℕ → Bool
 can_make_ready code =
     not (code == 0 || code == 6 || code == 7 || code == 11 || code == 12 || code == 14 || code == 15)
 
--- the events for which its descriptor is polled: those that a poll names in 16 bits; POLLIN (1) of what takes something from it, POLLOUT (4) of what gives it something. poll(2)
+-- what every poll is told of besides what it names: POLLERR (8), POLLHUP (16), POLLNVAL (32) and POLLRDHUP (8192). What Linux 6.18 was seen to do; poll(2) has the first three
+abbrev pub unasked : ℕ
+unasked = 8248
+
+-- the events for which its descriptor is polled: those that a poll names in 16 bits, and those of which every poll is told; POLLIN (1) of what takes something from it, POLLOUT (4) of what gives it something. poll(2)
 abbrev pub events_of : Submission → ℕ
 events_of e =
-    if is_poll e.opcode then bit_and e.op_flags 65535 else
+    if is_poll e.opcode then bit_or (bit_and e.op_flags 65535) unasked else
     if is_read e.opcode || is_receive e.opcode || e.opcode == 13 then 1 else
     if needs_file e.opcode then 4 else 0
 

@@ -1,5 +1,5 @@
 -- What of a request's result is a success to the links behind it, and what is shown of one that the core ends by itself. io_uring_enter(2), IOSQE_IO_LINK, but where another section or our own rule is named.
-use Rattle.std.specs.Prelude.{◌≡◌, ℤ, pos, negsuc, Bool, true, false, not, ◌&&◌, ◌||◌, ◌==◌, if◌then◌else◌}
+use Rattle.std.specs.Prelude.{◌≡◌, ℕ, ℤ, pos, negsuc, Bool, true, false, not, ◌&&◌, ◌||◌, ◌==◌, if◌then◌else◌}
 use Rattle.std.specs.Ordering.{int_eq}
 use Rattle.uring_enter.specs.declared.outcome.Success.{Success}
 use Rattle.uring_enter.specs.declared.outcome.EndedEarly.{EndedEarly}
@@ -20,15 +20,28 @@ wants_whole e has_message =
 abbrev pub cuts : Submission → Carried → Bool
 cuts e c = (e.opcode == 10 || e.opcode == 27) && c.has_message && has_some c.message_flags 40
 
--- what success is of the operation of an entry: a splice's length is the entry's, and IORING_TIMEOUT_ETIME_SUCCESS 32 of a timeout's (11) flags. LINK_TIMEOUT is 15
-abbrev pub success_of_entry : Submission → Carried → Success
-success_of_entry e c = record {
+-- SYNC_FILE_RANGE (8), FSYNC (3), FALLOCATE (17), STATX (21), MADVISE (25), SHUTDOWN (34), RENAMEAT, UNLINKAT, MKDIRAT, SYMLINKAT and LINKAT (35 to 39), FSETXATTR, SETXATTR, FGETXATTR and GETXATTR (41 to 44): Linux doesn't mark the request as failed if one of these is carried out and fails. What Linux 6.18 was seen to do
+abbrev pub is_forgiving : ℕ → Bool
+is_forgiving code =
+    code == 3 || code == 8 || code == 17 || code == 21 || code == 25 || code == 34
+    || code == 35 || code == 36 || code == 37 || code == 38 || code == 39
+    || code == 41 || code == 42 || code == 43 || code == 44
+
+-- by Linux's rules a failure of one of these is a success to its link and to IOSQE_CQE_SKIP_SUCCESS, if it was carried out: not if something that it needs isn't there, nor if it was cancelled
+abbrev pub forgives : Submission → Carried → (linux : Bool) → Bool
+forgives e c linux = linux && is_forgiving e.opcode && not c.is_missing && not c.is_cancelled
+
+-- what success is of the operation of an entry: a splice's length is the entry's, and IORING_TIMEOUT_ETIME_SUCCESS 32 of a timeout's (11) flags. LINK_TIMEOUT is 15, SHUTDOWN 34
+abbrev pub success_of_entry : Submission → Carried → (linux : Bool) → Success
+success_of_entry e c linux = record {
   length = if is_splice e.opcode then e.len else c.length;
   is_whole = wants_whole e c.has_message;
   is_cut = cuts e c;
   takes_time = e.opcode == 11 && has_some e.op_flags 32;
   is_linked_timeout = e.opcode == 15;
   is_cancelled = c.is_cancelled;
+  forgives = forgives e c linux;
+  wants_socket = e.opcode == 34;
 }
 
 -- a transfer has moved all that it was asked to, and nothing was cut: a short one breaks a link
@@ -40,11 +53,15 @@ is_whole a (negsuc _) = false
 abbrev pub is_time : Success → ℤ → Bool
 is_time a res = a.takes_time && int_eq res (error 62)
 
+-- a failure that isn't marked as one. A SHUTDOWN of what is no socket fails all the same: -88 (ENOTSOCK)
+abbrev pub is_forgiven : Success → ℤ → Bool
+is_forgiven a res = a.forgives && not (a.wants_socket && int_eq res (error 88))
+
 abbrev pub success_of : Success → ℤ → Bool
-success_of a (negsuc below) = is_time a (negsuc below)
+success_of a (negsuc below) = is_time a (negsuc below) || is_forgiven a (negsuc below)
 success_of a (pos count) = not a.is_whole || is_whole a (pos count)
 
--- whether it is a success: no error, and of a transfer that wants all of its length no less. A chain goes on behind a linked timeout whatever that ends with, unless it was cancelled itself
+-- whether it is a success to the links behind it, and to IOSQE_CQE_SKIP_SUCCESS: no error but one that isn't marked, and of a transfer that wants all of its length no less. A chain goes on behind a linked timeout whatever that ends with, unless it was cancelled itself
 abbrev pub is_success : Success → ℤ → Bool
 is_success a res =
     if a.is_linked_timeout then not a.is_cancelled else success_of a res

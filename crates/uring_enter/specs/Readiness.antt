@@ -16,11 +16,11 @@ use Rattle.uring_enter.specs.Needs.{is_transfer, is_of_sockets, is_splice}
 abbrev pub finds_what_it_wants : Standing → Needs → Moment → Bool
 finds_what_it_wants s n m = n.selects && not s.has_found_buffer && not m.has_buffer || m.is_ready
 
--- whether a request that runs, which a cancel has found or not, can be finished: one that would have waited waits until another has ended, which is our own rule; a timeout until its count is reached, since its time ends it by itself; any other, until its completion may be posted if it goes on, and its descriptor is ready if it may have to wait for that
+-- whether a request that runs, which a cancel has found or not, can be finished: one that a cancel has found can, whatever else is so; one that would have waited waits until another has ended, which is our own rule; a timeout until its count is reached, since its time ends it by itself; any other, until its completion may be posted if it goes on, and its descriptor is ready if it may have to wait for that
 abbrev pub can_finish : Standing → Needs → Bool → Moment → Bool
 can_finish s n is_cancelled m =
-    if s.has_to_wait then false else
     if is_cancelled then true else
+    if s.has_to_wait then false else
     if n.is_timeout then m.has_counted else
     if n.goes_on && not m.may_post then false else
     if s.is_stream then finds_what_it_wants s n m else true
@@ -73,8 +73,8 @@ look_at_descriptor s n m =
 -- what is asked next, or whether it can be finished: nothing is asked that doesn't matter. Our own rule
 abbrev pub look_of : Standing → Needs → Bool → Moment → Look
 look_of s n is_cancelled m =
-    if s.has_to_wait then Waits else
     if is_cancelled then Finishes else
+    if s.has_to_wait then Waits else
     if n.is_timeout then look_at_count m else
     if n.goes_on && not m.knows_posting then Asks Posting else
     if n.goes_on && not m.may_post then Waits else

@@ -115,11 +115,21 @@ is_reached_by count t = nat_lt 0 t.enough && nat_le t.enough count
 abbrev pub has_counted : List Event → Timeout → Bool
 has_counted log t = is_reached_by (posted log) t
 
--- one of these has a count that is reached by so many completions, or none has
+-- none of these has a count that is reached by so many completions
+abbrev pub NoneIsReached : List Timeout → ℕ → Type 0
+NoneIsReached rows count = (t : Timeout) → Contains rows t → is_reached_by count t ≡ false
+
+-- a timeout is the first of these whose count is reached: none before it has one that is. Those that run stand in the order in which they started
+pub record IsFirstReached (rows : List Timeout) (count : ℕ) (t : Timeout) : Type 0 where
+  pub before : List Timeout
+  pub behind : List Timeout
+  pub split : rows ≡ before ++ t ∷ behind
+  pub reached : is_reached_by count t ≡ true
+  pub first : NoneIsReached before count
+
+-- the first of these whose count is reached by so many completions, if any's is
 abbrev pub IsReachedOf : List Timeout → ℕ → Option Timeout → Type 0
-IsReachedOf rows count found = MatchOption found
-    ((t : Timeout) → Contains rows t → is_reached_by count t ≡ false)
-    (λ t. Contains rows t × (is_reached_by count t ≡ true))
+IsReachedOf rows count found = MatchOption found (NoneIsReached rows count) (IsFirstReached rows count)
 
 -- its time is over
 abbrev pub is_over : List Event → Timeout → Bool

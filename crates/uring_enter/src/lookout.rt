@@ -1,7 +1,7 @@
 //! What a ring looks out for: which of the requests that run are looked at again, whether what was written to pipes may be its own, and whether threads that sleep on it are woken. Our own rules: a kernel is told of what changes; here all is looked at.
 
 ghost use Rattle.std.specs.Prelude.{◌≡◌, ◌==◌, ◌+◌, ◌<◌, ◌^◌, not, List, [], ◌∷◌};
-ghost use Rattle.uring_enter.specs.Lookouts.{Happening, Found, Started, Left, Touched, Waited, Moved, Told, Heard, Opened, Ended, Changed, Woke, KeepsLookout, EndLetsNone, LooksAfresh, WakesForEach, TakesItsOwn, moments};
+ghost use Rattle.uring_enter.specs.Lookouts.{Happening, Found, Started, Left, Touched, Waited, Moved, Told, Heard, Opened, Ended, Changed, Woke, KeepsLookout, EndLetsNone, LooksAfresh, WakesForEach, TakesItsOwn, moments, passed};
 ghost use Rattle.uring_enter.specs.Lookouts as spec;
 
 /// What a ring looks out for.
@@ -51,7 +51,7 @@ impl Lookout {
 
     /// The first one that isn't passed over was looked at, and can't be finished.
     pub fn passes(&mut self)
-        ensures { (log : List Happening) → KeepsLookout log self.old
+        ensures { (log : List Happening) → KeepsLookout log self.old → passed log + 1 < 2 ^ 64
             → KeepsLookout (Found self.old.count ∷ log) self.new }
     {
         self.count = self.count.saturating_add(1);

@@ -58,7 +58,7 @@ pub struct Needs {
     /// It has a second completion, that its memory may be used again. IORING_OP_SEND_ZC.
     pub is_zero_copy: bool,
 
-    /// The events for which its file is polled, as poll(2) has them.
+    /// The events for which its file is polled, as poll(2) has them; of a poll also those of which every poll is told.
     pub events: u32,
 
     /// What is looked for before it is carried out, the bit of each: its file (1), the second one (2), whether the first is open (4), its registered buffer (8), and whether it may have to wait for its descriptor (16). These are looked for by rising bits, and the first that isn't there ends its request.
@@ -287,11 +287,14 @@ fn can_make_ready(code: u8) -> bool
     !matches!(code, 0 | 6 | 7 | 11 | 12 | 14 | 15)
 }
 
+/// What every poll is told of besides what it names: POLLERR, POLLHUP, POLLNVAL and POLLRDHUP.
+const UNASKED: u32 = 0x2038;
+
 fn events_of(entry: &Submission) -> u32
     ensures { result ≡ spec.events_of entry.now }
 {
     match entry.opcode {
-        6 => entry.op_flags & 0xffff,
+        6 => entry.op_flags & 0xffff | UNASKED,
         1 | 4 | 10 | 13 | 22 | 27 => 1,
         code => { if needs_file(code) { 4 } else { 0 } }
     }

@@ -1,7 +1,7 @@
 //! What of a request's result is a success to the links behind it, and what is shown of one that the core ends by itself.
 
 ghost use Rattle.std.specs.Prelude.{◌≡◌};
-ghost use Rattle.uring_enter.specs.Outcomes.{cuts, is_success, is_whole, success_of_entry, wants_whole, looks_ahead, looks_for_running, looks_for_next, may_have_found, shown_of, LooksInTime};
+ghost use Rattle.uring_enter.specs.Outcomes.{cuts, forgives, is_forgiven, is_forgiving, is_success, is_whole, success_of_entry, wants_whole, looks_ahead, looks_for_running, looks_for_next, may_have_found, shown_of, LooksInTime};
 
 use crate::needs::{is_of_sockets, is_splice, is_transfer};
 use crate::submission::Submission;
@@ -28,6 +28,12 @@ pub struct Success {
 
     /// A cancel has found it.
     pub is_cancelled: bool,
+
+    /// Its failure isn't marked as one: it breaks no link, and is skipped as a success is.
+    pub forgives: bool,
+
+    /// But for -88, which says that its file is no socket.
+    pub wants_socket: bool,
 }
 
 /// How an operation was carried out.
@@ -45,11 +51,14 @@ pub struct Carried {
 
     /// A cancel has found it.
     pub is_cancelled: bool,
+
+    /// It wasn't carried out: something that it needs isn't there.
+    pub is_missing: bool,
 }
 
-/// What success is of the operation of an entry.
-pub fn success_of(entry: &Submission, carried: &Carried) -> Success
-    ensures { result ≡ success_of_entry entry.now carried.now }
+/// What success is of the operation of an entry, in a ring by Linux's rules or by the manual pages'.
+pub fn success_of(entry: &Submission, carried: &Carried, linux: bool) -> Success
+    ensures { result ≡ success_of_entry entry.now carried.now linux }
 {
     let is_splice = is_splice(entry.opcode);
     Success {
@@ -63,7 +72,23 @@ pub fn success_of(entry: &Submission, carried: &Carried) -> Success
         takes_time: entry.opcode == 11 && entry.op_flags & 32 != 0,
         is_linked_timeout: entry.opcode == 15,
         is_cancelled: carried.is_cancelled,
+        forgives: forgives(entry, carried, linux),
+        wants_socket: entry.opcode == 34,
     }
+}
+
+/// Whether a failure of an operation isn't marked as one: by Linux's rules, of some, once they are carried out.
+fn forgives(entry: &Submission, carried: &Carried, linux: bool) -> bool
+    ensures { result ≡ forgives entry.now carried.now linux }
+{
+    linux && is_forgiving(entry.opcode) && !carried.is_missing && !carried.is_cancelled
+}
+
+/// FSYNC, SYNC_FILE_RANGE, FALLOCATE, STATX, MADVISE, SHUTDOWN, names that are changed, and extended attributes.
+fn is_forgiving(code: u8) -> bool
+    ensures { result ≡ is_forgiving code }
+{
+    matches!(code, 3 | 8 | 17 | 21 | 25 | 34..=39 | 41..=44)
 }
 
 /// Whether an operation is a success only if it moves all that it is asked to.
@@ -84,20 +109,20 @@ fn cuts(entry: &Submission, carried: &Carried) -> bool
     matches!(entry.opcode, 10 | 27) && carried.has_message && carried.message_flags & 40 != 0
 }
 
-/// Whether a result is a success to the links behind the request of an entry.
-pub fn has_succeeded(entry: &Submission, carried: &Carried, res: i32) -> bool
-    ensures { result ≡ is_success (success_of_entry entry.now carried.now) res }
+/// Whether a result is a success to the links behind the request of an entry, and to who posts.
+pub fn has_succeeded(entry: &Submission, carried: &Carried, linux: bool, res: i32) -> bool
+    ensures { result ≡ is_success (success_of_entry entry.now carried.now linux) res }
 {
     match entry.opcode {
-        22 => has_read_all(entry, carried, res),
-        _ => is_success(success_of(entry, carried), res),
+        22 => has_read_all(entry, carried, linux, res),
+        _ => is_success(success_of(entry, carried, linux), res),
     }
 }
 
 /// The same of a READ: it has moved all its bytes.
-fn has_read_all(entry: &Submission, carried: &Carried, res: i32) -> bool
+fn has_read_all(entry: &Submission, carried: &Carried, linux: bool, res: i32) -> bool
     requires { entry.now.opcode ≡ 22 }
-    ensures { result ≡ is_success (success_of_entry entry.now carried.now) res }
+    ensures { result ≡ is_success (success_of_entry entry.now carried.now linux) res }
 {
     let is_cut = false;
     if res < 0 {
@@ -107,17 +132,23 @@ fn has_read_all(entry: &Submission, carried: &Carried, res: i32) -> bool
     }
 }
 
-/// Whether a result is a success to the links behind the request.
+/// Whether a result is a success to the links behind the request, and to who posts.
 pub fn is_success(asked: Success, res: i32) -> bool
     ensures { result ≡ is_success asked res }
 {
     if asked.is_linked_timeout {
         !asked.is_cancelled
     } else if res < 0 {
-        asked.takes_time && res == -62
+        asked.takes_time && res == -62 || is_forgiven(asked, res)
     } else {
         !asked.is_whole || is_whole(asked, res)
     }
+}
+
+fn is_forgiven(asked: Success, res: i32) -> bool
+    ensures { result ≡ is_forgiven asked res }
+{
+    asked.forgives && !(asked.wants_socket && res == -88)
 }
 
 /// Whether a transfer has moved all that it was asked to, and nothing was cut.

@@ -90,10 +90,10 @@ pub fn next_look(standing: &Standing, needs: &Needs, course: &Course, known: &Mo
     ensures { (log : List Fact) → KeepsCourse log course.now
         → result ≡ spec.look_of standing.now needs.now (is_cancelled log) known.now }
 {
-    if standing.has_to_wait {
-        Look::Waits
-    } else if course.is_cancelled {
+    if course.is_cancelled {
         Look::Finishes
+    } else if standing.has_to_wait {
+        Look::Waits
     } else if needs.is_timeout {
         look_at_count(known)
     } else if needs.goes_on && !known.knows_posting {

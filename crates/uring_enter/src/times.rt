@@ -176,7 +176,7 @@ impl Times {
         due_of(self.time, self.next(rows))
     }
 
-    /// One that runs whose count is reached, if any's is.
+    /// The one of those that run which started first of all whose count is reached, if any's is.
     pub fn reached(&self, rows: &[Timeout]) -> Option<Timeout>
         ensures { (log : List Event) → KeepsTime log self.now rows.now
             → IsReachedOf (running log) (posted log) result }

@@ -4,7 +4,7 @@ ghost use Rattle.std.specs.Prelude.{◌≡◌};
 ghost use Rattle.uring_enter.specs.CallTries as spec;
 ghost use Rattle.uring_enter.specs.CallTries.{AcceptsWhatCame, EndsWithWhatCame, LosesNoBytes};
 
-use crate::needs::is_splice;
+use crate::needs::{goes_on, is_splice};
 use crate::ready::has_message_flags;
 use crate::submission::Submission;
 
@@ -192,6 +192,24 @@ pub fn poll_result(events: u16, present: u16, was_told: bool) -> Option<i32>
     } else {
         None
     }
+}
+
+/// What a descriptor always has that can't be polled: POLLIN, POLLOUT, POLLRDNORM and POLLWRNORM.
+const ALWAYS_THERE: u32 = 0x145;
+
+/// Whether an epoll instance is asked for the poll of an entry: it goes on, or is for nothing that a descriptor which can't be polled has.
+pub fn asks_instance(entry: &Submission) -> bool
+    ensures { result ≡ spec.asks_instance entry.now }
+{
+    goes_on(entry) || entry.op_flags & ALWAYS_THERE == 0
+}
+
+/// What a poll for these events ends with whose descriptor can't be polled, also if it goes on: those of them that are always there, or -22.
+pub fn unpolled_result(events: u16) -> i32
+    ensures { result ≡ spec.unpolled_result events }
+{
+    let present = events as u32 & ALWAYS_THERE;
+    if present == 0 { -22 } else { present as i32 }
 }
 
 /// A connection is accepted only right behind its socket was found ready, and a connect is begun once.

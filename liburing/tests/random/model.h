@@ -238,8 +238,8 @@ void see_message(struct model *model, unsigned index, int32_t res);
 /* The request ends with this result, which is judged, and does what it does. Returns whether it is a success. */
 bool carry_out(struct model *model, const struct request *request, int32_t res);
 
-/* The result that is a success, of a request that posts none then. */
-int32_t success_of(const struct request *request);
+/* What a request that posts nothing has ended with: a success, or a failure of the program's list that Linux doesn't mark. */
+int32_t unseen_result(const struct model *model, const struct request *request);
 
 /* The descriptor of what an action is about isn't open, or no file is registered by its number. */
 bool is_no_file(const struct model *model, const struct action *action);

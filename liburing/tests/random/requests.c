@@ -253,7 +253,7 @@ void force(struct model *model, struct request *request, const char *why)
     }
     if (!is_skipping(request) || request->is_doomed)
         wrong(model, "entry %u %s, and hasn't ended", request->index, why);
-    end(model, request, carry_out(model, request, success_of(request)));
+    end(model, request, carry_out(model, request, unseen_result(model, request)));
 }
 
 /* A timeout that is linked behind it may have cancelled it, unseen. */

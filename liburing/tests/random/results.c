@@ -220,14 +220,23 @@ static int32_t result_of(struct model *model, const struct request *request, uin
     return is_transfer ? transfer(model, request, length, is_done) : call_file(model, request->action, is_done);
 }
 
-int32_t success_of(const struct request *request)
+static int32_t success_of(const struct request *request)
 {
     bool is_transfer = is_read(request->action) || is_write(request->action);
     return is_transfer ? (int32_t)most_of(request->action) : 0;
 }
 
-static bool is_success(const struct request *request, int32_t res)
+/* Whether a failure of an operation is a success to links, and is skipped as one is: Linux doesn't mark it, once it is carried out. */
+static bool is_forgiven(const struct model *model, const struct action *action)
 {
+    bool is_of_kind = action->code == IORING_OP_FSYNC || action->code == IORING_OP_FALLOCATE || action->code == IORING_OP_SYNC_FILE_RANGE;
+    return (model->is_linux || model->is_kernel) && is_of_kind && !is_no_file(model, action);
+}
+
+static bool is_success(const struct model *model, const struct request *request, int32_t res)
+{
+    if (is_forgiven(model, request->action))
+        return true;
     if (request->action->code == IORING_OP_TIMEOUT)
         return res == -ETIME && request->action->is_success;
     if (request->action->code == IORING_OP_LINK_TIMEOUT)
@@ -265,6 +274,12 @@ static int listed_fault(const struct model *model, const struct request *request
         if (program->faults[i].ring == model->layer_index && program->faults[i].number == number && can_have(model, request, program->faults[i].kind))
             return program->faults[i].kind;
     return NO_FAULT;
+}
+
+int32_t unseen_result(const struct model *model, const struct request *request)
+{
+    int fault = is_forgiven(model, request->action) ? listed_fault(model, request) : NO_FAULT;
+    return fault == FAULT_EIO ? -EIO : fault == FAULT_ENOSPC ? -ENOSPC : success_of(request);
 }
 
 /* Whether the result is that of the request with this fault. */
@@ -311,7 +326,7 @@ bool carry_out(struct model *model, const struct request *request, int32_t res)
     for (int fault = first; fault <= last; fault++)
         if (has_result(model, request, fault, res)) {
             carry_out_with(model, request, fault, res);
-            return is_success(request, res);
+            return is_success(model, request, res);
         }
     wrong(model, "entry %u ends with %" PRId32 ", and is to end with %" PRId32, request->index, res, result_of(model, request, length_of(request->action), false));
 }
