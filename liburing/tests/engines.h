@@ -64,16 +64,6 @@ static inline struct seen next_of(struct ring *ring)
     return found;
 }
 
-/* The seconds behind which a test that hangs is ended by an alarm, if it sets one. */
-enum { PATIENCE = 60 };
-
-/* How many times as patient the test is as on a quiet machine. */
-static inline int patience(void)
-{
-    const char *said = getenv("PATIENCE");
-    return said && atoi(said) > 0 ? atoi(said) : 1;
-}
-
 struct named {
     const char *name;
     void (*run)(void);

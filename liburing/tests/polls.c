@@ -322,7 +322,7 @@ int __wrap_ppoll(struct pollfd *polled, nfds_t count, const struct timespec *tim
 
 static void *wait_for_one(void *ring)
 {
-    check(enter_for(ring, 1, 5000000000) == 0);
+    check(enter_for(ring, 1, 5000000000 * patience()) == 0);
     return NULL;
 }
 
@@ -396,7 +396,7 @@ int main(void)
         const char *name;
         void (*run)(void);
     } tests[] = {{"refused", test_refused}, {"poll", test_poll}, {"overflow", test_overflow}, {"epoll", test_epoll}, {"pipe", test_pipe}, {"cancelled at once", test_cancelled_at_once}, {"renewed", test_renewed}, {"come and gone", test_come_and_gone}, {"gone behind a look", test_gone_behind_a_look}, {"heard by another", test_heard_by_another}, {"threads", test_threads}, {"file limit", test_file_limit}};
-    alarm(30);
+    alarm((unsigned)(PATIENCE * patience()));
     for (size_t i = 0; i < sizeof tests / sizeof *tests; i++) {
         test = tests[i].name;
         tests[i].run();

@@ -66,21 +66,36 @@ static void test_shared_ring(void)
 
 struct sleep {
     struct ring *ring;
+    pid_t thread;       /* once it runs */
     long result;
 };
 
 static void *sleep_in_call(void *sleep)
 {
     struct sleep *own = sleep;
+    __atomic_store_n(&own->thread, gettid(), __ATOMIC_RELEASE);
     own->result = enter(own->ring, 0, 1, IORING_ENTER_GETEVENTS);
     return NULL;
+}
+
+/* Whether it sleeps, as the kernel tells of its thread. */
+static bool is_asleep(const struct sleep *sleep)
+{
+    char path[64], state = 0;
+    snprintf(path, sizeof path, "/proc/self/task/%d/stat", (int)__atomic_load_n(&sleep->thread, __ATOMIC_ACQUIRE));
+    FILE *file = fopen(path, "re");
+    bool is_told = file && fscanf(file, "%*d (%*[^)]) %c", &state) == 1;
+    if (file)
+        fclose(file);
+    return is_told && state == 'S';
 }
 
 static pthread_t start_sleeper(struct sleep *sleep)
 {
     pthread_t thread;
     check(pthread_create(&thread, NULL, sleep_in_call, sleep) == 0);
-    usleep(200000);
+    while (!is_asleep(sleep))
+        usleep(1000);
     return thread;
 }
 

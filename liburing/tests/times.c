@@ -118,6 +118,6 @@ int main(int count, char **words)
         {"timeouts", test_timeouts},
         {"largest times", test_largest_times},
     };
-    alarm(PATIENCE);
+    alarm((unsigned)(PATIENCE * patience()));
     return run_tests(tests, sizeof tests / sizeof *tests, count > 1 ? words[1] : NULL);
 }
