@@ -76,6 +76,19 @@ struct wulgach_vectors {
  * pread64. */
 void wulgach_transfer_call(const struct wulgach_submission *entry, const struct wulgach_vectors *vectors, const struct wulgach_transfer *transfer, uint32_t step, struct wulgach_system_call *call);
 
+/* Whether a connect that came to this goes on without its call: to -115 (EINPROGRESS). */
+bool wulgach_has_begun(int32_t came_to);
+
+/* Returns what a file ends with that was put into this slot (less than 2^31), where its entry asked for that one or, by 2^32 - 1
+ * (IORING_FILE_INDEX_ALLOC), for any: the slot of one that asked for any, else 0. */
+int32_t wulgach_placed_result(uint32_t asked, uint32_t slot);
+
+/* Whether a socket of this type (SO_TYPE) is a stream, of which what is waited for may come in parts. */
+bool wulgach_is_stream_type(uint32_t type);
+
+/* Returns how many bytes of so many one transfer moves at most: 0x7ffff000. */
+uint64_t wulgach_moved_at_most(uint64_t length);
+
 /* A fault that an operation is given, so that a test finds what its application does. */
 enum wulgach_given_fault {
     WULGACH_GIVES_EIO = 1,      /* in a transfer, an fsync or a fallocate */

@@ -272,6 +272,9 @@ struct wulgach_waited {
 /* Returns what came of a wait, as the reply to a call that wants to sleep (enum wulgach_reply_kind). */
 uint32_t wulgach_waited(const struct wulgach_waited *waited);
 
+/* Whether a timeout fires behind a wait, if its time is over: not behind a sleep that a signal or an error ended. */
+bool wulgach_fires_behind(const struct wulgach_waited *waited);
+
 /* ---- what becomes of a transfer ---- */
 
 /* A transfer that is carried out. */

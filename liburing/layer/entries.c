@@ -30,7 +30,8 @@ static int copy_vectors(struct request *request, const struct wulgach_piece *pie
     if (result < 0)
         return result;
     for (uint32_t i = 0; i < request->entry.len; i++)
-        request->length += request->vectors[i].iov_len;
+        request->length += wulgach_moved_at_most(request->vectors[i].iov_len);
+    request->length = wulgach_moved_at_most(request->length);
     request->vector_count = request->entry.len;
     return 0;
 }
@@ -40,7 +41,7 @@ static int make_vector(struct request *request)
 {
     request->one = (struct iovec){(void *)(uintptr_t)request->entry.addr, request->entry.len};
     request->vectors = &request->one;
-    request->length = request->entry.len;
+    request->length = wulgach_moved_at_most(request->entry.len);
     request->vector_count = 1;
     return 0;
 }

@@ -263,7 +263,7 @@ int register_range(struct ring *ring, uint64_t range)
     return result;
 }
 
-/* Takes a file over. If it can't be put, it is released. Returns the slot of one that asked for any. */
+/* Takes a file over. If it can't be put, it is released. Returns what it ends with. */
 static int put_file(struct ring *ring, struct file *file, uint32_t file_index)
 {
     struct files *files = &ring->files;
@@ -275,7 +275,7 @@ static int put_file(struct ring *ring, struct file *file, uint32_t file_index)
         before = file_of(wulgach_table_fill(&files->table, files->words, files->table.count, slot, (uintptr_t)file));
     pthread_mutex_unlock(&files->lock);
     release_file(before);
-    return result < 0 ? result : file_index == IORING_FILE_INDEX_ALLOC ? (int)slot : 0;
+    return result < 0 ? result : wulgach_placed_result(file_index, slot);
 }
 
 int pass_file(struct ring *target, const struct file *file, uint32_t file_index)

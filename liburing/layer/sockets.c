@@ -29,7 +29,7 @@ int make_message(struct request *request)
     if (!addressed || !request->vectors)
         return -ENOMEM;
     *request->vectors = (struct iovec){(void *)(uintptr_t)request->entry.addr, request->entry.len};
-    request->length = request->entry.len;
+    request->length = wulgach_moved_at_most(request->entry.len);
     message->msg_iov = request->vectors;
     message->msg_iovlen = request->vector_count = 1;
     return 0;
@@ -59,7 +59,8 @@ int copy_message(struct request *request, uint64_t from)
     }
     request->vector_count = (uint32_t)message->msg_iovlen;
     for (uint32_t i = 0; i < request->vector_count; i++)
-        request->length += request->vectors[i].iov_len;
+        request->length += wulgach_moved_at_most(request->vectors[i].iov_len);
+    request->length = wulgach_moved_at_most(request->length);
     message->msg_iov = request->vectors;
     return wulgach_room_fault(submission_of(&request->entry), message->msg_namelen, message->msg_controllen);
 }
@@ -155,7 +156,7 @@ int32_t begin_connect(struct request *request, const struct wulgach_system_call 
     int32_t res = make_call(call);
     if (flags >= 0 && !(flags & O_NONBLOCK))
         fcntl(request->fd, F_SETFL, flags);
-    request->done = res == -EINPROGRESS;
+    request->done = wulgach_has_begun(res);
     return res;
 }
 
@@ -163,7 +164,7 @@ static bool is_stream_socket(const struct request *request)
 {
     int type = 0;
     socklen_t size = sizeof type;
-    return getsockopt(request->fd, SOL_SOCKET, SO_TYPE, &type, &size) == 0 && (type == SOCK_STREAM || type == SOCK_SEQPACKET);
+    return getsockopt(request->fd, SOL_SOCKET, SO_TYPE, &type, &size) == 0 && wulgach_is_stream_type((uint32_t)type);
 }
 
 static int32_t error_of_socket(const struct request *request)

@@ -1,5 +1,6 @@
 //! By what an operation is carried out, for C: the functions of `c/wulgach_calls.h`.
-ghost use Rattle.std.specs.Prelude.{◌≡◌};
+ghost use Rattle.std.specs.Prelude.{◌≡◌, ◌<◌, ◌^◌};
+ghost use Rattle.uring_enter.specs.CallResults as results;
 ghost use Rattle.uring_enter.specs.Means as spec;
 ghost use Rattle.uring_enter.specs.TransferCalls.{call_of};
 ghost use Rattle.uring_c.specs.MeansForm.{words, words_of_means, fault_of_word, can_have_one};
@@ -7,8 +8,8 @@ ghost use Rattle.uring_c.specs.WaitForm.{task_of};
 
 use crate::wait_words::task;
 use uring_enter::{
-    Fault, Held, Means, Submission, SystemCall, Transfer, Vectors, can_have, means_of,
-    transfer_call,
+    Fault, Held, Means, Submission, SystemCall, Transfer, Vectors, can_have, has_begun,
+    is_stream_type, means_of, moved_at_most, placed_result, transfer_call,
 };
 
 /// By what an operation is carried out: `struct wulgach_means` of the header.
@@ -106,4 +107,36 @@ fn fault_of(word: u32) -> Option<Fault>
         3 => Some(Fault::Short),
         _ => None,
     }
+}
+
+/// Whether a connect that came to this goes on without its call.
+#[unsafe(no_mangle)]
+pub extern "C" fn wulgach_has_begun(came_to: i32) -> bool
+    ensures { result ≡ results.has_begun came_to }
+{
+    has_begun(came_to)
+}
+
+/// What a file ends with that was put into this slot, where its entry asked for that one or for any.
+#[unsafe(no_mangle)]
+pub extern "C" fn wulgach_placed_result(asked: u32, slot: u32) -> i32
+    ensures { slot < 2 ^ 31 → result ≡ results.placed_result asked slot }
+{
+    placed_result(asked, slot)
+}
+
+/// Whether a socket of this type is a stream.
+#[unsafe(no_mangle)]
+pub extern "C" fn wulgach_is_stream_type(kind: u32) -> bool
+    ensures { result ≡ results.is_stream_type kind }
+{
+    is_stream_type(kind)
+}
+
+/// How many bytes of so many one transfer moves at most.
+#[unsafe(no_mangle)]
+pub extern "C" fn wulgach_moved_at_most(length: u64) -> u64
+    ensures { result ≡ results.moved_at_most length }
+{
+    moved_at_most(length)
 }

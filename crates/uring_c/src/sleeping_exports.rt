@@ -4,7 +4,7 @@ ghost use Rattle.uring_enter.specs.PipePolls as polls;
 ghost use Rattle.uring_enter.specs.Sleeping as sleeping;
 ghost use Rattle.uring_c.specs.SleepForm.{word_of_beginning, word_of_outcome};
 
-use uring_enter::{Beginning, Outcome, PipePoll, Waited, beginning_of, outcome_of};
+use uring_enter::{Beginning, Outcome, PipePoll, Waited, beginning_of, fires_behind, outcome_of};
 
 /// Whether a request is to be told of writes to its pipe.
 #[unsafe(no_mangle)]
@@ -54,4 +54,12 @@ pub extern "C" fn wulgach_waited(waited: &Waited) -> u32
         Outcome::Endless => 10,
         Outcome::Failed => 11,
     }
+}
+
+/// Whether a timeout fires behind a wait, if its time is over.
+#[unsafe(no_mangle)]
+pub extern "C" fn wulgach_fires_behind(waited: &Waited) -> bool
+    ensures { result ≡ sleeping.fires_behind waited.now }
+{
+    fires_behind(waited)
 }

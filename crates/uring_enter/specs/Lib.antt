@@ -58,3 +58,4 @@ pub mod TransferCalls
 pub mod Faults
 pub mod Missing
 pub mod Duties
+pub mod CallResults

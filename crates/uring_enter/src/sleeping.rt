@@ -54,6 +54,13 @@ pub enum Outcome {
     Failed,
 }
 
+/// Whether a timeout fires behind a wait, if its time is over.
+pub fn fires_behind(waited: &Waited) -> bool
+    ensures { result ≡ spec.fires_behind waited.now }
+{
+    !waited.is_never && waited.result == 0
+}
+
 /// Whether a sleep begins whose arguments have this fault, or 0, and before which a poll was told, or none.
 pub fn beginning_of(fault: i32, is_told: bool) -> Beginning
     ensures { result ≡ spec.beginning_of fault is_told }
