@@ -79,7 +79,7 @@ void wulgach_transfer_call(const struct wulgach_submission *entry, const struct 
 /* Whether a connect that came to this goes on without its call: to -115 (EINPROGRESS). */
 bool wulgach_has_begun(int32_t came_to);
 
-/* Returns what a file ends with that was put into this slot (less than 2^31), where its entry asked for that one or, by 2^32 - 1
+/* Returns what a file ends with that was put into this slot, where its entry asked for that one or, by 2^32 - 1
  * (IORING_FILE_INDEX_ALLOC), for any: the slot of one that asked for any, else 0. */
 int32_t wulgach_placed_result(uint32_t asked, uint32_t slot);
 

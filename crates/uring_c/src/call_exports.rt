@@ -1,5 +1,5 @@
 //! By what an operation is carried out, for C: the functions of `c/wulgach_calls.h`.
-ghost use Rattle.std.specs.Prelude.{◌≡◌, ◌<◌, ◌^◌};
+ghost use Rattle.std.specs.Prelude.{◌≡◌};
 ghost use Rattle.uring_enter.specs.CallResults as results;
 ghost use Rattle.uring_enter.specs.Means as spec;
 ghost use Rattle.uring_enter.specs.TransferCalls.{call_of};
@@ -120,7 +120,7 @@ pub extern "C" fn wulgach_has_begun(came_to: i32) -> bool
 /// What a file ends with that was put into this slot, where its entry asked for that one or for any.
 #[unsafe(no_mangle)]
 pub extern "C" fn wulgach_placed_result(asked: u32, slot: u32) -> i32
-    ensures { slot < 2 ^ 31 → result ≡ results.placed_result asked slot }
+    ensures { result ≡ results.placed_result asked slot }
 {
     placed_result(asked, slot)
 }

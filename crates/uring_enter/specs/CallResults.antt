@@ -2,14 +2,15 @@
 use Rattle.std.specs.Prelude.{ℕ, ℤ, pos, Bool, ◌||◌, ◌==◌, nat_lt, if◌then◌else◌}
 use Rattle.std.specs.Ordering.{int_eq}
 use Rattle.uring_entry.specs.Errors.{error}
+use Rattle.uring_enter.specs.NoOps.{signed}
 
 -- a connect that came to -115 (EINPROGRESS) goes on by itself, and ends as its socket does. One that came to -11 (EAGAIN), as of a local socket whose peer takes no more, hasn't begun, and is made again. connect(2), ERRORS
 abbrev pub has_begun : ℤ → Bool
 has_begun came_to = int_eq came_to (error 115)
 
--- a file that is put into a slot ends with 0; with the slot, if its entry asked for any, by 2^32 - 1 (IORING_FILE_INDEX_ALLOC). io_uring_enter(2), IORING_OP_OPENAT and IORING_OP_ACCEPT
+-- a file that is put into a slot ends with 0; with the slot, in 32 bits, if its entry asked for any, by 2^32 - 1 (IORING_FILE_INDEX_ALLOC). io_uring_enter(2), IORING_OP_OPENAT and IORING_OP_ACCEPT
 abbrev pub placed_result : (asked slot : ℕ) → ℤ
-placed_result asked slot = if asked == 4294967295 then pos slot else pos 0
+placed_result asked slot = if asked == 4294967295 then signed slot else pos 0
 
 -- SOCK_STREAM (1) and SOCK_SEQPACKET (5): of these a receive that waits for all its bytes, with MSG_WAITALL, goes on behind a part. recv(2), and what Linux 6.18 does
 abbrev pub is_stream_type : ℕ → Bool

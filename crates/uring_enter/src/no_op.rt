@@ -45,7 +45,7 @@ pub fn no_op_result(entry: &Submission) -> i32
 }
 
 /// 32 bits, as a number with a sign.
-fn signed(bits: u32) -> i32
+pub(crate) fn signed(bits: u32) -> i32
     ensures { result ≡ spec.signed bits }
 {
     if bits < 0x8000_0000 {
