@@ -113,6 +113,39 @@ int32_t wulgach_enter_next(struct wulgach_enter *call, const struct wulgach_repl
  * none. */
 bool wulgach_looks_in_vain(bool gets, uint32_t min_complete, uint32_t ready);
 
+/* ---- what it does besides ---- */
+
+/* What is to be done at a moment of a call, in the order in which it is done: a set of these has the bit 1 << DUTY of each, and they are done
+ * by rising bits. */
+enum wulgach_duty {
+    WULGACH_LOOKS_AFRESH = 0,       /* all that runs is looked at afresh, and what was written to pipes is heard */
+    WULGACH_PASSES_TIME = 1,        /* the timeouts end whose time is over */
+    WULGACH_HOLDS_FILES = 2,        /* the files of what runs are kept open */
+    WULGACH_WATCHES_PIPES = 3,      /* writes to the pipes are watched that polls wait for */
+    WULGACH_SHOWS_ENDS = 4,         /* what has ended is shown */
+    WULGACH_TELLS_READINESS = 5,    /* the ring's descriptor tells whether it is readable */
+    WULGACH_HEARS_APPLICATION = 6,  /* what the application has reaped is heard */
+    WULGACH_SHOWS_FLAGS = 7         /* the word of flags says whether a call may bring something */
+};
+
+/* What a call does as it begins, or has slept: it looks afresh; and where time is real, time passes as it begins. */
+uint32_t wulgach_duties_at_begin(bool is_time_real, bool has_slept);
+
+/* What it does as it falls asleep, or another ring's message was posted: what has ended and isn't shown is, and a descriptor that polls tells
+ * of it. */
+uint32_t wulgach_duties_at_rest(bool has_ends, bool is_polled);
+
+/* What it does as it returns: where requests run, their files are kept; where some run, or pipes are watched, pipes are; then as
+ * above; and the flags are shown at last. */
+uint32_t wulgach_duties_at_return(bool runs, bool has_watches, bool has_ends, bool is_polled);
+
+/* What it does before the operation of this code is carried out: what has ended and isn't shown is, but before a no-op, and the application is
+ * heard. */
+uint32_t wulgach_duties_before(uint8_t code, bool has_ends);
+
+/* Whether a sleep polls what tells of writes to pipes, of which so many are watched: there are any. */
+bool wulgach_polls_writes(uint64_t watched);
+
 /* ---- its last arguments ---- */
 
 /* The last argument of a call, as far as it was read. */

@@ -16,8 +16,7 @@ extern "C" {
 /* What the operation of an entry needs, of one that is a token, and of which kind it is. */
 struct wulgach_needs {
     bool needs_file;            /* an open file, */
-    bool asks_file;             /* of which is asked before whether it is open, */
-    bool is_registered;         /* and which the entry names by the slot of a table: IOSQE_FIXED_FILE */
+    bool is_registered;         /* which the entry names by the slot of a table: IOSQE_FIXED_FILE */
     bool needs_second;          /* a second one, that a splice or a tee reads from, */
     bool is_second_registered;  /* by the slot of a table: SPLICE_F_FD_IN_FIXED */
     bool uses_buffer;           /* a registered buffer */
@@ -33,6 +32,17 @@ struct wulgach_needs {
     bool fills_buffer;          /* and puts what belongs to that into its buffer, in front of the bytes */
     bool is_zero_copy;          /* it has a second completion, that its memory may be used again */
     uint32_t events;            /* for which its file is polled, as poll(2) has them, with POLLERR, POLLHUP, POLLNVAL and POLLRDHUP of a poll; or 0 */
+    uint32_t sought;            /* what is looked for before it is carried out: the bit 1 << NEED of each (enum wulgach_need) */
+};
+
+/* What is looked for before an operation is carried out, by rising bits: the first that isn't there ends its request, and no other is looked
+ * for. */
+enum wulgach_need {
+    WULGACH_NEEDS_FILE = 0,     /* the file that it is carried out on */
+    WULGACH_NEEDS_SECOND = 1,   /* the one that it reads from */
+    WULGACH_NEEDS_OPEN = 2,     /* that the first is open */
+    WULGACH_NEEDS_BUFFER = 3,   /* its registered buffer, which has its bytes */
+    WULGACH_NEEDS_KIND = 4      /* what its descriptor is, and so whether it may have to wait for that */
 };
 
 /* Writes what the operation of an entry needs, and of which kind it is. */
@@ -49,6 +59,22 @@ enum wulgach_found {
  * it start. The call finds them if nothing links it, and no drain was ever accepted; or nothing that drains is outstanding, itself among that,
  * unless the ring goes by Linux's rules, and the core lets it start. Those of another may be what those before it open. */
 uint32_t wulgach_drains_find_file(const struct wulgach_drains *drains, const struct wulgach_member *request, bool linux_rules, bool knows_start, bool may_start);
+
+/* What an operation, or a call, looks for. */
+enum wulgach_missing {
+    WULGACH_NO_FILE = 0,            /* a descriptor isn't open, or a slot has no file: -9 (EBADF) */
+    WULGACH_NO_DIRECTION = 1,       /* a file isn't open for reading, or for writing: -9 */
+    WULGACH_NO_BUFFER = 2,          /* a registered buffer isn't there: -14 (EFAULT) */
+    WULGACH_NO_MEMORY = 3,          /* memory of the application's can't be read, or written: -14 */
+    WULGACH_NO_MEMORY_OWN = 4,      /* there is no memory for the requests that a call takes: -11 (EAGAIN) */
+    WULGACH_NO_PATH_END = 5,        /* a path doesn't end in 4,096 bytes: -36 (ENAMETOOLONG) */
+    WULGACH_NO_ROOM = 6,            /* a buffer has no room for what stands in front of a message: -14 */
+    WULGACH_NO_PROVIDED = 7,        /* a group has no buffer: -105 (ENOBUFS) */
+    WULGACH_NO_REQUEST = 8          /* there is no request that an update or a removal names: -2 (ENOENT) */
+};
+
+/* What it ends with that this isn't found (enum wulgach_missing). */
+int32_t wulgach_missing_fault(uint32_t what);
 
 /* ---- whether it may have to wait for its descriptor ---- */
 

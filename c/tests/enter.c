@@ -195,9 +195,25 @@ static void reach_rings(void)
     check(wulgach_looks_in_vain(true, 0, 0) && !wulgach_looks_in_vain(true, 0, 1) && !wulgach_looks_in_vain(true, 1, 0) && !wulgach_looks_in_vain(false, 0, 0), "a look");
 }
 
+#define BIT(duty) (1u << (duty))
+
+static void do_duties(void)
+{
+    running = "duties";
+    const uint32_t first = BIT(WULGACH_LOOKS_AFRESH), time = BIT(WULGACH_PASSES_TIME), files = BIT(WULGACH_HOLDS_FILES), pipes = BIT(WULGACH_WATCHES_PIPES), ends = BIT(WULGACH_SHOWS_ENDS), readiness = BIT(WULGACH_TELLS_READINESS), application = BIT(WULGACH_HEARS_APPLICATION), last = BIT(WULGACH_SHOWS_FLAGS);
+    check(wulgach_duties_at_begin(false, false) == first && wulgach_duties_at_begin(true, false) == (first | time) && wulgach_duties_at_begin(true, true) == first, "as it begins");
+    check(wulgach_duties_at_rest(false, false) == 0 && wulgach_duties_at_rest(true, false) == ends && wulgach_duties_at_rest(false, true) == readiness, "as it rests");
+    check(wulgach_duties_at_return(false, false, false, false) == last && wulgach_duties_at_return(true, false, false, false) == (files | pipes | last), "as it returns");
+    check(wulgach_duties_at_return(false, true, true, true) == (pipes | ends | readiness | last), "with all but requests");
+    check(wulgach_duties_before(0, true) == application && wulgach_duties_before(22, true) == (ends | application) && wulgach_duties_before(22, false) == application, "before an operation");
+    check(first < time && files < pipes && pipes < ends && ends < readiness && ends < application && readiness < last, "their order");
+    check(wulgach_polls_writes(1) && !wulgach_polls_writes(0), "a sleep beside pipes");
+}
+
 int main(void)
 {
     read_arguments();
+    do_duties();
     take_in_rounds();
     go_by_policies();
     reach_rings();

@@ -1,6 +1,7 @@
 /* What an operation needs, whether it has to wait, and what becomes of a try: with what the manual pages call for, written by hand. */
 #include "wulgach_waits.h"
 
+#include <errno.h>
 #include <stdio.h>
 #include <stdlib.h>
 
@@ -145,6 +146,21 @@ static void call(void)
     demand(turn(SPLICE, 0, begun, WULGACH_TURN_CALLS, -11) == 1000 + WULGACH_TURN_WAITS && turn(SPLICE, 2, begun, WULGACH_TURN_CALLS, -11) == -11 && turn(SPLICE, 0, begun, WULGACH_TURN_CALLS, 5) == 5, "a splice");
 }
 
+static void seek(void)
+{
+    const uint32_t file = 1u << WULGACH_NEEDS_FILE, second = 1u << WULGACH_NEEDS_SECOND, is_open = 1u << WULGACH_NEEDS_OPEN, buffer = 1u << WULGACH_NEEDS_BUFFER, kind = 1u << WULGACH_NEEDS_KIND;
+    demand(NEEDS(.opcode = NOP).sought == 0 && NEEDS(.opcode = 11).sought == 0 && NEEDS(.opcode = READ).sought == (file | kind) && NEEDS(.opcode = FSYNC).sought == (file | kind), "a file");
+    demand(NEEDS(.opcode = SPLICE).sought == (file | second | kind) && NEEDS(.opcode = 4).sought == (file | buffer | kind) && NEEDS(.opcode = 6).sought == (file | is_open | kind), "what else is looked for");
+    demand(file < second && second < is_open && is_open < buffer && buffer < kind, "its order");
+}
+
+static void miss(void)
+{
+    static const int32_t faults[] = {-EBADF, -EBADF, -EFAULT, -EFAULT, -EAGAIN, -ENAMETOOLONG, -EFAULT, -ENOBUFS, -ENOENT, 0};
+    for (uint32_t what = 0; what < sizeof faults / sizeof *faults; what++)
+        demand(wulgach_missing_fault(what) == faults[what], "what isn't found");
+}
+
 static void poll_one(void)
 {
     int32_t res = 7;
@@ -165,6 +181,8 @@ int main(void)
     transfer();
     call();
     poll_one();
+    seek();
+    miss();
     printf("waits: as called for\n");
     return 0;
 }

@@ -8,17 +8,18 @@
 #include "ring.h"
 #include "trying.h"
 
-#include <errno.h>
 #include <fcntl.h>
 #include <sys/stat.h>
 
-/* A descriptor, or that of a registered file, which is kept. Negative if there is none. */
-static int find_fd(struct ring *ring, int fd, bool is_registered, struct file **file)
+/* Writes a descriptor, or that of a registered file, which is kept. Returns its fault, or 0. */
+static int find_fd(struct ring *ring, int *found, int fd, bool is_registered, struct file **file)
 {
-    if (!is_registered)
-        return fd;
-    *file = use_file(ring, (uint32_t)fd);
-    return *file ? (*file)->fd : -1;
+    *found = fd;
+    if (is_registered) {
+        *file = use_file(ring, (uint32_t)fd);
+        *found = *file ? (*file)->fd : -1;
+    }
+    return *found < 0 ? wulgach_missing_fault(WULGACH_NO_FILE) : 0;
 }
 
 /* What the last descriptor was, of those that are asked one right after the other. */
@@ -92,7 +93,7 @@ static void ask(const struct request *request, uint32_t question, struct wulgach
     }
 }
 
-void find_kind(struct request *request)
+int find_kind(struct request *request)
 {
     struct wulgach_trial trial = {
         .length = request->length,
@@ -107,33 +108,33 @@ void find_kind(struct request *request)
     request->is_tried = kind == WULGACH_KIND_TRIED;
     request->is_tried_at_once = kind == WULGACH_KIND_AT_ONCE;
     request->standing.is_stream = kind == WULGACH_KIND_STREAM;
-    if (kind == WULGACH_KIND_WRONG)
-        request->started = -EBADF;
+    return kind == WULGACH_KIND_WRONG ? wulgach_missing_fault(WULGACH_NO_DIRECTION) : 0;
 }
 
-/* Finds the files that an operation needs. False: one isn't there. */
-static bool find_files(struct ring *ring, struct request *request)
+/* Looks for what is needed. Returns its fault, or 0. */
+static int look_for(struct ring *ring, struct request *request, enum wulgach_need need)
 {
     const struct io_uring_sqe *entry = &request->entry;
     const struct wulgach_needs *needs = &request->needs;
-    request->fd = find_fd(ring, entry->fd, needs->is_registered, &request->file);
-    if (needs->needs_second)
-        request->second_fd = find_fd(ring, entry->splice_fd_in, needs->is_second_registered, &request->second_file);
-    if (request->fd < 0 || (needs->needs_second && request->second_fd < 0))
-        return false;
-    return !needs->asks_file || fcntl(request->fd, F_GETFD) >= 0;
+    switch (need) {
+    case WULGACH_NEEDS_FILE:
+        return find_fd(ring, &request->fd, entry->fd, needs->is_registered, &request->file);
+    case WULGACH_NEEDS_SECOND:
+        return find_fd(ring, &request->second_fd, entry->splice_fd_in, needs->is_second_registered, &request->second_file);
+    case WULGACH_NEEDS_OPEN:
+        return fcntl(request->fd, F_GETFD) < 0 ? wulgach_missing_fault(WULGACH_NO_FILE) : 0;
+    case WULGACH_NEEDS_BUFFER:
+        return use_buffer(ring, entry->buf_index, request->vectors, &request->buffer);
+    case WULGACH_NEEDS_KIND:
+        return find_kind(request);
+    }
+    __builtin_unreachable();
 }
 
 void assign(struct ring *ring, struct request *request)
 {
-    const struct io_uring_sqe *entry = &request->entry;
-    const struct wulgach_needs *needs = &request->needs;
     request->is_assigned = true;
-    request->fd = entry->fd;
-    if (needs->needs_file && !find_files(ring, request))
-        request->started = -EBADF;
-    else if (needs->uses_buffer)
-        request->started = use_buffer(ring, entry->buf_index, request->vectors, &request->buffer);
-    if (request->started == 0 && needs->needs_file)
-        find_kind(request);
+    request->fd = request->entry.fd;
+    for (uint32_t sought = request->needs.sought; sought && request->started == 0; sought &= sought - 1)
+        request->started = look_for(ring, request, (enum wulgach_need)__builtin_ctz(sought));
 }

@@ -46,11 +46,10 @@ static int read_row(struct iovec *bytes, uint64_t *tag, uint64_t vectors, uint64
 {
     *bytes = (struct iovec){0};
     *tag = 0;
-    if (tags && copy_in(tag, tags + index * sizeof *tag, sizeof *tag) < 0)
-        return -EFAULT;
-    if (vectors && copy_in(bytes, vectors + index * sizeof *bytes, sizeof *bytes) < 0)
-        return -EFAULT;
-    return 0;
+    int result = tags ? copy_in(tag, tags + index * sizeof *tag, sizeof *tag) : 0;
+    if (result == 0 && vectors)
+        result = copy_in(bytes, vectors + index * sizeof *bytes, sizeof *bytes);
+    return result;
 }
 
 static int make_buffer(struct ring *ring, uint64_t *word, const struct iovec *bytes, uint64_t tag)
@@ -78,7 +77,7 @@ static int make_row(struct ring *ring, uint64_t *word, uint64_t vectors, uint64_
     int result = read_row(&bytes, &tag, vectors, tags, index);
     if (result < 0 || wulgach_buffer_row((uintptr_t)bytes.iov_base, bytes.iov_len, tag, &fault) != WULGACH_ROW_FILLS)
         return result < 0 ? result : fault;
-    return is_there(&bytes) ? make_buffer(ring, word, &bytes, tag) : -EFAULT;
+    return is_there(&bytes) ? make_buffer(ring, word, &bytes, tag) : wulgach_missing_fault(WULGACH_NO_MEMORY);
 }
 
 /* Of a table that isn't registered after all, no tag is told. */
@@ -138,7 +137,7 @@ int update_buffers(struct ring *ring, uint32_t offset, uint64_t vectors, uint64_
     uint32_t done = 0;
     while (result == 0 && done < count) {
         uint64_t word;
-        result = vectors ? make_row(ring, &word, vectors, tags, done) : -EFAULT;
+        result = vectors ? make_row(ring, &word, vectors, tags, done) : wulgach_missing_fault(WULGACH_NO_MEMORY);
         if (result == 0)
             release_buffer(buffer_of(wulgach_table_fill(&buffers->table, buffers->words, buffers->table.count, offset + done, word)));
         done += result == 0;
@@ -151,7 +150,7 @@ int use_buffer(struct ring *ring, uint32_t index, const struct iovec *bytes, str
     struct buffers *buffers = &ring->buffers;
     struct buffer *buffer = buffer_of(wulgach_table_content(&buffers->table, buffers->words, buffers->table.count, index));
     if (!buffer)
-        return -EFAULT;
+        return wulgach_missing_fault(WULGACH_NO_BUFFER);
     /* (a no-op looks for a buffer, and moves no bytes) */
     int fault = bytes ? wulgach_bytes_fault((uintptr_t)buffer->bytes.iov_base, buffer->bytes.iov_len, (uintptr_t)bytes->iov_base, bytes->iov_len) : 0;
     if (fault < 0)

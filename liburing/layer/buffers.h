@@ -37,7 +37,7 @@ int update_buffers(struct ring *ring, uint32_t offset, uint64_t vectors, uint64_
 /* Whether all the pages of a buffer are there. A kernel that can't be asked says yes. */
 bool is_there(const struct iovec *buffer);
 
-/* The buffer of an index, one use more, if these bytes lie in it: 0 or -EFAULT. */
+/* The buffer of an index, one use more, if these bytes lie in it: 0, or its fault. */
 int use_buffer(struct ring *ring, uint32_t index, const struct iovec *bytes, struct buffer **used);
 
 /* One use less. Nothing, of NULL. */

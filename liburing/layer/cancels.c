@@ -13,7 +13,6 @@
 #include "timeouts.h"
 #include "wulgach_cancel.h"
 
-#include <errno.h>
 #include <fcntl.h>
 
 /* One that was passed over is looked at again. */
@@ -138,7 +137,7 @@ static int32_t remove_poll(struct ring *ring, const struct io_uring_sqe *removal
 {
     struct request *poll = find_request(ring, removal);
     if (!poll)
-        return -ENOENT;
+        return wulgach_missing_fault(WULGACH_NO_REQUEST);
     if (wulgach_poll_removal(submission_of(removal)) == WULGACH_REMOVAL_UPDATES)
         return change_poll(ring, poll, removal);
     cancel_request(ring, poll);
@@ -153,7 +152,7 @@ static int32_t remove_timeout(struct ring *ring, const struct request *removal)
         return change_linked_timeout(ring, removal);
     struct request *timeout = find_request(ring, entry);
     if (!timeout)
-        return -ENOENT;
+        return wulgach_missing_fault(WULGACH_NO_REQUEST);
     if (what == WULGACH_REMOVAL_UPDATES)
         return change_timeout(ring, timeout, removal);
     cancel_request(ring, timeout);

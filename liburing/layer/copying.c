@@ -4,6 +4,7 @@
 #define _GNU_SOURCE
 #include "copying.h"
 #include "process.h"
+#include "wulgach_waits.h"
 
 #include <errno.h>
 #include <limits.h>
@@ -16,12 +17,12 @@
 /* No page is smaller: what stands between two multiples can be read as a whole or not at all. */
 enum { SMALLEST_PAGE = 4096 };
 
-/* 0 if all was copied, -EFAULT, or 1 if the call isn't allowed. */
+/* 0 if all was copied, its fault, or 1 if the call isn't allowed. */
 static int judge(ssize_t copied, size_t size)
 {
     if (copied < 0 && (errno == ENOSYS || errno == EPERM))
         return 1;
-    return copied == (ssize_t)size ? 0 : -EFAULT;
+    return copied == (ssize_t)size ? 0 : wulgach_missing_fault(WULGACH_NO_MEMORY);
 }
 
 int copy_in(void *to, uint64_t from, size_t size)
@@ -52,13 +53,14 @@ int copy_path(char **to, uint64_t from)
         size_t piece = SMALLEST_PAGE - (from + length) % SMALLEST_PAGE;
         if (piece > sizeof path - length)
             piece = sizeof path - length;
-        if (copy_in(path + length, from + length, piece) < 0)
-            return -EFAULT;
+        int result = copy_in(path + length, from + length, piece);
+        if (result < 0)
+            return result;
         if (memchr(path + length, '\0', piece)) {
             *to = strdup(path);
             return *to ? 0 : -ENOMEM;
         }
         length += piece;
     }
-    return -ENAMETOOLONG;
+    return wulgach_missing_fault(WULGACH_NO_PATH_END);
 }

@@ -7,11 +7,11 @@
 #include <stddef.h>
 #include <stdint.h>
 
-/* Copies from the application, and to it. Each returns 0 or -EFAULT. */
+/* Copies from the application, and to it. Each returns 0, or its fault. */
 int copy_in(void *to, uint64_t from, size_t size);
 int copy_out(uint64_t to, const void *from, size_t size);
 
-/* A copy of a path in memory of its own. Returns 0, -EFAULT, -ENAMETOOLONG or -ENOMEM. */
+/* A copy of a path in memory of its own. Returns 0, its fault or -ENOMEM. */
 int copy_path(char **to, uint64_t from);
 
 #endif

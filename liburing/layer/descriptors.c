@@ -4,6 +4,7 @@
  */
 #define _GNU_SOURCE
 #include "descriptors.h"
+#include "duties.h"
 #include "policy.h"
 #include "process.h"
 #include "readiness.h"
@@ -205,8 +206,7 @@ __attribute__((noinline)) static void visit_with_messages(struct ring *ring)
     while (!is_left && has_messages(ring) && pthread_mutex_trylock(&ring->lock) == 0) {
         post_messages(ring);
         is_left = has_messages(ring);
-        show_ends(ring);
-        show_readiness(ring);
+        do_duties_at_rest(ring);
         wake_sleepers(ring);
         pthread_mutex_unlock(&ring->lock);
     }

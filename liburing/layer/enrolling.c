@@ -71,12 +71,13 @@ static void dismiss(uint32_t row)
 static int enroll_row(uint64_t at)
 {
     struct io_uring_rsrc_update asked;
-    if (copy_in(&asked, at, sizeof asked) < 0)
-        return -EFAULT;
+    int result = copy_in(&asked, at, sizeof asked);
+    if (result < 0)
+        return result;
     int fd = (int)asked.data;
     bool is_open = fcntl(fd, F_GETFD) >= 0;
     uint32_t row;
-    int result = wulgach_enrolling_fault(asked.offset, asked.resv, is_open, is_open && is_ring(fd));
+    result = wulgach_enrolling_fault(asked.offset, asked.resv, is_open, is_open && is_ring(fd));
     if (result == 0)
         result = wulgach_enrolled_place(table, MOST, asked.offset, &row);
     if (result == 0)
@@ -84,18 +85,18 @@ static int enroll_row(uint64_t at)
     if (result < 0)
         return result;
     asked.offset = row;
-    if (copy_out(at, &asked, sizeof asked) == 0)
-        return 0;
-    dismiss(row);
-    return -EFAULT;
+    result = copy_out(at, &asked, sizeof asked);
+    if (result < 0)
+        dismiss(row);
+    return result;
 }
 
 static int dismiss_row(uint64_t at)
 {
     struct io_uring_rsrc_update asked;
-    if (copy_in(&asked, at, sizeof asked) < 0)
-        return -EFAULT;
-    int result = wulgach_dismissing_fault(asked.offset, asked.resv, asked.data);
+    int result = copy_in(&asked, at, sizeof asked);
+    if (result == 0)
+        result = wulgach_dismissing_fault(asked.offset, asked.resv, asked.data);
     if (result == 0)
         dismiss(asked.offset);
     return result;

@@ -5,7 +5,7 @@
 #include "enter.h"
 #include "copying.h"
 #include "descriptors.h"
-#include "ends.h"
+#include "duties.h"
 #include "enrolling.h"
 #include "fault.h"
 #include "outlook.h"
@@ -13,16 +13,13 @@
 #include "policy.h"
 #include "process.h"
 #include "progress.h"
-#include "readiness.h"
 #include "restrictions.h"
 #include "ring.h"
-#include "streams.h"
 #include "submit.h"
 #include "trace.h"
 #include "waiting.h"
 #include "wulgach_enter.h"
 
-#include <errno.h>
 #include <fcntl.h>
 #include <linux/io_uring.h>
 #include <signal.h>
@@ -155,9 +152,9 @@ static enum wulgach_reply_kind sleep_on(struct ring *ring, struct waiting *waiti
     default:
         break;
     }
-    show_readiness(ring);
+    do_duties_at_rest(ring);
     enum wulgach_reply_kind kind = wait_for_any(ring, &waiting->limit, waiting->signals, &error);
-    hear_pipes(ring);
+    do_duties_at_begin(ring, true);
     if (kind == WULGACH_ENDLESS)
         say_stuck(ring, waiting->min_complete);
     reply->number = (uint32_t)error;
@@ -225,15 +222,9 @@ static int enter_ring(struct ring *ring, uint32_t flags, struct waiting *waiting
     if (result < 0)
         return result;
     ring->call_number++;
-    look_afresh(ring);
-    hear_pipes(ring);
-    pass_real_time(ring);
+    do_duties_at_begin(ring, false);
     result = carry_call_out(ring, waiting, flags);
-    hold_files(ring);
-    watch_pipes(ring);
-    show_readiness(ring);
-    show_ends(ring);
-    show_flags(ring);
+    do_duties_at_return(ring);
     return result;
 }
 

@@ -145,7 +145,7 @@ static struct ring *find_receiver(struct ring *ring, const struct io_uring_sqe *
 static int32_t send_file(struct ring *ring, struct ring *target, const struct io_uring_sqe *entry)
 {
     struct file *file = use_file(ring, (uint32_t)entry->addr3);
-    int32_t slot = file ? pass_file(target, file, entry->file_index) : -EBADF;
+    int32_t slot = file ? pass_file(target, file, entry->file_index) : wulgach_missing_fault(WULGACH_NO_FILE);
     release_file(file);
     return slot;
 }

@@ -172,11 +172,10 @@ static int read_row(int *fd, uint64_t *tag, uint64_t fds, uint64_t tags, uint32_
 {
     *fd = NO_FILE;
     *tag = 0;
-    if (tags && copy_in(tag, tags + index * sizeof *tag, sizeof *tag) < 0)
-        return -EFAULT;
-    if (fds && copy_in(fd, fds + index * sizeof *fd, sizeof *fd) < 0)
-        return -EFAULT;
-    return 0;
+    int result = tags ? copy_in(tag, tags + index * sizeof *tag, sizeof *tag) : 0;
+    if (result == 0 && fds)
+        result = copy_in(fd, fds + index * sizeof *fd, sizeof *fd);
+    return result;
 }
 
 /* Makes the file of a row, if the row has one. */
@@ -243,7 +242,7 @@ int update_files(struct ring *ring, uint32_t offset, uint64_t fds, uint64_t tags
     while (result == 0 && done < count) {
         int fd;
         uint64_t tag;
-        result = fds ? read_row(&fd, &tag, fds, tags, done) : -EFAULT;
+        result = fds ? read_row(&fd, &tag, fds, tags, done) : wulgach_missing_fault(WULGACH_NO_MEMORY);
         if (result == 0)
             result = update_file(ring, offset + done, fd, tag);
         done += result == 0;
@@ -255,10 +254,11 @@ int register_range(struct ring *ring, uint64_t range)
 {
     struct io_uring_file_index_range asked;
     struct files *files = &ring->files;
-    if (copy_in(&asked, range, sizeof asked) < 0)
-        return -EFAULT;
+    int result = copy_in(&asked, range, sizeof asked);
+    if (result < 0)
+        return result;
     pthread_mutex_lock(&files->lock);
-    int result = wulgach_table_give_out(&files->table, asked.off, asked.len, asked.resv != 0);
+    result = wulgach_table_give_out(&files->table, asked.off, asked.len, asked.resv != 0);
     pthread_mutex_unlock(&files->lock);
     return result;
 }
@@ -311,7 +311,7 @@ static int place_file(struct ring *ring, uint64_t fds, uint32_t index)
     int fd;
     uint64_t tag;
     struct file *file;
-    int result = fds ? read_row(&fd, &tag, fds, 0, index) : -EFAULT;
+    int result = fds ? read_row(&fd, &tag, fds, 0, index) : wulgach_missing_fault(WULGACH_NO_MEMORY);
     if (result == 0)
         result = make_file_of(&file, fd);
     if (result < 0)

@@ -117,7 +117,7 @@ int register_buffer_ring(struct ring *ring, uint64_t at, uint32_t count)
         return result;
     struct iovec cells = {(void *)(uintptr_t)asked.ring_addr, asked.ring_entries * sizeof(struct io_uring_buf)};
     if (!is_there(&cells))
-        return -EFAULT;
+        return wulgach_missing_fault(WULGACH_NO_MEMORY);
     struct group *group = any_group(ring, asked.bgid);
     if (!group)
         return -ENOMEM;

@@ -128,7 +128,7 @@ static int32_t call_transfer(const struct request *request, const struct wulgach
 static void find_untried(struct request *request)
 {
     request->was_tried = true;
-    find_kind(request);
+    request->started = find_kind(request);
 }
 
 static int32_t carry_transfer_out(struct request *request)
@@ -170,7 +170,7 @@ static int32_t call_with_buffer(struct ring *ring, struct request *request, enum
     struct wulgach_buffer buffer;
     request->flags = 0;
     if (!find_provided(ring, request->entry.buf_group, &buffer))
-        return -ENOBUFS;
+        return wulgach_missing_fault(WULGACH_NO_PROVIDED);
     *request->vectors = (struct iovec){(void *)(uintptr_t)buffer.address, wulgach_buffer_part(request->wanted, buffer.length)};
     request->length = request->vectors->iov_len;
     request->done = 0;

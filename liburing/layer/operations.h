@@ -23,8 +23,8 @@ void assign(struct ring *ring, struct request *request);
 void begin_asking(void);
 void end_asking(void);
 
-/* Asks its descriptor what the library wants to know, and so finds out whether it may have to wait for that. */
-void find_kind(struct request *request);
+/* Asks its descriptor what the library wants to know, and so finds out whether it may have to wait for that. Returns its fault, or 0. */
+int find_kind(struct request *request);
 
 /* Whether a transfer's descriptor has offsets, and whether a descriptor isn't to wait. */
 bool has_offsets(const struct request *request);

@@ -3,6 +3,7 @@
  */
 #include "progress.h"
 #include "cancels.h"
+#include "duties.h"
 #include "ends.h"
 #include "extras.h"
 #include "fault.h"
@@ -67,10 +68,7 @@ static void post_event(struct ring *ring, const struct request *request, int32_t
 /* Carries an operation out. False: it goes on running, since it would have to wait, or brought something and goes on. */
 static bool try_operation(struct ring *ring, struct request *request, int32_t *res)
 {
-    /* Other threads are to see what has ended, however long this one takes. */
-    if (request->entry.opcode != IORING_OP_NOP)
-        show_ends(ring);
-    hear(ring, false);
+    do_duties_before(ring, request);
     log_carrying(ring, request);
     *res = carry_out(ring, request, injected(ring, request));
     log_carried(ring, request, *res);

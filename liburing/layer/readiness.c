@@ -165,10 +165,7 @@ static void watch_streams(struct ring *ring, int fd)
 void show_readiness(struct ring *ring)
 {
     uint64_t one = 1;
-    if (ring->ready_fd < 0)
-        return;
     watch_streams(ring, ring->called_fd);
-    show_ends(ring);
     /* Whether a call may bring something matters only if no completion waits. */
     uint32_t head = load_word(&ring->memory.cq->head);
     bool is_readable = wulgach_shown_is_readable(&ring->completions.at, head, false) || wulgach_shown_is_readable(&ring->completions.at, head, can_go_on(ring) || can_pass_time(ring));

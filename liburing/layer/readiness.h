@@ -14,7 +14,7 @@ bool is_polled_by(const struct ring *ring, int fd);
 /* A descriptor of the layer's may be closed: it isn't polled for any more, until the next call lists it again. */
 void unwatch(struct ring *ring, int fd);
 
-/* Makes the descriptor readable, or no more so. Nothing, if it is memory. */
+/* Makes the descriptor readable, or no more so. */
 void show_readiness(struct ring *ring);
 
 #endif

@@ -5,6 +5,7 @@
 #include "cancels.h"
 #include "copying.h"
 #include "descriptors.h"
+#include "duties.h"
 #include "enrolling.h"
 #include "enter.h"
 #include "eventfds.h"
@@ -96,7 +97,7 @@ static int cancel_at_once(struct ring *ring, uint32_t code, uint64_t at)
     ring->call_number++;
     result = act_on_others(ring, &cancel);
     end_cancelled(ring);
-    show(ring);
+    do_duties_at_return(ring);
     return result;
 }
 

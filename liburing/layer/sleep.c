@@ -77,7 +77,7 @@ int sleep_until(struct ring *ring, const struct wulgach_limit *until, const sigs
     ring->sleepers = &self;
     nfds_t count = list_streams(ring, polled);
     polled[count++] = (struct pollfd){.fd = self.wake, .events = POLLIN};
-    if (ring->pipes.count > 0)
+    if (wulgach_polls_writes(ring->pipes.count))
         polled[count++] = (struct pollfd){.fd = ring->pipes.inotify, .events = POLLIN};
     struct wulgach_limit limit, end;
     wulgach_times_sleeps_for(&ring->times, until, self.wake >= 0, &limit);
@@ -87,7 +87,6 @@ int sleep_until(struct ring *ring, const struct wulgach_limit *until, const sigs
     leave(ring, &self);
     free(polled);
     add_slept(ring, start);
-    look_afresh(ring);
     wulgach_times_wake(&ring->times, &end, result);
     return result < 0 ? result : 0;
 }

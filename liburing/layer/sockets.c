@@ -41,17 +41,18 @@ int copy_message(struct request *request, uint64_t from)
     request->value = message;
     if (!message)
         return -ENOMEM;
-    if (copy_in(message, from, sizeof *message) < 0)
-        return -EFAULT;
-    int fault = wulgach_message_fault(message->msg_iovlen);
+    int fault = copy_in(message, from, sizeof *message);
+    if (fault == 0)
+        fault = wulgach_message_fault(message->msg_iovlen);
     if (fault < 0)
         return fault;
     size_t size = message->msg_iovlen * sizeof *request->vectors;
     request->vectors = malloc(size + sizeof *request->vectors);
     if (!request->vectors)
         return -ENOMEM;
-    if (copy_in(request->vectors, (uintptr_t)message->msg_iov, size) < 0)
-        return -EFAULT;
+    fault = copy_in(request->vectors, (uintptr_t)message->msg_iov, size);
+    if (fault < 0)
+        return fault;
     if (request->entry.flags & IOSQE_BUFFER_SELECT && message->msg_iovlen == 0) {
         *request->vectors = (struct iovec){0};
         message->msg_iovlen = 1;
@@ -93,17 +94,20 @@ static int tell_message(const struct request *request)
 {
     const struct msghdr *message = request->value;
     uint64_t at = request->entry.addr;
-    if (copy_out(at + offsetof(struct msghdr, msg_namelen), &message->msg_namelen, sizeof message->msg_namelen) < 0 ||
-        copy_out(at + offsetof(struct msghdr, msg_controllen), &message->msg_controllen, sizeof message->msg_controllen) < 0)
-        return -EFAULT;
-    return copy_out(at + offsetof(struct msghdr, msg_flags), &message->msg_flags, sizeof message->msg_flags);
+    int result = copy_out(at + offsetof(struct msghdr, msg_namelen), &message->msg_namelen, sizeof message->msg_namelen);
+    if (result == 0)
+        result = copy_out(at + offsetof(struct msghdr, msg_controllen), &message->msg_controllen, sizeof message->msg_controllen);
+    if (result == 0)
+        result = copy_out(at + offsetof(struct msghdr, msg_flags), &message->msg_flags, sizeof message->msg_flags);
+    return result;
 }
 
 int32_t move_message(struct request *request, const struct wulgach_means *means)
 {
     int32_t res = make_call(&means->call);
-    if (res >= 0 && means->kind == WULGACH_BY_RECEIVE_MESSAGE && tell_message(request) < 0)
-        return -EFAULT;
+    int fault = res >= 0 && means->kind == WULGACH_BY_RECEIVE_MESSAGE ? tell_message(request) : 0;
+    if (fault < 0)
+        return fault;
     if (res > 0)
         advance(request, (uint64_t)res);
     return res;
@@ -117,7 +121,7 @@ static int32_t receive_into_buffer(struct request *request, int32_t *filled)
     struct wulgach_layout layout;
     char *at = request->vectors->iov_base;
     if (!wulgach_layout_of(asked->msg_namelen, asked->msg_controllen, request->vectors->iov_len, &layout))
-        return -EFAULT;
+        return wulgach_missing_fault(WULGACH_NO_ROOM);
     struct iovec bytes = {at + layout.bytes, layout.room};
     struct msghdr message = {
         .msg_name = asked->msg_namelen ? at + layout.name : NULL,
@@ -134,8 +138,9 @@ static int32_t receive_into_buffer(struct request *request, int32_t *filled)
     if (res < 0)
         return res;
     struct io_uring_recvmsg_out told = {message.msg_namelen, (uint32_t)message.msg_controllen, (uint32_t)res, (uint32_t)message.msg_flags};
-    if (copy_out((uintptr_t)at, &told, sizeof told) < 0)
-        return -EFAULT;
+    int fault = copy_out((uintptr_t)at, &told, sizeof told);
+    if (fault < 0)
+        return fault;
     request->done = (uint32_t)res;
     *filled = (int32_t)wulgach_layout_filled(&layout, (uint32_t)res);
     return res;

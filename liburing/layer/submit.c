@@ -16,7 +16,6 @@
 #include "ways.h"
 #include "whole_calls.h"
 
-#include <errno.h>
 #include <stdlib.h>
 
 /* Reads the entry of a slot. NULL if memory was refused. */
@@ -141,7 +140,7 @@ static int take_staged(struct ring *ring, uint32_t given, uint32_t head)
     uint64_t accepted = ring->accepted;
     struct wulgach_taken taken;
     if (!submit_staged(ring, given, &taken))
-        return -EAGAIN;
+        return wulgach_missing_fault(WULGACH_NO_MEMORY_OWN);
     for (uint32_t i = 0; i < count; i++)
         accept_one(ring, ring->staged.rows[i], i > 0 ? ring->staged.rows[i - 1] : NULL);
     drop_requests(&ring->staged, count);
@@ -188,6 +187,6 @@ int submit(struct ring *ring, uint32_t count)
     if (most == 0)
         return 0;
     if (!reserve_all(ring, most) || stage_taken(ring, &taking, cell) == 0)
-        return -EAGAIN;
+        return wulgach_missing_fault(WULGACH_NO_MEMORY_OWN);
     return take_staged(ring, given, taking.next);
 }

@@ -13,7 +13,6 @@
 #include "ring.h"
 #include "wulgach_cancel.h"
 
-#include <errno.h>
 #include <stdlib.h>
 #include <time.h>
 
@@ -157,5 +156,5 @@ int32_t change_linked_timeout(struct ring *ring, const struct request *change)
         if (wulgach_updates_linked(change->entry.addr, &seen))
             return change_timeout(ring, timeout, change);
     }
-    return -ENOENT;
+    return wulgach_missing_fault(WULGACH_NO_REQUEST);
 }

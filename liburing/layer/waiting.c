@@ -103,6 +103,6 @@ void pass_real_time(struct ring *ring)
 {
     struct wulgach_timeout timeout;
     catch_up(ring);
-    while (is_time_real() && wulgach_times_due(&ring->times, ring->timeouts, ring->timeouts_room, &timeout) == 0)
+    while (wulgach_times_due(&ring->times, ring->timeouts, ring->timeouts_room, &timeout) == 0)
         fire(ring, &timeout);
 }

@@ -142,6 +142,24 @@ static void test_pipe(void)
     close_ring(&ring);
 }
 
+/* What a cancel by io_uring_register(2) ends makes the descriptor readable at once. */
+static void test_cancelled_at_once(void)
+{
+    struct ring ring;
+    char text[4];
+    int ends[2];
+    struct io_uring_sync_cancel_reg any = {.flags = IORING_ASYNC_CANCEL_ANY, .timeout = {-1, -1}};
+    check(pipe(ends) == 0);
+    make_ring(&ring, 4, 0, 0);
+    put_transfer(&ring, IORING_OP_READ, 0, 0, ends[0], text, 4, 0);
+    check(enter(&ring, 1, 0, 0) == 1 && reap_by_peeks(&ring) == 0 && !is_readable(&ring, 20));
+    check(register_at(ring.fd, IORING_REGISTER_SYNC_CANCEL, &any, 1) == 1 && is_readable(&ring, 0));
+    check(reap_by_peeks(&ring) == 1 && !is_readable(&ring, 0));
+    close(ends[0]);
+    close(ends[1]);
+    close_ring(&ring);
+}
+
 static void put_splice(struct ring *ring, uint64_t user_data, int from, int to)
 {
     struct io_uring_sqe *entry = put(ring, IORING_OP_SPLICE, user_data, 0);
@@ -377,7 +395,7 @@ int main(void)
     static const struct {
         const char *name;
         void (*run)(void);
-    } tests[] = {{"refused", test_refused}, {"poll", test_poll}, {"overflow", test_overflow}, {"epoll", test_epoll}, {"pipe", test_pipe}, {"renewed", test_renewed}, {"come and gone", test_come_and_gone}, {"gone behind a look", test_gone_behind_a_look}, {"heard by another", test_heard_by_another}, {"threads", test_threads}, {"file limit", test_file_limit}};
+    } tests[] = {{"refused", test_refused}, {"poll", test_poll}, {"overflow", test_overflow}, {"epoll", test_epoll}, {"pipe", test_pipe}, {"cancelled at once", test_cancelled_at_once}, {"renewed", test_renewed}, {"come and gone", test_come_and_gone}, {"gone behind a look", test_gone_behind_a_look}, {"heard by another", test_heard_by_another}, {"threads", test_threads}, {"file limit", test_file_limit}};
     alarm(30);
     for (size_t i = 0; i < sizeof tests / sizeof *tests; i++) {
         test = tests[i].name;

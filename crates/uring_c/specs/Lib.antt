@@ -26,5 +26,7 @@ pub mod MessageForm
 pub mod RoundForm
 pub mod RingForm
 pub mod DecisionForm
+pub mod DutyForm
+pub mod MissingForm
 pub mod SleepForm
 pub mod MeansForm

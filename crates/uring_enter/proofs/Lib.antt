@@ -16,3 +16,4 @@ mod WayRuns
 mod DescriptorRuns
 mod LookoutRuns
 mod CallTryRuns
+mod DutyRuns

@@ -56,3 +56,5 @@ pub mod SystemCalls
 pub mod Means
 pub mod TransferCalls
 pub mod Faults
+pub mod Missing
+pub mod Duties

@@ -1,5 +1,5 @@
 -- What carrying out an operation needs, and of which kind it is, by lists of operations. io_uring_enter(2), at each operation; the numbers are those of <linux/io_uring.h>.
-use Rattle.std.specs.Prelude.{ℕ, Bool, not, ◌&&◌, ◌||◌, ◌==◌, if◌then◌else◌}
+use Rattle.std.specs.Prelude.{ℕ, Bool, not, ◌&&◌, ◌||◌, ◌==◌, ◌^◌, if◌then◌else◌}
 use Rattle.std.specs.Int.RustNames.{bit_and, bit_or}
 use Rattle.uring_enter.specs.declared.submission.Submission.{Submission}
 use Rattle.uring_enter.specs.declared.needs.Needs.{Needs}
@@ -88,11 +88,50 @@ events_of e =
     if is_read e.opcode || is_receive e.opcode || e.opcode == 13 then 1 else
     if needs_file e.opcode then 4 else 0
 
+-- what is looked for before an operation is carried out
+pub data Need : Type 0 where
+  -- the file that it is carried out on
+  File : Need
+  -- the one that it reads from
+  Second : Need
+  -- that the first is open
+  Openness : Need
+  -- its registered buffer, which has its bytes
+  Buffer : Need
+  -- what its descriptor is, and so whether it may have to wait for that
+  Kind : Need
+
+-- the place of a need in the order in which they are looked for: files come before a buffer, as Linux 6.18 has it, and what a descriptor is comes last, since that asks it. The first that isn't there ends the request
+abbrev pub place : Need → ℕ
+place File = 0
+place Second = 1
+place Openness = 2
+place Buffer = 3
+place Kind = 4
+
+abbrev pub is_sought : Submission → Need → Bool
+is_sought e File = needs_file e.opcode || wants_file e
+is_sought e Second = is_splice e.opcode
+is_sought e Openness = asks_file e
+is_sought e Buffer = uses_buffer e
+is_sought e Kind = needs_file e.opcode || wants_file e
+
+abbrev pub bit : Need → Bool → ℕ
+bit need is_sought = if is_sought then 2 ^ place need else 0
+
+-- a set of needs: the bit of each is 2 to the power of its place. Our own rule
+abbrev pub set_of : (file second openness buffer kind : Bool) → ℕ
+set_of file second openness buffer kind =
+    bit_or (bit_or (bit_or (bit_or (bit File file) (bit Second second)) (bit Openness openness)) (bit Buffer buffer)) (bit Kind kind)
+
+abbrev pub sought_of : Submission → ℕ
+sought_of e =
+    set_of (is_sought e File) (is_sought e Second) (is_sought e Openness) (is_sought e Buffer) (is_sought e Kind)
+
 -- TIMEOUT is 11; IOSQE_FIXED_FILE is 1, SPLICE_F_FD_IN_FIXED 2^31 and IOSQE_BUFFER_SELECT 32
 abbrev pub needs_of : Submission → Needs
 needs_of e = record {
   needs_file = needs_file e.opcode || wants_file e;
-  asks_file = asks_file e;
   is_registered = has_some e.flags 1 || is_of_slot e;
   needs_second = is_splice e.opcode;
   is_second_registered = has_some e.op_flags 2147483648;
@@ -109,4 +148,5 @@ needs_of e = record {
   fills_buffer = fills_buffer e;
   is_zero_copy = is_zero_copy e.opcode;
   events = events_of e;
+  sought = sought_of e;
 }

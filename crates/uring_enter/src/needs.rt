@@ -1,6 +1,6 @@
 //! What carrying out an operation needs: a file, a second one, a registered or a provided buffer; whether it goes on, and of which kind it is. io_uring_enter(2), at each operation.
 
-ghost use Rattle.std.specs.Prelude.{◌≡◌};
+ghost use Rattle.std.specs.Prelude.{◌≡◌, if◌then◌else◌};
 ghost use Rattle.uring_enter.specs.Needs as spec;
 
 use crate::no_op::{is_of_slot, wants_buffer, wants_file};
@@ -12,9 +12,6 @@ use crate::submission::Submission;
 pub struct Needs {
     /// It is carried out on an open file.
     pub needs_file: bool,
-
-    /// Whether that is open is asked before.
-    pub asks_file: bool,
 
     /// Its entry names that by the slot of a table. IOSQE_FIXED_FILE.
     pub is_registered: bool,
@@ -63,6 +60,9 @@ pub struct Needs {
 
     /// The events for which its file is polled, as poll(2) has them; of a poll also those of which every poll is told.
     pub events: u32,
+
+    /// What is looked for before it is carried out, the bit of each: its file (1), the second one (2), whether the first is open (4), its registered buffer (8), and whether it may have to wait for its descriptor (16). These are looked for by rising bits, and the first that isn't there ends its request.
+    pub sought: u32,
 }
 
 /// What the operation of an entry needs, and of which kind it is.
@@ -73,7 +73,6 @@ pub fn needs_of(entry: &Submission) -> Needs
         0 => needs_of_no_op(entry),
         22 => Needs {
             needs_file: true,
-            asks_file: false,
             is_registered: entry.flags & 1 != 0,
             needs_second: false,
             is_second_registered: entry.op_flags & 0x8000_0000 != 0,
@@ -90,6 +89,7 @@ pub fn needs_of(entry: &Submission) -> Needs
             fills_buffer: false,
             is_zero_copy: false,
             events: 1,
+            sought: sought(true, false, false, false),
         },
         _ => needs_of_any(entry),
     }
@@ -101,7 +101,6 @@ fn needs_of_no_op(entry: &Submission) -> Needs
 {
     Needs {
         needs_file: wants_file(entry),
-        asks_file: wants_file(entry),
         is_registered: entry.flags & 1 != 0 || is_of_slot(entry),
         needs_second: false,
         is_second_registered: entry.op_flags & 0x8000_0000 != 0,
@@ -118,6 +117,12 @@ fn needs_of_no_op(entry: &Submission) -> Needs
         fills_buffer: false,
         is_zero_copy: false,
         events: 0,
+        sought: sought(
+            wants_file(entry),
+            false,
+            wants_file(entry),
+            wants_buffer(entry),
+        ),
     }
 }
 
@@ -127,7 +132,6 @@ fn needs_of_any(entry: &Submission) -> Needs
 {
     Needs {
         needs_file: needs_file(entry.opcode) || wants_file(entry),
-        asks_file: asks_file(entry),
         is_registered: entry.flags & 1 != 0 || is_of_slot(entry),
         needs_second: is_splice(entry.opcode),
         is_second_registered: entry.op_flags & 0x8000_0000 != 0,
@@ -144,7 +148,33 @@ fn needs_of_any(entry: &Submission) -> Needs
         fills_buffer: entry.opcode == 10 && entry.ioprio & 2 != 0,
         is_zero_copy: is_zero_copy(entry.opcode),
         events: events_of(entry),
+        sought: sought_of(entry),
     }
+}
+
+/// What is looked for before the operation of an entry is carried out.
+fn sought_of(entry: &Submission) -> u32
+    ensures { result ≡ spec.sought_of entry.now }
+{
+    let on_file = needs_file(entry.opcode) || wants_file(entry);
+    sought(
+        on_file,
+        is_splice(entry.opcode),
+        asks_file(entry),
+        uses_buffer(entry),
+    )
+}
+
+fn sought(file: bool, second: bool, openness: bool, buffer: bool) -> u32
+    ensures { result ≡ spec.set_of file second openness buffer file }
+{
+    bit(1, file) | bit(2, second) | bit(4, openness) | bit(8, buffer) | bit(16, file)
+}
+
+fn bit(weight: u32, is_sought: bool) -> u32
+    ensures { result ≡ (if is_sought then weight else 0) }
+{
+    if is_sought { weight } else { 0 }
 }
 
 /// READV, READ_FIXED and READ.

@@ -1,0 +1,33 @@
+//! What it ends with that something isn't found, for C: a function of `c/wulgach_waits.h`.
+ghost use Rattle.std.specs.Prelude.{◌≡◌};
+ghost use Rattle.uring_c.specs.MissingForm.{missing_fault_of, missing_of};
+
+use uring_enter::{Missing, missing_fault};
+
+/// What it ends with that this isn't found. 0 of what there isn't.
+#[unsafe(no_mangle)]
+pub extern "C" fn wulgach_missing_fault(what: u32) -> i32
+    ensures { result ≡ missing_fault_of (missing_of what) }
+{
+    match missing(what) {
+        Some(missing) => missing_fault(missing),
+        None => 0,
+    }
+}
+
+fn missing(word: u32) -> Option<Missing>
+    ensures { result ≡ missing_of word }
+{
+    match word {
+        0 => Some(Missing::File),
+        1 => Some(Missing::Direction),
+        2 => Some(Missing::Buffer),
+        3 => Some(Missing::Memory),
+        4 => Some(Missing::ForRequests),
+        5 => Some(Missing::PathEnd),
+        6 => Some(Missing::Room),
+        7 => Some(Missing::Provided),
+        8 => Some(Missing::Request),
+        _ => None,
+    }
+}
