@@ -127,6 +127,11 @@ enum wulgach_kind {
  * socket, and a transfer on a device or on what has no offsets; others never do. */
 uint32_t wulgach_find_kind(const struct wulgach_submission *entry, const struct wulgach_trial *trial, const struct wulgach_known *known);
 
+/* With what the request of an entry ends that finds no buffer, provided or registered, where its descriptor is this: -9 (EBADF) if that isn't
+ * open, -88 (ENOTSOCK) of an operation of sockets if it is no socket; else -105 (ENOBUFS) of a provided buffer and -14 (EFAULT) of a registered
+ * one. */
+int32_t wulgach_no_buffer_fault(const struct wulgach_submission *entry, const struct wulgach_nature *nature);
+
 /* ---- whether it can be finished ---- */
 
 /* How a request stands that runs. */

@@ -75,6 +75,8 @@ static void look_at_descriptors(void)
     demand(kind(RECV, 0, plain, socket) == WULGACH_KIND_STREAM && kind(RECV, 0, plain, pipe) == WULGACH_KIND_NEVER && kind(POLL_ADD, 0, plain, none) == WULGACH_KIND_STREAM && kind(FSYNC, 0, plain, pipe) == WULGACH_KIND_NEVER, "others");
     struct wulgach_submission entry = {.opcode = READ};
     struct wulgach_known nothing = {0}, status = {.status = true, .nature = pipe}, offsets = {.status = true, .offsets = true, .nature = pipe};
+    struct wulgach_submission selecting = {.opcode = READ, .flags = 32}, receive = {.opcode = RECV, .flags = 32}, fixed = {.opcode = 4};
+    demand(wulgach_no_buffer_fault(&selecting, &none) == -9 && wulgach_no_buffer_fault(&selecting, &pipe) == -105 && wulgach_no_buffer_fault(&receive, &pipe) == -88 && wulgach_no_buffer_fault(&receive, &socket) == -105 && wulgach_no_buffer_fault(&fixed, &none) == -9 && wulgach_no_buffer_fault(&fixed, &file) == -14, "no buffer");
     demand(wulgach_find_kind(&entry, &plain, &nothing) == WULGACH_ASK_STATUS && wulgach_find_kind(&entry, &plain, &status) == WULGACH_ASK_OFFSETS && wulgach_find_kind(&entry, &plain, &offsets) == WULGACH_ASK_ACCESS, "what is asked");
 }
 

@@ -124,7 +124,7 @@ static int look_for(struct ring *ring, struct request *request, enum wulgach_nee
     case WULGACH_NEEDS_OPEN:
         return fcntl(request->fd, F_GETFD) < 0 ? wulgach_missing_fault(WULGACH_NO_FILE) : 0;
     case WULGACH_NEEDS_BUFFER:
-        return use_buffer(ring, entry->buf_index, request->vectors, &request->buffer);
+        return use_buffer(ring, entry->buf_index, request->vectors, &request->buffer) < 0 ? fault_without_buffer(request) : 0;
     case WULGACH_NEEDS_KIND:
         return find_kind(request);
     }

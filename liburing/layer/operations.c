@@ -14,6 +14,7 @@
 #include <poll.h>
 #include <signal.h>
 #include <sys/socket.h>
+#include <sys/stat.h>
 #include <sys/uio.h>
 
 static bool is_transfer(const struct request *request)
@@ -164,13 +165,37 @@ bool can_have(const struct request *request, enum injection fault)
     return fault == NO_FAULT || wulgach_can_have(request->entry.opcode, request->standing.is_stream, request->length, fault);
 }
 
+/* Whether a descriptor is open, and not only for its path. */
+static bool is_open_file(int fd)
+{
+    int flags = fcntl(fd, F_GETFL);
+    return flags >= 0 && !(flags & O_PATH);
+}
+
+int32_t fault_without_buffer(const struct request *request)
+{
+    struct stat status = {0};
+    struct wulgach_nature nature = {.is_open = is_open_file(request->fd)};
+    nature.is_socket = fstat(request->fd, &status) == 0 && S_ISSOCK(status.st_mode);
+    return wulgach_no_buffer_fault(submission_of(&request->entry), &nature);
+}
+
+/* What a request ends with that something failed of when it started. Of one that is to take a provided buffer, and finds none, that counts
+ * before the direction of its file. */
+static int32_t fault_at_start(struct ring *ring, const struct request *request)
+{
+    struct wulgach_buffer buffer;
+    bool is_of_file = request->needs.selects && request->started == wulgach_missing_fault(WULGACH_NO_DIRECTION);
+    return is_of_file && !find_provided(ring, request->entry.buf_group, &buffer) ? fault_without_buffer(request) : request->started;
+}
+
 /* Carries out what takes a buffer. Whether it has taken it, by its result, is the library's decision. */
 static int32_t call_with_buffer(struct ring *ring, struct request *request, enum injection fault)
 {
     struct wulgach_buffer buffer;
     request->flags = 0;
     if (!find_provided(ring, request->entry.buf_group, &buffer))
-        return wulgach_missing_fault(WULGACH_NO_PROVIDED);
+        return fault_without_buffer(request);
     *request->vectors = (struct iovec){(void *)(uintptr_t)buffer.address, wulgach_buffer_part(request->wanted, buffer.length)};
     request->length = request->vectors->iov_len;
     request->done = 0;
@@ -197,7 +222,7 @@ static void take_back_signal(void)
 int32_t carry_out(struct ring *ring, struct request *request, enum injection fault)
 {
     if (request->started < 0)
-        return request->started;
+        return fault_at_start(ring, request);
     if (request->entry.opcode == IORING_OP_NOP)
         return wulgach_no_op_result(submission_of(&request->entry));
     if (fault == FAULT_EIO)
@@ -215,10 +240,7 @@ int32_t carry_out(struct ring *ring, struct request *request, enum injection fau
 /* Whether a request ends so because something that it needs isn't there. A descriptor is asked only behind -9, which an open one may end with. */
 static bool is_missing(const struct request *request, int32_t res)
 {
-    if (request->started < 0)
-        return true;
-    int flags = res == -EBADF && request->needs.needs_file ? fcntl(request->fd, F_GETFL) : 0;
-    return flags < 0 || flags & O_PATH;
+    return request->started < 0 || (res == -EBADF && request->needs.needs_file && !is_open_file(request->fd));
 }
 
 bool is_success(const struct ring *ring, const struct request *request, int32_t res)

@@ -57,6 +57,9 @@ bool can_have(const struct request *request, enum injection fault);
 /* Carries the operation out, and returns its result, or WOULD_WAIT. */
 int32_t carry_out(struct ring *ring, struct request *request, enum injection fault);
 
+/* With what a request ends that finds no buffer, provided or registered: its descriptor is asked what it is only then. */
+int32_t fault_without_buffer(const struct request *request);
+
 /* Whether a result is a success, as links and IOSQE_CQE_SKIP_SUCCESS see it. */
 bool is_success(const struct ring *ring, const struct request *request, int32_t res);
 

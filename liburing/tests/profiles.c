@@ -222,6 +222,37 @@ static void test_unpolled(void)
     stop();
 }
 
+/* What isn't open, and what is no socket, counts before a buffer that isn't there, and that before the direction of a file. */
+static void expect_unbuffered(uint8_t code, uint8_t flags, int fd, int32_t res)
+{
+    struct io_uring_sqe *entry = put_transfer(&ring, code, 0, flags, fd, &byte, 1, 0);
+    entry->buf_group = 9;
+    submit(1);
+    EXPECT({0, res});
+}
+
+static void test_unbuffered(void)
+{
+    int pair[2];
+    begin(0);
+    check(socketpair(AF_UNIX, SOCK_STREAM, 0, pair) == 0);
+    for (int is_fixed = 0; is_fixed < 2; is_fixed++) {
+        uint8_t code = is_fixed ? IORING_OP_READ_FIXED : IORING_OP_READ, flags = is_fixed ? 0 : IOSQE_BUFFER_SELECT;
+        int32_t missing = is_fixed ? -EFAULT : -ENOBUFS;
+        expect_unbuffered(code, flags, -1, -EBADF);
+        expect_unbuffered(code, flags, 999, -EBADF);
+        expect_unbuffered(code, flags, ends[0], missing);
+        expect_unbuffered(code, flags, ends[1], missing);
+        expect_unbuffered(code, flags | IOSQE_FIXED_FILE, 5, -EBADF);
+    }
+    expect_unbuffered(IORING_OP_RECV, IOSQE_BUFFER_SELECT, -1, -EBADF);
+    expect_unbuffered(IORING_OP_RECV, IOSQE_BUFFER_SELECT, ends[0], -ENOTSOCK);
+    expect_unbuffered(IORING_OP_RECV, IOSQE_BUFFER_SELECT, pair[0], -ENOBUFS);
+    close(pair[0]);
+    close(pair[1]);
+    stop();
+}
+
 /* One that is cancelled, or has a fault, ends once those before it have. */
 static void test_doomed_in_their_turn(void)
 {
@@ -381,6 +412,7 @@ int main(int count, char **words)
         {"unmarked failures", test_unmarked_failures},
         {"shut down", test_shut_down},
         {"unpolled", test_unpolled},
+        {"unbuffered", test_unbuffered},
         {"doomed in their turn", test_doomed_in_their_turn},
         {"cancels", test_cancels},
         {"drains", test_drains},

@@ -13,9 +13,9 @@ use crate::wait_words::{
     doing, finding_word, look_word, step_end, step_word, task, turn_end, turn_word,
 };
 use uring_enter::{
-    Call, Course, Known, Moment, Needs, Patience, Standing, Submission, Transfer, Trial,
-    asks_instance, is_impatient, needs_of, next_finding, next_look, next_step, next_turn, poll_result,
-    unpolled_result,
+    Call, Course, Known, Moment, Nature, Needs, Patience, Standing, Submission, Transfer, Trial,
+    asks_instance, is_impatient, needs_of, next_finding, next_look, next_step, next_turn, no_buffer_fault,
+    poll_result, unpolled_result,
 };
 
 /// Writes what the operation of an entry needs.
@@ -121,4 +121,12 @@ pub extern "C" fn wulgach_unpolled_result(events: u16) -> i32
     ensures { result ≡ called.unpolled_result events }
 {
     unpolled_result(events)
+}
+
+/// With what the request of an entry ends that finds no buffer, provided or registered, where its descriptor is this.
+#[unsafe(no_mangle)]
+pub extern "C" fn wulgach_no_buffer_fault(entry: &Submission, nature: &Nature) -> i32
+    ensures { result ≡ found.no_buffer_fault entry.now nature.now }
+{
+    no_buffer_fault(entry, nature)
 }

@@ -1,5 +1,5 @@
 -- Whether an operation may have to wait for its descriptor, by what that is. io_uring_enter(2), at each operation; open(2), O_NONBLOCK; what the kernel does, but where our own rule is named.
-use Rattle.std.specs.Prelude.{◌≡◌, ◌-◌, ◌^◌, ℕ, Bool, true, false, not, ◌&&◌, ◌||◌, ◌==◌, if◌then◌else◌}
+use Rattle.std.specs.Prelude.{◌≡◌, ◌-◌, ◌^◌, ℕ, ℤ, Bool, true, false, not, ◌&&◌, ◌||◌, ◌==◌, if◌then◌else◌}
 use Rattle.uring_enter.specs.declared.submission.Submission.{Submission}
 use Rattle.uring_enter.specs.declared.descriptor.Nature.{Nature}
 use Rattle.uring_enter.specs.declared.descriptor.Known.{Known}
@@ -11,7 +11,8 @@ use Rattle.uring_enter.specs.declared.descriptor.Question.TheVariants.{Status, O
 use Rattle.uring_enter.specs.declared.descriptor.Finding.{Finding}
 use Rattle.uring_enter.specs.declared.descriptor.Finding.TheVariants.{Asks, Is}
 use Rattle.uring_enter.specs.Clocks.{has_some}
-use Rattle.uring_enter.specs.Needs.{is_read, is_transfer, is_of_sockets, is_splice, is_poll}
+use Rattle.uring_enter.specs.Needs.{is_read, is_transfer, is_of_sockets, is_splice, is_poll, needs_file}
+use Rattle.uring_entry.specs.Errors.{error}
 
 -- whether a transfer may be made before its descriptor is asked whether it may have to wait: it moves something, at an offset, with no flags and no provided buffer; it wasn't tried before, and no choice rests on the answer. Our own rule
 abbrev pub may_be_tried : Submission → Trial → Bool
@@ -96,3 +97,10 @@ was_asked Access k = k.access
 abbrev pub AsksOnce : Type 0
 AsksOnce = (e : Submission) (t : Trial) (k : Known) (question : Question)
     → next_of e t k ≡ Asks question → was_asked question k ≡ false
+
+-- with what a request ends that finds no buffer, provided or registered, where its descriptor is this: what isn't open counts first, -9 (EBADF), and then what is no socket, of an operation of sockets, -88 (ENOTSOCK); else it is -105 (ENOBUFS) of a provided buffer and -14 (EFAULT) of a registered one. What Linux 6.18 was seen to do
+abbrev pub no_buffer_fault : Submission → Nature → ℤ
+no_buffer_fault e d =
+    if needs_file e.opcode && not d.is_open then error 9 else
+    if is_of_sockets e.opcode && not d.is_socket then error 88 else
+    if has_some e.flags 32 then error 105 else error 14

@@ -4,7 +4,7 @@ ghost use Rattle.std.specs.Prelude.{◌≡◌};
 ghost use Rattle.uring_enter.specs.Descriptors as spec;
 ghost use Rattle.uring_enter.specs.Descriptors.{AsksOnce, FindsTheKind};
 
-use crate::needs::{is_of_sockets, is_read, is_splice, is_transfer};
+use crate::needs::{is_of_sockets, is_read, is_splice, is_transfer, needs_file};
 use crate::submission::Submission;
 
 /// What a descriptor is.
@@ -183,6 +183,21 @@ fn is_open_for(code: u8, nature: &Nature) -> bool
         nature.can_read
     } else {
         nature.can_write
+    }
+}
+
+/// With what the request of an entry ends that finds no buffer, provided or registered, where its descriptor is this: what isn't open, or is no socket, counts first.
+pub fn no_buffer_fault(entry: &Submission, nature: &Nature) -> i32
+    ensures { result ≡ spec.no_buffer_fault entry.now nature.now }
+{
+    if needs_file(entry.opcode) && !nature.is_open {
+        -9
+    } else if is_of_sockets(entry.opcode) && !nature.is_socket {
+        -88
+    } else if entry.flags & 32 != 0 {
+        -105
+    } else {
+        -14
     }
 }
 

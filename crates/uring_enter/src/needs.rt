@@ -233,7 +233,7 @@ pub(crate) fn is_splice(code: u8) -> bool
     matches!(code, 30 | 33)
 }
 
-fn needs_file(code: u8) -> bool
+pub(crate) fn needs_file(code: u8) -> bool
     ensures { result ≡ spec.needs_file code }
 {
     matches!(
