@@ -8,16 +8,19 @@
 #include "ends.h"
 #include "files.h"
 #include "polls.h"
+#include "progress.h"
 #include "ring.h"
 #include "steps.h"
+#include "streams.h"
 #include "timeouts.h"
 #include "wulgach_cancel.h"
 
 #include <fcntl.h>
 
 /* One that was passed over is looked at again. */
-static void look_again_at(struct ring *ring, const struct request *request)
+static void look_again_at(struct ring *ring, struct request *request)
 {
+    request->waits_in = 0;
     if (request->course.has_started)
         wulgach_lookout_touches(&ring->lookout, place_of(&ring->running, request->number));
 }
@@ -115,21 +118,31 @@ struct request *find_request(struct ring *ring, const struct io_uring_sqe *seeke
     return NULL;
 }
 
+/* A poll was changed. If it waits still it is passed over as before, and so are those behind it. */
+static void look_at_changed(struct ring *ring, struct request *poll)
+{
+    if (!poll->course.has_started)
+        return;
+    look_at(ring, poll);
+    poll->waits_in = 0;
+    if (can_finish(ring, poll))
+        look_again_at(ring, poll);
+}
+
 static int32_t change_poll(struct ring *ring, struct request *poll, const struct io_uring_sqe *change)
 {
     struct wulgach_poll changed = {
         .user_data = poll->entry.user_data,
         .events = poll->entry.poll32_events,
     };
-    look_again_at(ring, poll);
     wulgach_updated_poll(&changed, submission_of(change));
     poll->entry.user_data = changed.user_data;
     poll->entry.poll32_events = changed.events;
     wulgach_needs_of(submission_of(&poll->entry), &poll->needs);
     poll->standing.has_to_wait = false;
-    poll->looked_at = UINT64_MAX;
     if (wulgach_course_begins_afresh(&poll->course))
         poll->started = start_poll(poll);
+    look_at_changed(ring, poll);
     return 0;
 }
 

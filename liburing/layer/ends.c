@@ -25,10 +25,17 @@ static void forget_waits(struct ring *ring)
         ring->running.rows[i]->standing.has_to_wait = false;
 }
 
+void renew_round(struct ring *ring)
+{
+    if (ring->lookout.count == 0)
+        ring->round++;
+}
+
 void look_afresh(struct ring *ring)
 {
     if (wulgach_lookout_opens(&ring->lookout))
         forget_waits(ring);
+    renew_round(ring);
 }
 
 /* A request ends that had started or not: which others are looked at again. */
@@ -37,6 +44,7 @@ static void look_behind(struct ring *ring, const struct request *ended)
     struct wulgach_end_of_one end = {.is_count_reached = ring->is_count_reached, .has_drains = ring->drains.outstanding > 0};
     if (wulgach_lookout_ends(&ring->lookout, &end))
         forget_waits(ring);
+    renew_round(ring);
     if (ended->course.has_started)
         wulgach_lookout_leaves(&ring->lookout, take_request(&ring->running, ended));
     if (ended->is_patient)

@@ -13,6 +13,9 @@ enum { TOLD_SUCCESS = 0, TOLD_FAILURE = -EBADF };
 /* A running request isn't to be carried out again before another has ended, a call begins, or one has slept. */
 void note_wait(struct ring *ring, struct request *request);
 
+/* Something has happened behind which the library may pass over none of those that run: if so, each is asked again. */
+void renew_round(struct ring *ring);
+
 /* A call begins, or sleeps no longer: all that runs is looked at again. */
 void look_afresh(struct ring *ring);
 

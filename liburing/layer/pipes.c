@@ -4,6 +4,7 @@
  */
 #define _GNU_SOURCE
 #include "pipes.h"
+#include "ends.h"
 #include "polls.h"
 #include "ring.h"
 
@@ -164,6 +165,7 @@ static void tell(struct ring *ring, struct request *request, bool is_there)
     request->is_heard = is_there;
     request->standing.has_to_wait = false;
     wulgach_lookout_tells(&ring->lookout);
+    renew_round(ring);
     wulgach_lookout_changes(&ring->lookout);
 }
 

@@ -23,6 +23,7 @@ struct request {
     enum mapping mapping;           /* what the core was told of it */
     uint64_t looked_at;             /* of one that may have to wait: the moment at which its descriptor was last looked at, */
     bool is_found_ready;            /* and whether it was ready */
+    uint64_t waits_in;              /* of one that runs: the round in which it was found to wait, or 0 */
     bool is_patient;                /* it runs, and stands among those that may have to wait */
     struct wulgach_standing standing;   /* whether it would have waited, and nothing has ended since; whether it may have to wait for a descriptor; and whether it has found a provided buffer */
     int32_t fault;                  /* of a refused entry: what it ends with */

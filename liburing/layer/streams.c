@@ -12,6 +12,12 @@ static void note(const struct ring *ring, struct request *request, bool is_ready
     request->is_found_ready = is_ready || is_told_of_gone(ring, request);
 }
 
+void note_taken(const struct ring *ring, struct request *request)
+{
+    request->looked_at = ring->lookout.moment;
+    request->is_found_ready = false;
+}
+
 void look_at(const struct ring *ring, struct request *request)
 {
     note(ring, request, is_ready(request));

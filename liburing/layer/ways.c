@@ -74,9 +74,15 @@ static struct ways ways_of(struct ring *ring, bool may_return)
 /* The running request that can be finished and stands at this place among these. */
 static struct request *ready_at(struct ring *ring, const struct ways *ways, uint32_t place)
 {
-    for (uint32_t i = 0; i < ways->waiting && place_of(&ring->running, ring->waiting[i]->number) <= place; i++)
-        place++;
-    return ring->running.rows[place];
+    uint32_t low = 0, high = ways->waiting;
+    while (low < high) {
+        uint32_t middle = low + (high - low) / 2;
+        if (place_of(&ring->running, ring->waiting[middle]->number) - middle <= place)
+            low = middle + 1;
+        else
+            high = middle;
+    }
+    return ring->running.rows[place + low];
 }
 
 static uint32_t place_of_ready(struct ring *ring, const struct ways *ways, const struct request *request)

@@ -9,9 +9,10 @@
 
 enum { LONGEST = 4096, OTHERS = LONGEST };      /* the user data of what isn't a no-op of the call */
 
-/* A kind of call, of no-ops. */
+/* A kind of call, of no-ops or of updates. */
 struct kind {
     const char *name;
+    uint8_t code;
     void (*before)(struct ring *ring, int pipe, unsigned length);       /* what is submitted before it, and waits */
     uint8_t link;                                                       /* what links its members, if anything */
 };
@@ -35,13 +36,25 @@ static void submit_polls(struct ring *ring, int pipe, unsigned length)
 }
 
 static const struct kind kinds[] = {
-    {"linked", NULL, IOSQE_IO_LINK},
-    {"hard", NULL, IOSQE_IO_HARDLINK},
-    {"loose", NULL, 0},
-    {"linked-beside", submit_waiting, IOSQE_IO_LINK},
-    {"loose-beside", submit_waiting, 0},
-    {"loose-polls", submit_polls, 0},
+    {"linked", IORING_OP_NOP, NULL, IOSQE_IO_LINK},
+    {"hard", IORING_OP_NOP, NULL, IOSQE_IO_HARDLINK},
+    {"loose", IORING_OP_NOP, NULL, 0},
+    {"linked-beside", IORING_OP_NOP, submit_waiting, IOSQE_IO_LINK},
+    {"loose-beside", IORING_OP_NOP, submit_waiting, 0},
+    {"loose-polls", IORING_OP_NOP, submit_polls, 0},
+    {"updates", IORING_OP_POLL_REMOVE, submit_polls, 0},
 };
+
+/* An update finds the first of the polls, and changes nothing of it. */
+static void put_one(struct ring *ring, const struct kind *kind, unsigned number, uint8_t link)
+{
+    struct io_uring_sqe *entry = put(ring, kind->code, number, link);
+    if (kind->code == IORING_OP_NOP)
+        return;
+    entry->addr = OTHERS;
+    entry->len = IORING_POLL_UPDATE_EVENTS;
+    entry->poll32_events = POLLIN;
+}
 
 static void call_of(const struct kind *kind, unsigned length)
 {
@@ -53,13 +66,14 @@ static void call_of(const struct kind *kind, unsigned length)
     if (kind->before)
         kind->before(&ring, ends[0], length);
     for (unsigned i = 0; i < length; i++)
-        put(&ring, IORING_OP_NOP, i, i < length - 1 ? kind->link : 0);
+        put_one(&ring, kind, i, i < length - 1 ? kind->link : 0);
     check(enter(&ring, length, length, IORING_ENTER_GETEVENTS) == (long)length);
     memset(has_ended, 0, sizeof has_ended);
     for (unsigned i = 0; i < length; i++) {
-        uint64_t ended = reap(&ring).user_data;
-        check(kind->link ? ended == i : ended < length && !has_ended[ended]);
-        has_ended[ended] = true;
+        struct completion ended = reap(&ring);
+        check(ended.res == 0 && ended.user_data < length && !has_ended[ended.user_data]);
+        check(!kind->link || ended.user_data == i);
+        has_ended[ended.user_data] = true;
     }
     close_ring(&ring);
     close(ends[0]);
