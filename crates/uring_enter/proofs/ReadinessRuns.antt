@@ -43,9 +43,9 @@ posting kc kp kb kr false p true selects found b r = descriptor kc kp kb kr sele
 posting kc kp kb kr false p false selects found b r = refl
 
 all : (kc kp kb kr w k t c g p stream selects found b r : Bool)
-    → is_fresh kc kp kb kr (if w then Waits else if k then Finishes else if t then (if kc then told c else Asks Count) else if g && not kp then Asks Posting else if g && not p then Waits else if stream then (if selects && not found && not kb then Asks Buffer else if selects && not found && not b then Finishes else if not kr then Asks Readiness else told r) else Finishes) ≡ true
-all kc kp kb kr true k t c g p stream selects found b r = refl
-all kc kp kb kr false true t c g p stream selects found b r = refl
+    → is_fresh kc kp kb kr (if k then Finishes else if w then Waits else if t then (if kc then told c else Asks Count) else if g && not kp then Asks Posting else if g && not p then Waits else if stream then (if selects && not found && not kb then Asks Buffer else if selects && not found && not b then Finishes else if not kr then Asks Readiness else told r) else Finishes) ≡ true
+all kc kp kb kr w true t c g p stream selects found b r = refl
+all kc kp kb kr true false t c g p stream selects found b r = refl
 all false kp kb kr false false true c g p stream selects found b r = refl
 all true kp kb kr false false true c g p stream selects found b r = told_is_fresh true kp kb kr c
 all kc kp kb kr false false false c g p stream selects found b r = posting kc kp kb kr g p stream selects found b r
