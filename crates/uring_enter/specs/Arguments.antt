@@ -1,5 +1,5 @@
 -- The last arguments of a call. io_uring_enter(2), IORING_ENTER_GETEVENTS and IORING_ENTER_EXT_ARG; what is read when, and the order of the faults, is what Linux 6.18 does.
-use Rattle.std.specs.Prelude.{ℕ, ℤ, pos, Bool, not, ◌&&◌, ◌||◌, ◌==◌, if◌then◌else◌}
+use Rattle.std.specs.Prelude.{ℕ, ℤ, pos, Bool, not, ◌&&◌, ◌==◌, if◌then◌else◌}
 use Rattle.std.specs.Ordering.{int_eq}
 use Rattle.uring_entry.specs.Errors.{error}
 use Rattle.uring_enter.specs.Replies.{is_none}

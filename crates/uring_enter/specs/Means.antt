@@ -1,5 +1,5 @@
 -- By what the operation of an entry is carried out: which system call, and with which arguments; or what whoever keeps the ring does itself. io_uring_enter(2), at each operation, which names the call of section 2 that it is like: its fields are that call's arguments. The numbers of operations are those of <linux/io_uring.h>.
-use Rattle.std.specs.Prelude.{ℕ, ◌-◌, Bool, not, ◌&&◌, ◌||◌, ◌==◌, nat_le, if◌then◌else◌}
+use Rattle.std.specs.Prelude.{ℕ, ◌-◌, Bool, ◌&&◌, ◌||◌, ◌==◌, nat_le, if◌then◌else◌}
 use Rattle.std.specs.Int.RustNames.{bit_and, bit_or}
 use Rattle.uring_enter.specs.declared.submission.Submission.{Submission}
 use Rattle.uring_enter.specs.declared.system_call.SystemCall.{SystemCall}
@@ -8,7 +8,7 @@ use Rattle.uring_enter.specs.declared.means.Means.{Means}
 use Rattle.uring_enter.specs.declared.means.Means.TheVariants.{Nothing, Transfer, Poll, Call, Opening, Sync, Close, Connect, Splice, Send, Receive, ReceiveMessage, SlotRemoval, FilesPlacing, FilesUpdate, Timeout, LinkedTimeout, Provision, ProvisionRemoval, Message, Others}
 use Rattle.uring_enter.specs.Clocks.{has_some}
 use Rattle.uring_enter.specs.Layouts.{call_flags}
-use Rattle.uring_enter.specs.Needs.{is_transfer, is_poll, is_send, advised_length}
+use Rattle.uring_enter.specs.Needs.{is_transfer, is_send, advised_length}
 use Rattle.uring_enter.specs.SystemCalls as sys
 use Rattle.uring_enter.specs.SystemCalls.{of_three, of_four, of_five, of_six, word_of}
 

@@ -1,5 +1,5 @@
 -- What was replied in a call so far, the newest first, and what it tells.
-use Rattle.std.specs.Prelude.{ℕ, ℤ, pos, negsuc, ◌-ℤ◌, Bool, false, not, ◌&&◌, ◌||◌, ◌==◌, nat_le, nat_lt, min, List, [], ◌∷◌}
+use Rattle.std.specs.Prelude.{ℕ, ℤ, pos, negsuc, Bool, false, not, ◌&&◌, ◌||◌, ◌==◌, nat_le, nat_lt, min, List, [], ◌∷◌}
 use Rattle.uring_entry.specs.Errors.{error}
 use Rattle.uring_enter.specs.declared.asked.Asked.{Asked}
 use Rattle.uring_enter.specs.declared.reply.Sight.{Sight}

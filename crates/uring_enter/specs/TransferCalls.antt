@@ -1,5 +1,5 @@
 -- Which call moves the bytes of a transfer. preadv2(2) and pread(2): READV, READ_FIXED and READ are like the one, WRITEV, WRITE_FIXED and WRITE like pwritev2(2). io_uring_enter(2)
-use Rattle.std.specs.Prelude.{ℕ, Bool, true, false, not, ◌&&◌, ◌==◌, nat_le, Option, Some, None, if◌then◌else◌}
+use Rattle.std.specs.Prelude.{ℕ, Bool, false, not, ◌&&◌, ◌==◌, nat_le, Option, Some, if◌then◌else◌}
 use Rattle.std.specs.Int.RustNames.{bit_or}
 use Rattle.uring_enter.specs.declared.submission.Submission.{Submission}
 use Rattle.uring_enter.specs.declared.system_call.SystemCall.{SystemCall}
