@@ -86,9 +86,6 @@ int32_t wulgach_placed_result(uint32_t asked, uint32_t slot);
 /* Whether a socket of this type (SO_TYPE) is a stream, of which what is waited for may come in parts. */
 bool wulgach_is_stream_type(uint32_t type);
 
-/* Returns how many bytes of so many one transfer moves at most: 0x7ffff000. */
-uint64_t wulgach_moved_at_most(uint64_t length);
-
 /* A fault that an operation is given, so that a test finds what its application does. */
 enum wulgach_given_fault {
     WULGACH_GIVES_EIO = 1,      /* in a transfer, an fsync or a fallocate */

@@ -36,10 +36,19 @@ enum wulgach_form {
     WULGACH_FORM_REFUSED = 2    /* it has a fault, and ends with that */
 };
 
-/* Returns what an entry is to the core (enum wulgach_form), and writes its fault, or 0. The first of these counts: `refusal`, with which
- * a strict ring refuses it, if that is negative; -13 (EACCES) where restrictions don't allow it; -95 (EOPNOTSUPP) if it asks for a
- * provided buffer that its operation can't have; -22 (EINVAL) for a flag that there isn't, a personality, an operation that isn't
- * served, or fields that its operation may not have. What the entry points to isn't looked at. */
+/* Returns what an entry is to the core (enum wulgach_form), and writes its fault, or 0. The first of these counts:
+ *
+ *   `refusal`          with which a strict ring refuses it, if that is negative
+ *   -22 (EINVAL)       a flag that there isn't, or an operation that isn't served
+ *   -95 (EOPNOTSUPP)   it asks for a provided buffer, which its operation can't have
+ *   -13 (EACCES)       restrictions don't allow it
+ *   -22                a personality, or a field that must be 0
+ *   -9 (EBADF)         IOSQE_FIXED_FILE on an operation of a path, or on a close
+ *   -22                flags that the operation doesn't know, or what else its fields may not be
+ *   -7, -22, -75, -14  buffers that it provides
+ *   -14 (EFAULT)       the buffer of a READ, a WRITE, a SEND or a RECV ends where no program has memory
+ *
+ * What the entry points to isn't looked at. */
 uint32_t wulgach_form_of(const struct wulgach_submission *entry, int32_t refusal, bool is_allowed, int32_t *fault);
 
 /* Whether an operation is served. */
@@ -90,7 +99,7 @@ struct wulgach_copied {
  * and is none itself. */
 int32_t wulgach_next_piece(const struct wulgach_submission *entry, const struct wulgach_copied *copied, struct wulgach_piece *piece);
 
-/* Whether an entry is one of READ, WRITE, READ_FIXED and WRITE_FIXED. True: whatever stands before it, the piece that is told first is its
+/* Whether an entry is one of READ, WRITE, READ_FIXED and WRITE_FIXED, and no other. True: whatever stands before it, the piece that is told first is its
  * one buffer, and then, where that has no fault, nothing more, and 0. */
 bool wulgach_has_one_buffer(const struct wulgach_submission *entry);
 
@@ -99,6 +108,13 @@ bool wulgach_has_one_buffer(const struct wulgach_submission *entry);
 int32_t wulgach_time_fault(int64_t seconds, int64_t nanoseconds);
 int32_t wulgach_message_fault(uint64_t vectors);
 int32_t wulgach_room_fault(const struct wulgach_submission *entry, uint32_t name, uint64_t control);
+
+/* The fault of vectors with one more, behind others that have the fault `before`, or 0: -22 if the length of one is negative, else -14 (EFAULT) if
+ * no program can have one. Of a lone one no more is looked at than a transfer moves; of an entry that takes a provided buffer nothing is. */
+int32_t wulgach_vector_fault(const struct wulgach_submission *entry, int32_t before, uint64_t from, uint64_t size, bool is_lone);
+
+/* How many bytes a transfer moves at most of buffers with so many bytes and one more: 0x7ffff000 and no more. */
+uint64_t wulgach_length_with(uint64_t length, uint64_t size);
 
 /* The fault of how a file is opened, -7 (E2BIG) if what is newer isn't all 0; and of an open by that, with these flags, behind its path: -22
  * if it goes to a slot and has O_CLOEXEC. Each is 0 if there is none. */

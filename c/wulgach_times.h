@@ -91,6 +91,10 @@ uint64_t wulgach_time_left(uint64_t time, uint64_t now);
  * (ENOENT): none, its time is how long it runs. */
 int32_t wulgach_timeout_clock(uint32_t flags);
 
+/* How many completions the timeout of an entry counts (wulgach_form.h), of which 32 bits of `off` count; 0: none. */
+struct wulgach_submission;
+uint64_t wulgach_timeout_count(const struct wulgach_submission *entry);
+
 /* How long a timeout runs that has this time, whose clock says that it is `now`, if it has one. */
 uint64_t wulgach_timeout_lasts(uint64_t time, uint64_t now, bool has_clock);
 

@@ -24,16 +24,22 @@ static int copy_of(void **to, uint64_t from, size_t size)
     return *to ? copy_in(*to, from, size) : -ENOMEM;
 }
 
+int32_t measure_vectors(struct request *request)
+{
+    int32_t fault = 0;
+    for (uint32_t i = 0; i < request->vector_count; i++) {
+        const struct iovec *vector = &request->vectors[i];
+        fault = wulgach_vector_fault(submission_of(&request->entry), fault, (uintptr_t)vector->iov_base, vector->iov_len, request->vector_count == 1);
+        request->length = wulgach_length_with(request->length, vector->iov_len);
+    }
+    return fault;
+}
+
 static int copy_vectors(struct request *request, const struct wulgach_piece *piece)
 {
     int result = copy_of((void **)&request->vectors, piece->from, piece->size);
-    if (result < 0)
-        return result;
-    for (uint32_t i = 0; i < request->entry.len; i++)
-        request->length += wulgach_moved_at_most(request->vectors[i].iov_len);
-    request->length = wulgach_moved_at_most(request->length);
-    request->vector_count = request->entry.len;
-    return 0;
+    request->vector_count = result < 0 ? 0 : request->entry.len;
+    return result < 0 ? result : measure_vectors(request);
 }
 
 /* A transfer of one buffer becomes one of a single vector. */
@@ -41,7 +47,7 @@ static int make_vector(struct request *request)
 {
     request->one = (struct iovec){(void *)(uintptr_t)request->entry.addr, request->entry.len};
     request->vectors = &request->one;
-    request->length = wulgach_moved_at_most(request->entry.len);
+    request->length = wulgach_length_with(0, request->entry.len);
     request->vector_count = 1;
     return 0;
 }

@@ -15,6 +15,9 @@ enum { WOULD_WAIT = -512 };
  * be read is refused. Returns 0 or -ENOMEM. */
 int copy_behind(struct request *request, const struct request *before);
 
+/* Finds how much the vectors of a request hold, and returns their fault, or 0. */
+int32_t measure_vectors(struct request *request);
+
 /* Finds out what a request is carried out on: its file, its buffer, and whether it may have to wait. */
 void assign(struct ring *ring, struct request *request);
 

@@ -29,7 +29,7 @@ int make_message(struct request *request)
     if (!addressed || !request->vectors)
         return -ENOMEM;
     *request->vectors = (struct iovec){(void *)(uintptr_t)request->entry.addr, request->entry.len};
-    request->length = wulgach_moved_at_most(request->entry.len);
+    request->length = wulgach_length_with(0, request->entry.len);
     message->msg_iov = request->vectors;
     message->msg_iovlen = request->vector_count = 1;
     return 0;
@@ -58,11 +58,9 @@ int copy_message(struct request *request, uint64_t from)
         message->msg_iovlen = 1;
     }
     request->vector_count = (uint32_t)message->msg_iovlen;
-    for (uint32_t i = 0; i < request->vector_count; i++)
-        request->length += wulgach_moved_at_most(request->vectors[i].iov_len);
-    request->length = wulgach_moved_at_most(request->length);
     message->msg_iov = request->vectors;
-    return wulgach_room_fault(submission_of(&request->entry), message->msg_namelen, message->msg_controllen);
+    fault = measure_vectors(request);
+    return fault < 0 ? fault : wulgach_room_fault(submission_of(&request->entry), message->msg_namelen, message->msg_controllen);
 }
 
 int copy_address(struct request *request, uint64_t from, size_t size)

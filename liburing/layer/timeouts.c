@@ -58,7 +58,7 @@ static void run(struct ring *ring, const struct request *timeout)
     struct wulgach_start start = {
         .number = timeout->number,
         .more = time_left(timeout),
-        .count = timeout->entry.off,
+        .count = wulgach_timeout_count(submission_of(&timeout->entry)),
         .is_linked = is_linked_timeout(timeout),
     };
     demand(wulgach_times_start(&ring->times, ring->timeouts, ring->timeouts_room, &start) == 0, "there is no room for a timeout");

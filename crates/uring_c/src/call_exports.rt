@@ -9,7 +9,7 @@ ghost use Rattle.uring_c.specs.WaitForm.{task_of};
 use crate::wait_words::task;
 use uring_enter::{
     Fault, Held, Means, Submission, SystemCall, Transfer, Vectors, can_have, has_begun,
-    is_stream_type, means_of, moved_at_most, placed_result, transfer_call,
+    is_stream_type, means_of, placed_result, transfer_call,
 };
 
 /// By what an operation is carried out: `struct wulgach_means` of the header.
@@ -131,12 +131,4 @@ pub extern "C" fn wulgach_is_stream_type(kind: u32) -> bool
     ensures { result ≡ results.is_stream_type kind }
 {
     is_stream_type(kind)
-}
-
-/// How many bytes of so many one transfer moves at most.
-#[unsafe(no_mangle)]
-pub extern "C" fn wulgach_moved_at_most(length: u64) -> u64
-    ensures { result ≡ results.moved_at_most length }
-{
-    moved_at_most(length)
 }

@@ -1,6 +1,7 @@
 //! What an entry is to the core, and which requests go on, for C: the functions of `c/wulgach_form.h`.
 ghost use Rattle.std.specs.Prelude.{◌≡◌, List};
-ghost use Rattle.uring_enter.specs.Forms.{form_of, rule_of, is_rule};
+ghost use Rattle.uring_enter.specs.Forms.{form_of};
+ghost use Rattle.uring_enter.specs.Rules.{rule_of, is_rule};
 ghost use Rattle.uring_enter.specs.Showing.{Change, KeepsShown};
 ghost use Rattle.uring_enter.specs.Shots.{goes_on, has_room, shot_of, tells};
 ghost use Rattle.uring_c.specs.EntryForm.{word_of_form, fault_of_form};

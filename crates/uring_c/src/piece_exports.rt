@@ -1,6 +1,8 @@
 //! What is copied of an entry, and the faults of that, for C: functions of `c/wulgach_form.h`.
 ghost use Rattle.std.specs.Prelude.{◌≡◌, pos, true, Option};
 ghost use Rattle.uring_enter.specs.Pieces as spec;
+ghost use Rattle.uring_enter.specs.Buffers as buffers;
+ghost use Rattle.uring_enter.specs.Copies as copies;
 ghost use Rattle.uring_enter.specs.Copies.{next_of};
 ghost use Rattle.uring_enter.specs.Pieces.{buffer_of};
 ghost use Rattle.uring_enter.specs.declared.copying.Copying.TheVariants.{Copies, Ends};
@@ -10,8 +12,8 @@ ghost use Rattle.uring_c.specs.CourseForm.{entry_of};
 
 use crate::course_words::entry_if;
 use uring_enter::{
-    Copying, Entry, Piece, Submission, What, has_one_buffer, how_fault, message_fault, next_piece,
-    open_fault, room_fault, time_fault,
+    Copying, Entry, Piece, Submission, What, has_one_buffer, how_fault, length_with, message_fault,
+    next_piece, open_fault, room_fault, time_fault, vector_fault,
 };
 
 /// A piece that is copied: `struct wulgach_piece` of the header.
@@ -59,6 +61,7 @@ pub extern "C" fn wulgach_next_piece(
 /// Whether an entry names one buffer, of which nothing is copied, and has no fault then, wherever it stands.
 #[unsafe(no_mangle)]
 pub extern "C" fn wulgach_has_one_buffer(entry: &Submission) -> bool
+    ensures one { result ≡ copies.has_one_buffer entry.now }
     ensures first { (before : Option Before) → result ≡ true
         → next_of entry.now 0 (pos 0) 0 before ≡ Copies (buffer_of entry.now) }
     ensures rest { (before : Option Before) → result ≡ true
@@ -131,4 +134,26 @@ pub extern "C" fn wulgach_room_fault(entry: &Submission, name: u32, control: u64
     ensures { result ≡ spec.room_fault entry.now name control }
 {
     room_fault(entry, name, control)
+}
+
+/// The fault of a vector of an entry, behind others that have the fault `before`, or 0.
+#[unsafe(no_mangle)]
+pub extern "C" fn wulgach_vector_fault(
+    entry: &Submission,
+    before: i32,
+    from: u64,
+    size: u64,
+    is_lone: bool,
+) -> i32
+    ensures { result ≡ buffers.vector_fault entry.now before from size is_lone }
+{
+    vector_fault(entry, before, from, size, is_lone)
+}
+
+/// How many bytes a transfer moves at most of this many and one more buffer.
+#[unsafe(no_mangle)]
+pub extern "C" fn wulgach_length_with(length: u64, size: u64) -> u64
+    ensures { result ≡ buffers.length_with length size }
+{
+    length_with(length, size)
 }

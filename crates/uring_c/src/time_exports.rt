@@ -9,7 +9,7 @@ ghost use Rattle.uring_enter.specs.Timeouts.{later, nanoseconds_of, running, out
 ghost use Rattle.uring_enter.specs.Timeouts.{posted, NoneIsOver, IsNext, IsReachedOf, AreApart, HasNone, IsRow, EndsNone, EndsWith};
 ghost use Rattle.uring_enter.specs.Kept.{KeepsTime};
 ghost use Rattle.uring_enter.specs.Waits.{deadline, IsWait, IsWoken, IsPassing};
-ghost use Rattle.uring_enter.specs.Clocks.{clock_of, lasts};
+ghost use Rattle.uring_enter.specs.Clocks.{clock_of, count_of, lasts};
 ghost use Rattle.uring_enter.specs.Sleeps.{lasts_at_most, comes_to};
 ghost use Rattle.uring_c.specs.TimeForm.{limit_of, word_of_clock, words_of_limit, words_of_wait, words_of_woken};
 
@@ -17,7 +17,7 @@ use crate::time_words::{
     LimitWords, WaitWords, WokenWords, clock_word, limit_words, wait_words, woken_words,
 };
 use uring_enter::{
-    Course, Start, Timeout, Times, WakeSources, clock_of, lasts, later, left_until, linked_outcome,
+    Course, Start, Submission, Timeout, Times, WakeSources, clock_of, count_of, lasts, later, left_until, linked_outcome,
     nanoseconds_of,
 };
 
@@ -51,6 +51,14 @@ pub extern "C" fn wulgach_timeout_clock(flags: u32) -> i32
     ensures { result ≡ word_of_clock (clock_of flags) }
 {
     clock_word(clock_of(flags))
+}
+
+/// How many completions the timeout of an entry counts, or 0.
+#[unsafe(no_mangle)]
+pub extern "C" fn wulgach_timeout_count(entry: &Submission) -> u64
+    ensures { result ≡ count_of entry.now }
+{
+    count_of(entry)
 }
 
 /// How long a timeout runs that has this time, whose clock says that it is `now`, if it has one.

@@ -1,5 +1,5 @@
--- What a request makes of the result of a system call, where that is more than the result; and how many bytes one transfer moves at most.
-use Rattle.std.specs.Prelude.{ℕ, ℤ, pos, Bool, ◌||◌, ◌==◌, nat_lt, if◌then◌else◌}
+-- What a request makes of the result of a system call, where that is more than the result.
+use Rattle.std.specs.Prelude.{ℕ, ℤ, pos, Bool, ◌||◌, ◌==◌, if◌then◌else◌}
 use Rattle.std.specs.Ordering.{int_eq}
 use Rattle.uring_entry.specs.Errors.{error}
 use Rattle.uring_enter.specs.NoOps.{signed}
@@ -15,7 +15,3 @@ placed_result asked slot = if asked == 4294967295 then signed slot else pos 0
 -- SOCK_STREAM (1) and SOCK_SEQPACKET (5): of these a receive that waits for all its bytes, with MSG_WAITALL, goes on behind a part. recv(2), and what Linux 6.18 does
 abbrev pub is_stream_type : ℕ → Bool
 is_stream_type kind = kind == 1 || kind == 5
-
--- Linux moves 0x7ffff000 bytes in one call at most, and a transfer of more that has moved so many is whole. read(2), NOTES
-abbrev pub moved_at_most : ℕ → ℕ
-moved_at_most length = if nat_lt length 2147479552 then length else 2147479552

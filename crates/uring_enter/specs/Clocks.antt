@@ -1,6 +1,7 @@
--- The time that a timeout gives. io_uring_enter(2), IORING_OP_TIMEOUT: IORING_TIMEOUT_ABS is 1, IORING_TIMEOUT_BOOTTIME 4, IORING_TIMEOUT_REALTIME 8 and IORING_TIMEOUT_ETIME_SUCCESS 32.
-use Rattle.std.specs.Prelude.{ℕ, ◌-◌, Bool, not, ◌&&◌, ◌==◌, Option, Some, None, if◌then◌else◌}
+-- The time and the count that a timeout gives. io_uring_enter(2), IORING_OP_TIMEOUT: IORING_TIMEOUT_ABS is 1, IORING_TIMEOUT_BOOTTIME 4, IORING_TIMEOUT_REALTIME 8 and IORING_TIMEOUT_ETIME_SUCCESS 32.
+use Rattle.std.specs.Prelude.{ℕ, ◌-◌, Bool, not, ◌==◌, Option, Some, None, if◌then◌else◌}
 use Rattle.std.specs.Int.RustNames.{bit_and}
+use Rattle.uring_enter.specs.declared.submission.Submission.{Submission}
 use Rattle.uring_enter.specs.declared.timeout.Clock.{Clock}
 use Rattle.uring_enter.specs.declared.timeout.Clock.TheVariants.{Monotonic, Boottime, Realtime}
 
@@ -19,6 +20,6 @@ abbrev pub lasts : ℕ → Option ℕ → ℕ
 lasts time None = time
 lasts time (Some now) = time - now
 
--- ABS, BOOTTIME, REALTIME and ETIME_SUCCESS are served, which is all but 4294967250 of 32 bits, and no two clocks at once
-abbrev pub are_timeout_flags : ℕ → Bool
-are_timeout_flags flags = bit_and flags 4294967250 == 0 && not (bit_and flags 12 == 12)
+-- how many completions it counts, which 32 bits of `off` say; 0: it has no count
+abbrev pub count_of : Submission → ℕ
+count_of e = bit_and e.off 4294967295

@@ -1,5 +1,5 @@
 -- What is copied next of what an entry points to, and which fault the whole of it has: the first of those of its pieces, in their order, and behind them all -22 (EINVAL) of a provided buffer for other than one vector, and of a linked timeout that stands where it may not. io_uring_enter(2), CQE ERRORS. The order is what the kernel does.
-use Rattle.std.specs.Prelude.{ℕ, ℤ, pos, ◌==◌, Option, Some, None, if◌then◌else◌}
+use Rattle.std.specs.Prelude.{ℕ, ℤ, pos, Bool, ◌||◌, ◌==◌, Option, Some, None, if◌then◌else◌}
 use Rattle.uring_enter.specs.declared.submission.Submission.{Submission}
 use Rattle.uring_enter.specs.declared.member.Entry.{Entry}
 use Rattle.uring_enter.specs.declared.piece.Piece.{Piece}
@@ -32,3 +32,7 @@ piece_or None fault = Ends fault
 abbrev pub next_of : Submission → ℕ → ℤ → ℕ → Option Entry → Copying
 next_of e copied fault vectors before =
     if is_below fault then Ends fault else piece_or (piece_of e copied) (last_fault e vectors before)
+
+-- READ_FIXED, WRITE_FIXED, READ and WRITE
+abbrev pub has_one_buffer : Submission → Bool
+has_one_buffer e = e.opcode == 4 || e.opcode == 5 || e.opcode == 22 || e.opcode == 23

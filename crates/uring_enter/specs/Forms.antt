@@ -1,189 +1,80 @@
--- What an entry is to the core, and which fault it has. io_uring_enter(2), DESCRIPTION and CQE ERRORS; which fields an operation leaves free is what the kernel does.
-use Rattle.std.specs.Prelude.{ℕ, ℤ, Bool, true, false, not, ◌&&◌, ◌||◌, ◌==◌, nat_lt, nat_le, pos, Option, Some, None, if◌then◌else◌}
+-- What an entry is to the core, and which fault it has. io_uring_enter(2), DESCRIPTION and CQE ERRORS; the order of the faults is what Linux 6.18 was seen to have.
+use Rattle.std.specs.Prelude.{ℕ, ℤ, Bool, true, false, not, ◌+◌, ◌^◌, ◌&&◌, ◌||◌, ◌==◌, nat_lt, nat_le, pos, Option, Some, None, if◌then◌else◌}
 use Rattle.std.specs.Ordering.{int_eq}
 use Rattle.std.specs.Int.RustNames.{bit_and}
 use Rattle.uring_enter.specs.declared.submission.Submission.{Submission}
-use Rattle.uring_enter.specs.declared.form.Rule.{Rule}
-use Rattle.uring_enter.specs.declared.form.Rule.TheVariants.{Plain, NoOp, Transfer, Vectors, Fsync, Advice, Timeout, LinkedTimeout, TimeoutRemoval, Cancel, Poll, PollRemoval, Open, OpenHow, Close, FilesUpdate, Provision, ProvisionRemoval, Message, Shutdown, Socket, Splice, Tee, Send, Receive, ReceiveMessage, SendZeroCopy, SendMessageZeroCopy, Connect, Accept}
+use Rattle.uring_enter.specs.declared.rule.Rule.{Rule}
+use Rattle.uring_enter.specs.declared.rule.Also.{Also}
+use Rattle.uring_enter.specs.declared.rule.Also.TheVariants.{Nothing, Transfer, Vectors, Sync, Poll, PollRemoval, Timeout, LinkedTimeout, TimeoutRemoval, Cancel, Open, OpenHow, Close, FilesUpdate, ProvisionRemoval, Socket, Accept, Send, SendMessage, Receive, ReceiveMessage, SendZeroCopy, SendMessageZeroCopy}
 use Rattle.uring_enter.specs.declared.form.Form.{Form}
 use Rattle.uring_enter.specs.declared.form.Form.TheVariants as form
-use Rattle.uring_enter.specs.Clocks.{has_some, are_timeout_flags}
-use Rattle.uring_enter.specs.SocketForms.{is_send, is_receive, is_receive_message, is_send_zero_copy, is_send_message_zero_copy, is_connect, is_accept}
-use Rattle.uring_enter.specs.NoOps.{is_no_op}
+use Rattle.uring_enter.specs.Rules.{rule_of, is_rule, priority, offset, address, length, own_flags, buffer, slot, third, padding}
+use Rattle.uring_enter.specs.Clocks.{has_some}
+use Rattle.uring_enter.specs.SocketForms.{is_send, is_send_message, is_receive, is_receive_message, is_send_zero_copy, is_send_message_zero_copy, is_socket, is_accept}
+use Rattle.uring_enter.specs.Buffers.{is_out_of_reach}
 use Rattle.uring_enter.specs.Provisions.{has_count, provision_fault}
 use Rattle.uring_entry.specs.Errors.{error, is_below}
 
--- the operations that are served, each with the rule of its fields; the numbers are those of <linux/io_uring.h>
-abbrev pub rule_of : ℕ → Option Rule
-rule_of code =
-    -- NOP
-    if code == 0 then Some NoOp else
-    -- READV and WRITEV
-    if code == 1 || code == 2 then Some Vectors else
-    -- FSYNC
-    if code == 3 then Some Fsync else
-    -- READ_FIXED, WRITE_FIXED, READ and WRITE
-    if code == 4 || code == 5 || code == 22 || code == 23 then Some Transfer else
-    -- POLL_ADD and POLL_REMOVE
-    if code == 6 then Some Poll else
-    if code == 7 then Some PollRemoval else
-    -- SENDMSG and SEND, RECVMSG, ACCEPT, CONNECT, RECV, SEND_ZC and SENDMSG_ZC
-    if code == 9 || code == 26 then Some Send else
-    if code == 10 then Some ReceiveMessage else
-    if code == 13 then Some Accept else
-    if code == 16 then Some Connect else
-    if code == 27 then Some Receive else
-    if code == 47 then Some SendZeroCopy else
-    if code == 48 then Some SendMessageZeroCopy else
-    -- TIMEOUT, TIMEOUT_REMOVE, ASYNC_CANCEL and LINK_TIMEOUT
-    if code == 11 then Some Timeout else
-    if code == 12 then Some TimeoutRemoval else
-    if code == 14 then Some Cancel else
-    if code == 15 then Some LinkedTimeout else
-    -- OPENAT, CLOSE, FILES_UPDATE and OPENAT2
-    if code == 18 then Some Open else
-    if code == 19 then Some Close else
-    if code == 20 then Some FilesUpdate else
-    -- FADVISE and MADVISE
-    if code == 24 || code == 25 then Some Advice else
-    if code == 28 then Some OpenHow else
-    -- SPLICE, PROVIDE_BUFFERS, REMOVE_BUFFERS, TEE and SHUTDOWN
-    if code == 30 then Some Splice else
-    if code == 31 then Some Provision else
-    if code == 32 then Some ProvisionRemoval else
-    if code == 33 then Some Tee else
-    if code == 34 then Some Shutdown else
-    -- MSG_RING and SOCKET
-    if code == 40 then Some Message else
-    if code == 45 then Some Socket else
-    -- URING_CMD isn't served; all others up to SENDMSG_ZC are
-    if code == 46 then None else
-    if nat_le code 48 then Some Plain else None
+abbrev pub bit_of : ℕ → ℕ → ℕ
+bit_of bit field = if field == 0 then 0 else bit
 
--- it has no priority and names no registered buffer
-abbrev pub has_no_buffer : Submission → Bool
-has_no_buffer e = e.ioprio == 0 && e.buf_index == 0
+-- the fields that an entry gives: those that aren't 0
+abbrev pub given : Submission → ℕ
+given e =
+    bit_of priority e.ioprio + bit_of offset e.off + bit_of address e.addr + bit_of length e.len + bit_of own_flags e.op_flags
+    + bit_of buffer e.buf_index + bit_of slot e.file_index + bit_of third e.addr3 + bit_of padding e.pad
 
--- one time, and flags that are served
+-- a class of priority is at most 3, in the three highest bits, and without one there is no level, in the three lowest
+abbrev pub is_priority : ℕ → Bool
+is_priority ioprio = nat_lt ioprio 32768 && (nat_le 8192 ioprio || not (has_some ioprio 7))
+
+-- one time, and one clock at most
 abbrev pub is_timeout : Submission → Bool
-is_timeout e =
-    has_no_buffer e && e.len == 1 && e.file_index == 0 && are_timeout_flags e.op_flags
+is_timeout e = e.len == 1 && not (bit_and e.op_flags 12 == 12)
 
--- a removal has no flags; an update (2, of a linked one 16) may say that its time is absolute (1), and names no clock: that of the timeout stays. What Linux 6.18 was seen to do
+-- a removal has no flags; an update (2, of a linked one 16) may say that its time is absolute (1), and names no clock: that of the timeout stays. It is of no file (1)
 abbrev pub is_timeout_removal : Submission → Bool
-is_timeout_removal e =
-    has_no_buffer e && e.len == 0 && e.file_index == 0
-    && (if has_some e.op_flags 18 then bit_and e.op_flags 4294967276 == 0 else e.op_flags == 0)
-
--- IORING_ASYNC_CANCEL_ALL is 1, FD 2, ANY 4 and FD_FIXED 8; by a descriptor or any, and not both
-abbrev pub is_cancel : Submission → Bool
-is_cancel e =
-    e.ioprio == 0 && e.off == 0 && e.len == 0 && e.file_index == 0
-    && bit_and e.op_flags 4294967280 == 0 && not (bit_and e.op_flags 6 == 6)
+is_timeout_removal e = not (has_some e.flags 1) && (has_some e.op_flags 18 || e.op_flags == 0)
 
 -- IORING_POLL_ADD_MULTI is 1; one that goes on may not skip its success (64)
 abbrev pub is_poll : Submission → Bool
-is_poll e =
-    has_no_buffer e && e.off == 0 && e.addr == 0
-    && nat_le e.len 1 && not (e.len == 1 && has_some e.flags 64)
+is_poll e = nat_le e.len 1 && not (e.len == 1 && has_some e.flags 64)
 
 -- IORING_POLL_UPDATE_EVENTS is 2 and UPDATE_USER_DATA 4: what isn't updated isn't given
 abbrev pub is_poll_removal : Submission → Bool
 is_poll_removal e =
-    has_no_buffer e && e.file_index == 0 && (nat_le e.len 7 && not (e.len == 1))
+    nat_le e.len 7 && not (e.len == 1)
     && (has_some e.len 4 || e.off == 0) && (has_some e.len 2 || e.op_flags == 0)
 
-abbrev pub is_bare_provision : Submission → Bool
-is_bare_provision e = e.ioprio == 0 && e.op_flags == 0 && e.file_index == 0
-
--- a removal of buffers says how many, and no more
-abbrev pub is_provision_removal : Submission → Bool
-is_provision_removal e =
-    is_bare_provision e && e.addr == 0 && e.len == 0 && e.off == 0 && has_count e.fd
-
--- the four flags of splice(2), and SPLICE_F_FD_IN_FIXED (2^31)
-abbrev pub is_splice : Submission → Bool
-is_splice e = bit_and e.op_flags 2147483632 == 0
-
--- a tee has no offsets
-abbrev pub is_tee : Submission → Bool
-is_tee e = is_splice e && e.addr == 0 && e.off == 0
-
-abbrev pub is_fsync : Submission → Bool
-is_fsync e = e.addr == 0 && e.ioprio == 0 && bit_and e.op_flags 4294967294 == 0
-
--- a direct descriptor isn't closed by exec: O_CLOEXEC is 2^19
-abbrev pub is_open : Submission → Bool
-is_open e = has_no_buffer e && not (not (e.file_index == 0) && has_some e.op_flags 524288)
-
--- of an open by a structure that has at least the fields of the first kernel which had it (OPEN_HOW_SIZE_VER0 is 24)
-abbrev pub is_open_how : Submission → Bool
-is_open_how e = has_no_buffer e && nat_le 24 e.len
-
--- a close is of a descriptor or of a slot
-abbrev pub is_close : Submission → Bool
-is_close e =
-    has_no_buffer e && e.off == 0 && e.addr == 0 && e.len == 0 && e.op_flags == 0
-    && not (not (e.file_index == 0) && not (int_eq e.fd (pos 0)))
-
-abbrev pub is_files_update : Submission → Bool
-is_files_update e =
-    e.ioprio == 0 && e.op_flags == 0 && e.file_index == 0 && not (e.len == 0) && not (has_some e.flags 1)
-
--- IORING_MSG_RING_CQE_SKIP is 1 and IORING_MSG_RING_FLAGS_PASS 2
-abbrev pub is_message : Submission → Bool
-is_message e = has_no_buffer e && bit_and e.op_flags 4294967292 == 0
-
-abbrev pub is_shutdown : Submission → Bool
-is_shutdown e =
-    has_no_buffer e && e.off == 0 && e.addr == 0 && e.op_flags == 0 && e.file_index == 0
-
--- SOCK_CLOEXEC is 2^19
-abbrev pub is_socket : Submission → Bool
-is_socket e =
-    has_no_buffer e && e.addr == 0 && e.op_flags == 0
-    && not (not (e.file_index == 0) && has_some e.off 524288)
-
--- whether the fields of an entry are what its operation may have. A class of priority is at most 3, in the three highest bits
-abbrev pub meets : Rule → Submission → Bool
-meets Plain e = e.ioprio == 0
-meets NoOp e = is_no_op e
-meets Transfer e = nat_lt e.ioprio 32768
-meets Vectors e = nat_lt e.ioprio 32768 && nat_le e.len 1024
-meets Fsync e = is_fsync e
-meets Advice e = has_no_buffer e && e.file_index == 0
-meets Timeout e = is_timeout e
-meets LinkedTimeout e = is_timeout e && e.off == 0
-meets TimeoutRemoval e = is_timeout_removal e
-meets Cancel e = is_cancel e
+-- whether an entry is what else its operation asks for. IORING_ASYNC_CANCEL_FD (2) and ANY (4) exclude each other; O_CLOEXEC is 2^19, and what a slot has isn't closed by exec; OPEN_HOW_SIZE_VER0 is 24; a close is of a descriptor or of a slot
+abbrev pub meets : Also → Submission → Bool
+meets Nothing e = true
+meets Transfer e = is_priority e.ioprio
+meets Vectors e = is_priority e.ioprio && nat_le e.len 1024
+meets Sync e = nat_lt e.off (2 ^ 63)
 meets Poll e = is_poll e
 meets PollRemoval e = is_poll_removal e
-meets Open e = is_open e
-meets OpenHow e = is_open_how e
-meets Close e = is_close e
-meets FilesUpdate e = is_files_update e
-meets Provision e = is_bare_provision e
-meets ProvisionRemoval e = is_provision_removal e
-meets Message e = is_message e
-meets Shutdown e = is_shutdown e
+meets Timeout e = is_timeout e
+meets LinkedTimeout e = is_timeout e && bit_and e.off 4294967295 == 0
+meets TimeoutRemoval e = is_timeout_removal e
+meets Cancel e = not (bit_and e.op_flags 6 == 6)
+meets Open e = e.file_index == 0 || not (has_some e.op_flags 524288)
+meets OpenHow e = nat_le 24 e.len
+meets Close e = e.file_index == 0 || int_eq e.fd (pos 0)
+meets FilesUpdate e = not (e.len == 0) && not (has_some e.flags 1)
+meets ProvisionRemoval e = has_count e.fd
 meets Socket e = is_socket e
-meets Splice e = is_splice e
-meets Tee e = is_tee e
+meets Accept e = is_accept e
 meets Send e = is_send e
+meets SendMessage e = is_send_message e
 meets Receive e = is_receive e
 meets ReceiveMessage e = is_receive_message e
 meets SendZeroCopy e = is_send_zero_copy e
 meets SendMessageZeroCopy e = is_send_message_zero_copy e
-meets Connect e = is_connect e
-meets Accept e = is_accept e
 
 -- READV, RECVMSG, READ and RECV may take a provided buffer. IOSQE_BUFFER_SELECT
 abbrev pub can_select : ℕ → Bool
 can_select code = code == 1 || code == 10 || code == 22 || code == 27
-
-abbrev pub is_rule : Option Rule → Bool
-is_rule (Some _) = true
-is_rule None = false
 
 -- there is no such operation, or no such flag (128)
 abbrev pub is_unknown : Submission → Bool
@@ -199,19 +90,48 @@ first_fault e =
     if is_unknown e then error 22 else
     if selects_in_vain e then error 95 else pos 0
 
-abbrev pub breaks : Option Rule → Submission → Bool
-breaks (Some rule) e = not (meets rule e)
-breaks None e = true
+-- it gives none of the fields that must be 0
+abbrev pub is_bare : Option Rule → Submission → Bool
+is_bare (Some rule) e = bit_and rule.barred (given e) == 0
+is_bare None e = false
 
--- a personality, an operation that isn't served, or fields that it may not have
-abbrev pub is_malformed : Submission → Bool
-is_malformed e = not (e.personality == 0) || breaks (rule_of e.opcode) e
+-- its operation knows its flags, and has what else it asks for
+abbrev pub is_right : Option Rule → Submission → Bool
+is_right (Some rule) e = bit_and rule.flags e.op_flags == e.op_flags && meets rule.also e
+is_right None e = false
 
--- the fault of an entry's fields, or 0: -22 (EINVAL), and of PROVIDE_BUFFERS (31) others
+-- an operation of a path, or a close: OPENAT, CLOSE, STATX, OPENAT2, RENAMEAT, UNLINKAT, MKDIRAT, SYMLINKAT, LINKAT, SETXATTR and GETXATTR
+abbrev pub has_no_file : ℕ → Bool
+has_no_file code =
+    code == 18 || code == 19 || code == 21 || code == 28 || nat_le 35 code && nat_le code 39 || code == 42 || code == 44
+
+-- a personality, or fields that must be 0
+abbrev pub gives_what_is_barred : Submission → Bool
+gives_what_is_barred e = not (e.personality == 0) || not (is_bare (rule_of e.opcode) e)
+
+-- a slot (IOSQE_FIXED_FILE, 1), where no file is looked for
+abbrev pub names_slot_in_vain : Submission → Bool
+names_slot_in_vain e = has_some e.flags 1 && has_no_file e.opcode
+
+-- READ, WRITE, SEND, RECV and SEND_ZC (47): of these the kernel looks at the buffer's address beforehand, but where a provided (32) or a registered one (IORING_RECVSEND_FIXED_BUF, 4) takes its place
+abbrev pub names_buffer : Submission → Bool
+names_buffer e =
+    (e.opcode == 22 || e.opcode == 23 || e.opcode == 26 || e.opcode == 27 || e.opcode == 47 && not (has_some e.ioprio 4))
+    && not (has_some e.flags 32)
+
+-- the fault of what an entry names, or 0: of buffers that it provides (31), and -14 (EFAULT) of its own where no program can have it
+abbrev pub fault_of_buffers : Submission → ℤ
+fault_of_buffers e =
+    if e.opcode == 31 then provision_fault e else
+    if names_buffer e && is_out_of_reach e.addr e.len then error 14 else pos 0
+
+-- the fault of an entry's fields, or 0: -22 (EINVAL) of what is barred, -9 (EBADF) of a slot in vain, -22 of what else its operation asks for, and then that of buffers
 abbrev pub field_fault : Submission → ℤ
 field_fault e =
-    if is_malformed e then error 22 else
-    if e.opcode == 31 then provision_fault e else pos 0
+    if gives_what_is_barred e then error 22 else
+    if names_slot_in_vain e then error 9 else
+    if not (is_right (rule_of e.opcode) e) then error 22 else
+    fault_of_buffers e
 
 -- the first fault that an entry has, or 0: what a strict ring says, that of its operation and flags, -13 (EACCES) of a restriction, and that of its fields. This order is what Linux 6.18 was seen to have; that one which refuses an operation goes before is our own rule
 abbrev pub fault_of : Submission → ℤ → Bool → ℤ

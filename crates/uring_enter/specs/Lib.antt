@@ -21,7 +21,9 @@ pub mod ChainLaws
 pub mod Clocks
 pub mod SocketForms
 pub mod NoOps
+pub mod Buffers
 pub mod Provisions
+pub mod Rules
 pub mod Forms
 pub mod Pieces
 pub mod Needs

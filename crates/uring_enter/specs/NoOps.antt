@@ -1,12 +1,7 @@
--- What the flags of a no-op do. <linux/io_uring.h>: IORING_NOP_INJECT_RESULT is 1, FILE 2, FIXED_FILE 4, FIXED_BUFFER 8 and TW 16; what Linux 6.18 was seen to do. CQE32 (32) isn't served: -22 is what a ring with small completions says.
+-- What the flags of a no-op do. <linux/io_uring.h>: IORING_NOP_INJECT_RESULT is 1, FILE 2, FIXED_FILE 4, FIXED_BUFFER 8 and TW 16, which changes nothing that is seen; what Linux 6.18 was seen to do. CQE32 (32) isn't served: -22 is what a ring with small completions says.
 use Rattle.std.specs.Prelude.{ℕ, ℤ, pos, negsuc, ◌-◌, ◌^◌, Bool, ◌&&◌, ◌==◌, nat_lt, if◌then◌else◌}
-use Rattle.std.specs.Int.RustNames.{bit_and}
 use Rattle.uring_enter.specs.declared.submission.Submission.{Submission}
 use Rattle.uring_enter.specs.Clocks.{has_some}
-
--- no priority, and flags that are served, which is all but 4294967264 of 32 bits. TW changes nothing that is seen
-abbrev pub is_no_op : Submission → Bool
-is_no_op e = e.ioprio == 0 && bit_and e.op_flags 4294967264 == 0
 
 -- it ends with -9 (EBADF) unless its descriptor is open, or its slot has a file
 abbrev pub wants_file : Submission → Bool

@@ -26,7 +26,7 @@ value_of e = unless (e.len == 0) Value e.off e.len
 abbrev pub address_of : Submission → Option Piece
 address_of e = unless (e.off == 0) Address e.off (bit_and e.file_index 65535)
 
--- what is copied first; of one buffer nothing is. A vector has 16 bytes, a message 56, a time 16 and an event of an epoll instance 12; how long an address is a connect says in `off`
+-- what is copied first; of one buffer nothing is. A vector has 16 bytes, a message 56, a time 16 and an event of an epoll instance 12; how long an address is a connect says in 32 bits of `off`
 abbrev pub first_of : Submission → Option Piece
 first_of e =
     -- READV and WRITEV
@@ -39,13 +39,11 @@ first_of e =
     if e.opcode == 11 || e.opcode == 15 then stands Time e.addr 16 else
     if e.opcode == 12 then unless (e.op_flags == 0) Time e.off 16 else
     -- CONNECT
-    if e.opcode == 16 then stands Address e.addr e.off else
+    if e.opcode == 16 then stands Address e.addr (bit_and e.off 4294967295) else
     -- OPENAT2, whose structure says its size
     if e.opcode == 28 then stands How e.off e.len else
-    -- OPENAT, RENAMEAT, UNLINKAT, MKDIRAT, SYMLINKAT and LINKAT
-    if e.opcode == 18 || nat_le 35 e.opcode && nat_le e.opcode 39 then stands Path e.addr 0 else
-    -- STATX, which with AT_EMPTY_PATH may have none
-    if e.opcode == 21 then unless (e.addr == 0) Path e.addr 0 else
+    -- OPENAT, STATX, RENAMEAT, UNLINKAT, MKDIRAT, SYMLINKAT and LINKAT
+    if e.opcode == 18 || e.opcode == 21 || nat_le 35 e.opcode && nat_le e.opcode 39 then stands Path e.addr 0 else
     -- EPOLL_CTL, but for EPOLL_CTL_DEL
     if e.opcode == 29 then unless (e.len == 2) Value e.addr 12 else
     -- FSETXATTR, SETXATTR, FGETXATTR and GETXATTR: the attribute's name

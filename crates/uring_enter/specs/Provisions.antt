@@ -1,6 +1,7 @@
 -- The faults of an entry that provides buffers, in the order in which Linux 6.18 was seen to find them. io_uring_enter(2), IORING_OP_PROVIDE_BUFFERS.
-use Rattle.std.specs.Prelude.{ℕ, ℤ, pos, negsuc, ◌+◌, ◌*◌, ◌-◌, ◌^◌, Bool, not, ◌&&◌, ◌==◌, nat_lt, nat_le, if◌then◌else◌}
+use Rattle.std.specs.Prelude.{ℕ, ℤ, pos, negsuc, ◌+◌, ◌*◌, ◌^◌, Bool, not, ◌&&◌, ◌==◌, nat_lt, nat_le, if◌then◌else◌}
 use Rattle.uring_enter.specs.declared.submission.Submission.{Submission}
+use Rattle.uring_enter.specs.Buffers.{no_address}
 use Rattle.uring_entry.specs.Errors.{error}
 
 -- how many buffers, or 0 of a number below 0
@@ -15,10 +16,6 @@ has_count fd = nat_lt 0 (count_of fd) && nat_le (count_of fd) 65536
 -- where the last of them ends
 abbrev pub end_of : Submission → ℕ
 end_of e = e.addr + count_of e.fd * e.len
-
--- behind the last address that a program of 64 bits may have on x86-64
-abbrev pub no_address : ℕ
-no_address = 2 ^ 47 - 4096
 
 -- -7 (E2BIG) of a first number past 16 bits, and -22 (EINVAL) of a last one that is, or 0
 abbrev pub number_fault : ℕ → ℕ → ℤ

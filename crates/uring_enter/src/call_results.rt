@@ -1,4 +1,4 @@
-//! What a request makes of the result of a system call, where that is more than the result: a connect that has begun, a file that was put into a slot, a socket that was asked what it is; and how many bytes one transfer moves at most.
+//! What a request makes of the result of a system call, where that is more than the result: a connect that has begun, a file that was put into a slot, a socket that was asked what it is.
 
 ghost use Rattle.std.specs.Prelude.{◌≡◌};
 ghost use Rattle.uring_enter.specs.CallResults as spec;
@@ -28,15 +28,4 @@ pub fn is_stream_type(kind: u32) -> bool
     ensures { result ≡ spec.is_stream_type kind }
 {
     kind == 1 || kind == 5
-}
-
-/// How many bytes of so many one transfer moves at most.
-pub fn moved_at_most(length: u64) -> u64
-    ensures { result ≡ spec.moved_at_most length }
-{
-    if length < 0x7fff_f000 {
-        length
-    } else {
-        0x7fff_f000
-    }
 }

@@ -41,6 +41,7 @@ pub fn next_piece(
 
 /// Whether an entry is one of READ, WRITE, READ_FIXED and WRITE_FIXED: of these one buffer is told, wherever they stand, and then that nothing has a fault.
 pub fn has_one_buffer(entry: &Submission) -> bool
+    ensures one { result ≡ spec.has_one_buffer entry.now }
     ensures first { (before : Option Before) → result ≡ true
         → spec.next_of entry.now 0 (pos 0) 0 before ≡ Copies (buffer_of entry.now) }
     ensures rest { (before : Option Before) → result ≡ true

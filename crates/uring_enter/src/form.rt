@@ -3,86 +3,11 @@
 ghost use Rattle.std.specs.Prelude.{◌≡◌};
 ghost use Rattle.uring_enter.specs.Forms as spec;
 
-use crate::fields::meets;
+use crate::buffer::is_out_of_reach;
+use crate::fields::{is_bare, is_right};
 use crate::provision::provision_fault;
+use crate::rule::rule_of;
 use crate::submission::Submission;
-
-/// What the fields of an operation may be.
-#[derive(Clone, Copy)]
-pub enum Rule {
-    /// No priority.
-    Plain,
-
-    /// A no-op: flags that it may have.
-    NoOp,
-
-    /// A transfer of one buffer: a class of priority that there is.
-    Transfer,
-
-    /// A transfer of vectors: the same, and 1,024 of them at most.
-    Vectors,
-
-    Fsync,
-
-    /// Advice on a file or on memory.
-    Advice,
-
-    /// A timeout, or one that is linked.
-    Timeout,
-
-    LinkedTimeout,
-
-    /// What removes or updates a timeout.
-    TimeoutRemoval,
-
-    Cancel,
-
-    Poll,
-
-    /// What removes or updates a poll.
-    PollRemoval,
-
-    Open,
-
-    /// An open by a structure.
-    OpenHow,
-
-    Close,
-
-    FilesUpdate,
-
-    /// Buffers that are provided.
-    Provision,
-
-    /// Provided buffers that are removed.
-    ProvisionRemoval,
-
-    Message,
-
-    Shutdown,
-
-    Socket,
-
-    Splice,
-
-    Tee,
-
-    /// A send, of one buffer or by a message.
-    Send,
-
-    Receive,
-
-    ReceiveMessage,
-
-    /// A send without copies.
-    SendZeroCopy,
-
-    SendMessageZeroCopy,
-
-    Connect,
-
-    Accept,
-}
 
 /// What an entry is to the core.
 #[derive(Clone, Copy)]
@@ -95,46 +20,6 @@ pub enum Form {
 
     /// An entry with a fault, which ends with this error.
     Refused(i32),
-}
-
-/// The rule of an operation. `None`: it isn't served.
-pub fn rule_of(code: u8) -> Option<Rule>
-    ensures { result ≡ spec.rule_of code }
-{
-    match code {
-        0 => Some(Rule::NoOp),
-        1 | 2 => Some(Rule::Vectors),
-        3 => Some(Rule::Fsync),
-        4 | 5 | 22 | 23 => Some(Rule::Transfer),
-        6 => Some(Rule::Poll),
-        7 => Some(Rule::PollRemoval),
-        9 | 26 => Some(Rule::Send),
-        10 => Some(Rule::ReceiveMessage),
-        11 => Some(Rule::Timeout),
-        12 => Some(Rule::TimeoutRemoval),
-        13 => Some(Rule::Accept),
-        14 => Some(Rule::Cancel),
-        15 => Some(Rule::LinkedTimeout),
-        16 => Some(Rule::Connect),
-        18 => Some(Rule::Open),
-        19 => Some(Rule::Close),
-        20 => Some(Rule::FilesUpdate),
-        24 | 25 => Some(Rule::Advice),
-        27 => Some(Rule::Receive),
-        28 => Some(Rule::OpenHow),
-        30 => Some(Rule::Splice),
-        31 => Some(Rule::Provision),
-        32 => Some(Rule::ProvisionRemoval),
-        33 => Some(Rule::Tee),
-        34 => Some(Rule::Shutdown),
-        40 => Some(Rule::Message),
-        45 => Some(Rule::Socket),
-        46 => None,
-        47 => Some(Rule::SendZeroCopy),
-        48 => Some(Rule::SendMessageZeroCopy),
-        0..=48 => Some(Rule::Plain),
-        _ => None,
-    }
 }
 
 /// Whether the entry of an operation that is served may ask for a provided buffer.
@@ -178,29 +63,64 @@ fn is_plain_cancel(entry: &Submission) -> bool
     entry.opcode == 14 && entry.op_flags == 0 && entry.flags & 76 == 0
 }
 
-/// Whether its fields have a fault.
-fn is_malformed(entry: &Submission) -> bool
-    ensures { result ≡ spec.is_malformed entry.now }
+/// An operation of a path, or a close.
+fn has_no_file(code: u8) -> bool
+    ensures { result ≡ spec.has_no_file code }
 {
-    if entry.personality != 0 {
-        return true;
+    matches!(code, 18 | 19 | 21 | 28 | 35..=39 | 42 | 44)
+}
+
+/// Whether it has a buffer of its own, at which the kernel looks beforehand.
+fn names_buffer(entry: &Submission) -> bool
+    ensures { result ≡ spec.names_buffer entry.now }
+{
+    let is_own = match entry.opcode {
+        22 | 23 | 26 | 27 => true,
+        47 => entry.ioprio & 4 == 0,
+        _ => false,
+    };
+    is_own && entry.flags & 32 == 0
+}
+
+/// The fault of what an entry names, or 0: buffers that it provides, or its own.
+fn fault_of_buffers(entry: &Submission) -> i32
+    ensures { result ≡ spec.fault_of_buffers entry.now }
+{
+    if entry.opcode == 31 {
+        provision_fault(entry)
+    } else if names_buffer(entry) && is_out_of_reach(entry.addr, entry.len as u64) {
+        -14
+    } else {
+        0
     }
-    match rule_of(entry.opcode) {
-        Some(rule) => !meets(rule, entry),
-        None => true,
-    }
+}
+
+/// A personality, or fields that must be 0.
+fn gives_what_is_barred(entry: &Submission) -> bool
+    ensures { result ≡ spec.gives_what_is_barred entry.now }
+{
+    entry.personality != 0 || !is_bare(entry)
+}
+
+/// A slot, where no file is looked for.
+fn names_slot_in_vain(entry: &Submission) -> bool
+    ensures { result ≡ spec.names_slot_in_vain entry.now }
+{
+    entry.flags & 1 != 0 && has_no_file(entry.opcode)
 }
 
 /// The fault of an entry's fields, or 0.
 fn field_fault(entry: &Submission) -> i32
     ensures { result ≡ spec.field_fault entry.now }
 {
-    if is_malformed(entry) {
+    if gives_what_is_barred(entry) {
         -22
-    } else if entry.opcode == 31 {
-        provision_fault(entry)
+    } else if names_slot_in_vain(entry) {
+        -9
+    } else if !is_right(entry) {
+        -22
     } else {
-        0
+        fault_of_buffers(entry)
     }
 }
 

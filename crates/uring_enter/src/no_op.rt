@@ -5,13 +5,6 @@ ghost use Rattle.uring_enter.specs.NoOps as spec;
 
 use crate::submission::Submission;
 
-/// Whether the fields of a no-op are what they may be.
-pub(crate) fn is_no_op(entry: &Submission) -> bool
-    ensures { result ≡ spec.is_no_op entry.now }
-{
-    entry.ioprio == 0 && entry.op_flags & !31 == 0
-}
-
 /// Whether an entry is that of a no-op which looks for its file.
 pub(crate) fn wants_file(entry: &Submission) -> bool
     ensures { result ≡ spec.wants_file entry.now }

@@ -3,10 +3,8 @@
 ghost use Rattle.std.specs.Prelude.{◌≡◌, ◌<◌};
 ghost use Rattle.uring_enter.specs.Provisions as spec;
 
+use crate::buffer::NO_ADDRESS;
 use crate::submission::Submission;
-
-/// Behind the last address that a program of 64 bits may have on x86-64.
-const NO_ADDRESS: u64 = 0x7fff_ffff_f000;
 
 /// How many buffers a number says, or 0.
 fn count_of(fd: i32) -> u32

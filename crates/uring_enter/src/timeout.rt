@@ -2,7 +2,9 @@
 
 ghost use Rattle.std.specs.Prelude.{◌≡◌, ◌-◌};
 ghost use Rattle.uring_enter.specs.Timeouts.{later, nanoseconds_of, ends_before, is_reached_by, with_expiry, cancelled_by, fires, linked_outcome};
-ghost use Rattle.uring_enter.specs.Clocks.{clock_of, lasts, are_timeout_flags};
+ghost use Rattle.uring_enter.specs.Clocks.{clock_of, count_of, lasts};
+
+use crate::submission::Submission;
 
 /// A timeout that starts. io_uring_enter(2), IORING_OP_TIMEOUT and IORING_OP_LINK_TIMEOUT.
 #[repr(C)]
@@ -155,9 +157,9 @@ pub fn lasts(time: u64, now: Option<u64>) -> u64
     }
 }
 
-/// Whether these flags of a timeout are served: ABS, BOOTTIME or REALTIME, and ETIME_SUCCESS.
-pub fn are_timeout_flags(flags: u32) -> bool
-    ensures { result ≡ are_timeout_flags flags }
+/// How many completions the timeout of an entry counts, or 0.
+pub fn count_of(entry: &Submission) -> u64
+    ensures { result ≡ count_of entry.now }
 {
-    flags & !0x2d == 0 && flags & 0xc != 0xc
+    entry.off & 0xffff_ffff
 }
