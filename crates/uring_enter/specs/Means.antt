@@ -1,5 +1,5 @@
 -- By what the operation of an entry is carried out: which system call, and with which arguments; or what whoever keeps the ring does itself. io_uring_enter(2), at each operation, which names the call of section 2 that it is like: its fields are that call's arguments. The numbers of operations are those of <linux/io_uring.h>.
-use Rattle.std.specs.Prelude.{ℕ, ◌-◌, Bool, ◌&&◌, ◌||◌, ◌==◌, nat_le, if◌then◌else◌}
+use Rattle.std.specs.Prelude.{ℕ, ◌-◌, Bool, not, ◌&&◌, ◌||◌, ◌==◌, nat_le, if◌then◌else◌}
 use Rattle.std.specs.Int.RustNames.{bit_and, bit_or}
 use Rattle.uring_enter.specs.declared.submission.Submission.{Submission}
 use Rattle.uring_enter.specs.declared.system_call.SystemCall.{SystemCall}
