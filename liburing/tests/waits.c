@@ -333,6 +333,35 @@ static void test_updated_polls(void)
     close_ring(&ring);
 }
 
+/* A poll that is changed to what is there ends beside one that waits: in order, in the same call. */
+static void test_poll_of_what_is_there(void)
+{
+    struct ring ring;
+    int ends[2];
+    const char *policy = getenv("WULGACH_POLICY");
+    bool is_in_order = !policy || strcmp(policy, "order") == 0, is_told = false;
+    check(pipe(ends) == 0);
+    make_ring(&ring, 8, 0, 0);
+    put_poll(&ring, 1, ends[1], 0);
+    put_poll(&ring, 2, ends[0], 0);
+    check(enter(&ring, 2, 0, 0) == 2);
+    check(enter_for(&ring, 1, 1000) == -ETIME);
+    struct io_uring_sqe *change = put(&ring, IORING_OP_POLL_REMOVE, 3, 0);
+    change->addr = 1;
+    change->len = IORING_POLL_UPDATE_EVENTS;
+    change->poll32_events = POLLOUT;
+    check(enter(&ring, 1, 0, 0) == 1);
+    check(!is_in_order || count_ready(&ring) == 2);
+    for (int i = 0; i < 2; i++) {
+        struct seen found = next_of(&ring);
+        is_told |= found.user_data == 1 && found.res == POLLOUT;
+    }
+    check(is_told && enter_for(&ring, 1, 1000) == -ETIME);
+    close(ends[0]);
+    close(ends[1]);
+    close_ring(&ring);
+}
+
 /* An update keeps the clock of a timeout, and names none: a time that is over by that clock ends it before another. */
 static void test_updated_clock(void)
 {
@@ -552,6 +581,7 @@ int main(int count, char **words)
         {"count of removed", test_count_of_removed},
         {"polls", test_polls},
         {"updated polls", test_updated_polls},
+        {"poll of what is there", test_poll_of_what_is_there},
         {"updated clock", test_updated_clock},
         {"awaited", test_awaited},
         {"come and gone", test_come_and_gone},
