@@ -134,12 +134,12 @@ static int32_t transfer(struct model *model, const struct request *request, uint
 {
     const struct action *action = request->action;
     uint8_t bytes[MOST_VECTORS * 256];
-    if (is_selecting(action) && model->queue_length == 0)
-        return -ENOBUFS;
     if (is_no_file(model, action))
         return -EBADF;
     if (is_of_sockets(action) && !is_stream(model, request))
         return -ENOTSOCK;
+    if (is_selecting(action) && model->queue_length == 0)
+        return -ENOBUFS;
     if (action->is_impatient && model->things->read == model->things->written && !model->things->is_fed_out)
         return length == 0 ? 0 : -EAGAIN;
     uint32_t moved = is_read(action) ? read_bytes(model, action, length, bytes) : length;
