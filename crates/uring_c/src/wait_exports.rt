@@ -14,8 +14,8 @@ use crate::wait_words::{
 };
 use uring_enter::{
     Call, Course, Known, Moment, Nature, Needs, Patience, Standing, Submission, Transfer, Trial,
-    asks_instance, is_impatient, needs_of, next_finding, next_look, next_step, next_turn, no_buffer_fault,
-    poll_result, start_fault, unpolled_result,
+    asks_instance, is_impatient, needs_of, next_finding, next_look, next_step, next_turn,
+    no_buffer_fault, poll_result, start_fault, unpolled_result,
 };
 
 /// Writes what the operation of an entry needs.
