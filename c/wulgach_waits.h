@@ -92,11 +92,12 @@ struct wulgach_nature {
     bool has_offsets;           /* it can be read or written at an offset */
     bool can_read;              /* it is open for reading, */
     bool can_write;             /* for writing */
+    bool is_counter;            /* it gives and takes 8 bytes at once: an eventfd, or a timerfd */
 };
 
 /* What is known of a descriptor: what was asked is so, and the rest counts for nothing. */
 struct wulgach_known {
-    bool status;                /* it was asked what it is: the first four, */
+    bool status;                /* it was asked what it is: the first four and the last, */
     bool offsets;               /* whether it has offsets, */
     bool access;                /* for what it is open */
     struct wulgach_nature nature;
@@ -131,6 +132,10 @@ uint32_t wulgach_find_kind(const struct wulgach_submission *entry, const struct 
  * open, -88 (ENOTSOCK) of an operation of sockets if it is no socket; else -105 (ENOBUFS) of a provided buffer and -14 (EFAULT) of a registered
  * one. */
 int32_t wulgach_no_buffer_fault(const struct wulgach_submission *entry, const struct wulgach_nature *nature);
+
+/* With what the transfer of an entry, of so many bytes, fails as it starts, where its descriptor is this: -22 (EINVAL) of fewer than 8 bytes of
+ * what counts; or 0. */
+int32_t wulgach_start_fault(const struct wulgach_submission *entry, uint64_t length, const struct wulgach_nature *nature);
 
 /* ---- whether it can be finished ---- */
 

@@ -77,6 +77,8 @@ static void look_at_descriptors(void)
     struct wulgach_known nothing = {0}, status = {.status = true, .nature = pipe}, offsets = {.status = true, .offsets = true, .nature = pipe};
     struct wulgach_submission selecting = {.opcode = READ, .flags = 32}, receive = {.opcode = RECV, .flags = 32}, fixed = {.opcode = 4};
     demand(wulgach_no_buffer_fault(&selecting, &none) == -9 && wulgach_no_buffer_fault(&selecting, &pipe) == -105 && wulgach_no_buffer_fault(&receive, &pipe) == -88 && wulgach_no_buffer_fault(&receive, &socket) == -105 && wulgach_no_buffer_fault(&fixed, &none) == -9 && wulgach_no_buffer_fault(&fixed, &file) == -14, "no buffer");
+    struct wulgach_nature counter = {.is_open = true, .is_counter = true, .can_read = true};
+    demand(wulgach_start_fault(&entry, 7, &counter) == -22 && wulgach_start_fault(&entry, 8, &counter) == 0 && wulgach_start_fault(&entry, 7, &pipe) == 0 && wulgach_start_fault(&selecting, 7, &counter) == 0, "what counts");
     demand(wulgach_find_kind(&entry, &plain, &nothing) == WULGACH_ASK_STATUS && wulgach_find_kind(&entry, &plain, &status) == WULGACH_ASK_OFFSETS && wulgach_find_kind(&entry, &plain, &offsets) == WULGACH_ASK_ACCESS, "what is asked");
 }
 

@@ -9,7 +9,9 @@
 #include "trying.h"
 
 #include <fcntl.h>
+#include <string.h>
 #include <sys/stat.h>
+#include <unistd.h>
 
 /* Writes a descriptor, or that of a registered file, which is kept. Returns its fault, or 0. */
 static int find_fd(struct ring *ring, int *found, int fd, bool is_registered, struct file **file)
@@ -40,7 +42,22 @@ void end_asking(void)
     asked.is_kept = false;
 }
 
-/* Asks a descriptor what it is: nothing, if it isn't open. */
+/* Whether a request moves fewer bytes than a count has. */
+static bool is_short(const struct request *request)
+{
+    return request->length < sizeof(uint64_t);
+}
+
+/* Whether a descriptor that is no file of any kind is an eventfd or a timerfd. */
+static bool is_counter(int fd)
+{
+    char path[32], name[32] = {0};
+    snprintf(path, sizeof path, "/proc/self/fd/%d", fd);
+    ssize_t length = readlink(path, name, sizeof name - 1);
+    return length > 0 && (strcmp(name, "anon_inode:[eventfd]") == 0 || strcmp(name, "anon_inode:[timerfd]") == 0);
+}
+
+/* Asks a descriptor what it is: nothing, if it isn't open. Whether it counts matters to a short transfer alone. */
 static void ask_status(const struct request *request, struct wulgach_nature *nature)
 {
     struct stat status;
@@ -54,6 +71,7 @@ static void ask_status(const struct request *request, struct wulgach_nature *nat
     nature->is_file = S_ISREG(status.st_mode);
     nature->is_device = S_ISCHR(status.st_mode);
     nature->is_socket = S_ISSOCK(status.st_mode);
+    nature->is_counter = is_short(request) && (status.st_mode & S_IFMT) == 0 && is_counter(request->fd);
     note_kind(request->fd, nature->is_file);
 }
 
@@ -66,7 +84,7 @@ static void ask_access(const struct request *request, struct wulgach_nature *nat
 
 static void ask_status_once(const struct request *request, struct wulgach_nature *nature)
 {
-    if (asked.is_kept && asked.fd == request->fd) {
+    if (asked.is_kept && asked.fd == request->fd && !is_short(request)) {
         *nature = asked.nature;
         return;
     }
@@ -108,7 +126,9 @@ int find_kind(struct request *request)
     request->is_tried = kind == WULGACH_KIND_TRIED;
     request->is_tried_at_once = kind == WULGACH_KIND_AT_ONCE;
     request->standing.is_stream = kind == WULGACH_KIND_STREAM;
-    return kind == WULGACH_KIND_WRONG ? wulgach_missing_fault(WULGACH_NO_DIRECTION) : 0;
+    if (kind == WULGACH_KIND_WRONG)
+        return wulgach_missing_fault(WULGACH_NO_DIRECTION);
+    return wulgach_start_fault(submission_of(&request->entry), request->length, &known.nature);
 }
 
 /* Looks for what is needed. Returns its fault, or 0. */

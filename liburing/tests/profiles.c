@@ -6,7 +6,9 @@
 
 #include <fcntl.h>
 #include <poll.h>
+#include <sys/eventfd.h>
 #include <sys/socket.h>
+#include <sys/timerfd.h>
 
 enum { NO_OPERATION = 99 };
 
@@ -253,6 +255,24 @@ static void test_unbuffered(void)
     stop();
 }
 
+/* What counts gives 8 bytes at once: a shorter read fails at once, and doesn't wait. */
+static void test_short_reads(void)
+{
+    char bytes[8];
+    int counts[] = {eventfd(0, 0), timerfd_create(CLOCK_MONOTONIC, 0)};
+    begin(0);
+    for (int i = 0; i < 2; i++) {
+        check(counts[i] >= 0);
+        for (unsigned length = 0; length < sizeof bytes; length += 7) {
+            put_transfer(&ring, IORING_OP_READ, 0, 0, counts[i], bytes, length, 0);
+            submit(1);
+            EXPECT({0, -EINVAL});
+        }
+        close(counts[i]);
+    }
+    stop();
+}
+
 /* One that is cancelled, or has a fault, ends once those before it have. */
 static void test_doomed_in_their_turn(void)
 {
@@ -413,6 +433,7 @@ int main(int count, char **words)
         {"shut down", test_shut_down},
         {"unpolled", test_unpolled},
         {"unbuffered", test_unbuffered},
+        {"short reads", test_short_reads},
         {"doomed in their turn", test_doomed_in_their_turn},
         {"cancels", test_cancels},
         {"drains", test_drains},

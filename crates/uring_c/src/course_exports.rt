@@ -140,7 +140,12 @@ pub extern "C" fn wulgach_course_notice(
 
 /// Whether a result is a success to the links behind the request of an entry that was carried out so, and to who posts, by Linux's rules or the manual pages'.
 #[unsafe(no_mangle)]
-pub extern "C" fn wulgach_has_succeeded(entry: &Submission, carried: &Carried, linux: bool, res: i32) -> bool
+pub extern "C" fn wulgach_has_succeeded(
+    entry: &Submission,
+    carried: &Carried,
+    linux: bool,
+    res: i32,
+) -> bool
     ensures { result ≡ is_success (success_of_entry entry.now carried.now linux) res }
 {
     has_succeeded(entry, carried, linux, res)

@@ -14,8 +14,8 @@ use crate::wait_words::{
 };
 use uring_enter::{
     Call, Course, Known, Moment, Nature, Needs, Patience, Standing, Submission, Transfer, Trial,
-    asks_instance, is_impatient, needs_of, next_finding, next_look, next_step, next_turn, no_buffer_fault,
-    poll_result, unpolled_result,
+    asks_instance, is_impatient, needs_of, next_finding, next_look, next_step, next_turn,
+    no_buffer_fault, poll_result, start_fault, unpolled_result,
 };
 
 /// Writes what the operation of an entry needs.
@@ -129,4 +129,12 @@ pub extern "C" fn wulgach_no_buffer_fault(entry: &Submission, nature: &Nature) -
     ensures { result ≡ found.no_buffer_fault entry.now nature.now }
 {
     no_buffer_fault(entry, nature)
+}
+
+/// With what the transfer of an entry, of so many bytes, fails as it starts, where its descriptor is this; or 0.
+#[unsafe(no_mangle)]
+pub extern "C" fn wulgach_start_fault(entry: &Submission, length: u64, nature: &Nature) -> i32
+    ensures { result ≡ found.start_fault entry.now length nature.now }
+{
+    start_fault(entry, length, nature)
 }

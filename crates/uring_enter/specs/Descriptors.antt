@@ -1,5 +1,5 @@
 -- Whether an operation may have to wait for its descriptor, by what that is. io_uring_enter(2), at each operation; open(2), O_NONBLOCK; what the kernel does, but where our own rule is named.
-use Rattle.std.specs.Prelude.{◌≡◌, ◌-◌, ◌^◌, ℕ, ℤ, Bool, true, false, not, ◌&&◌, ◌||◌, ◌==◌, if◌then◌else◌}
+use Rattle.std.specs.Prelude.{◌≡◌, ◌-◌, ◌^◌, ℕ, ℤ, Bool, true, false, not, ◌&&◌, ◌||◌, ◌==◌, nat_lt, pos, if◌then◌else◌}
 use Rattle.uring_enter.specs.declared.submission.Submission.{Submission}
 use Rattle.uring_enter.specs.declared.descriptor.Nature.{Nature}
 use Rattle.uring_enter.specs.declared.descriptor.Known.{Known}
@@ -104,3 +104,8 @@ no_buffer_fault e d =
     if needs_file e.opcode && not d.is_open then error 9 else
     if is_of_sockets e.opcode && not d.is_socket then error 88 else
     if has_some e.flags 32 then error 105 else error 14
+
+-- with what a transfer fails as it starts, though its descriptor might have to be waited for: -22 (EINVAL) of fewer than 8 bytes of what counts. 0: it doesn't. eventfd(2), timerfd_create(2)
+abbrev pub start_fault : Submission → ℕ → Nature → ℤ
+start_fault e length d =
+    if is_transfer e.opcode && d.is_counter && nat_lt length 8 && not (has_some e.flags 32) then error 22 else pos 0

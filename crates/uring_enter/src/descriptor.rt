@@ -30,6 +30,9 @@ pub struct Nature {
 
     /// It is open for writing.
     pub can_write: bool,
+
+    /// It counts, and so gives and takes 8 bytes at once: an eventfd, or a timerfd.
+    pub is_counter: bool,
 }
 
 /// What is known of a descriptor, as far as it was asked.
@@ -198,6 +201,18 @@ pub fn no_buffer_fault(entry: &Submission, nature: &Nature) -> i32
         -105
     } else {
         -14
+    }
+}
+
+/// With what the transfer of an entry, of so many bytes, fails as it starts, where its descriptor is this; or 0.
+pub fn start_fault(entry: &Submission, length: u64, nature: &Nature) -> i32
+    ensures { result ≡ spec.start_fault entry.now length nature.now }
+{
+    let is_short = length < 8 && entry.flags & 32 == 0;
+    if is_transfer(entry.opcode) && nature.is_counter && is_short {
+        -22
+    } else {
+        0
     }
 }
 

@@ -127,6 +127,7 @@ pub use descriptor::asks_once;
 pub use descriptor::finds_the_kind;
 pub use descriptor::next_finding;
 pub use descriptor::no_buffer_fault;
+pub use descriptor::start_fault;
 pub use drains::Chain;
 pub use drains::Drains;
 pub use drains::WhenFound;

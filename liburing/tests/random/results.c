@@ -1,4 +1,5 @@
 /* What an operation gives, and what it does to the files, to the pipe and to the application's memory. */
+#define _GNU_SOURCE
 #include "model.h"
 
 #include <errno.h>
@@ -133,12 +134,12 @@ static int32_t transfer(struct model *model, const struct request *request, uint
 {
     const struct action *action = request->action;
     uint8_t bytes[MOST_VECTORS * 256];
-    if (is_selecting(action) && model->queue_length == 0)
-        return -ENOBUFS;
     if (is_no_file(model, action))
         return -EBADF;
     if (is_of_sockets(action) && !is_stream(model, request))
         return -ENOTSOCK;
+    if (is_selecting(action) && model->queue_length == 0)
+        return -ENOBUFS;
     if (action->is_impatient && model->things->read == model->things->written && !model->things->is_fed_out)
         return length == 0 ? 0 : -EAGAIN;
     uint32_t moved = is_read(action) ? read_bytes(model, action, length, bytes) : length;
@@ -197,7 +198,8 @@ static int32_t poll_file(const struct model *model, const struct action *action)
     if (action->object != PIPE_OUT)
         return POLLIN;
     bool has_bytes = things->read < things->written || (things->is_fed_out && has_sockets(model));
-    return (has_bytes ? POLLIN : 0) | (things->is_fed_out ? POLLHUP : 0);
+    int gone = has_sockets(model) ? POLLHUP | POLLRDHUP : POLLHUP;
+    return (has_bytes ? POLLIN : 0) | (things->is_fed_out ? gone : 0);
 }
 
 static int32_t result_of(struct model *model, const struct request *request, uint32_t length, bool is_done)
@@ -227,15 +229,16 @@ static int32_t success_of(const struct request *request)
 }
 
 /* Whether a failure of an operation is a success to links, and is skipped as one is: Linux doesn't mark it, once it is carried out. */
-static bool is_forgiven(const struct model *model, const struct action *action)
+static bool is_forgiven(const struct model *model, const struct request *request)
 {
+    const struct action *action = request->action;
     bool is_of_kind = action->code == IORING_OP_FSYNC || action->code == IORING_OP_FALLOCATE || action->code == IORING_OP_SYNC_FILE_RANGE;
-    return (model->is_linux || model->is_kernel) && is_of_kind && !is_no_file(model, action);
+    return (model->is_linux || model->is_kernel) && is_of_kind && request->failure == 0 && !is_no_file(model, action);
 }
 
 static bool is_success(const struct model *model, const struct request *request, int32_t res)
 {
-    if (is_forgiven(model, request->action))
+    if (is_forgiven(model, request))
         return true;
     if (request->action->code == IORING_OP_TIMEOUT)
         return res == -ETIME && request->action->is_success;
@@ -278,7 +281,7 @@ static int listed_fault(const struct model *model, const struct request *request
 
 int32_t unseen_result(const struct model *model, const struct request *request)
 {
-    int fault = is_forgiven(model, request->action) ? listed_fault(model, request) : NO_FAULT;
+    int fault = is_forgiven(model, request) ? listed_fault(model, request) : NO_FAULT;
     return fault == FAULT_EIO ? -EIO : fault == FAULT_ENOSPC ? -ENOSPC : success_of(request);
 }
 

@@ -1,4 +1,4 @@
-use Rattle.std.proofs.Common.{◌≡◌, ◌∙◌, sym, arith}
+use Rattle.std.proofs.Common.{◌∙◌, sym, arith}
 use Rattle.uring_enter.proofs.TimeoutRows.{first_reached, none_reached_more}
 use Rattle.uring_enter.proofs.timeout_rows.reached_of.Goals as goal
 
