@@ -27,7 +27,7 @@ static void look_at_fields(void)
 {
     enum { NOP, READV, WRITEV, FSYNC, READ_FIXED, POLL_ADD = 6, POLL_REMOVE, TIMEOUT = 11, TIMEOUT_REMOVE, ACCEPT, CANCEL, LINK_TIMEOUT };
     demand(FORM(.opcode = NOP) == 0 && FORM(.opcode = NOP, .ioprio = 1) == -22, "a no-op");
-    demand(FORM(.opcode = 46) == -22 && FORM(.opcode = 49) == -22 && FORM(.opcode = 48, .ioprio = 9) == 0, "what is served");
+    demand(FORM(.opcode = 46) == -22 && FORM(.opcode = 49) == -22 && FORM(.opcode = 48, .ioprio = 9) == 0 && FORM(.opcode = 48, .ioprio = 4) == -22 && FORM(.opcode = 47, .file_index = 65535) == 0 && FORM(.opcode = 47, .file_index = 65536) == -22, "what is served");
     demand(FORM(.opcode = NOP, .flags = 128) == -22 && FORM(.opcode = NOP, .personality = 1) == -22 && FORM(.opcode = NOP, .flags = 127 - 32) == 0, "flags");
     demand(FORM(.opcode = READV, .len = 1024) == 0 && FORM(.opcode = WRITEV, .len = 1025) == -22 && FORM(.opcode = READ_FIXED, .ioprio = 32767) == 0 && FORM(.opcode = READ_FIXED, .ioprio = 32768) == -22, "transfers");
     demand(FORM(.opcode = FSYNC, .op_flags = 1) == 0 && FORM(.opcode = FSYNC, .op_flags = 2) == -22 && FORM(.opcode = FSYNC, .addr = 1) == -22, "an fsync");
@@ -50,6 +50,50 @@ static void look_at_more_fields(void)
     demand(FORM(.opcode = 40, .op_flags = 3) == 0 && FORM(.opcode = 40, .op_flags = 4) == -22 && FORM(.opcode = 34, .len = 2) == 0 && FORM(.opcode = 34, .off = 1) == -22, "a message, a shutdown");
     demand(FORM(.opcode = 45, .off = 0x80000) == 0 && FORM(.opcode = 45, .off = 0x80000, .file_index = 1) == -22, "a socket");
     demand(FORM(.opcode = 30, .off = 5, .op_flags = 0x8000000f) == 0 && FORM(.opcode = 30, .op_flags = 16) == -22 && FORM(.opcode = 33, .off = 5) == -22, "a splice, a tee");
+}
+
+/* Fields that must be 0, and those that are free. */
+static void look_at_barred_fields(void)
+{
+    enum { FSYNC = 3, SYNC_FILE_RANGE = 8, FALLOCATE = 17, STATX = 21, EPOLL_CTL = 29, RENAMEAT = 35, UNLINKAT, MKDIRAT, SYMLINKAT, LINKAT, FSETXATTR = 41, SETXATTR, FGETXATTR, GETXATTR };
+    static const uint8_t of_two[] = {FSYNC, SYNC_FILE_RANGE, FALLOCATE, STATX, EPOLL_CTL, RENAMEAT, UNLINKAT, MKDIRAT, SYMLINKAT, LINKAT};
+    for (size_t i = 0; i < sizeof of_two; i++)
+        demand(FORM(.opcode = of_two[i], .addr3 = 1, .pad = 1) == 0 && FORM(.opcode = of_two[i], .buf_index = 1) == -22 && FORM(.opcode = of_two[i], .file_index = 1) == -22 && FORM(.opcode = of_two[i], .ioprio = 1) == -22, "a buffer and a slot");
+    demand(FORM(.opcode = FSYNC, .off = 1ull << 62) == 0 && FORM(.opcode = FSYNC, .off = 1ull << 63) == -22 && FORM(.opcode = SYNC_FILE_RANGE, .addr = 1) == -22, "syncs");
+    demand(FORM(.opcode = FALLOCATE, .op_flags = 1) == -22 && FORM(.opcode = MKDIRAT, .op_flags = 1) == -22 && FORM(.opcode = SYMLINKAT, .op_flags = 1) == -22 && FORM(.opcode = RENAMEAT, .op_flags = 1) == 0, "flags that must be 0");
+    demand(FORM(.opcode = UNLINKAT, .op_flags = 512) == 0 && FORM(.opcode = UNLINKAT, .op_flags = 1) == -22 && FORM(.opcode = FSETXATTR, .op_flags = 3) == 0 && FORM(.opcode = SETXATTR, .op_flags = 4) == -22 && FORM(.opcode = FGETXATTR, .op_flags = 1) == -22 && FORM(.opcode = GETXATTR, .op_flags = 1) == -22, "flags that are known");
+    demand(FORM(.opcode = UNLINKAT, .off = 1) == -22 && FORM(.opcode = UNLINKAT, .len = 1) == -22 && FORM(.opcode = MKDIRAT, .off = 1) == -22 && FORM(.opcode = SYMLINKAT, .len = 1) == -22 && FORM(.opcode = LINKAT, .len = 1) == 0, "other fields");
+    demand(FORM(.opcode = 30, .ioprio = 1) == -22 && FORM(.opcode = 33, .ioprio = 1) == -22 && FORM(.opcode = 22, .ioprio = 7) == -22 && FORM(.opcode = 22, .ioprio = 8) == 0 && FORM(.opcode = 22, .ioprio = 0x2007) == 0 && FORM(.opcode = 1, .pad = 1) == -22, "priorities, an attribute");
+    demand(FORM(.opcode = 11, .len = 1, .addr3 = 1) == -22 && FORM(.opcode = 15, .len = 1, .pad = 1) == -22 && FORM(.opcode = 12, .addr3 = 1) == -22 && FORM(.opcode = 12, .flags = 1) == -22 && FORM(.opcode = 14, .len = 5) == 1, "timeouts, a cancel");
+    demand(FORM(.opcode = 15, .len = 1, .off = 1ull << 32) == 0 && FORM(.opcode = 45, .off = 0x1000) == -22 && FORM(.opcode = 45, .off = 1ull << 32) == 0 && FORM(.opcode = 16, .off = 1ull << 32) == 0, "what counts 32 bits");
+}
+
+/* A slot where no file is looked for, and what goes before and behind. */
+static void look_at_slots(void)
+{
+    static const uint8_t of_paths[] = {18, 19, 21, 35, 36, 37, 38, 39, 42, 44};
+    for (size_t i = 0; i < sizeof of_paths; i++)
+        demand(FORM(.opcode = of_paths[i]) == 0 && FORM(.opcode = of_paths[i], .flags = 1) == -9 && FORM(.opcode = of_paths[i], .flags = 1, .ioprio = 1) == -22, "a path");
+    demand(FORM(.opcode = 28, .len = 24, .flags = 1) == -9 && FORM(.opcode = 44, .flags = 1, .op_flags = 1) == -9 && FORM(.opcode = 19, .flags = 1, .fd = 1, .file_index = 1) == -9, "before what else is wrong");
+    demand(FORM(.opcode = 29, .flags = 1) == 0 && FORM(.opcode = 41, .flags = 1) == 0 && FORM(.opcode = 3, .flags = 1) == 0, "where a slot is taken or passed over");
+}
+
+/* Buffers that no program can have. */
+static void look_at_buffers(void)
+{
+    enum { READV = 1, READ_FIXED = 4, READ = 22, WRITE, SEND = 26, RECV, SEND_ZC = 47 };
+    static const uint8_t of_one[] = {READ, WRITE, SEND, RECV, SEND_ZC};
+    const uint64_t end = 0x7ffffffff000;
+    for (size_t i = 0; i < sizeof of_one; i++)
+        demand(FORM(.opcode = of_one[i], .addr = end - 16, .len = 16) == 0 && FORM(.opcode = of_one[i], .addr = end - 16, .len = 17) == -14 && FORM(.opcode = of_one[i], .addr = UINT64_MAX, .len = 1) == -14, "one buffer");
+    demand(FORM(.opcode = READ, .addr = end - 0x7ffff000, .len = UINT32_MAX) == 0 && FORM(.opcode = RECV, .len = 1u << 31) == -22 && FORM(.opcode = 9, .len = 1u << 31) == -22, "a long one");
+    demand(FORM(.opcode = READ_FIXED, .addr = end, .len = 1) == 0 && FORM(.opcode = READ, .flags = 32, .addr = end, .len = 1) == 0 && FORM(.opcode = SEND_ZC, .ioprio = 4, .addr = end, .len = 1) == 0, "one that isn't looked at");
+    struct wulgach_submission entry = {.opcode = READV}, selects = {.opcode = READV, .flags = 32};
+    demand(wulgach_vector_fault(&entry, 0, end - 1, 1, true) == 0 && wulgach_vector_fault(&entry, 0, end - 1, 2, true) == -14 && wulgach_vector_fault(&entry, 0, 0, 1ull << 63, true) == -22, "a vector");
+    demand(wulgach_vector_fault(&entry, -14, 0, 1ull << 63, false) == -22 && wulgach_vector_fault(&entry, -22, end, 1, false) == -22 && wulgach_vector_fault(&entry, -14, 0, 1, false) == -14 && wulgach_vector_fault(&selects, 0, end, UINT64_MAX, true) == 0, "vectors");
+    demand(wulgach_vector_fault(&entry, 0, 0, end + 1, true) == 0 && wulgach_vector_fault(&entry, 0, 0, end + 1, false) == -14, "a lone one");
+    demand(wulgach_length_with(0, 5) == 5 && wulgach_length_with(5, 6) == 11 && wulgach_length_with(0, UINT32_MAX) == 0x7ffff000 && wulgach_length_with(0x7ffff000, UINT64_MAX) == 0x7ffff000, "how much is moved");
+    demand(wulgach_has_one_buffer(&(struct wulgach_submission){.opcode = WRITE}) && !wulgach_has_one_buffer(&(struct wulgach_submission){.opcode = SEND}) && !wulgach_has_one_buffer(&entry), "whose buffer is told first");
 }
 
 static void look_at_order(void)
@@ -150,6 +194,9 @@ int main(void)
 {
     look_at_fields();
     look_at_more_fields();
+    look_at_barred_fields();
+    look_at_slots();
+    look_at_buffers();
     look_at_order();
     go_on();
     send();

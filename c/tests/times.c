@@ -1,5 +1,6 @@
 /* The time of a ring and its timeouts: each call once, with what the manual page and the header call for, written by hand. */
 #include "wulgach_course.h"
+#include "wulgach_form.h"
 #include "wulgach_times.h"
 
 #include <stdio.h>
@@ -27,6 +28,7 @@ static int32_t start(uint64_t number, uint64_t more, uint64_t count, bool is_lin
 static void check_sums(void)
 {
     demand(wulgach_time_of(1, 5) == SECOND + 5, "a second and five nanoseconds");
+    demand(wulgach_timeout_count(&(struct wulgach_submission){.off = (1ull << 32) + 3}) == 3 && wulgach_timeout_count(&(struct wulgach_submission){.off = 1ull << 63}) == 0, "how many completions are counted");
     demand(wulgach_time_of(-1, 5) == 0 && wulgach_time_of(0, -5) == 0, "a negative time is none");
     demand(wulgach_time_of(INT64_MAX, 0) == INT64_MAX, "a time past the largest is the largest");
     demand(wulgach_time_later(INT64_MAX, INT64_MAX) == INT64_MAX && wulgach_time_later(2, 3) == 5, "a later time");

@@ -253,7 +253,8 @@ static bool gives_descriptor(uint8_t code)
     return code == IORING_OP_ACCEPT || code == IORING_OP_OPENAT || code == IORING_OP_OPENAT2 || code == IORING_OP_SOCKET;
 }
 
-/* Puts a result behind those of lower user data: which of a chain's members posts first isn't asked here. */
+/* Puts a result behind those of lower user data: which of a chain's members posts first isn't asked here, nor what else a send without
+ * copies posts. */
 static void insert(uint64_t user_data, int32_t res)
 {
     uint32_t place = answer->count++;
@@ -269,7 +270,8 @@ static void note(struct ring *ring, uint8_t code)
     const struct io_uring_cqe *cells = (const void *)(ring->cq + ring->params.cq_off.cqes);
     while (count_ready(ring) > 0 && answer->count < MOST_ROWS) {
         const struct io_uring_cqe *cell = &cells[*head & (ring->params.cq_entries - 1)];
-        insert(cell->user_data, gives_descriptor(code) && cell->res > 2 ? A_DESCRIPTOR : cell->res);
+        if (!(cell->flags & IORING_CQE_F_NOTIF))
+            insert(cell->user_data, gives_descriptor(code) && cell->res > 2 ? A_DESCRIPTOR : cell->res);
         __atomic_store_n(head, *head + 1, __ATOMIC_RELEASE);
     }
 }
@@ -344,19 +346,44 @@ static void say_difference(uint8_t code, struct change one, struct change other,
 
 /* ---- what is known to differ ---- */
 
+/* A change of this field whose value has one of these bits, or any. */
 static const struct known {
     uint8_t code;
     enum field field;
-    uint64_t bits;           /* one of these in the value, or 0: whatever it is */
-    const char *why;
+    uint64_t bits;
 } known[] = {
-    {IORING_OP_NOP, NOTHING, 0, ""},
+    /* RWF_HIPRI (1), RWF_NOWAIT (8) and flags that there aren't are found as a transfer is carried out, by preadv2(2) and pwritev2(2), and so is an
+     * offset, where there are any; an attribute isn't served. */
+    {IORING_OP_READV, OWN, 0x209}, {IORING_OP_WRITEV, OWN, 0x209}, {IORING_OP_READ_FIXED, OWN, 0x209}, {IORING_OP_WRITE_FIXED, OWN, 0x209}, {IORING_OP_READ, OWN, 0x209}, {IORING_OP_WRITE, OWN, 0x209},
+    {IORING_OP_READV, OFF, 1ull << 63}, {IORING_OP_WRITEV, OFF, 1ull << 63}, {IORING_OP_READ_FIXED, OFF, 1ull << 63}, {IORING_OP_WRITE_FIXED, OFF, 1ull << 63}, {IORING_OP_READ, OFF, 1ull << 63}, {IORING_OP_WRITE, OFF, 1ull << 63},
+    {IORING_OP_READV, PAD, 1}, {IORING_OP_WRITEV, PAD, 1}, {IORING_OP_READ_FIXED, PAD, 1}, {IORING_OP_WRITE_FIXED, PAD, 1}, {IORING_OP_READ, PAD, 1}, {IORING_OP_WRITE, PAD, 1},
+    /* How much of a write that is longer than its buffer is moved depends on what stands behind that. */
+    {IORING_OP_WRITE, LEN, 0x80000000},
+    /* sendmsg(2) and recvmsg(2) refuse MSG_CMSG_COMPAT. */
+    {IORING_OP_SENDMSG, OWN, 1u << 31}, {IORING_OP_RECVMSG, OWN, 1u << 31}, {IORING_OP_SEND, OWN, 1u << 31}, {IORING_OP_RECV, OWN, 1u << 31}, {IORING_OP_SEND_ZC, OWN, 1u << 31}, {IORING_OP_SENDMSG_ZC, OWN, 1u << 31},
+    /* What isn't served: timeouts that go on, an accept that doesn't wait or waits first, other cancels, bundles, a send to an address or from provided buffers, registered vectors. */
+    {IORING_OP_TIMEOUT, OWN, 1u << 6}, {IORING_OP_LINK_TIMEOUT, OWN, 1u << 6},
+    {IORING_OP_ACCEPT, PRIORITY, 6},
+    {IORING_OP_ASYNC_CANCEL, OWN, 48},
+    {IORING_OP_SEND, PRIORITY, 16}, {IORING_OP_RECV, PRIORITY, 16}, {IORING_OP_SEND, FLAGS, IOSQE_BUFFER_SELECT}, {IORING_OP_SEND, OFF, 0}, {IORING_OP_SEND, OFF_OR, 0},
+    {IORING_OP_SENDMSG_ZC, PRIORITY, 4},
+    /* A send without copies is served by any socket, also one that refuses it there, and sendmsg(2) takes an address of no length for none. */
+    {IORING_OP_SEND_ZC, SLOT_OF, 1}, {IORING_OP_SENDMSG_ZC, SLOT_OF, 1}, {IORING_OP_SEND_ZC, OFF, 0}, {IORING_OP_SEND_ZC, OFF_OR, 0},
+    /* A structure of an open has 4,096 bytes at most, and is copied behind what else is wrong with its entry. */
+    {IORING_OP_OPENAT2, OFF, 0}, {IORING_OP_OPENAT2, LEN, 0},
+    /* A failure that skips its success posts nothing there. */
+    {IORING_OP_FSYNC, FLAGS, IOSQE_CQE_SKIP_SUCCESS}, {IORING_OP_SYNC_FILE_RANGE, FLAGS, IOSQE_CQE_SKIP_SUCCESS}, {IORING_OP_FALLOCATE, FLAGS, IOSQE_CQE_SKIP_SUCCESS}, {IORING_OP_MADVISE, FLAGS, IOSQE_CQE_SKIP_SUCCESS},
+    {IORING_OP_STATX, FLAGS, IOSQE_CQE_SKIP_SUCCESS}, {IORING_OP_SHUTDOWN, FLAGS, IOSQE_CQE_SKIP_SUCCESS}, {IORING_OP_RENAMEAT, FLAGS, IOSQE_CQE_SKIP_SUCCESS}, {IORING_OP_UNLINKAT, FLAGS, IOSQE_CQE_SKIP_SUCCESS},
+    {IORING_OP_MKDIRAT, FLAGS, IOSQE_CQE_SKIP_SUCCESS}, {IORING_OP_SYMLINKAT, FLAGS, IOSQE_CQE_SKIP_SUCCESS}, {IORING_OP_LINKAT, FLAGS, IOSQE_CQE_SKIP_SUCCESS}, {IORING_OP_FSETXATTR, FLAGS, IOSQE_CQE_SKIP_SUCCESS},
+    {IORING_OP_SETXATTR, FLAGS, IOSQE_CQE_SKIP_SUCCESS}, {IORING_OP_FGETXATTR, FLAGS, IOSQE_CQE_SKIP_SUCCESS}, {IORING_OP_GETXATTR, FLAGS, IOSQE_CQE_SKIP_SUCCESS},
+    /* A provided buffer is looked for before a file. */
+    {IORING_OP_READ, FLAGS, IOSQE_BUFFER_SELECT}, {IORING_OP_READV, FLAGS, IOSQE_BUFFER_SELECT}, {IORING_OP_RECV, FLAGS, IOSQE_BUFFER_SELECT}, {IORING_OP_RECVMSG, FLAGS, IOSQE_BUFFER_SELECT},
 };
 
 static bool is_known(uint8_t code, struct change change)
 {
     for (size_t i = 0; i < sizeof known / sizeof *known; i++)
-        if (known[i].code == code && known[i].field == change.field && change.field != NOTHING && (known[i].bits == 0 || change.value & known[i].bits))
+        if (known[i].code == code && known[i].field == change.field && (known[i].bits == 0 || change.value & known[i].bits))
             return true;
     return false;
 }

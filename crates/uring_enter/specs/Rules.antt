@@ -40,6 +40,10 @@ any = 4294967295
 abbrev pub row : ℕ → ℕ → Also → Option Rule
 row barred known also = Some (record { barred = barred; flags = known; also = also })
 
+-- these fields must be 0, and no more is looked at
+abbrev pub bars : ℕ → Option Rule
+bars barred = row barred any Nothing
+
 -- the operations that are served; the numbers are those of <linux/io_uring.h>
 abbrev pub rule_of : ℕ → Option Rule
 rule_of code =
@@ -55,15 +59,15 @@ rule_of code =
     if code == 6 then row (priority + offset + address + buffer) any Poll else
     if code == 7 then row (priority + buffer + slot) any PollRemoval else
     -- SYNC_FILE_RANGE
-    if code == 8 then row (priority + address + buffer + slot) any Nothing else
+    if code == 8 then bars (priority + address + buffer + slot) else
     -- SENDMSG, RECVMSG, ACCEPT with SOCK_NONBLOCK and SOCK_CLOEXEC, CONNECT, SEND, RECV, SHUTDOWN, SOCKET, SEND_ZC and SENDMSG_ZC
     if code == 9 then row (offset + slot) any SendMessage else
     if code == 10 then row (offset + slot) any ReceiveMessage else
     if code == 13 then row (length + buffer) 526336 Accept else
-    if code == 16 then row (priority + length + own_flags + buffer + slot) any Nothing else
+    if code == 16 then bars (priority + length + own_flags + buffer + slot) else
     if code == 26 then row offset any Send else
     if code == 27 then row (offset + slot) any Receive else
-    if code == 34 then row (priority + offset + address + own_flags + buffer + slot) any Nothing else
+    if code == 34 then bars (priority + offset + address + own_flags + buffer + slot) else
     if code == 45 then row (priority + address + own_flags + buffer) any Socket else
     if code == 47 then row (third + padding) any SendZeroCopy else
     if code == 48 then row (offset + slot + third + padding) any SendMessageZeroCopy else
@@ -73,25 +77,25 @@ rule_of code =
     if code == 14 then row (priority + offset + slot) 15 Cancel else
     if code == 15 then row (priority + buffer + slot + third + padding) 45 LinkedTimeout else
     -- FALLOCATE
-    if code == 17 then row (priority + own_flags + buffer + slot) any Nothing else
+    if code == 17 then bars (priority + own_flags + buffer + slot) else
     -- OPENAT, OPENAT2, CLOSE and FILES_UPDATE
     if code == 18 then row (priority + buffer) any Open else
     if code == 28 then row (priority + buffer) any OpenHow else
     if code == 19 then row (priority + offset + address + length + own_flags + buffer) any Close else
     if code == 20 then row (priority + own_flags + slot) any FilesUpdate else
     -- FADVISE and MADVISE; STATX, EPOLL_CTL, RENAMEAT and LINKAT
-    if code == 24 || code == 25 then row (priority + buffer + slot) any Nothing else
-    if code == 21 || code == 29 || code == 35 || code == 39 then row (priority + buffer + slot) any Nothing else
+    if code == 24 || code == 25 then bars (priority + buffer + slot) else
+    if code == 21 || code == 29 || code == 35 || code == 39 then bars (priority + buffer + slot) else
     -- SPLICE and TEE, with the four flags of splice(2) and SPLICE_F_FD_IN_FIXED (2^31)
     if code == 30 then row priority 2147483663 Nothing else
     if code == 33 then row (priority + offset + address) 2147483663 Nothing else
     -- PROVIDE_BUFFERS and REMOVE_BUFFERS
-    if code == 31 then row (priority + own_flags + slot) any Nothing else
+    if code == 31 then bars (priority + own_flags + slot) else
     if code == 32 then row (priority + offset + address + length + own_flags + slot) any ProvisionRemoval else
     -- UNLINKAT, with AT_REMOVEDIR; MKDIRAT and SYMLINKAT
     if code == 36 then row (priority + offset + length + buffer + slot) 512 Nothing else
-    if code == 37 then row (priority + offset + own_flags + buffer + slot) any Nothing else
-    if code == 38 then row (priority + length + own_flags + buffer + slot) any Nothing else
+    if code == 37 then bars (priority + offset + own_flags + buffer + slot) else
+    if code == 38 then bars (priority + length + own_flags + buffer + slot) else
     -- MSG_RING, with CQE_SKIP and FLAGS_PASS
     if code == 40 then row (priority + buffer) 3 Nothing else
     -- FSETXATTR and SETXATTR, with XATTR_CREATE and XATTR_REPLACE; FGETXATTR and GETXATTR

@@ -12,9 +12,12 @@ has_length e = nat_lt e.len (2 ^ 31)
 abbrev pub is_send_message : Submission → Bool
 is_send_message e = has_length e && bit_and e.ioprio 65534 == 0
 
--- the upper half of `file_index` is reserved; the lower one says how long an address is, and none is served
+-- 16 bits of `file_index` say how long an address is, and the others are reserved
+abbrev pub has_short_size : Submission → Bool
+has_short_size e = nat_lt e.file_index 65536
+
 abbrev pub is_send : Submission → Bool
-is_send e = is_send_message e && nat_lt e.file_index 65536
+is_send e = is_send_message e && has_short_size e
 
 -- IORING_RECV_MULTISHOT is 2. One that goes on takes a provided buffer each time (32), and no MSG_WAITALL (256)
 abbrev pub may_go_on : Submission → Bool
@@ -27,12 +30,13 @@ is_receive_message e = has_length e && bit_and e.ioprio 65532 == 0 && may_go_on 
 abbrev pub is_receive : Submission → Bool
 is_receive e = is_receive_message e && (not (has_some e.ioprio 2) || e.len == 0)
 
--- IORING_RECVSEND_FIXED_BUF is 4 and IORING_SEND_ZC_REPORT_USAGE 8. Its success can't be skipped (64)
-abbrev pub is_send_zero_copy : Submission → Bool
-is_send_zero_copy e = bit_and e.ioprio 65522 == 0 && not (has_some e.flags 64)
-
+-- IORING_SEND_ZC_REPORT_USAGE is 8. Its success can't be skipped (64)
 abbrev pub is_send_message_zero_copy : Submission → Bool
-is_send_message_zero_copy e = is_send_zero_copy e && not (has_some e.ioprio 4)
+is_send_message_zero_copy e = bit_and e.ioprio 65526 == 0 && not (has_some e.flags 64)
+
+-- IORING_RECVSEND_FIXED_BUF is 4
+abbrev pub is_send_zero_copy : Submission → Bool
+is_send_zero_copy e = bit_and e.ioprio 65522 == 0 && not (has_some e.flags 64) && has_short_size e
 
 -- a type of 4 bits with SOCK_NONBLOCK (2^11) and SOCK_CLOEXEC (2^19), in 32 bits of `off`; what a slot has isn't closed by exec
 abbrev pub is_socket : Submission → Bool

@@ -111,22 +111,14 @@ pub fn rule_of(code: u8) -> Option<Rule>
         4 | 5 | 22 | 23 => row(PAD, ANY, Also::Transfer),
         6 => row(PRIORITY | OFFSET | ADDRESS | BUFFER, ANY, Also::Poll),
         7 => row(PRIORITY | BUFFER | SLOT, ANY, Also::PollRemoval),
-        8 => row(PRIORITY | ADDRESS | BUFFER | SLOT, ANY, Also::Nothing),
+        8 => bars(PRIORITY | ADDRESS | BUFFER | SLOT),
         9 => row(OFFSET | SLOT, ANY, Also::SendMessage),
         10 => row(OFFSET | SLOT, ANY, Also::ReceiveMessage),
         13 => row(LENGTH | BUFFER, OF_SOCKET, Also::Accept),
-        16 => row(
-            PRIORITY | LENGTH | FLAGS | BUFFER | SLOT,
-            ANY,
-            Also::Nothing,
-        ),
+        16 => bars(PRIORITY | LENGTH | FLAGS | BUFFER | SLOT),
         26 => row(OFFSET, ANY, Also::Send),
         27 => row(OFFSET | SLOT, ANY, Also::Receive),
-        34 => row(
-            PRIORITY | OFFSET | ADDRESS | FLAGS | BUFFER | SLOT,
-            ANY,
-            Also::Nothing,
-        ),
+        34 => bars(PRIORITY | OFFSET | ADDRESS | FLAGS | BUFFER | SLOT),
         45 => row(PRIORITY | ADDRESS | FLAGS | BUFFER, ANY, Also::Socket),
         47 => row(THIRD | PAD, ANY, Also::SendZeroCopy),
         48 => row(OFFSET | SLOT | THIRD | PAD, ANY, Also::SendMessageZeroCopy),
@@ -142,7 +134,7 @@ pub fn rule_of(code: u8) -> Option<Rule>
             45,
             Also::LinkedTimeout,
         ),
-        17 => row(PRIORITY | FLAGS | BUFFER | SLOT, ANY, Also::Nothing),
+        17 => bars(PRIORITY | FLAGS | BUFFER | SLOT),
         18 => row(PRIORITY | BUFFER, ANY, Also::Open),
         28 => row(PRIORITY | BUFFER, ANY, Also::OpenHow),
         19 => row(
@@ -151,11 +143,11 @@ pub fn rule_of(code: u8) -> Option<Rule>
             Also::Close,
         ),
         20 => row(PRIORITY | FLAGS | SLOT, ANY, Also::FilesUpdate),
-        24 | 25 => row(PRIORITY | BUFFER | SLOT, ANY, Also::Nothing),
-        21 | 29 | 35 | 39 => row(PRIORITY | BUFFER | SLOT, ANY, Also::Nothing),
+        24 | 25 => bars(PRIORITY | BUFFER | SLOT),
+        21 | 29 | 35 | 39 => bars(PRIORITY | BUFFER | SLOT),
         30 => row(PRIORITY, OF_SPLICE, Also::Nothing),
         33 => row(PRIORITY | OFFSET | ADDRESS, OF_SPLICE, Also::Nothing),
-        31 => row(PRIORITY | FLAGS | SLOT, ANY, Also::Nothing),
+        31 => bars(PRIORITY | FLAGS | SLOT),
         32 => row(
             PRIORITY | OFFSET | ADDRESS | LENGTH | FLAGS | SLOT,
             ANY,
@@ -166,21 +158,20 @@ pub fn rule_of(code: u8) -> Option<Rule>
             512,
             Also::Nothing,
         ),
-        37 => row(
-            PRIORITY | OFFSET | FLAGS | BUFFER | SLOT,
-            ANY,
-            Also::Nothing,
-        ),
-        38 => row(
-            PRIORITY | LENGTH | FLAGS | BUFFER | SLOT,
-            ANY,
-            Also::Nothing,
-        ),
+        37 => bars(PRIORITY | OFFSET | FLAGS | BUFFER | SLOT),
+        38 => bars(PRIORITY | LENGTH | FLAGS | BUFFER | SLOT),
         40 => row(PRIORITY | BUFFER, 3, Also::Nothing),
         41 | 42 => row(PRIORITY, 3, Also::Nothing),
         43 | 44 => row(PRIORITY, 0, Also::Nothing),
         _ => None,
     }
+}
+
+/// Of an operation that asks for nothing else.
+fn bars(barred: u16) -> Option<Rule>
+    ensures { result ≡ spec.bars barred }
+{
+    row(barred, ANY, Also::Nothing)
 }
 
 fn row(barred: u16, flags: u32, also: Also) -> Option<Rule>

@@ -18,10 +18,17 @@ pub(crate) fn is_send_message(entry: &Submission) -> bool
     has_length(entry) && entry.ioprio & !1 == 0
 }
 
+/// The upper half of this word is reserved.
+fn has_short_size(entry: &Submission) -> bool
+    ensures { result ≡ spec.has_short_size entry.now }
+{
+    entry.file_index < 0x1_0000
+}
+
 pub(crate) fn is_send(entry: &Submission) -> bool
     ensures { result ≡ spec.is_send entry.now }
 {
-    is_send_message(entry) && entry.file_index < 0x1_0000
+    is_send_message(entry) && has_short_size(entry)
 }
 
 /// One that goes on takes a provided buffer each time, and all that comes.
@@ -43,16 +50,16 @@ pub(crate) fn is_receive(entry: &Submission) -> bool
     is_receive_message(entry) && (entry.ioprio & 2 == 0 || entry.len == 0)
 }
 
-pub(crate) fn is_send_zero_copy(entry: &Submission) -> bool
-    ensures { result ≡ spec.is_send_zero_copy entry.now }
-{
-    entry.ioprio & !13 == 0 && entry.flags & 64 == 0
-}
-
 pub(crate) fn is_send_message_zero_copy(entry: &Submission) -> bool
     ensures { result ≡ spec.is_send_message_zero_copy entry.now }
 {
-    is_send_zero_copy(entry) && entry.ioprio & 4 == 0
+    entry.ioprio & !9 == 0 && entry.flags & 64 == 0
+}
+
+pub(crate) fn is_send_zero_copy(entry: &Submission) -> bool
+    ensures { result ≡ spec.is_send_zero_copy entry.now }
+{
+    entry.ioprio & !13 == 0 && entry.flags & 64 == 0 && has_short_size(entry)
 }
 
 pub(crate) fn is_socket(entry: &Submission) -> bool
