@@ -81,7 +81,7 @@ pub was_played : {K A : Type 0} {i : _} {j : _} {g : Setup} {workers : ℕ} {cal
     → IsPlayed ended.kernel.kept.setup (length ended.workers.items) (lists_of calls.items) played
     → WritesPlay answer held_before held_after played.report.trace played.completions.items
     → Plays g workers answer before after held_before held_after
-was_played {g = g} {workers = workers} {calls = calls} {before = before} {after = after} {played = played} answer held_before held_after r fresh gave is_played (text, written, (part, appended, is)) =
+was_played {g = g} {workers = workers} {calls = calls} {played = played} {before = before} {after = after} answer held_before held_after r fresh gave is_played (text, written, (part, appended, is)) =
     go answer is
   where
     the_text : (whole : List ℕ) → text ≡ whole → IsPlayText g workers r.bytes whole

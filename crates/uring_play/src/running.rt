@@ -25,11 +25,16 @@ where
     requires { ends.application.app.submitted ≡ nothing_put }
     ensures { IfOk result (GiveBack ends (lists_of calls.items)) }
 {
+    let Ok(rooms) = make_rooms(alloc, ends.workers.len()) else {
+        drop(ends);
+        drop(calls);
+        return Err(AllocError);
+    };
     let Rooms {
         stop,
         mut started,
         back,
-    } = make_rooms(alloc, ends.workers.len())?;
+    } = rooms;
     let Ends {
         application,
         kernel,
@@ -44,10 +49,8 @@ where
     let application = join(&rt, application);
     let kernel = join(&rt, dispatcher);
     stop.store(true, Ordering::SeqCst);
-    let workers = join_workers(rt, started, back);
-    served?;
-    let application = application?;
-    let kernel = kernel?;
+    let workers = both(served, Ok(join_workers(rt, started, back)));
+    let ((application, kernel), (_, workers)) = both(both(application, kernel), workers)?;
     Ok(Ends {
         application,
         kernel,
@@ -106,6 +109,19 @@ fn join<R: Threads, T, P: Promise<T>>(
     ensures { IfOk result (λ given. (t : PromisedHandle T P) × (thread ≡ Ok t) × P.kept_by t.promise given) }
 {
     Ok(thread?.join(rt))
+}
+
+/// Both of these, if both are there.
+fn both<T: Drop, U: Drop>(
+    first: Result<T, AllocError>,
+    second: Result<U, AllocError>,
+) -> Result<(T, U), AllocError>
+    ensures first { IfOk result (λ both. first ≡ Ok both.0) }
+    ensures second { IfOk result (λ both. second ≡ Ok both.1) }
+{
+    let first = first?;
+    let second = second?;
+    Ok((first, second))
 }
 
 /// Joins the threads of workers, and gives the workers back in their order.
