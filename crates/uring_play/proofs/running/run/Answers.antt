@@ -7,7 +7,7 @@ use Rattle.uring_ports.specs.declared.item.Item.{Item}
 use Rattle.uring_play_text.specs.Inputs.{lists_of}
 use Rattle.uring_threads.specs.Kernel.{Kernel}
 use Rattle.uring_workers.specs.Worker.{Worker}
-use Rattle.uring_play.specs.Threads.{StaysApp, StaysKernel, StayWorkers, Submits, workers_of}
+use Rattle.uring_play.specs.Threads.{StaysApp, StaysKernel, StayWorkers, Submits}
 use Rattle.uring_play.proofs.PlayedThrough.{as_many, still_together}
 use Rattle.uring_play.proofs.running.run.Goals as goal
 
