@@ -9,11 +9,13 @@ use Rattle.uring_entry.specs.Setup.{Setup}
 use Rattle.uring_core.specs.CalledFor.{IsLawful}
 use Rattle.uring_core.specs.Histories.{Event, history_of}
 use Rattle.uring_ports.specs.declared.item.Item.{Item}
-use Rattle.uring_threads.specs.Report.{Report}
 use Rattle.uring_play_text.specs.Inputs.{ReadsCalls, lists_of}
 use Rattle.uring_play_text.specs.Outputs.{lines_text, counts_text, IsInOrder, IsWritten, Writes}
 use Rattle.uring_play.specs.Plays.{IsPlay, IsTextOf, IsPlayText, WritesPlay, Plays, made_by}
+use Rattle.uring_play.specs.Threads.{AreFresh, GiveBack, IsPlayed}
 use Rattle.uring_play.specs.Totals.{accepted_in, dropped_last}
+use Rattle.uring_play.specs.declared.ends.Ends.{Ends}
+use Rattle.uring_play.specs.declared.settling.Played.{Played}
 use Rattle.uring_play.proofs.PlayedThrough.{accepted_total}
 use Rattle.uring_play_text.specs.declared.play_fault.PlayFault.{PlayFault}
 use Rattle.uring_play_text.specs.declared.play_fault.PlayFault.TheVariants as fault
@@ -73,17 +75,26 @@ out_of_memory g workers answer calls before after held is r =
     subst (λ (a : Result (Unit {0}) PlayFault). Plays g workers a before after held held) (sym is) nothing
 
 -- it was played
-pub played : (g : Setup) (workers : ℕ) (calls : Vec (Vec Item Global) Global) (report : Report) (completions : List Cqe) (answer : Result (Unit {0}) PlayFault) (before after held_before held_after : Option (List ℕ))
+pub was_played : {K A : Type 0} {i : _} {j : _} {g : Setup} {workers : ℕ} {calls : Vec (Vec Item Global) Global} {ends ended : Ends K A i j} {played : Played} {before after : Option (List ℕ)} (answer : Result (Unit {0}) PlayFault) (held_before held_after : Option (List ℕ))
     → ReadsCalls g (Ok calls) before after
-    → report.setup ≡ g → report.workers ≡ workers
-    → IsPlay g (lists_of calls.items) report.trace completions
-    → WritesPlay answer held_before held_after report.trace completions
+    → AreFresh g workers ends → GiveBack ends (lists_of calls.items) ended
+    → IsPlayed ended.kernel.kept.setup (length ended.workers.items) (lists_of calls.items) played
+    → WritesPlay answer held_before held_after played.report.trace played.completions.items
     → Plays g workers answer before after held_before held_after
-played g workers calls report completions answer before after held_before held_after r setup many play (text, written, (part, appended, is)) =
+was_played {g = g} {workers = workers} {calls = calls} {played = played} {before = before} {after = after} answer held_before held_after r fresh gave is_played (text, written, (part, appended, is)) =
     go answer is
   where
     the_text : (whole : List ℕ) → text ≡ whole → IsPlayText g workers r.bytes whole
-    the_text whole same = record { calls = lists_of calls.items; told = r.returned; report = report; setup = setup; many = many; completions = completions; play = play; written = subst (λ (t : List ℕ). IsTextOf report.trace completions t) same written }
+    the_text whole same = record {
+      calls = lists_of calls.items;
+      told = r.returned;
+      report = played.report;
+      setup = is_played.setup ∙ gave.setup ∙ fresh.setup;
+      many = is_played.many ∙ gave.many ∙ fresh.many;
+      completions = played.completions.items;
+      play = subst (λ (s : Setup). IsPlay s (lists_of calls.items) played.report.trace played.completions.items) (gave.setup ∙ fresh.setup) is_played.play;
+      written = subst (λ (t : List ℕ). IsTextOf played.report.trace played.completions.items t) same written;
+    }
 
     go : (a : Result (Unit {0}) PlayFault) → IsWritten a text part → Plays g workers a before after held_before held_after
     go (Ok done) is = record { bytes = r.bytes; consumed = r.consumed; whole = r.whole; written = part; appended = appended; answers = the_text part (sym is) }

@@ -26,9 +26,8 @@ use Rattle.uring_threads.specs.Settled.{finish_of}
 use Rattle.uring_workers.specs.Worker.{Worker}
 use Rattle.uring_workers.specs.declared.job.JobResult.{JobResult}
 use Rattle.uring_play.specs.Plays.{IsPlay}
-use Rattle.uring_play.specs.Threads.{Applies, StaysKernel, StayWorkers}
+use Rattle.uring_play.specs.Threads.{StaysApp, StaysKernel, StayWorkers}
 use Rattle.uring_play.specs.Totals.{accepted_in, accepted_of}
-use Rattle.uring_play.specs.declared.application.Applied.{Applied}
 
 -- ---- a ring that is closed stays so while results are taken in
 
@@ -51,9 +50,8 @@ closed_later g trace results =
 -- ---- all went through
 
 -- what settling gave of ends that were done
-pub record IsOver (g : Setup) (calls : List (List Item)) (app : AppEnd) (kernel : Kernel) (workers : List Worker) (r : Report) : Type 0 where
+pub record IsOver (calls : List (List Item)) (app : AppEnd) (kernel : Kernel) (workers : List Worker) (r : Report) : Type 0 where
   pub setup : r.setup ≡ kernel.kept.setup
-  pub same : kernel.kept.setup ≡ g
   pub lawful : IsLawful r.setup (history_of r.trace)
   pub trace : FinishesAll kernel.kept.trace kernel.lanes workers r
   pub items : PublishesItems app.submitted r
@@ -65,11 +63,10 @@ pub record IsOver (g : Setup) (calls : List (List Item)) (app : AppEnd) (kernel 
   pub none_outstanding : outstanding_in (left_by r).requests ≡ 0
   pub none_waits : r.waiting ≡ []
 
-pub over_is_play : (g : Setup) (calls : List (List Item)) (app : AppEnd) (kernel : Kernel) (workers : List Worker) (r : Report) (completions : List Cqe)
-    → IsOver g calls app kernel workers r → completions ≡ app.received ++ r.undelivered
-    → IsPlay g calls r.trace completions
-over_is_play g calls app kernel workers r completions over all =
-    let same : r.setup ≡ g = over.setup ∙ over.same in
+pub over_is_play : (calls : List (List Item)) (app : AppEnd) (kernel : Kernel) (workers : List Worker) (r : Report) (completions : List Cqe)
+    → IsOver calls app kernel workers r → completions ≡ app.received ++ r.undelivered
+    → IsPlay kernel.kept.setup calls r.trace completions
+over_is_play calls app kernel workers r completions over all =
     let results = all_waiting kernel.lanes workers in
     let shut : (left_by r).is_closed ≡ true =
     ap (λ (s : Setup). (world s (history_of r.trace)).is_closed) over.setup
@@ -85,7 +82,7 @@ over_is_play g calls app kernel workers r completions over all =
     in
     let reaped = sym over.reaped ∙ sym all in
     let posted = sym over.posted ∙ ap (λ (w : List Cqe). (left_by r).completions.reaped ++ w) over.none_waits ∙ append-nil _ ∙ reaped in
-    subst (λ (s : Setup). IsPlay s calls r.trace completions) same
+    subst (λ (s : Setup). IsPlay s calls r.trace completions) over.setup
     (record {
       lawful = over.lawful;
       published = published;
@@ -131,11 +128,11 @@ as_many before after so =
     sym (length-map after count) ∙ ap length so.files ∙ length-map before count
 
 -- the ends are still all of one set-up
-pub still_together : {P : Type 0} (app : AppEnd) (kernel : Kernel) (workers : List Worker) (calls : List (List Item)) (applied : Applied P) (kernel_after : Kernel) (workers_after : List Worker)
+pub still_together : {app app_after : AppEnd} {kernel kernel_after : Kernel} {workers workers_after : List Worker}
     → AreTogether app kernel workers
-    → Applies app calls applied → StaysKernel kernel kernel_after
-    → StayWorkers workers workers_after → AreTogether applied.app kernel_after workers_after
-still_together app kernel workers calls applied kernel_after workers_after t applies stays so =
+    → StaysApp app app_after → StaysKernel kernel kernel_after
+    → StayWorkers workers workers_after → AreTogether app_after kernel_after workers_after
+still_together {workers = workers} {workers_after = workers_after} t applies stays so =
     let count : Worker → ℕ = λ w. length w.files in
     let many : length workers_after ≡ length workers = as_many workers workers_after so in
     record {

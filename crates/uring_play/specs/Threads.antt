@@ -3,25 +3,41 @@ use Rattle.std.specs.Prelude.{◌≡◌, ℕ, Bool, true, List, [], ◌++◌, le
 use Rattle.std.specs.declared.thread.PromisedHandle.{PromisedHandle}
 use Rattle.uring_entry.specs.Layout.{Cqe}
 use Rattle.uring_entry.specs.Requests.{outstanding_in}
+use Rattle.uring_entry.specs.Setup.{Setup}
 use Rattle.uring_ports.specs.AppEnd.{AppEnd}
+use Rattle.uring_ports.specs.Ports.{nothing_put}
 use Rattle.uring_ports.specs.declared.item.Item.{Item}
 use Rattle.uring_workers.specs.WorkLanes.{numbers_of_lanes}
 use Rattle.uring_threads.specs.Kernel.{Kernel}
 use Rattle.uring_threads.specs.Report.{Report, left_by}
 use Rattle.uring_workers.specs.Worker.{Worker}
-use Rattle.uring_play.specs.declared.application.Applied.{Applied}
-use Rattle.uring_play.specs.declared.drive.Played.{Played}
+use Rattle.uring_play.specs.Plays.{IsPlay}
+use Rattle.uring_play.specs.declared.ends.Application.{Application}
+use Rattle.uring_play.specs.declared.ends.Ends.{Ends}
+use Rattle.uring_play.specs.declared.settling.Played.{Played}
 use Rattle.uring_play.specs.declared.promises.GivesWorker.{GivesWorker}
 
--- The application's end is still of its pair of ports, and all that it reaped is at hand. If all is done, these calls were submitted, and the end was closed.
-pub record Applies {P : Type 0} (before : AppEnd) (calls : List (List Item)) (applied : Applied P) : Type 0 where
-  pub pairing : applied.app.pairing ≡ before.pairing
-  pub sizes : applied.app.sizes ≡ before.sizes
-  pub reaped : applied.app.received ≡ applied.completions.items
-  pub submitted : applied.done ≡ true → applied.app.submitted ≡ record {
-    calls = calls;
-    closed = true;
-  }
+-- The application's end is still of its pair of ports.
+pub record StaysApp (before after : AppEnd) : Type 0 where
+  pub pairing : after.pairing ≡ before.pairing
+  pub sizes : after.sizes ≡ before.sizes
+
+-- and nothing more was submitted
+pub record OnlyReaps (before after : AppEnd) : Type 0 where
+  pub stays : StaysApp before after
+  pub submitted : after.submitted ≡ before.submitted
+
+-- If all is done, these calls were submitted, and the end was closed.
+abbrev pub Submits : {P : Type 0} {g : _} → List (List Item) → Application P g → Type 0
+Submits calls application = application.done ≡ true → application.app.submitted ≡ record {
+  calls = calls;
+  closed = true;
+}
+
+-- The application's thread has left its end so, of these calls.
+pub record Applies {P : Type 0} {g : _} (before : AppEnd) (calls : List (List Item)) (after : Application P g) : Type 0 where
+  pub stays : StaysApp before after.app
+  pub submits : Submits calls after
 
 -- The dispatcher's end is still over the same port and lanes, and of the same set-up.
 pub record StaysKernel (before after : Kernel) : Type 0 where
@@ -56,10 +72,28 @@ worker_of thread = thread.promise.0.value
 abbrev pub workers_of : List WorkerThread → List Worker
 workers_of threads = map worker_of threads
 
+-- The ends of this set-up with so many workers, before anything is submitted.
+pub record AreFresh {K A : Type 0} {g : _} {h : _} (s : Setup) (workers : ℕ) (ends : Ends K A g h) : Type 0 where
+  pub setup : ends.kernel.kept.setup ≡ s
+  pub many : length ends.workers.items ≡ workers
+  pub submitted : ends.application.app.submitted ≡ nothing_put
+
+-- All ends behind their threads are of the same set-up, with as many workers, and the application has left its own so.
+pub record GiveBack {K A : Type 0} {g : _} {h : _} (before : Ends K A g h) (calls : List (List Item)) (after : Ends K A g h) : Type 0 where
+  pub setup : after.kernel.kept.setup ≡ before.kernel.kept.setup
+  pub many : length after.workers.items ≡ length before.workers.items
+  pub submits : Submits calls after.application
+
 -- The threads did all that was to be done, and settling has left nothing outstanding and nothing that waits: the play has this report, and behind the completions that were received those that weren't.
-pub record IsWhole {K A : Type 0} (is_over : Bool) (report : Report) (received : List Cqe) (played : Played K A) : Type 0 where
+pub record IsWhole (is_over : Bool) (report : Report) (received : List Cqe) (played : Played) : Type 0 where
   pub over : is_over ≡ true
   pub none_outstanding : outstanding_in (left_by report).requests ≡ 0
   pub none_waits : report.waiting ≡ []
   pub report_is : played.report ≡ report
   pub completions : played.completions.items ≡ received ++ report.undelivered
+
+-- a play of these calls by ends of this set-up, with so many workers
+pub record IsPlayed (g : Setup) (workers : ℕ) (calls : List (List Item)) (played : Played) : Type 0 where
+  pub setup : played.report.setup ≡ g
+  pub many : played.report.workers ≡ workers
+  pub play : IsPlay g calls played.report.trace played.completions.items

@@ -2,199 +2,137 @@
 ghost use Rattle.std.specs.Prelude.{◌≡◌, ◌++◌, IsTrue};
 ghost use Rattle.uring_ports.specs.Ports.{nothing_put, with_call, with_close};
 ghost use Rattle.uring_play_text.specs.Inputs.{lists_of};
-ghost use Rattle.uring_play.specs.Threads.{Applies};
+ghost use Rattle.uring_play.specs.Threads.{Applies, OnlyReaps, StaysApp};
 
+use crate::ends::Application;
 use std::sync::Wait;
 use std::sync::atomic::{AtomicBool, Ordering};
 use std::thread;
-use uring_core::Cqe;
-use uring_threads::{AppEnd, AppPort, CloseRefusal, Item, SubmitRefusal};
+use uring_threads::{AppPort, CloseRefusal, Item, SubmitRefusal};
 
 /// How many completions are reaped before a call is tried once more.
 const MOST_REAPED: u32 = 64;
 
-/// What the application's thread leaves.
-#[derive(Drop)]
-pub(crate) struct Applied<P: AppPort> {
-    pub app: AppEnd<P>,
-
-    /// The completions that it reaped, in order.
-    pub completions: Vec<Cqe>,
-
-    /// Whether all calls were submitted, and the end was closed.
-    pub done: bool,
-}
-
 /// Submits each call in order and closes, while the threads run; a call that finds no room is submitted once more. Reaps in between, and then until the threads are to stop, for as many completions as there is memory for.
 pub(crate) fn apply<R: Wait, P: AppPort>(
     rt: &R,
-    app: AppEnd<P>,
+    application: Application<P>,
     calls: Vec<Vec<Item>>,
-    completions: Vec<Cqe>,
     stop: &AtomicBool,
-) -> Applied<P>
-    requires submitted { app.submitted ≡ nothing_put }
-    requires reaped { app.received ≡ completions.items }
-    ensures { Applies app (lists_of calls.items) result }
+) -> Application<P>
+    requires { application.app.submitted ≡ nothing_put }
+    ensures { Applies application.app (lists_of calls.items) result }
 {
-    let mut app = app;
-    let mut completions = completions;
-    let submitted = submit_all(rt, &mut app, calls.as_slice(), &mut completions, stop);
-    let done = submitted && close(rt, &mut app, &mut completions, stop);
-    reap_until(rt, &mut app, &mut completions, stop);
-    Applied {
-        app,
-        completions,
-        done,
-    }
+    let mut application = application;
+    let done = application.submit_all(rt, calls.as_slice(), stop) && application.close(rt, stop);
+    application.reap_until(rt, stop);
+    application.done = done;
+    application
 }
 
-/// Submits each call in order. False if the threads are to stop before, or a call can't be submitted.
-fn submit_all<R: Wait, P: AppPort>(
-    rt: &R,
-    app: &mut AppEnd<P>,
-    calls: &[Vec<Item>],
-    completions: &mut Vec<Cqe>,
-    stop: &AtomicBool,
-) -> bool
-    requires { app.old.received ≡ completions.old.items }
-    ensures submitted { IsTrue result
-        → app.new.submitted
-        ≡ record { calls = app.old.submitted.calls ++ lists_of calls.now; closed = app.old.submitted.closed } }
-    ensures pairing { app.new.pairing ≡ app.old.pairing }
-    ensures sizes { app.new.sizes ≡ app.old.sizes }
-    ensures reaped { app.new.received ≡ completions.new.items }
-{
-    for call in calls {
-        if !submit(rt, app, call.as_slice(), completions, stop) {
+impl<P: AppPort> Application<P> {
+    /// Submits each call in order. False if the threads are to stop before, or a call can't be submitted.
+    fn submit_all<R: Wait>(&mut self, rt: &R, calls: &[Vec<Item>], stop: &AtomicBool) -> bool
+        ensures submitted { IsTrue result
+            → self.new.app.submitted
+            ≡ record { calls = self.old.app.submitted.calls ++ lists_of calls.now; closed = self.old.app.submitted.closed } }
+        ensures stays { StaysApp self.old.app self.new.app }
+    {
+        for call in calls {
+            if !self.submit(rt, call.as_slice(), stop) {
+                return false;
+            }
+        }
+        true
+    }
+
+    /// Submits a call, once more wherever the end is full. False if the threads are to stop before, or the call can't be submitted.
+    fn submit<R: Wait>(&mut self, rt: &R, call: &[Item], stop: &AtomicBool) -> bool
+        ensures submitted { IsTrue result
+            → self.new.app.submitted ≡ with_call self.old.app.submitted call.now }
+        ensures stays { StaysApp self.old.app self.new.app }
+    {
+        for _ in rt.forever() {
+            match self.app.submit(call) {
+                Ok(()) => return true,
+                Err(SubmitRefusal::Full) => {}
+                Err(_) => return false,
+            }
+            if !self.goes_on(stop) {
+                return false;
+            }
+        }
+        unreachable!()
+    }
+
+    /// Closes the end, once more wherever it is full. False if the threads are to stop before.
+    fn close<R: Wait>(&mut self, rt: &R, stop: &AtomicBool) -> bool
+        ensures submitted { IsTrue result
+            → self.new.app.submitted ≡ with_close self.old.app.submitted }
+        ensures stays { StaysApp self.old.app self.new.app }
+    {
+        for _ in rt.forever() {
+            match self.app.close() {
+                Ok(()) => return true,
+                Err(CloseRefusal::Full) => {}
+                Err(CloseRefusal::Closed) => return false,
+            }
+            if !self.goes_on(stop) {
+                return false;
+            }
+        }
+        unreachable!()
+    }
+
+    /// Reaps until the threads are to stop.
+    fn reap_until<R: Wait>(&mut self, rt: &R, stop: &AtomicBool)
+        ensures { OnlyReaps self.old.app self.new.app }
+    {
+        for _ in rt.forever() {
+            if !self.goes_on(stop) {
+                return;
+            }
+        }
+    }
+
+    /// Reaps completions, or lets other threads run if this end sees none. False, and nothing is done, if the threads are to stop.
+    fn goes_on(&mut self, stop: &AtomicBool) -> bool
+        ensures { OnlyReaps self.old.app self.new.app }
+    {
+        if stop.load(Ordering::SeqCst) {
             return false;
         }
-    }
-    true
-}
-
-/// Submits a call, once more wherever the end is full. False if the threads are to stop before, or the call can't be submitted.
-fn submit<R: Wait, P: AppPort>(
-    rt: &R,
-    app: &mut AppEnd<P>,
-    call: &[Item],
-    completions: &mut Vec<Cqe>,
-    stop: &AtomicBool,
-) -> bool
-    requires { app.old.received ≡ completions.old.items }
-    ensures submitted { IsTrue result → app.new.submitted ≡ with_call app.old.submitted call.now }
-    ensures pairing { app.new.pairing ≡ app.old.pairing }
-    ensures sizes { app.new.sizes ≡ app.old.sizes }
-    ensures reaped { app.new.received ≡ completions.new.items }
-{
-    for _ in rt.forever() {
-        match app.submit(call) {
-            Ok(()) => return true,
-            Err(SubmitRefusal::Full) => {}
-            Err(_) => return false,
+        if !self.reap_some() {
+            thread::yield_now();
         }
-        if !goes_on(app, completions, stop) {
+        true
+    }
+
+    /// Reaps completions for as long as this end sees some, so that a call isn't tried anew for each of them, but no more than `MOST_REAPED`. Whether there was one.
+    fn reap_some(&mut self) -> bool
+        ensures { OnlyReaps self.old.app self.new.app }
+    {
+        let mut has_reaped = false;
+        'reaping: for _ in 0..MOST_REAPED {
+            if !self.reap() {
+                break 'reaping;
+            }
+            has_reaped = true;
+        }
+        has_reaped
+    }
+
+    /// Reaps a completion, if there is memory for it and this end sees one. Whether it did.
+    fn reap(&mut self) -> bool
+        ensures { OnlyReaps self.old.app self.new.app }
+    {
+        if self.completions.len() >= self.completions.capacity() {
             return false;
         }
-    }
-    unreachable!()
-}
-
-/// Closes the end, once more wherever it is full. False if the threads are to stop before.
-fn close<R: Wait, P: AppPort>(
-    rt: &R,
-    app: &mut AppEnd<P>,
-    completions: &mut Vec<Cqe>,
-    stop: &AtomicBool,
-) -> bool
-    requires { app.old.received ≡ completions.old.items }
-    ensures submitted { IsTrue result → app.new.submitted ≡ with_close app.old.submitted }
-    ensures pairing { app.new.pairing ≡ app.old.pairing }
-    ensures sizes { app.new.sizes ≡ app.old.sizes }
-    ensures reaped { app.new.received ≡ completions.new.items }
-{
-    for _ in rt.forever() {
-        match app.close() {
-            Ok(()) => return true,
-            Err(CloseRefusal::Full) => {}
-            Err(CloseRefusal::Closed) => return false,
-        }
-        if !goes_on(app, completions, stop) {
+        let Some(completion) = self.app.reap() else {
             return false;
-        }
+        };
+        self.completions.push_reserved(completion);
+        true
     }
-    unreachable!()
-}
-
-/// Reaps until the threads are to stop.
-fn reap_until<R: Wait, P: AppPort>(
-    rt: &R,
-    app: &mut AppEnd<P>,
-    completions: &mut Vec<Cqe>,
-    stop: &AtomicBool,
-)
-    requires { app.old.received ≡ completions.old.items }
-    ensures submitted { app.new.submitted ≡ app.old.submitted }
-    ensures pairing { app.new.pairing ≡ app.old.pairing }
-    ensures sizes { app.new.sizes ≡ app.old.sizes }
-    ensures reaped { app.new.received ≡ completions.new.items }
-{
-    for _ in rt.forever() {
-        if !goes_on(app, completions, stop) {
-            return;
-        }
-    }
-}
-
-/// Reaps completions, or lets other threads run if this end sees none. False, and nothing is done, if the threads are to stop.
-fn goes_on<P: AppPort>(app: &mut AppEnd<P>, completions: &mut Vec<Cqe>, stop: &AtomicBool) -> bool
-    requires { app.old.received ≡ completions.old.items }
-    ensures submitted { app.new.submitted ≡ app.old.submitted }
-    ensures pairing { app.new.pairing ≡ app.old.pairing }
-    ensures sizes { app.new.sizes ≡ app.old.sizes }
-    ensures reaped { app.new.received ≡ completions.new.items }
-{
-    if stop.load(Ordering::SeqCst) {
-        return false;
-    }
-    if !reap_some(app, completions) {
-        thread::yield_now();
-    }
-    true
-}
-
-/// Reaps completions for as long as this end sees some, so that a call isn't tried anew for each of them, but no more than `MOST_REAPED`. Whether there was one.
-fn reap_some<P: AppPort>(app: &mut AppEnd<P>, completions: &mut Vec<Cqe>) -> bool
-    requires { app.old.received ≡ completions.old.items }
-    ensures submitted { app.new.submitted ≡ app.old.submitted }
-    ensures pairing { app.new.pairing ≡ app.old.pairing }
-    ensures sizes { app.new.sizes ≡ app.old.sizes }
-    ensures reaped { app.new.received ≡ completions.new.items }
-{
-    let mut has_reaped = false;
-    'reaping: for _ in 0..MOST_REAPED {
-        if !reap(app, completions) {
-            break 'reaping;
-        }
-        has_reaped = true;
-    }
-    has_reaped
-}
-
-/// Reaps a completion, if there is memory for it and this end sees one. Whether it did.
-fn reap<P: AppPort>(app: &mut AppEnd<P>, completions: &mut Vec<Cqe>) -> bool
-    requires { app.old.received ≡ completions.old.items }
-    ensures submitted { app.new.submitted ≡ app.old.submitted }
-    ensures pairing { app.new.pairing ≡ app.old.pairing }
-    ensures sizes { app.new.sizes ≡ app.old.sizes }
-    ensures reaped { app.new.received ≡ completions.new.items }
-{
-    if completions.len() >= completions.capacity() {
-        return false;
-    }
-    let Some(completion) = app.reap() else {
-        return false;
-    };
-    completions.push_reserved(completion);
-    true
 }

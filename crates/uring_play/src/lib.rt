@@ -2,11 +2,13 @@
 #![tactic(auto)]
 
 mod application;
-mod drive;
+mod ends;
+mod opening;
 mod playing;
 mod promises;
 mod running;
 mod serving;
+mod settling;
 mod totals;
 
 pub use playing::{play, play_shared};

@@ -2,7 +2,9 @@
 ghost use Rattle.std.specs.Prelude.{◌≡◌, ◌<◌, ◌≤◌, false};
 ghost use Rattle.uring_play.specs.Plays.{Plays, WritesPlay};
 
-use crate::drive::{Played, drive_lanes, drive_words};
+use crate::opening::{over_lanes, over_words};
+use crate::running::run;
+use crate::settling::{Played, settle_all};
 use crate::totals::dropped_last;
 use std::alloc::Global;
 use std::io::{Read, Write};
@@ -10,7 +12,7 @@ use std::sync::Wait;
 use std::thread::Threads;
 use uring_core::Cqe;
 use uring_play_text::{PlayFault, read_calls, write_out};
-use uring_threads::{KernelLanes, KernelPort, KernelWords, Open, Report, Setup};
+use uring_threads::{Open, Report, Setup};
 
 /// Reads all of `reader` as calls of a play over this set-up, plays them with so many workers, and writes the completions of all requests to `writer`, sorted, and then how many requests were accepted and how many words dropped. Conditions: there are 1 to 8 workers, and calls of the set-up go on behind an entry with a fault. Our own rule.
 ///
@@ -34,7 +36,9 @@ pub fn play<R: Threads + Wait + Copy + Send + 'static, I: Read, O: Write>(
         (O.contents writer.old) (O.contents writer.new) }
 {
     let calls = read_calls(alloc, reader, setup)?;
-    let played: Played<KernelLanes> = drive_lanes(rt, alloc, setup, workers, calls)?;
+    let ends = over_lanes(alloc, setup, workers, calls.as_slice())?;
+    let ended = run(rt, alloc, ends, calls)?;
+    let played = settle_all(alloc, ended)?;
     write_played(alloc, writer, played)
 }
 
@@ -56,23 +60,20 @@ pub fn play_shared<R: Threads + Wait + Copy + Send + 'static, I: Read, O: Write>
         (O.contents writer.old) (O.contents writer.new) }
 {
     let calls = read_calls(alloc, reader, setup)?;
-    let played: Played<KernelWords> = drive_words(rt, alloc, setup, workers, calls)?;
+    let ends = over_words(alloc, setup, workers, calls.as_slice())?;
+    let ended = run(rt, alloc, ends, calls)?;
+    let played = settle_all(alloc, ended)?;
     write_played(alloc, writer, played)
 }
 
 /// Writes the completions of a play, and its counts.
-fn write_played<O: Write, K: KernelPort>(
-    alloc: Global,
-    writer: &mut O,
-    played: Played<K>,
-) -> Result<(), PlayFault>
+fn write_played<O: Write>(alloc: Global, writer: &mut O, played: Played) -> Result<(), PlayFault>
     ensures { WritesPlay result (O.contents writer.old)
         (O.contents writer.new) played.report.trace played.completions.items }
 {
     let Played {
         report,
         mut completions,
-        ports: _,
     } = played;
     let written = write_report(alloc, writer, &report, &mut completions);
     drop(report);

@@ -4,7 +4,8 @@ ghost use Rattle.uring_ports.specs.Ports.{nothing_put};
 ghost use Rattle.uring_play_text.specs.Inputs.{lists_of};
 ghost use Rattle.uring_play.specs.Threads.{Applies, StaysKernel, StaysWorker};
 
-use crate::application::{Applied, apply};
+use crate::application::apply;
+use crate::ends::Application;
 use crate::serving::{dispatch, work};
 use std::alloc::AllocError;
 use std::snapshot::Snapshot;
@@ -12,7 +13,6 @@ use std::sync::atomic::AtomicBool;
 use std::sync::{Arc, Wait};
 use std::thread;
 use std::thread::{Promise, PromisedHandle, Threads};
-use uring_core::Cqe;
 use uring_threads::{AppEnd, AppPort, Item, Kernel, KernelPort, Open, Worker};
 
 /// The application's thread submits these calls through this end.
@@ -22,11 +22,11 @@ pub(crate) struct AppliesAll<P: AppPort> {
     calls: Snapshot<Vec<Vec<Item>>>,
 }
 
-impl<P: AppPort> Promise<Applied<P>> for AppliesAll<P> {
+impl<P: AppPort> Promise<Application<P>> for AppliesAll<P> {
     ghost use Rattle.uring_play_text.specs.Inputs.{lists_of};
     ghost use Rattle.uring_play.specs.Threads.{Applies};
 
-    ghost kept_by = { λ p applied. Applies p.before.value (lists_of p.calls.value.items) applied };
+    ghost kept_by = { λ p after. Applies p.before.value (lists_of p.calls.value.items) after };
 }
 
 /// The dispatcher's thread gives this end back.
@@ -49,6 +49,12 @@ impl Promise<Worker<Open>> for GivesWorker {
     ghost kept_by = { λ p worker. StaysWorker p.0.value worker };
 }
 
+/// The application's thread.
+pub(crate) type ApplicationThread<P> = PromisedHandle<Application<P>, AppliesAll<P>>;
+
+/// The dispatcher's thread.
+pub(crate) type KernelThread<K> = PromisedHandle<Kernel<K>, GivesKernel<K>>;
+
 /// The thread of a worker.
 pub(crate) type WorkerThread = PromisedHandle<Worker<Open>, GivesWorker>;
 
@@ -66,26 +72,23 @@ pub(crate) fn start_application<
     P: AppPort + Send + 'static,
 >(
     rt: R,
-    app: AppEnd<P>,
+    application: Application<P>,
     calls: Vec<Vec<Item>>,
-    completions: Vec<Cqe>,
     stop: &Arc<AtomicBool>,
-) -> Result<PromisedHandle<Applied<P>, AppliesAll<P>>, AllocError>
-    requires submitted { app.submitted ≡ nothing_put }
-    requires reaped { app.received ≡ completions.items }
-    ensures before { IfOk result (λ thread. thread.promise.before.value ≡ app) }
+) -> Result<ApplicationThread<P>, AllocError>
+    requires { application.app.submitted ≡ nothing_put }
+    ensures before { IfOk result (λ thread. thread.promise.before.value ≡ application.app) }
     ensures calls { IfOk result (λ thread. thread.promise.calls.value ≡ calls) }
 {
-    let (stop, app) = beside(stop, app)?;
+    let (stop, application) = beside(stop, application)?;
     let promise = AppliesAll {
-        before: Snapshot::of(&app),
+        before: Snapshot::of(&application.app),
         calls: Snapshot::of(&calls),
     };
-    let body = move || -> Applied<P>
-        requires submitted { app.submitted ≡ nothing_put }
-        requires reaped { app.received ≡ completions.items }
-        ensures { Applies app (lists_of calls.items) result }
-    { apply(&rt, app, calls, completions, &stop) };
+    let body = move || -> Application<P>
+        requires { application.app.submitted ≡ nothing_put }
+        ensures { Applies application.app (lists_of calls.items) result }
+    { apply(&rt, application, calls, &stop) };
     Ok(thread::spawn_with(&rt, promise, body)?)
 }
 
@@ -93,11 +96,7 @@ pub(crate) fn start_application<
 pub(crate) fn start_dispatcher<
     R: Threads + Wait + Copy + Send + 'static,
     K: KernelPort + Send + 'static,
->(
-    rt: R,
-    kernel: Kernel<K>,
-    stop: &Arc<AtomicBool>,
-) -> Result<PromisedHandle<Kernel<K>, GivesKernel<K>>, AllocError>
+>(rt: R, kernel: Kernel<K>, stop: &Arc<AtomicBool>) -> Result<KernelThread<K>, AllocError>
 where
     K::App: Send + 'static,
     ensures { IfOk result (λ thread. thread.promise.0.value ≡ kernel) }

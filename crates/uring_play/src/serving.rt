@@ -15,20 +15,13 @@ pub(crate) fn dispatch<R: Wait, K: KernelPort>(
     ensures { StaysKernel kernel result }
 {
     let mut kernel = kernel;
-    turn_until(rt, &mut kernel, stop);
-    stop.store(true, Ordering::SeqCst);
-    kernel
-}
-
-/// Turns the dispatcher until it is idle or out of memory, or the threads are to stop.
-fn turn_until<R: Wait, K: KernelPort>(rt: &R, kernel: &mut Kernel<K>, stop: &AtomicBool)
-    ensures { StaysKernel kernel.old kernel.new }
-{
     for _ in rt.forever() {
-        if !goes_on(kernel, stop) {
-            return;
+        if !goes_on(&mut kernel, stop) {
+            break;
         }
     }
+    stop.store(true, Ordering::SeqCst);
+    kernel
 }
 
 /// Makes a turn, and lets other threads run if nothing was done in it. False if the dispatcher is idle or out of memory, or the threads are to stop.

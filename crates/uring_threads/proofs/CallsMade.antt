@@ -1,13 +1,13 @@
 -- What calls that are made one after the other leave: which are left, how the ring stands, and what they append.
-use Rattle.std.proofs.Common.{◌≡◌, ℕ, zero, suc, ◌+◌, ◌-◌, ◌<◌, ◌≤◌, Bool, true, false, not, ◌&&◌, List, [], ◌∷◌, ◌++◌, length, map, drop, sum, Option, Some, None, is_some, if◌then◌else◌, nat_lt, nat_le, refl, sym, subst, ap, ap₂, ◌∙◌, inl, inr, arith, append_assoc, append-nil, length-drop}
+use Rattle.std.proofs.Common.{◌≡◌, ℕ, zero, suc, ◌+◌, ◌-◌, ◌≤◌, Bool, true, false, not, ◌&&◌, List, [], ◌∷◌, ◌++◌, length, map, drop, sum, Some, None, is_some, if◌then◌else◌, nat_lt, nat_le, refl, sym, subst, ap, ap₂, ◌∙◌, inl, inr, arith, append_assoc, append-nil, length-drop}
 use Rattle.std.proofs.Math.ListN.{drop_of_length-le}
 use Rattle.std.proofs.Math.Seq.{drop-append_seam}
-use Rattle.std.proofs.lemmas.Bool.{cases_Bool, lt-ltb, le-ltb, lt-leb, le-leb, ltb-true, ltb-false}
+use Rattle.std.proofs.lemmas.Bool.{cases_Bool, lt-ltb, lt-leb, le-leb, ltb-true, ltb-false}
 use Rattle.std.proofs.lemmas.List.{length-map}
 use Rattle.std.proofs.lemmas.List.Sums.{sum_by-cons}
 use Rattle.uring_entry.specs.Setup.{Setup}
 use Rattle.uring_entry.specs.Layout.{Sqe}
-use Rattle.uring_entry.specs.Submission.{Submission, Place, Published, with_entry, bad_word, place_of, taken, with_published}
+use Rattle.uring_entry.specs.Submission.{Submission, Published, with_entry, bad_word, place_of, taken, with_published}
 use Rattle.uring_core.specs.Stops.{stops_at_word}
 use Rattle.uring_core.specs.World.{World}
 use Rattle.uring_laws.specs.Standing.{Stands, after_call, ends_behind, with_item, with_items}
@@ -15,9 +15,8 @@ use Rattle.uring_laws.proofs.Standing.{words_of, items_fresh, items_keep}
 use Rattle.uring_ports.specs.Items.{all_published_as}
 use Rattle.uring_ports.specs.declared.item.Item.{Item}
 use Rattle.uring_ports.specs.declared.item.Item.TheVariants as item
-use Rattle.uring_threads.specs.Calls.{calls_behind, calls_of, calls_left, ends_behind_item, ends_of, after_calls, calls_row}
-use Rattle.uring_threads.specs.EventRows.{Records, call_row}
-use Rattle.uring_threads.specs.Kept.{Kept, now, IsUnmoved}
+use Rattle.uring_threads.specs.Calls.{calls_behind, calls_of, calls_left, ends_behind_item, ends_of, after_calls}
+use Rattle.uring_threads.specs.Kept.{Kept, now}
 use Rattle.uring_threads.specs.Taking.{HaveMade, IsFirst}
 use Rattle.uring_threads.specs.Tallies.{calls_counted, Appends}
 use Rattle.uring_threads.specs.declared.calls.CallMade.TheVariants as made

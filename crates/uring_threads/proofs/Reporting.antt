@@ -18,7 +18,7 @@ use Rattle.uring_ports.specs.declared.item.Item.{Item}
 use Rattle.uring_threads.specs.Collected.{TakesAll}
 use Rattle.uring_workers.specs.WorkLanes.{AreSameLanes}
 use Rattle.std.proofs.lemmas.List.Folds.{list_any-append}
-use Rattle.uring_entry.specs.Layout.{Cqe, Sqe}
+use Rattle.uring_entry.specs.Layout.{Cqe}
 use Rattle.uring_entry.specs.Requests.{entry_of, is_running}
 use Rattle.uring_entry.specs.Setup.{Setup}
 use Rattle.uring_entry.specs.Submission.{Submission, taken, published_items, IsItem}

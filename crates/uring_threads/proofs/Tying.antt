@@ -2,7 +2,7 @@
 use Rattle.std.proofs.Common.{◌≡◌, ℕ, ◌+◌, ◌<◌, ◌≤◌, true, false, List, [], ◌∷◌, ◌++◌, length, map, flat_map, refl, sym, subst, ap, ap₂, ◌∙◌, arith, append_assoc, append-nil}
 use Rattle.std.proofs.lemmas.Grind.{flat_map-append}
 use Rattle.std.proofs.lemmas.List.{map-append}
-use Rattle.uring_entry.specs.Submission.{Submission, Place, Published, with_entry, bad_word, item_of, IsItem}
+use Rattle.uring_entry.specs.Submission.{Submission, Place, Published, item_of, IsItem}
 use Rattle.uring_core.specs.World.{World, closing}
 use Rattle.uring_core.specs.StepAnswers.{close_answer, is_spent}
 use Rattle.uring_laws.specs.Standing.{Stands}
@@ -26,7 +26,7 @@ use Rattle.uring_threads.specs.Taking.{TakesIn}
 use Rattle.uring_threads.specs.Tallies.{Appends, items_counted, close_counted}
 use Rattle.uring_threads.proofs.ItemSteps.{items_stand}
 use Rattle.uring_threads.proofs.TraceSteps.{grown, unmoved_now, appends_none, appends_one, appends_then}
-use Rattle.uring_laws.specs.Standing.{with_item, with_items}
+use Rattle.uring_laws.specs.Standing.{with_items}
 use Rattle.uring_laws.proofs.Standing.{items_published, tail_publishes}
 use Rattle.std.specs.Prelude.{All, Result, Ok, Err, IfOk, OnErr, None, is_some, if◌then◌else◌}
 use Rattle.std.proofs.lemmas.List.{length-map, length-append, get_or_append_left}

@@ -1,4 +1,4 @@
-use Rattle.std.proofs.Common.{◌+◌, ◌++◌, ◌∷◌, [], refl, ap, ◌∙◌, arith}
+use Rattle.std.proofs.Common.{◌++◌, ◌∷◌, [], refl, ap, ◌∙◌, arith}
 use Rattle.uring_core.specs.World.{World}
 use Rattle.uring_threads.proofs.BegunRows.{begun_again, begun_all, begun_spent, next_recorded, none_recorded}
 use Rattle.uring_threads.proofs.CallsMade.{none_made, one_made}

@@ -1,4 +1,4 @@
-use Rattle.std.proofs.Common.{◌+◌, ◌∙◌, [], ◌∷◌, length, ap, refl, sym, subst, arith}
+use Rattle.std.proofs.Common.{◌∙◌, [], ◌∷◌, length, ap, refl, sym, subst, arith}
 use Rattle.uring_laws.specs.Standing.{Stands}
 use Rattle.uring_core.specs.World.{World}
 use Rattle.uring_core.specs.declared.step.Step.TheVariants as step
