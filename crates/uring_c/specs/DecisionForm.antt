@@ -6,7 +6,7 @@ use Rattle.uring_enter.specs.declared.reaching.Naming.TheVariants.{Refused, ByDe
 use Rattle.uring_enter.specs.declared.drains.WhenFound.{WhenFound}
 use Rattle.uring_enter.specs.declared.drains.WhenFound.TheVariants.{AtItsStart, ByTheCall, InItsTurn, AsksStart}
 use Rattle.uring_enter.specs.Due.{is_one_choice}
-use Rattle.uring_c.specs.EnterForm.{policy_of}
+use Rattle.uring_crossing.specs.EnterForm.{policy_of}
 
 -- the error, or 0 of a descriptor and 1 of a number. Our own rule
 abbrev pub word_of_naming : Naming → ℤ

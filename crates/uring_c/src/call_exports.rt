@@ -4,9 +4,9 @@ ghost use Rattle.uring_enter.specs.CallResults as results;
 ghost use Rattle.uring_enter.specs.Means as spec;
 ghost use Rattle.uring_enter.specs.TransferCalls.{call_of};
 ghost use Rattle.uring_c.specs.MeansForm.{words, words_of_means, fault_of_word, can_have_one};
-ghost use Rattle.uring_c.specs.WaitForm.{task_of};
+ghost use Rattle.uring_crossing.specs.WaitForm.{task_of};
 
-use crate::wait_words::task;
+use uring_crossing::wait_words::task;
 use uring_enter::{
     Fault, Held, Means, Submission, SystemCall, Transfer, Vectors, can_have, has_begun,
     is_stream_type, means_of, placed_result, transfer_call,

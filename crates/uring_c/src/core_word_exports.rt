@@ -2,12 +2,12 @@
 ghost use Rattle.std.specs.Prelude.{◌≡◌, ◌↔◌, pos, neg_ℤ, None, IsSome};
 ghost use Rattle.uring_entry.specs.declared.errno.TheConstants.{EBADF};
 ghost use Rattle.uring_core.specs.declared.step.Step.TheVariants as step;
-ghost use Rattle.uring_c.specs.Places.{core_in};
-ghost use Rattle.uring_c.specs.Stepping.{TellsWord, TellsNumber};
+ghost use Rattle.uring_crossing.specs.Places.{core_in};
+ghost use Rattle.uring_crossing.specs.Stepping.{TellsWord, TellsNumber};
 
-use crate::answer_words::{kind as kind_of, number as number_of, word as word_of};
-use crate::core_place::CorePlace;
 use std::alloc::Global;
+use uring_crossing::answer_words::{kind as kind_of, number as number_of, word as word_of};
+use uring_crossing::core_place::CorePlace;
 use uring_entry::errno;
 use uring_machine::Step;
 

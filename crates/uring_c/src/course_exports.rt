@@ -12,10 +12,10 @@ ghost use Rattle.uring_enter.specs.Chains.{member_of, limits};
 ghost use Rattle.uring_enter.specs.Showing.{Change, KeepsShown};
 ghost use Rattle.uring_enter.specs.Showing.{Posted as WasPosted};
 ghost use Rattle.uring_enter.specs.Postings.{Posting, Ended, KeepsPosted, is_taken, with_res, posts};
-ghost use Rattle.uring_c.specs.CourseForm.{fact_of, word_of_act, res_of_act, last_of, word_of_end, is_refused, part_of};
+ghost use Rattle.uring_crossing.specs.CourseForm.{fact_of, word_of_act, res_of_act, last_of, word_of_end, is_refused, part_of};
 
-use crate::completion_words::CompletionWords;
-use crate::course_words::{act_res, act_word, fact, last, part};
+use uring_crossing::completion_words::CompletionWords;
+use uring_crossing::course_words::{act_res, act_word, fact, last, part};
 use uring_enter::{
     Carried, Course, EndedEarly, Entry, Fact, Member, Posted, Shown, Submission, Success,
     completion_flags, has_succeeded, is_success, looks_for_next, looks_for_running, shown_of,

@@ -4,15 +4,15 @@
 ghost use Rattle.std.specs.Prelude.{◌≡◌, ◌↔◌, ◌≤◌, ◌-◌, ◌^◌, min, true, false, pos, neg_ℤ, None, IsSomeAnd, length};
 ghost use Rattle.uring_entry.specs.declared.errno.TheConstants.{EBADF, EFBIG, ENOENT, ENOMEM};
 ghost use Rattle.uring_epochs.specs.Asked.{log_at};
-ghost use Rattle.uring_c.specs.Places.{crash_machine_in};
-ghost use Rattle.uring_c.specs.VolumeForms.{TellsCrash, TellsCount, TellsImages, HasMore};
-ghost use Rattle.uring_c.specs.declared.crash_machine_memory.TheConstants.{ENOTRECOVERABLE};
+ghost use Rattle.uring_crossing.specs.Places.{crash_machine_in};
+ghost use Rattle.uring_crossing.specs.VolumeForms.{TellsCrash, TellsCount, TellsImages, HasMore};
+ghost use Rattle.uring_crossing.specs.declared.crash_machine_memory.TheConstants.{ENOTRECOVERABLE};
 
-use crate::crash_machine_memory::{
+use std::alloc::Global;
+use uring_crossing::crash_machine_memory::{
     crash_machine_count_images_in, crash_machine_image_in, crash_machine_images_in,
 };
-use crate::crash_machine_place::CrashMachinePlace;
-use std::alloc::Global;
+use uring_crossing::crash_machine_place::CrashMachinePlace;
 
 /// Writes the bytes that a crash leaves of the file of a descriptor, by a choice, as many as there is room for, and how many there are. -131 (ENOTRECOVERABLE) exactly if the machine is lost, else -2 (ENOENT) exactly if there is no such file; -12 (ENOMEM) if memory is refused. A refusal writes nothing.
 #[unsafe(no_mangle)]

@@ -12,27 +12,27 @@ ghost use Rattle.uring_core.specs.Core.{FitsApart, IsCounts};
 ghost use Rattle.uring_core.specs.Histories.{History, world};
 ghost use Rattle.uring_epochs.specs.Asked.{log_at, is_safe_of};
 ghost use Rattle.uring_epochs.specs.Epochs.{Epoch, FitsRun, files_from};
-ghost use Rattle.uring_c.specs.Crashing.{IsNoStart, AreShort, BeginsOn, TellsStepOn, GoesOn, IsLostFrom};
-ghost use Rattle.uring_c.specs.Cuts as spec;
-ghost use Rattle.uring_c.specs.OperationForm.{words_of_operation};
-ghost use Rattle.uring_c.specs.Places.{crash_machine_in};
-ghost use Rattle.uring_c.specs.ReadingForms.{words_of_completion, counts_told, words_of_state};
-ghost use Rattle.uring_c.specs.StepForm.{step_of};
-ghost use Rattle.uring_c.specs.VolumeForms.{TellsCrash, TellsCount, TellsImages, HasMore};
-ghost use Rattle.uring_c.specs.declared.crash_machine_memory.TheConstants.{ENOTRECOVERABLE};
+ghost use Rattle.uring_crossing.specs.Crashing.{IsNoStart, AreShort, BeginsOn, TellsStepOn, GoesOn, IsLostFrom};
+ghost use Rattle.uring_crossing.specs.Cuts as spec;
+ghost use Rattle.uring_crossing.specs.OperationForm.{words_of_operation};
+ghost use Rattle.uring_crossing.specs.Places.{crash_machine_in};
+ghost use Rattle.uring_crossing.specs.ReadingForms.{words_of_completion, counts_told, words_of_state};
+ghost use Rattle.uring_crossing.specs.StepForm.{step_of};
+ghost use Rattle.uring_crossing.specs.VolumeForms.{TellsCrash, TellsCount, TellsImages, HasMore};
+ghost use Rattle.uring_crossing.specs.declared.crash_machine_memory.TheConstants.{ENOTRECOVERABLE};
 
-use crate::answer_words::AnswerWords;
-use crate::completion_words::{CompletionWords, completion_words};
-use crate::count_words::{CountWords, count_words};
-use crate::crash_machine_memory::{
+use std::alloc::Global;
+use uring_crossing::answer_words::AnswerWords;
+use uring_crossing::completion_words::{CompletionWords, completion_words};
+use uring_crossing::count_words::{CountWords, count_words};
+use uring_crossing::crash_machine_memory::{
     crash_machine_crash_in, crash_machine_on_in, crash_machine_step_in, refusal_of_file,
 };
-use crate::crash_machine_place::CrashMachinePlace;
-use crate::operation_words::{OperationWords, operation_words};
-use crate::set_up_words::SetupWords;
-use crate::state_words::{StateWords, state_words};
-use crate::step_words::StepWords;
-use std::alloc::Global;
+use uring_crossing::crash_machine_place::CrashMachinePlace;
+use uring_crossing::operation_words::{OperationWords, operation_words};
+use uring_crossing::set_up_words::SetupWords;
+use uring_crossing::state_words::{StateWords, state_words};
+use uring_crossing::step_words::StepWords;
 use uring_entry::errno;
 
 /// Puts a new machine into a place, its files empty; what was there is freed. A crash leaves each unit of so many bytes by itself. -22 (EINVAL) exactly if the set-up is refused or a unit has no byte; -12 (ENOMEM) if memory is refused. Then the place keeps what it had.

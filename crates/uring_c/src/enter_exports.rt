@@ -3,9 +3,9 @@ ghost use Rattle.std.specs.Prelude.{◌≡◌, ℤ, pos, negsuc, List, [], ◌�
 ghost use Rattle.uring_enter.specs.declared.asked.Asked.{Asked};
 ghost use Rattle.uring_enter.specs.declared.reply.Reply.{Reply};
 ghost use Rattle.uring_enter.specs.Due.{due, is_reply_to};
-ghost use Rattle.uring_c.specs.EnterForm.{on_ring_of, reply_of, words_of_command, AreAfter};
+ghost use Rattle.uring_crossing.specs.EnterForm.{on_ring_of, reply_of, words_of_command, AreAfter};
 
-use crate::enter_words::{
+use uring_crossing::enter_words::{
     AskedWords, CommandWords, EnterWords, ReplyWords, command_words, enter_words,
 };
 use uring_enter::{Command, Enter};

@@ -5,18 +5,18 @@ ghost use Rattle.std.specs.Prelude.{◌≡◌, ◌↔◌, pos, neg_ℤ, None, Is
 ghost use Rattle.std.specs.Option.{option_and_then};
 ghost use Rattle.uring_entry.specs.declared.errno.TheConstants.{EBADF, EINVAL, ENOENT, ENOMEM};
 ghost use Rattle.uring_files.specs.Operations.{state_of, byte_of};
-ghost use Rattle.uring_c.specs.Cuts as spec;
-ghost use Rattle.uring_c.specs.Outcomes.{IsNoWalk, AreFound, ArePosted};
-ghost use Rattle.uring_c.specs.Places.{outcomes_in};
-ghost use Rattle.uring_c.specs.ReadingForms.{words_of_state};
+ghost use Rattle.uring_crossing.specs.Cuts as spec;
+ghost use Rattle.uring_crossing.specs.Outcomes.{IsNoWalk, AreFound, ArePosted};
+ghost use Rattle.uring_crossing.specs.Places.{outcomes_in};
+ghost use Rattle.uring_crossing.specs.ReadingForms.{words_of_state};
 
-use crate::completion_words::CompletionWords;
-use crate::outcomes_memory::outcomes_new_in;
-use crate::outcomes_place::OutcomesPlace;
-use crate::set_up_words::SetupWords;
-use crate::state_words::{StateWords, state_words};
-use crate::whole_call_memory::EntryWords;
 use std::alloc::Global;
+use uring_crossing::completion_words::CompletionWords;
+use uring_crossing::outcomes_memory::outcomes_new_in;
+use uring_crossing::outcomes_place::OutcomesPlace;
+use uring_crossing::set_up_words::SetupWords;
+use uring_crossing::state_words::{StateWords, state_words};
+use uring_crossing::whole_call_memory::EntryWords;
 use uring_entry::errno;
 
 /// Puts everything that calls may come to into a place, each once, and writes whether that is all: a walk takes at most so many paths, and what it has found by then is right. The entries of all calls are given one behind another, with the length of each call. -22 (EINVAL) exactly if the set-up is refused, asks for a ring that stops behind an entry with a fault, or a call has more entries than the submission ring; -12 (ENOMEM) if memory is refused. Then the place keeps what it had.

@@ -8,9 +8,9 @@ ghost use Rattle.uring_enter.specs.Pieces.{buffer_of};
 ghost use Rattle.uring_enter.specs.declared.copying.Copying.TheVariants.{Copies, Ends};
 ghost use Rattle.uring_enter.specs.declared.member.Entry.{Entry as Before};
 ghost use Rattle.uring_c.specs.TakingForm.{word_of_what, words_of_piece, word_of_copying, words_of_copying};
-ghost use Rattle.uring_c.specs.CourseForm.{entry_of};
+ghost use Rattle.uring_crossing.specs.CourseForm.{entry_of};
 
-use crate::course_words::entry_if;
+use uring_crossing::course_words::entry_if;
 use uring_enter::{
     Copying, Entry, Piece, Submission, What, has_one_buffer, how_fault, length_with, message_fault,
     next_piece, open_fault, room_fault, time_fault, vector_fault,

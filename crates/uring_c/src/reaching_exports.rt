@@ -3,7 +3,7 @@ ghost use Rattle.std.specs.Prelude.{◌≡◌};
 ghost use Rattle.uring_enter.specs.Reaching as spec;
 ghost use Rattle.uring_c.specs.DecisionForm.{is_one_choice_of, word_of_naming};
 
-use crate::enter_words::policy;
+use uring_crossing::enter_words::policy;
 use uring_enter::{Naming, looks_in_vain, naming_of, no_ring_fault};
 
 /// Returns how a call with these flags names its ring, or the error with which it is refused.

@@ -3,9 +3,9 @@ ghost use Rattle.std.specs.Prelude.{◌≡◌, ◌↔◌, pos};
 ghost use Rattle.uring_entry.specs.Setup.{Setup};
 ghost use Rattle.uring_enter.specs.SettingUp.{IsMade, IsRefusedWith};
 ghost use Rattle.uring_enter.specs.SettingUp.{features as features_of};
-ghost use Rattle.uring_c.specs.SetUps.{IsRefused, HasBadSq, HasBadCq, HasBadFiles, words_of_setup};
+ghost use Rattle.uring_crossing.specs.SetUps.{IsRefused, HasBadSq, HasBadCq, HasBadFiles, words_of_setup};
 
-use crate::set_up_words::SetupWords;
+use uring_crossing::set_up_words::SetupWords;
 use uring_enter::{AskedRing, features, set_up};
 use uring_entry::BadSetup;
 

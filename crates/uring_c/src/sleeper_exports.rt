@@ -6,9 +6,9 @@ ghost use Rattle.uring_enter.specs.Kept.{KeepsTime};
 ghost use Rattle.uring_enter.specs.Outcomes as outcomes;
 ghost use Rattle.uring_enter.specs.Readiness as ready;
 ghost use Rattle.uring_enter.specs.Sleeps.{behind_sleep};
-ghost use Rattle.uring_c.specs.TimeForm.{limit_of};
+ghost use Rattle.uring_crossing.specs.TimeForm.{limit_of};
 
-use crate::time_words::LimitWords;
+use uring_crossing::time_words::LimitWords;
 use uring_enter::{Standing, Times, keeps_open, looks_ahead, polls};
 
 /// Whether a call that sleeps polls the descriptor of a request that runs.

@@ -11,9 +11,9 @@ ghost use Rattle.uring_enter.specs.Kept.{KeepsTime};
 ghost use Rattle.uring_enter.specs.Waits.{deadline, IsWait, IsWoken, IsPassing};
 ghost use Rattle.uring_enter.specs.Clocks.{clock_of, count_of, lasts};
 ghost use Rattle.uring_enter.specs.Sleeps.{lasts_at_most, comes_to};
-ghost use Rattle.uring_c.specs.TimeForm.{limit_of, word_of_clock, words_of_limit, words_of_wait, words_of_woken};
+ghost use Rattle.uring_crossing.specs.TimeForm.{limit_of, word_of_clock, words_of_limit, words_of_wait, words_of_woken};
 
-use crate::time_words::{
+use uring_crossing::time_words::{
     LimitWords, WaitWords, WokenWords, clock_word, limit_words, wait_words, woken_words,
 };
 use uring_enter::{

@@ -7,17 +7,17 @@ ghost use Rattle.uring_volume.specs.Choices.{issued, named, has_safe};
 ghost use Rattle.uring_volume.specs.Volume.{with_event, with_write, with_sync, is_one_of, running_writes, running_syncs};
 ghost use Rattle.uring_volume.specs.declared.event.Event.TheVariants.{WriteEnded, SyncEnded, SyncFailed};
 ghost use Rattle.uring_volume.specs.declared.event.SyncRange.TheVariants.{Whole, Part};
-ghost use Rattle.uring_c.specs.Places.{volume_in};
-ghost use Rattle.uring_c.specs.VolumeForms.{TellsContents, TellsCrash, TellsCount, TellsImages, HasMore};
+ghost use Rattle.uring_crossing.specs.Places.{volume_in};
+ghost use Rattle.uring_crossing.specs.VolumeForms.{TellsContents, TellsCrash, TellsCount, TellsImages, HasMore};
 ghost use Rattle.uring_volume.specs.Writes.{Write};
 ghost use Rattle.uring_volume.specs.Folds.{IsFoldable, IsFoldedFrom};
 
-use crate::volume_memory::{
+use std::alloc::Global;
+use uring_crossing::volume_memory::{
     volume_begin_sync_in, volume_begin_write_in, volume_contents_in, volume_count_images_in,
     volume_crash_in, volume_fold_in, volume_images_in, volume_new_in,
 };
-use crate::volume_place::VolumePlace;
-use std::alloc::Global;
+use uring_crossing::volume_place::VolumePlace;
 use uring_entry::errno;
 use uring_volume::SyncRange;
 

@@ -7,9 +7,9 @@ ghost use Rattle.uring_enter.specs.Descriptors as found;
 ghost use Rattle.uring_enter.specs.Readiness as ready;
 ghost use Rattle.uring_enter.specs.Tries as tried;
 ghost use Rattle.uring_enter.specs.CallTries as called;
-ghost use Rattle.uring_c.specs.WaitForm.{word_of_finding, word_of_look, word_of_step, end_of_step, task_of, word_of_turn, end_of_turn, doing_of};
+ghost use Rattle.uring_crossing.specs.WaitForm.{word_of_finding, word_of_look, word_of_step, end_of_step, task_of, word_of_turn, end_of_turn, doing_of};
 
-use crate::wait_words::{
+use uring_crossing::wait_words::{
     doing, finding_word, look_word, step_end, step_word, task, turn_end, turn_word,
 };
 use uring_enter::{

@@ -1,15 +1,15 @@
 //! The whole calls of a core that C makes: `wulgach_core_submit` and `wulgach_core_reap_all` of the header.
 ghost use Rattle.std.specs.Prelude.{◌≡◌, ◌↔◌, pos, neg_ℤ, None, IsSome, map, [], ◌∷◌};
 ghost use Rattle.uring_entry.specs.declared.errno.TheConstants.{EBADF, ENOMEM};
-ghost use Rattle.uring_c.specs.Places.{core_in};
-ghost use Rattle.uring_c.specs.Whole.{TellsSubmit, TellsTaken, TellsReaped};
+ghost use Rattle.uring_crossing.specs.Places.{core_in};
+ghost use Rattle.uring_crossing.specs.Whole.{TellsSubmit, TellsTaken, TellsReaped};
 
-use crate::answer_words::AnswerWords;
-use crate::completion_words::CompletionWords;
-use crate::core_place::CorePlace;
-use crate::taken_words::{TakenWords, taken_words};
-use crate::whole_call_memory::{EntryWords, core_reap_all_in, core_submit_in};
 use std::alloc::Global;
+use uring_crossing::answer_words::AnswerWords;
+use uring_crossing::completion_words::CompletionWords;
+use uring_crossing::core_place::CorePlace;
+use uring_crossing::taken_words::{TakenWords, taken_words};
+use uring_crossing::whole_call_memory::{EntryWords, core_reap_all_in, core_submit_in};
 use uring_entry::{Sqe, errno};
 
 /// Makes all steps of a submission call of these entries, and writes the answer. -12 (ENOMEM) if memory for a copy of the entries is refused; then nothing changes.

@@ -1,0 +1,17 @@
+-- The parts of a core's box own what the box owns.
+use mathlib.Core.List.{[]}
+use mir.Syntax.{impl, tnil, dnil}
+use denote.Signature.{Slot, plain}
+use Rattle.std.proofs.BoxSteps.Form.{Bx}
+use Rattle.std.proofs.alloc.Global.TheLaws as heap
+use Rattle.std.specs.contracts.alloc.Global as Heap
+use Rattle.std.specs.contracts.impls.GlobalAllocator.TheImpl.{ghosts, dict}
+use Rattle.uring_core.proofs.cores.Core.TheLaws as core
+use Rattle.uring_crossing.specs.Slots.{core_row}
+use Rattle.uring_crossing.specs.contracts.parts.Parts as Parts
+
+abbrev pub E : Bx
+E = record { row = core_row; laws = core.the_row_laws; al = record { row = Heap.the_row; laws = heap.the_row_laws; g = ghosts; d = dict; drops = impl [] tnil dnil } }
+
+abbrev pub FromParts : Slot 0
+FromParts = plain (λ _. Parts.the_row core_row Heap.the_row ghosts)

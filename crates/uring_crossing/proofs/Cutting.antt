@@ -1,0 +1,73 @@
+-- A list that is cut part by part.
+use Rattle.std.proofs.Common.{◌≡◌, ◌<◌, ◌≤◌, ◌+◌, ◌-◌, ◌++◌, ◌∷◌, ℕ, zero, suc, List, [], length, map, take, drop, min, get_or, refl, sym, subst, ap, ◌∙◌, arith}
+use Rattle.std.proofs.Math.Seq.{drop-cons, drop-nil}
+use Rattle.std.proofs.lemmas.List.{take_min, drop_min, length-drop, length-take, length-map, map-append, append_assoc}
+use Rattle.uring_entry.specs.Layout.{Sqe}
+use Rattle.uring_files.specs.Contents.{max_len}
+use Rattle.uring_outcomes.specs.Faults.{entry_count}
+use Rattle.uring_crossing.specs.Crashing.{AreShort}
+use Rattle.uring_crossing.specs.Cuts.{cut}
+
+drop_plus : {X : Type 0} (n m : ℕ) (xs : List X) → drop (n + m) xs ≡ drop m (drop n xs)
+drop_plus zero m xs = ap (λ (k : ℕ). drop k xs) (let same : 0 + m ≡ m = omega arith in same)
+drop_plus (suc n) m [] = drop-nil (suc n + m) ∙ sym (drop-nil m)
+drop_plus (suc n) m (x ∷ xs) =
+    ap (λ (k : ℕ). drop k (x ∷ xs)) (let same : suc n + m ≡ suc (n + m) = omega arith in same)
+    ∙ drop_plus n m xs
+
+-- the part that begins here, and what is left behind it
+pub cut_next : {X : Type 0} (lens : List ℕ) (values : List X) (i j from to len : ℕ) → i < length lens
+    → j ≡ suc i → len ≡ get_or lens i 0 → to ≡ from + min len (length values - from)
+    → cut (drop i lens) (drop from values)
+    ≡ take (to - from) (drop from values) ∷ cut (drop j lens) (drop to values)
+cut_next lens values i j from to len within next is ends =
+    let rest = drop from values in
+    let len_rest : length rest ≡ length values - from = length-drop from values in
+    let many : to - from ≡ min len (length rest) = omega (arith, ends, len_rest) in
+    let behind : to ≡ from + min len (length rest) = omega (arith, ends, len_rest) in
+    ap (λ ls. cut ls rest) (drop-cons lens i 0 within)
+    ∙ ap (λ (k : ℕ). take k rest ∷ cut (drop (suc i) lens) (drop k rest)) (sym is)
+    ∙ ap (λ ys. ys ∷ cut (drop (suc i) lens) (drop len rest)) (sym (take_min len rest) ∙ ap (λ (k : ℕ). take k rest) (sym many))
+    ∙ ap (λ ys. take (to - from) rest ∷ cut (drop (suc i) lens) ys) (sym (drop_min len rest) ∙ sym (drop_plus from (min len (length rest)) values) ∙ ap (λ (k : ℕ). drop k values) (sym behind))
+    ∙ ap (λ (k : ℕ). take (to - from) rest ∷ cut (drop k lens) (drop to values)) (sym next)
+
+-- one part more was made
+pub cut_step : {X Y : Type 0} (f : Y → List X) (done new : List Y) (part : Y) (lens : List ℕ) (values : List X) (i j from to len : ℕ) (all : List (List X))
+    → i < length lens → j ≡ suc i → len ≡ get_or lens i 0 → to ≡ from + min len (length values - from)
+    → f part ≡ take (to - from) (drop from values) → new ≡ done ++ part ∷ []
+    → map f done ++ cut (drop i lens) (drop from values) ≡ all
+    → map f new ++ cut (drop j lens) (drop to values) ≡ all
+cut_step f done new part lens values i j from to len all within next is ends gives pushed so =
+    let rest = cut (drop j lens) (drop to values) in
+    ap (λ ps. map f ps ++ rest) pushed ∙ ap (λ ys. ys ++ rest) (map-append f done (part ∷ []))
+    ∙ append_assoc (map f done) (f part ∷ []) rest ∙ ap (λ p. map f done ++ p ∷ rest) gives
+    ∙ sym (ap (λ cs. map f done ++ cs) (cut_next lens values i j from to len within next is ends)) ∙ so
+
+-- there are as many parts as lengths
+cut_many : {X : Type 0} (lens : List ℕ) (values : List X) → length (cut lens values) ≡ length lens
+cut_many [] values = refl
+cut_many (n ∷ more) values = ap suc (cut_many more (drop n values))
+
+pub parts_many : {X Y : Type 0} (f : Y → List X) (parts : List Y) (lens : List ℕ) (values : List X)
+    → map f parts ≡ cut lens values → length parts ≡ length lens
+parts_many {X = X} f parts lens values is =
+    sym (length-map parts f) ∙ ap (λ (ls : List (List X)). length ls) is ∙ cut_many lens values
+
+-- and none of them is longer than files may be, if no length is
+cut_short : (lens bytes : List ℕ) → AreShort lens → (place : ℕ)
+    → length (get_or (cut lens bytes) place []) ≤ max_len
+cut_short [] bytes short place = omega arith
+cut_short (n ∷ more) bytes short zero = omega (arith, length-take n bytes, short 0 0 (omega arith))
+cut_short (n ∷ more) bytes short (suc place) =
+    cut_short more (drop n bytes) (λ k d within. short (suc k) d (omega (arith, within))) place
+
+pub parts_short : {Y : Type 0} (f : Y → List ℕ) (parts : List Y) (lens bytes : List ℕ) → map f parts ≡ cut lens bytes
+    → AreShort lens → (place : ℕ) → length (get_or (map f parts) place []) ≤ max_len
+parts_short f parts lens bytes is short place =
+    subst (λ (ps : List (List ℕ)). length (get_or ps place []) ≤ max_len) (sym is) (cut_short lens bytes short place)
+
+-- and calls that entries are cut into have no more entries than there are
+pub cut_within : (lens : List ℕ) (entries : List Sqe) → entry_count (cut lens entries) ≤ length entries
+cut_within [] entries = omega arith
+cut_within (n ∷ more) entries =
+    omega (arith, cut_within more (drop n entries), length-take n entries, length-drop n entries)

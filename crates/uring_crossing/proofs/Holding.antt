@@ -1,0 +1,35 @@
+-- What a slot holds that has something of a kind in it.
+use denote.Signature.{Slot, plain}
+use mathlib.Core.Logic.{inl, inr}
+use Rattle.std.proofs.Common.{◌≡◌, Option, Some, false, refl}
+use Rattle.std.proofs.lemmas.Bool.{both_ways}
+use Rattle.std.specs.Prelude.{IsSome}
+use Rattle.uring_crossing.specs.Slots.{Held, core_row, machine_row, volume_row, crash_machine_row, outcomes_row, a_core, a_machine, a_volume, a_crash_machine, some_outcomes, core_of, machine_of, volume_of, crash_machine_of, outcomes_of}
+use Rattle.uring_crossing.specs.contracts.slot.Slot as Held_slot
+
+abbrev pub FromSlot : Slot 0
+FromSlot = plain (λ _. Held_slot.the_row)
+
+pub core_held : (o : Option Held) → IsSome (core_of o) → (c : core_row.Denot) × (o ≡ Some (a_core c))
+core_held (Some (inl c)) some = (c, refl)
+core_held _ some = absurd (both_ways false refl some)
+
+pub machine_held : (o : Option Held) → IsSome (machine_of o)
+    → (m : machine_row.Denot) × (o ≡ Some (a_machine m))
+machine_held (Some (inr (inl m))) some = (m, refl)
+machine_held _ some = absurd (both_ways false refl some)
+
+pub volume_held : (o : Option Held) → IsSome (volume_of o)
+    → (v : volume_row.Denot) × (o ≡ Some (a_volume v))
+volume_held (Some (inr (inr (inl v)))) some = (v, refl)
+volume_held _ some = absurd (both_ways false refl some)
+
+pub crash_machine_held : (o : Option Held) → IsSome (crash_machine_of o)
+    → (m : crash_machine_row.Denot) × (o ≡ Some (a_crash_machine m))
+crash_machine_held (Some (inr (inr (inr (inl m))))) some = (m, refl)
+crash_machine_held _ some = absurd (both_ways false refl some)
+
+pub outcomes_held : (o : Option Held) → IsSome (outcomes_of o)
+    → (f : outcomes_row.Denot) × (o ≡ Some (some_outcomes f))
+outcomes_held (Some (inr (inr (inr (inr f))))) some = (f, refl)
+outcomes_held _ some = absurd (both_ways false refl some)

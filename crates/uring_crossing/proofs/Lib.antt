@@ -1,0 +1,9 @@
+pub mod CoreBox
+pub mod MachineBox
+pub mod VolumeBox
+pub mod CrashMachineBox
+pub mod OutcomesBox
+pub mod Refusals
+pub mod Holding
+pub mod Cutting
+pub mod Starts

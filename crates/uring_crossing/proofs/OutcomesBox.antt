@@ -1,0 +1,17 @@
+-- The parts of the box of a list of outcomes own what the box owns.
+use mathlib.Core.List.{[]}
+use mir.Syntax.{impl, tnil, dnil}
+use denote.Signature.{Slot, plain}
+use Rattle.std.proofs.BoxSteps.Form.{Bx}
+use Rattle.std.proofs.alloc.Global.TheLaws as heap
+use Rattle.std.specs.contracts.alloc.Global as Heap
+use Rattle.std.specs.contracts.impls.GlobalAllocator.TheImpl.{ghosts, dict}
+use Rattle.uring_crossing.proofs.outcome_list.OutcomeList.TheLaws as outcomes
+use Rattle.uring_crossing.specs.Slots.{outcomes_row}
+use Rattle.uring_crossing.specs.contracts.parts.Parts as Parts
+
+abbrev pub E : Bx
+E = record { row = outcomes_row; laws = outcomes.the_row_laws; al = record { row = Heap.the_row; laws = heap.the_row_laws; g = ghosts; d = dict; drops = impl [] tnil dnil } }
+
+abbrev pub FromParts : Slot 0
+FromParts = plain (λ _. Parts.the_row outcomes_row Heap.the_row ghosts)

@@ -1,0 +1,39 @@
+//! What crosses between a program in C and the proved calls: values as words, the places that C holds, and each call that asks for memory, by any memory. `uring_c` exports these under the names of the header.
+#![tactic(auto)]
+
+pub mod answer_words;
+pub mod box_memory;
+pub mod completion_words;
+pub mod core_calls;
+pub mod core_memory;
+pub mod core_place;
+pub mod count_words;
+pub mod course_words;
+pub mod crash_image_calls;
+pub mod crash_machine_calls;
+pub mod crash_machine_memory;
+pub mod crash_machine_place;
+pub mod cuts;
+pub mod enter_words;
+pub mod machine_calls;
+pub mod machine_memory;
+pub mod machine_place;
+pub mod operation_words;
+pub mod outcome_list;
+pub mod outcomes_calls;
+pub mod outcomes_memory;
+pub mod outcomes_place;
+pub mod parts;
+pub mod set_up_words;
+pub mod slot;
+pub mod state_words;
+pub mod step_words;
+pub mod taken_words;
+pub mod time_words;
+pub mod volume_calls;
+pub mod volume_memory;
+pub mod volume_place;
+pub mod wait_words;
+pub mod whole_call_memory;
+pub mod whole_calls;
+pub mod why_words;
