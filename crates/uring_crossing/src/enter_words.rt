@@ -223,6 +223,7 @@ fn wanted(kind: u32, flag: bool, value: i64) -> CommandWords
     }
 }
 
+/// The policy of a word, if it is one's.
 pub fn policy(word: u32) -> Option<Policy>
     ensures { result ≡ spec.policy_of word }
 {
@@ -234,6 +235,7 @@ pub fn policy(word: u32) -> Option<Policy>
     }
 }
 
+/// The word of a policy.
 pub fn policy_word(policy: Policy) -> u32
     ensures { result ≡ spec.word_of_policy policy }
 {
