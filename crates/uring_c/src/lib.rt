@@ -72,6 +72,7 @@ mod volume_memory;
 mod volume_place;
 mod wait_exports;
 mod wait_words;
+mod waiter_exports;
 mod watched_exports;
 mod whole_call_exports;
 mod whole_call_memory;
