@@ -96,7 +96,7 @@ struct wulgach_waiter {
     bool is_told;               /* it was told of a write, and what was written is gone */
 };
 
-/* Begins a request that has started just now. Of one that hasn't started nothing is noted. */
+/* Begins a request that has started just now: zeros, so that memory of zeros needs no call. Of one that hasn't started nothing is noted. */
 void wulgach_waiter_begin(struct wulgach_waiter *waiter);
 
 /* Returns whether a request that runs can be finished, or what is asked next (enum wulgach_look), as far as the moment is known. One that was

@@ -126,7 +126,6 @@ static void start(struct ring *ring, struct request *request)
 {
     demand(wulgach_course_start(&request->course), "a request starts twice");
     request->begun = ++ring->begun;
-    wulgach_waiter_begin(&request->waiter);
     wulgach_lookout_starts(&ring->lookout, insert_request(&ring->running, request));
     assign_before(ring, request->number);
     if (!request->is_assigned)

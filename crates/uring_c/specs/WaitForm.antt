@@ -8,8 +8,8 @@ use Rattle.uring_enter.specs.declared.ready.Wanted.TheVariants.{Count, Posting, 
 use Rattle.uring_enter.specs.declared.ready.Look.{Look}
 use Rattle.uring_enter.specs.declared.ready.Look.TheVariants as look
 use Rattle.uring_enter.specs.declared.transfer.How.TheVariants as how
-use Rattle.uring_enter.specs.declared.waiter.Sighting.{Sighting}
-use Rattle.uring_enter.specs.declared.waiter.Sighting.TheVariants as sighting
+use Rattle.uring_enter.specs.declared.sighting.Sighting.{Sighting}
+use Rattle.uring_enter.specs.declared.sighting.Sighting.TheVariants as sighting
 use Rattle.uring_enter.specs.Waiters.{Turn, FoundWaiting}
 use Rattle.uring_enter.specs.declared.transfer.Task.{Task}
 use Rattle.uring_enter.specs.declared.transfer.Task.TheVariants.{Calls, Finds, Polls}

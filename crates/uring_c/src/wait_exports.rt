@@ -8,9 +8,7 @@ ghost use Rattle.uring_enter.specs.CallTries as called;
 ghost use Rattle.uring_enter.specs.Instances as instances;
 ghost use Rattle.uring_c.specs.WaitForm.{word_of_finding, word_of_step, end_of_step, task_of, word_of_turn, end_of_turn, doing_of};
 
-use crate::wait_words::{
-    doing, finding_word, step_end, step_word, task, turn_end, turn_word,
-};
+use crate::wait_words::{doing, finding_word, step_end, step_word, task, turn_end, turn_word};
 use uring_enter::{
     Call, Known, Nature, Needs, Patience, PollStart, Submission, Transfer, Trial, asks_instance,
     instance_events, is_impatient, needs_of, next_finding, next_step, next_turn, no_buffer_fault,
@@ -110,12 +108,7 @@ pub extern "C" fn wulgach_instance_events(events: u16) -> u32
 
 /// Writes how a poll for these events starts, which can have more than one completion or can't, where asking an instance came to this.
 #[unsafe(no_mangle)]
-pub extern "C" fn wulgach_poll_starts(
-    events: u16,
-    goes_on: bool,
-    res: i32,
-    start: &mut PollStart,
-)
+pub extern "C" fn wulgach_poll_starts(events: u16, goes_on: bool, res: i32, start: &mut PollStart)
     ensures { start.new ≡ instances.poll_start events goes_on res }
 {
     *start = poll_start(events, goes_on, res);

@@ -6,8 +6,8 @@ use Rattle.uring_enter.specs.declared.ready.Look.{Look}
 use Rattle.uring_enter.specs.declared.ready.Look.TheVariants as look
 use Rattle.uring_enter.specs.declared.ready.Moment.{Moment}
 use Rattle.uring_enter.specs.declared.ready.Standing.{Standing}
-use Rattle.uring_enter.specs.declared.waiter.Sighting.{Sighting}
-use Rattle.uring_enter.specs.declared.waiter.Sighting.TheVariants.{Ready, Unready, Unseen}
+use Rattle.uring_enter.specs.declared.sighting.Sighting.{Sighting}
+use Rattle.uring_enter.specs.declared.sighting.Sighting.TheVariants.{Ready, Unready, Unseen}
 use Rattle.uring_enter.specs.declared.waiter.Waiter.{Waiter}
 use Rattle.uring_enter.specs.Lookouts.{Happening, Waited, Told, have_to_wait, lets_go, makes_ready, may_be_own, moments, releases, renews, rounds}
 use Rattle.uring_enter.specs.PipePolls as polls

@@ -96,8 +96,8 @@ impl Lookout {
         ensures { (log : List Happening) → KeepsLookout log self.old
             → KeepsLookout (Updated place finishes ∷ log) self.new }
     {
-        if finishes {
-            self.count = self.count.min(place);
+        if finishes && place < self.count {
+            self.count = place;
         }
     }
 
@@ -188,7 +188,6 @@ impl Lookout {
         self.has_changed = false;
         has_changed
     }
-
 }
 
 /// Who couldn't be finished before an end that isn't told to let others be finished can't be behind it.
