@@ -141,7 +141,6 @@ int32_t wulgach_start_fault(const struct wulgach_submission *entry, uint64_t len
 
 /* How a request stands that runs. */
 struct wulgach_standing {
-    bool has_to_wait;           /* it was carried out and would have waited, and nothing has ended since */
     bool is_stream;             /* it may have to wait for its descriptor */
     bool has_found_buffer;      /* of one that takes a provided buffer: it has found one in its group since it started */
 };
@@ -154,6 +153,7 @@ struct wulgach_moment {
     bool knows_readiness, is_ready;     /* its descriptor was found ready, or it doesn't wait for that */
 };
 
+/* Whether it can be finished, or what is asked next: wulgach_can_finish of wulgach_lookout.h says which. */
 enum wulgach_look {
     WULGACH_LOOK_WAITS = 0,
     WULGACH_LOOK_FINISHES = 1,
@@ -162,11 +162,6 @@ enum wulgach_look {
     WULGACH_ASK_BUFFER = 4,
     WULGACH_ASK_READINESS = 5
 };
-
-/* Returns whether a request that runs can be finished, or what is asked next (enum wulgach_look). One that would have waited can't until
- * another has ended; one that a cancel has found can; a timeout if its count is reached; another if its completion may be posted, where it
- * goes on, and if its descriptor is ready, where it may have to wait; or if it is to take a provided buffer and has found none. */
-uint32_t wulgach_can_finish(const struct wulgach_standing *standing, const struct wulgach_needs *needs, const struct wulgach_course *course, const struct wulgach_moment *known);
 
 /* Whether a call that sleeps polls the descriptor of a request that runs: it may have to wait for that. Another is finished or not whatever
  * its descriptor is. */
@@ -186,78 +181,6 @@ struct wulgach_patience {
 /* Whether a request doesn't wait, whatever its descriptor has: it has failed, or is asked not to wait, or for nothing; a connect and a splice
  * until they are begun, which finds their faults. */
 bool wulgach_is_impatient(const struct wulgach_submission *entry, const struct wulgach_patience *patience);
-
-/* ---- what a ring looks out for ---- */
-
-/* Which of the requests that run are looked at again, whether what was written to pipes may be the ring's own, and whether threads that
- * sleep on it are woken. It is the caller's memory, and its fields are the library's. */
-struct wulgach_lookout {
-    uint64_t count;             /* so many of the first requests that run, by number, are passed over: they are known to wait */
-    uint64_t moment;            /* how often a descriptor may have become ready */
-    bool have_to_wait;          /* one was carried out and would have waited, and isn't to be carried out again yet */
-    bool may_be_own;            /* what was written to a pipe since it was last heard may be the ring's own */
-    bool has_changed;           /* something has changed since the threads that sleep were last woken */
-};
-
-/* What the end of a request can change for others. */
-struct wulgach_end_of_one {
-    bool is_count_reached;      /* a count is reached for which a timeout waits */
-    bool has_drains;            /* requests that drain were outstanding, itself among them */
-};
-
-/* Begins a ring to which nothing has happened. */
-void wulgach_lookout_begin(struct wulgach_lookout *lookout);
-
-/* The first one that isn't passed over was looked at, and can't be finished. */
-void wulgach_lookout_passes(struct wulgach_lookout *lookout);
-
-/* One has started, and stands at this place, from 0; the one at this place runs no more; a cancel has found it, or an update has changed
- * it. */
-void wulgach_lookout_starts(struct wulgach_lookout *lookout, uint64_t place);
-void wulgach_lookout_leaves(struct wulgach_lookout *lookout, uint64_t place);
-void wulgach_lookout_touches(struct wulgach_lookout *lookout, uint64_t place);
-
-/* One was carried out, and would have waited. */
-void wulgach_lookout_waits(struct wulgach_lookout *lookout);
-
-/* An operation was carried out that can make a descriptor ready; a poll was told of what its pipe had, and has no more. */
-void wulgach_lookout_moves(struct wulgach_lookout *lookout);
-void wulgach_lookout_tells(struct wulgach_lookout *lookout);
-
-/* A call begins, or sleeps no longer; or a request has ended. They return whether those that had to wait are to be carried out again. Behind
- * an end that wasn't told to let others be finished, none can be that couldn't before. */
-bool wulgach_lookout_opens(struct wulgach_lookout *lookout);
-bool wulgach_lookout_ends(struct wulgach_lookout *lookout, const struct wulgach_end_of_one *end);
-
-/* Whether a descriptor that was looked at in this moment is to be looked at again: it may have become ready since. */
-bool wulgach_lookout_is_stale(const struct wulgach_lookout *lookout, uint64_t looked_at);
-
-/* What was written to pipes was heard, as a call began or slept no longer. Behind an operation that was carried out since, what is written
- * may be the ring's own (`may_be_own`), and isn't told. */
-void wulgach_lookout_hears(struct wulgach_lookout *lookout);
-
-/* Something else has changed for which a thread may sleep: entries were taken, or completions have come into the ring. */
-void wulgach_lookout_changes(struct wulgach_lookout *lookout);
-
-/* Threads that sleep may be woken. Returns whether they are: something has changed since they last were. */
-bool wulgach_lookout_wakes(struct wulgach_lookout *lookout);
-
-/* A request that runs, as far as it says whether it is told of a write. */
-struct wulgach_pipe_poll {
-    uint32_t watch;             /* by what number writes to its pipe are told; 0: it has none */
-    uint32_t events;            /* what a poll waits for, as poll(2) has it */
-    bool is_poll;
-    bool is_of_pipe;            /* its descriptor is a pipe's */
-    bool is_cancelled;          /* a cancel has found it */
-};
-
-/* Whether a request is to be told of writes to its pipe: it is a poll for what that has to be read. */
-bool wulgach_awaits_writes(const struct wulgach_pipe_poll *poll);
-
-/* Whether it awaits the writes of this number; and whether it is told of one, where its pipe has something to be read or nothing: of what is
- * gone. */
-bool wulgach_awaits_write(const struct wulgach_pipe_poll *poll, uint32_t watch);
-bool wulgach_is_told_of_write(const struct wulgach_pipe_poll *poll, uint32_t watch, bool is_there);
 
 /* ---- when a call sleeps, and what came of it ---- */
 
@@ -348,9 +271,23 @@ uint32_t wulgach_call_next(const struct wulgach_submission *entry, const struct 
  * is gone. False, and nothing is written: it waits. */
 bool wulgach_poll_result(uint16_t events, uint16_t present, bool was_told, int32_t *res);
 
-/* Whether an epoll instance is asked for the poll of an entry, for its events and EPOLLET: it goes on, or it is for nothing that a descriptor
+/* Whether an epoll instance is asked for the poll of an entry: it goes on, or it is for nothing that a descriptor
  * which can't be polled has. The instance refuses such a descriptor with EPERM. */
 bool wulgach_asks_instance(const struct wulgach_submission *entry);
+
+/* For what an instance is asked that is to tell of these events of a poll: for their edges (EPOLLET), so that each is told once. */
+uint32_t wulgach_instance_events(uint16_t events);
+
+/* How a poll starts. */
+struct wulgach_poll_start {
+    int32_t fault;              /* with what it has failed, or 0 */
+    bool goes_on;               /* it can have more than one completion, and keeps its instance for that */
+};
+
+/* Writes how a poll for these events starts, which can have more than one completion or can't, where asking an instance came to `res`, 0 or an
+ * error's negative: it fails with that, but where its descriptor can't be polled (EPERM). Such a one has one completion, and fails if it is for
+ * nothing that its descriptor has. */
+void wulgach_poll_starts(uint16_t events, bool goes_on, int32_t res, struct wulgach_poll_start *start);
 
 /* What a poll for these events ends with whose descriptor can't be polled, as a file's, also if it goes on: those of POLLIN, POLLOUT, POLLRDNORM
  * and POLLWRNORM that it is for, which poll(2) finds at once, or -22 (EINVAL) if it is for none. */

@@ -1,4 +1,5 @@
 /* What a ring looks out for, which polls are told of writes, and what came of a wait: written by hand, of runs of a few happenings. */
+#include "wulgach_lookout.h"
 #include "wulgach_waits.h"
 
 #include <stdio.h>
@@ -33,39 +34,106 @@ static void pass_over(void)
     wulgach_lookout_starts(&lookout, 5);
     demand(lookout.count == 5, "one behind all others");
     wulgach_lookout_leaves(&lookout, 5);
-    demand(!wulgach_lookout_ends(&lookout, &plain) && lookout.count == 5, "an end that lets none go on");
+    wulgach_lookout_ends(&lookout, &plain);
+    demand(lookout.count == 5, "an end that lets none go on");
+    wulgach_lookout_updates(&lookout, 4, false);
+    demand(lookout.count == 5, "one that waits behind its update");
+    wulgach_lookout_updates(&lookout, 4, true);
+    demand(lookout.count == 4, "one that needn't wait behind its update");
     wulgach_lookout_touches(&lookout, 3);
     demand(lookout.count == 3, "one that is cancelled is looked at again");
     wulgach_lookout_leaves(&lookout, 1);
     demand(lookout.count == 1, "those behind one that has left are looked at again");
     lookout = waiting(5);
-    demand(!wulgach_lookout_ends(&lookout, &counted) && lookout.count == 0, "a count that is reached");
+    wulgach_lookout_ends(&lookout, &counted);
+    demand(lookout.count == 0, "a count that is reached");
     lookout = waiting(5);
-    demand(!wulgach_lookout_ends(&lookout, &drained) && lookout.count == 0, "an end beside drains");
+    wulgach_lookout_ends(&lookout, &drained);
+    demand(lookout.count == 0, "an end beside drains");
     lookout = waiting(5);
-    wulgach_lookout_waits(&lookout);
-    demand(lookout.count == 5 && wulgach_lookout_ends(&lookout, &plain) && lookout.count == 0, "an end where one had to wait");
-    demand(!wulgach_lookout_ends(&lookout, &plain), "it had to wait for one end");
-    wulgach_lookout_waits(&lookout);
-    demand(wulgach_lookout_opens(&lookout) && !wulgach_lookout_opens(&lookout), "it has to wait no longer than to the next call");
+    struct wulgach_waiter waiter;
+    wulgach_waiter_begin(&waiter);
+    wulgach_waiter_waits(&waiter, &lookout);
+    demand(lookout.count == 5, "one that had to wait lets none go on");
+    wulgach_lookout_ends(&lookout, &plain);
+    demand(lookout.count == 0, "an end where one had to wait");
+}
+
+static const struct wulgach_needs no_needs;
+static const struct wulgach_course runs = {.has_started = true}, is_cancelled = {.has_started = true, .is_cancelled = true};
+static const struct wulgach_moment not_ready = {.knows_readiness = true}, ready = {.knows_readiness = true, .is_ready = true}, unknown;
+
+/* Whether a request that may have to wait for its descriptor is asked, and what is told of it. */
+static uint32_t ask(struct wulgach_waiter *waiter, const struct wulgach_lookout *lookout, const struct wulgach_moment *known)
+{
+    static const struct wulgach_standing stream = {.is_stream = true};
+    return wulgach_can_finish(waiter, lookout, &stream, &no_needs, &runs, known);
+}
+
+/* It was asked, and waits. */
+static void find_waiting(struct wulgach_waiter *waiter, const struct wulgach_lookout *lookout)
+{
+    demand(ask(waiter, lookout, &unknown) == WULGACH_ASK_READINESS && ask(waiter, lookout, &not_ready) == WULGACH_LOOK_WAITS, "one that isn't known to wait is asked");
+    demand(ask(waiter, lookout, &ready) == WULGACH_LOOK_WAITS, "one that is known to wait isn't");
+}
+
+static void ask_again(void)
+{
+    static const struct wulgach_end_of_one plain = {0}, counted = {.is_count_reached = true};
+    static const struct wulgach_standing none = {0};
+    struct wulgach_lookout lookout = waiting(2);
+    struct wulgach_waiter waiter, other;
+    wulgach_waiter_begin(&waiter);
+    wulgach_waiter_begin(&other);
+    find_waiting(&waiter, &lookout);
+    wulgach_lookout_ends(&lookout, &plain);
+    wulgach_lookout_starts(&lookout, 0);
+    demand(ask(&waiter, &lookout, &ready) == WULGACH_LOOK_WAITS, "an end, or a start, that lets none go on");
+    wulgach_lookout_ends(&lookout, &counted);
+    find_waiting(&waiter, &lookout);
+    wulgach_lookout_moves(&lookout);
+    find_waiting(&waiter, &lookout);
+    wulgach_lookout_opens(&lookout);
+    find_waiting(&waiter, &lookout);
+    wulgach_waiter_meets_update(&waiter);
+    find_waiting(&waiter, &lookout);
+    wulgach_waiter_meets_cancel(&waiter);
+    demand(wulgach_can_finish(&waiter, &lookout, &none, &no_needs, &is_cancelled, &unknown) == WULGACH_LOOK_FINISHES, "one that a cancel has found");
+    wulgach_waiter_waits(&other, &lookout);
+    demand(ask(&other, &lookout, &ready) == WULGACH_LOOK_WAITS, "one that would have waited");
+    wulgach_lookout_moves(&lookout);
+    demand(ask(&other, &lookout, &ready) == WULGACH_LOOK_WAITS, "whatever becomes ready");
+    wulgach_lookout_ends(&lookout, &plain);
+    demand(ask(&other, &lookout, &ready) == WULGACH_LOOK_FINISHES, "until another has ended");
+    wulgach_waiter_waits(&other, &lookout);
+    wulgach_lookout_opens(&lookout);
+    demand(ask(&other, &lookout, &ready) == WULGACH_LOOK_FINISHES, "or a call begins");
+    wulgach_waiter_waits(&other, &lookout);
+    wulgach_waiter_meets_update(&other);
+    demand(ask(&other, &lookout, &ready) == WULGACH_LOOK_FINISHES, "or it is updated");
+}
+
+static uint32_t sighting(const struct wulgach_waiter *waiter, const struct wulgach_lookout *lookout)
+{
+    return wulgach_waiter_sighting(waiter, lookout);
 }
 
 static void look_afresh(void)
 {
     struct wulgach_lookout lookout = waiting(2);
-    uint64_t looked_at = lookout.moment;
-    demand(!wulgach_lookout_is_stale(&lookout, looked_at) && wulgach_lookout_is_stale(&lookout, UINT64_MAX), "what was looked at is known");
+    struct wulgach_waiter waiter;
+    wulgach_waiter_begin(&waiter);
+    demand(sighting(&waiter, &lookout) == WULGACH_SIGHTING_UNSEEN, "one that was never looked at");
+    demand(!wulgach_waiter_sees(&waiter, &lookout, false) && sighting(&waiter, &lookout) == WULGACH_SIGHTING_UNREADY, "what was looked at is known");
     wulgach_lookout_hears(&lookout);
     wulgach_lookout_changes(&lookout);
-    demand(!wulgach_lookout_is_stale(&lookout, looked_at) && lookout.count == 2, "a change makes no descriptor ready");
+    demand(sighting(&waiter, &lookout) == WULGACH_SIGHTING_UNREADY && lookout.count == 2, "a change makes no descriptor ready");
     wulgach_lookout_moves(&lookout);
-    demand(wulgach_lookout_is_stale(&lookout, looked_at) && lookout.count == 0, "an operation may have");
-    looked_at = lookout.moment;
-    wulgach_lookout_tells(&lookout);
-    demand(wulgach_lookout_is_stale(&lookout, looked_at), "a poll was told");
-    looked_at = lookout.moment;
+    demand(sighting(&waiter, &lookout) == WULGACH_SIGHTING_UNSEEN && lookout.count == 0, "an operation may have");
+    demand(!wulgach_waiter_sees(&waiter, &lookout, true) && sighting(&waiter, &lookout) == WULGACH_SIGHTING_READY, "one that is ready");
+    demand(!wulgach_waiter_takes(&waiter, &lookout) && sighting(&waiter, &lookout) == WULGACH_SIGHTING_UNREADY, "one that has taken what there was");
     wulgach_lookout_opens(&lookout);
-    demand(wulgach_lookout_is_stale(&lookout, looked_at), "a call begins");
+    demand(sighting(&waiter, &lookout) == WULGACH_SIGHTING_UNSEEN, "a call begins");
 }
 
 static void wake(void)
@@ -81,18 +149,51 @@ static void wake(void)
     demand(wulgach_lookout_wakes(&lookout), "a change wakes in a later call");
 }
 
+static const struct wulgach_pipe_poll reading = {.watch = 3, .events = 1, .is_poll = true, .is_of_pipe = true};
+
+/* A poll that has heard of a write, of which what was written was there. */
+static struct wulgach_waiter hearing(struct wulgach_lookout *lookout)
+{
+    struct wulgach_waiter waiter;
+    wulgach_waiter_begin(&waiter);
+    wulgach_waiter_waits(&waiter, lookout);
+    wulgach_waiter_hears(&waiter, lookout, &reading, true);
+    demand(ask(&waiter, lookout, &ready) == WULGACH_LOOK_FINISHES, "one that has heard of a write needn't wait for an end");
+    demand(sighting(&waiter, lookout) == WULGACH_SIGHTING_UNSEEN, "what is there is found by its descriptor");
+    return waiter;
+}
+
+static void tell_of_writes(void)
+{
+    struct wulgach_lookout lookout;
+    struct wulgach_pipe_poll cancelled = reading;
+    cancelled.is_cancelled = true;
+    wulgach_lookout_begin(&lookout);
+    struct wulgach_waiter waiter = hearing(&lookout), other = waiter, third = waiter, fourth = waiter;
+    demand(wulgach_lookout_wakes(&lookout), "a write that was heard wakes those that sleep");
+    demand(!wulgach_waiter_sees(&waiter, &lookout, true) && wulgach_waiter_sees(&waiter, &lookout, false), "one that finds nothing of what it has heard");
+    demand(wulgach_waiter_misses(&waiter, &lookout, &reading, false) && sighting(&waiter, &lookout) == WULGACH_SIGHTING_READY, "is told of what is gone");
+    demand(wulgach_waiter_takes(&waiter, &lookout) && sighting(&waiter, &lookout) == WULGACH_SIGHTING_UNREADY && !wulgach_waiter_takes(&waiter, &lookout), "once");
+    demand(!wulgach_waiter_misses(&other, &lookout, &reading, true) && !wulgach_waiter_sees(&other, &lookout, false), "not of what is there");
+    demand(!wulgach_waiter_misses(&third, &lookout, &cancelled, false), "one that was cancelled");
+    wulgach_lookout_moves(&lookout);
+    demand(!wulgach_waiter_misses(&fourth, &lookout, &reading, false), "what the ring's own may have read");
+    wulgach_waiter_hears(&fourth, &lookout, &reading, false);
+    demand(sighting(&fourth, &lookout) == WULGACH_SIGHTING_READY, "what was gone when it was heard");
+}
+
 static void hear_pipes(void)
 {
     struct wulgach_lookout lookout;
     wulgach_lookout_begin(&lookout);
-    wulgach_lookout_tells(&lookout);
+    hearing(&lookout);
     demand(!lookout.may_be_own, "a poll that was told has written nothing");
     wulgach_lookout_moves(&lookout);
     wulgach_lookout_opens(&lookout);
     demand(lookout.may_be_own, "an operation may have");
     wulgach_lookout_hears(&lookout);
     demand(!lookout.may_be_own, "that was heard");
-    struct wulgach_pipe_poll poll = {.watch = 3, .events = 1, .is_poll = true, .is_of_pipe = true}, other = poll, cancelled = poll, writing = poll, unwatched = poll;
+    struct wulgach_pipe_poll poll = reading, other = poll, cancelled = poll, writing = poll, unwatched = poll;
     cancelled.is_cancelled = true;
     writing.events = 4;
     other.is_of_pipe = false;
@@ -119,8 +220,10 @@ static void sleep_or_not(void)
 int main(void)
 {
     pass_over();
+    ask_again();
     look_afresh();
     wake();
+    tell_of_writes();
     hear_pipes();
     sleep_or_not();
     printf("what a ring looks out for: it is as written\n");

@@ -1,4 +1,5 @@
 /* What an operation needs, whether it has to wait, and what becomes of a try: with what the manual pages call for, written by hand. */
+#include "wulgach_lookout.h"
 #include "wulgach_waits.h"
 
 #include <errno.h>
@@ -82,19 +83,31 @@ static void look_at_descriptors(void)
     demand(wulgach_find_kind(&entry, &plain, &nothing) == WULGACH_ASK_STATUS && wulgach_find_kind(&entry, &plain, &status) == WULGACH_ASK_OFFSETS && wulgach_find_kind(&entry, &plain, &offsets) == WULGACH_ASK_ACCESS, "what is asked");
 }
 
+/* What is told of a request of which nothing was known, by what is known of the moment; `has_waited`: but that it would have waited. */
+static uint32_t can_finish(const struct wulgach_standing *standing, const struct wulgach_needs *needs, const struct wulgach_course *course, const struct wulgach_moment *known, bool has_waited)
+{
+    struct wulgach_lookout lookout;
+    struct wulgach_waiter waiter;
+    wulgach_lookout_begin(&lookout);
+    wulgach_waiter_begin(&waiter);
+    if (has_waited)
+        wulgach_waiter_waits(&waiter, &lookout);
+    return wulgach_can_finish(&waiter, &lookout, standing, needs, course, known);
+}
+
 static void finish(void)
 {
-    struct wulgach_standing still = {0}, waits = {.has_to_wait = true}, stream = {.is_stream = true}, found = {.is_stream = true, .has_found_buffer = true};
+    struct wulgach_standing still = {0}, stream = {.is_stream = true}, found = {.is_stream = true, .has_found_buffer = true};
     struct wulgach_needs none = {0}, timeout = {.is_timeout = true}, goes_on = {.goes_on = true}, selects = {.selects = true}, shot = {.goes_on = true, .selects = true};
     struct wulgach_course runs = {.has_started = true}, cancelled = {.has_started = true, .is_cancelled = true};
     struct wulgach_moment unknown = {0}, ready = {.knows_readiness = true, .is_ready = true}, not_ready = {.knows_readiness = true}, counted = {.knows_count = true, .has_counted = true}, no_buffer = {.knows_buffer = true}, no_posting = {.knows_posting = true}, posting = {.knows_posting = true, .may_post = true};
-    demand(wulgach_can_finish(&still, &none, &runs, &unknown) == WULGACH_LOOK_FINISHES && wulgach_can_finish(&waits, &none, &runs, &unknown) == WULGACH_LOOK_WAITS, "one that would have waited");
-    demand(wulgach_can_finish(&stream, &timeout, &cancelled, &unknown) == WULGACH_LOOK_FINISHES && wulgach_can_finish(&waits, &none, &cancelled, &unknown) == WULGACH_LOOK_FINISHES, "one that was cancelled");
-    demand(wulgach_can_finish(&still, &timeout, &runs, &unknown) == WULGACH_ASK_COUNT && wulgach_can_finish(&still, &timeout, &runs, &counted) == WULGACH_LOOK_FINISHES, "a timeout");
-    demand(wulgach_can_finish(&stream, &goes_on, &runs, &unknown) == WULGACH_ASK_POSTING && wulgach_can_finish(&stream, &goes_on, &runs, &no_posting) == WULGACH_LOOK_WAITS, "one that goes on");
-    demand(wulgach_can_finish(&stream, &selects, &runs, &unknown) == WULGACH_ASK_BUFFER && wulgach_can_finish(&stream, &selects, &runs, &no_buffer) == WULGACH_LOOK_FINISHES && wulgach_can_finish(&stream, &shot, &runs, &posting) == WULGACH_ASK_BUFFER, "one without a buffer");
-    demand(wulgach_can_finish(&found, &selects, &runs, &no_buffer) == WULGACH_ASK_READINESS && wulgach_can_finish(&found, &selects, &runs, &not_ready) == WULGACH_LOOK_WAITS && wulgach_can_finish(&found, &shot, &runs, &posting) == WULGACH_ASK_READINESS, "one that has found a buffer");
-    demand(wulgach_can_finish(&stream, &none, &runs, &unknown) == WULGACH_ASK_READINESS && wulgach_can_finish(&stream, &none, &runs, &ready) == WULGACH_LOOK_FINISHES && wulgach_can_finish(&stream, &none, &runs, &not_ready) == WULGACH_LOOK_WAITS, "a stream");
+    demand(can_finish(&still, &none, &runs, &unknown, false) == WULGACH_LOOK_FINISHES && can_finish(&still, &none, &runs, &unknown, true) == WULGACH_LOOK_WAITS, "one that would have waited");
+    demand(can_finish(&stream, &timeout, &cancelled, &unknown, false) == WULGACH_LOOK_FINISHES && can_finish(&still, &none, &cancelled, &unknown, true) == WULGACH_LOOK_FINISHES, "one that was cancelled");
+    demand(can_finish(&still, &timeout, &runs, &unknown, false) == WULGACH_ASK_COUNT && can_finish(&still, &timeout, &runs, &counted, false) == WULGACH_LOOK_FINISHES, "a timeout");
+    demand(can_finish(&stream, &goes_on, &runs, &unknown, false) == WULGACH_ASK_POSTING && can_finish(&stream, &goes_on, &runs, &no_posting, false) == WULGACH_LOOK_WAITS, "one that goes on");
+    demand(can_finish(&stream, &selects, &runs, &unknown, false) == WULGACH_ASK_BUFFER && can_finish(&stream, &selects, &runs, &no_buffer, false) == WULGACH_LOOK_FINISHES && can_finish(&stream, &shot, &runs, &posting, false) == WULGACH_ASK_BUFFER, "one without a buffer");
+    demand(can_finish(&found, &selects, &runs, &no_buffer, false) == WULGACH_ASK_READINESS && can_finish(&found, &selects, &runs, &not_ready, false) == WULGACH_LOOK_WAITS && can_finish(&found, &shot, &runs, &posting, false) == WULGACH_ASK_READINESS, "one that has found a buffer");
+    demand(can_finish(&stream, &none, &runs, &unknown, false) == WULGACH_ASK_READINESS && can_finish(&stream, &none, &runs, &ready, false) == WULGACH_LOOK_FINISHES && can_finish(&stream, &none, &runs, &not_ready, false) == WULGACH_LOOK_WAITS, "a stream");
 }
 
 static bool impatient(uint8_t code, uint32_t flags, struct wulgach_patience patience)
@@ -175,6 +188,16 @@ static void poll_one(void)
     demand(wulgach_poll_result(5, 4, true, &res) && res == 4 && wulgach_poll_result(5, 32, false, &res) && res == -9 && wulgach_poll_result(5, 0, true, &res) && res == 1, "its events");
     struct wulgach_submission urgent = {.opcode = POLL_ADD, .op_flags = 2}, readable = {.opcode = POLL_ADD, .op_flags = 1}, edges = {.opcode = POLL_ADD, .op_flags = 1, .len = 1};
     demand(wulgach_asks_instance(&urgent) && !wulgach_asks_instance(&readable) && wulgach_asks_instance(&edges), "an instance is asked");
+    struct wulgach_poll_start start;
+    demand(wulgach_instance_events(0x203b) == 0x8000203b, "it tells of edges");
+    wulgach_poll_starts(0x203b, true, 0, &start);
+    demand(start.fault == 0 && start.goes_on, "one that goes on");
+    wulgach_poll_starts(0x203b, false, -EBADF, &start);
+    demand(start.fault == -EBADF && !start.goes_on, "one that fails");
+    wulgach_poll_starts(0x203b, true, -EPERM, &start);
+    demand(start.fault == 0 && !start.goes_on, "one of what can't be polled");
+    wulgach_poll_starts(0x203a, false, -EPERM, &start);
+    demand(start.fault == -EINVAL && !start.goes_on, "and that has nothing of what it is for");
     demand(wulgach_unpolled_result(0x203b) == 1 && wulgach_unpolled_result(0xffff) == 0x145 && wulgach_unpolled_result(0x203a) == -22, "what can't be polled");
 }
 

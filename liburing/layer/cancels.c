@@ -17,17 +17,17 @@
 
 #include <fcntl.h>
 
-/* One that was passed over is looked at again. */
+/* One that runs is looked at again. */
 static void look_again_at(struct ring *ring, struct request *request)
 {
-    request->waits_in = 0;
-    if (request->course.has_started)
-        wulgach_lookout_touches(&ring->lookout, place_of(&ring->running, request->number));
+    wulgach_waiter_meets_cancel(&request->waiter);
+    wulgach_lookout_touches(&ring->lookout, place_of(&ring->running, request->number));
 }
 
 void cancel_request(struct ring *ring, struct request *request)
 {
-    look_again_at(ring, request);
+    if (request->course.has_started)
+        look_again_at(ring, request);
     note_found(ring, request);
     note_fact(request, WULGACH_FACT_CANCELLED, 0);
 }
@@ -118,15 +118,12 @@ struct request *find_request(struct ring *ring, const struct io_uring_sqe *seeke
     return NULL;
 }
 
-/* A poll was changed. If it waits still it is passed over as before, and so are those behind it. */
+/* A poll that runs was changed: it is asked again. */
 static void look_at_changed(struct ring *ring, struct request *poll)
 {
-    if (!poll->course.has_started)
-        return;
+    wulgach_waiter_meets_update(&poll->waiter);
     look_at(ring, poll);
-    poll->waits_in = 0;
-    if (can_finish(ring, poll))
-        look_again_at(ring, poll);
+    wulgach_lookout_updates(&ring->lookout, place_of(&ring->running, poll->number), can_finish(ring, poll));
 }
 
 static int32_t change_poll(struct ring *ring, struct request *poll, const struct io_uring_sqe *change)
@@ -139,10 +136,10 @@ static int32_t change_poll(struct ring *ring, struct request *poll, const struct
     poll->entry.user_data = changed.user_data;
     poll->entry.poll32_events = changed.events;
     wulgach_needs_of(submission_of(&poll->entry), &poll->needs);
-    poll->standing.has_to_wait = false;
-    if (wulgach_course_begins_afresh(&poll->course))
+    if (wulgach_course_begins_afresh(&poll->course)) {
         poll->started = start_poll(poll);
-    look_at_changed(ring, poll);
+        look_at_changed(ring, poll);
+    }
     return 0;
 }
 

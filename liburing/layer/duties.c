@@ -2,7 +2,6 @@
 #define _GNU_SOURCE
 #include "duties.h"
 #include "clock.h"
-#include "ends.h"
 #include "readiness.h"
 #include "streams.h"
 #include "waiting.h"
@@ -11,7 +10,7 @@ static void do_duty(struct ring *ring, enum wulgach_duty duty)
 {
     switch (duty) {
     case WULGACH_LOOKS_AFRESH:
-        look_afresh(ring);
+        wulgach_lookout_opens(&ring->lookout);
         hear_pipes(ring);
         return;
     case WULGACH_PASSES_TIME:

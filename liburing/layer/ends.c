@@ -1,4 +1,4 @@
-/* What the end of a request makes of others: its completion is queued, what had to wait is carried out again, and what the
+/* What the end of a request makes of others: its completion is queued, what had to wait needn't now, and what the
  * application sees of it may differ from what the core says.
  */
 #include "ends.h"
@@ -13,38 +13,15 @@
 
 void note_wait(struct ring *ring, struct request *request)
 {
-    request->standing.has_to_wait = true;
     note_patient(ring, request);
-    wulgach_lookout_waits(&ring->lookout);
-}
-
-/* Who had to wait is carried out again. */
-static void forget_waits(struct ring *ring)
-{
-    for (size_t i = 0; i < ring->running.count; i++)
-        ring->running.rows[i]->standing.has_to_wait = false;
-}
-
-void renew_round(struct ring *ring)
-{
-    if (ring->lookout.count == 0)
-        ring->round++;
-}
-
-void look_afresh(struct ring *ring)
-{
-    if (wulgach_lookout_opens(&ring->lookout))
-        forget_waits(ring);
-    renew_round(ring);
+    wulgach_waiter_waits(&request->waiter, &ring->lookout);
 }
 
 /* A request ends that had started or not: which others are looked at again. */
 static void look_behind(struct ring *ring, const struct request *ended)
 {
     struct wulgach_end_of_one end = {.is_count_reached = ring->is_count_reached, .has_drains = ring->drains.outstanding > 0};
-    if (wulgach_lookout_ends(&ring->lookout, &end))
-        forget_waits(ring);
-    renew_round(ring);
+    wulgach_lookout_ends(&ring->lookout, &end);
     if (ended->course.has_started)
         wulgach_lookout_leaves(&ring->lookout, take_request(&ring->running, ended));
     if (ended->is_patient)

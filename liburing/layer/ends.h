@@ -10,16 +10,10 @@
  * failure's number is what `uring trace` gives for an fsync of a descriptor that no file has. */
 enum { TOLD_SUCCESS = 0, TOLD_FAILURE = -EBADF };
 
-/* A running request isn't to be carried out again before another has ended, a call begins, or one has slept. */
+/* A running request was carried out, and would have waited. */
 void note_wait(struct ring *ring, struct request *request);
 
-/* Something has happened behind which the library may pass over none of those that run: if so, each is asked again. */
-void renew_round(struct ring *ring);
-
-/* A call begins, or sleeps no longer: all that runs is looked at again. */
-void look_afresh(struct ring *ring);
-
-/* A request has ended: its completion is queued, and who had to wait needn't perhaps now. */
+/* A request has ended: its completion is queued, and others are told of it. */
 void end_of(struct ring *ring, struct request *request, int32_t res, int32_t told);
 
 /* What the application sees of a request that the core ends without letting it start. `next`: of a cancel, what it would have found that could

@@ -4,7 +4,6 @@
  */
 #define _GNU_SOURCE
 #include "pipes.h"
-#include "ends.h"
 #include "polls.h"
 #include "ring.h"
 
@@ -157,16 +156,11 @@ static bool has_something(const struct request *request)
     return poll(&at, 1, 0) != 0;
 }
 
-/* A poll has heard of a write: what was written is there still, or gone. It may go on, and a thread that sleeps may wait for it. */
+/* A poll has heard of a write: what was written is there still, or gone. */
 static void tell(struct ring *ring, struct request *request, bool is_there)
 {
     struct wulgach_pipe_poll seen = seen_of(request);
-    request->is_told |= wulgach_is_told_of_write(&seen, (uint32_t)request->watch, is_there);
-    request->is_heard = is_there;
-    request->standing.has_to_wait = false;
-    wulgach_lookout_tells(&ring->lookout);
-    renew_round(ring);
-    wulgach_lookout_changes(&ring->lookout);
+    wulgach_waiter_hears(&request->waiter, &ring->lookout, &seen, is_there);
 }
 
 /* The watch by which a request hears of a write, or NULL: there was none. */
@@ -222,16 +216,18 @@ static bool read_writes(struct ring *ring, bool is_dropping)
     return is_any && tell_of_writes(ring);
 }
 
-bool is_told_of_gone(const struct ring *ring, struct request *request)
+/* A poll that had heard of a write finds nothing. Returns whether it was told. */
+static bool miss_write(const struct ring *ring, struct request *request, bool is_there)
 {
-    if (!request->is_heard)
-        return request->is_told;
-    /* (one that goes on has taken its event where it finds none, and something is there) */
-    bool is_there = request->epoll >= 0 && has_something(request);
     struct wulgach_pipe_poll seen = seen_of(request);
-    request->is_told |= !ring->lookout.may_be_own && wulgach_is_told_of_write(&seen, (uint32_t)request->watch, is_there);
-    request->is_heard = false;
-    return request->is_told;
+    return wulgach_waiter_misses(&request->waiter, &ring->lookout, &seen, is_there);
+}
+
+/* (one that goes on has taken its event where it finds none, and something is there) */
+void note_look(const struct ring *ring, struct request *request, bool is_ready)
+{
+    if (wulgach_waiter_sees(&request->waiter, &ring->lookout, is_ready))
+        miss_write(ring, request, has_something(request));
 }
 
 /* Sees what became of what was there when it was heard. Returns whether a poll was told. */
@@ -240,7 +236,7 @@ static bool tell_of_gone(struct ring *ring)
     bool is_told = false;
     for (size_t i = 0; i < ring->running.count; i++) {
         struct request *request = ring->running.rows[i];
-        if (!request->is_heard || has_something(request) || !is_told_of_gone(ring, request))
+        if (!request->waiter.has_heard || has_something(request) || !miss_write(ring, request, false))
             continue;
         tell(ring, request, false);
         is_told = true;

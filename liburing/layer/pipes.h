@@ -38,8 +38,8 @@ bool watch_pipes(struct ring *ring);
 /* A call begins, or sleeps no longer: running polls hear of what was written to their pipes, and are told of what is gone. */
 void hear_pipes(struct ring *ring);
 
-/* Whether a poll that finds nothing is told of a write. What was there when it was heard may have been read since by another thread: that is
- * told too, unless the ring's own requests may have read it. */
-bool is_told_of_gone(const struct ring *ring, struct request *request);
+/* A request's descriptor was looked at, and was ready or not. What was there when a poll heard of a write may have been read since by another
+ * thread: that is told too, unless the ring's own requests may have read it. */
+void note_look(const struct ring *ring, struct request *request, bool is_ready);
 
 #endif

@@ -48,14 +48,9 @@ bool can_finish(struct ring *ring, struct request *request)
 {
     struct wulgach_moment known = {0};
     uint32_t look;
-    if (request->waits_in == ring->round)
-        return false;
-    while ((look = wulgach_can_finish(&request->standing, &request->needs, &request->course, &known)) > WULGACH_LOOK_FINISHES)
+    while ((look = wulgach_can_finish(&request->waiter, &ring->lookout, &request->standing, &request->needs, &request->course, &known)) > WULGACH_LOOK_FINISHES)
         look_for_one(ring, request, look, &known);
-    if (look == WULGACH_LOOK_FINISHES)
-        return true;
-    request->waits_in = ring->round;
-    return false;
+    return look == WULGACH_LOOK_FINISHES;
 }
 
 /* Whether a request goes on behind this result. (most can't, whatever that is) */
@@ -70,13 +65,6 @@ static void post_event(struct ring *ring, const struct request *request, int32_t
     post_extra(ring, request->call, request->entry.user_data, res, wulgach_completion_flags(part, request->flags));
 }
 
-/* An operation was carried out that can make a descriptor ready. */
-static void note_moved(struct ring *ring)
-{
-    wulgach_lookout_moves(&ring->lookout);
-    renew_round(ring);
-}
-
 /* Carries an operation out. False: it goes on running, since it would have to wait, or brought something and goes on. */
 static bool try_operation(struct ring *ring, struct request *request, int32_t *res)
 {
@@ -84,10 +72,8 @@ static bool try_operation(struct ring *ring, struct request *request, int32_t *r
     log_carrying(ring, request);
     *res = carry_out(ring, request, injected(ring, request));
     log_carried(ring, request, *res);
-    if (is_poll(request))
-        note_taken(ring, request);
     if (request->needs.can_make_ready)
-        note_moved(ring);
+        wulgach_lookout_moves(&ring->lookout);
     if (*res == WOULD_WAIT) {
         note_fact(request, WULGACH_FACT_WAITS, 0);
         note_wait(ring, request);

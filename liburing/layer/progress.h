@@ -10,7 +10,7 @@ enum progress {
     STUCK           /* nothing can go on without waiting */
 };
 
-/* Whether a running request can be finished without waiting. One that was found to wait isn't asked again in the same round. */
+/* Whether a running request can be finished without waiting, as the library says. */
 bool can_finish(struct ring *ring, struct request *request);
 
 /* Goes on with a request that can be finished or issued, by one event, or by both if they are one choice. */

@@ -81,7 +81,7 @@ static size_t list_watched(const struct ring *ring, struct watched *watched)
         list_one(&watched[count++], ring->pipes.inotify, EPOLLIN, 0);
     for (size_t i = 0; i < ring->running.count; i++) {
         const struct request *request = ring->running.rows[i];
-        if (!request->standing.is_stream)
+        if (!wulgach_polls(&request->standing))
             continue;
         struct pollfd polled = poll_of(request);
         list_one(&watched[count++], polled.fd, (uint16_t)polled.events, request->begun);

@@ -22,7 +22,6 @@ struct request *make_request(struct requests *requests)
         return NULL;
     clear(request, 0, sizeof *request);
     request->epoll = -1;
-    request->looked_at = UINT64_MAX;
     return request;
 }
 

@@ -3,6 +3,7 @@
 #define REQUESTS_H
 
 #include "wulgach_calls.h"
+#include "wulgach_lookout.h"
 
 #include <linux/io_uring.h>
 #include <stdbool.h>
@@ -21,11 +22,9 @@ struct request {
     struct wulgach_course course;   /* what has become of it: it has started, was cancelled, was carried out, has ended */
     struct io_uring_sqe entry;      /* as the application wrote it */
     enum mapping mapping;           /* what the core was told of it */
-    uint64_t looked_at;             /* of one that may have to wait: the moment at which its descriptor was last looked at, */
-    bool is_found_ready;            /* and whether it was ready */
-    uint64_t waits_in;              /* of one that runs: the round in which it was found to wait, or 0 */
+    struct wulgach_waiter waiter;   /* of one that runs: what is known of whether it waits; as zeros, until something has happened to it */
     bool is_patient;                /* it runs, and stands among those that may have to wait */
-    struct wulgach_standing standing;   /* whether it would have waited, and nothing has ended since; whether it may have to wait for a descriptor; and whether it has found a provided buffer */
+    struct wulgach_standing standing;   /* whether it may have to wait for a descriptor, and whether it has found a provided buffer */
     int32_t fault;                  /* of a refused entry: what it ends with */
     bool is_draining;               /* a member of its chain drains, or it does: those behind wait until all of them have ended */
     struct file *file;              /* the registered file that it is carried out on, if it is one */
@@ -47,11 +46,9 @@ struct request {
     uint64_t call;                  /* the number of the call that submitted it */
     uint64_t begun;                 /* how many had started before it, and itself */
     bool has_fired;                 /* a linked timeout: the request before it was cancelled by it */
-    int epoll;                      /* what tells of the events of a poll that goes on; or negative */
     bool is_of_pipe;                /* a poll for what a pipe has to be read: */
-    int watch;                      /* the number by which writes to that are told, or 0, */
-    bool is_heard;                  /* whether something was written, and was there still, */
-    bool is_told;                   /* and whether something was written, and is gone */
+    int watch;                      /* the number by which writes to that are told, or 0 */
+    int epoll;                      /* what tells of the events of a poll that goes on; or negative */
     /* What the entry points to, copied when it is submitted: the application may reuse it at once. */
     struct iovec *vectors, one;     /* (one stands here) */
     uint32_t vector_count;

@@ -60,7 +60,6 @@ struct ring {
     bool may_count;                     /* a timeout with a count has started since none ran, */
     bool is_count_reached;              /* and one, maybe, has counted enough */
     struct wulgach_lookout lookout;     /* which of the running ones are looked at again, what was written to pipes, and whether threads that sleep are woken */
-    uint64_t round;                     /* from 1 on: who was found to wait in it isn't asked again until the next */
     struct requests staged;             /* staged and not accepted; a word that names no slot has an empty place */
     struct wulgach_entry *entries;      /* what the core is given of each of them: as many as there are slots */
     uint32_t bad_word;                  /* the word of the last of them, if that names no slot */

@@ -115,7 +115,6 @@ static int make_ring(struct ring **made, uint32_t entries, struct io_uring_param
     wulgach_shown_begin(&ring->completions.at);
     wulgach_drains_begin(&ring->drains);
     wulgach_lookout_begin(&ring->lookout);
-    ring->round = 1;
     ring->is_linux = sizes.linux_rules;
     ring->ready_fd = -1;
     wulgach_eventfd_begin(&ring->telling);

@@ -6,26 +6,14 @@
 
 #include <poll.h>
 
-static void note(const struct ring *ring, struct request *request, bool is_ready)
-{
-    request->looked_at = ring->lookout.moment;
-    request->is_found_ready = is_ready || is_told_of_gone(ring, request);
-}
-
-void note_taken(const struct ring *ring, struct request *request)
-{
-    request->looked_at = ring->lookout.moment;
-    request->is_found_ready = false;
-}
-
 void look_at(const struct ring *ring, struct request *request)
 {
-    note(ring, request, is_ready(request));
+    note_look(ring, request, is_ready(request));
 }
 
 static bool is_to_be_looked_at(const struct ring *ring, const struct request *request)
 {
-    return request->standing.is_stream && wulgach_lookout_is_stale(&ring->lookout, request->looked_at);
+    return request->standing.is_stream && wulgach_waiter_sighting(&request->waiter, &ring->lookout) == WULGACH_SIGHTING_UNSEEN;
 }
 
 /* The row of the running request to look at from this one on. */
@@ -44,7 +32,7 @@ static void look_at_some(const struct ring *ring, struct request **requests, str
 {
     bool is_done = poll(polled, count, 0) >= 0;
     for (nfds_t i = 0; i < count; i++)
-        note(ring, requests[i], is_done ? polled[i].revents != 0 || is_impatient(requests[i]) : is_ready(requests[i]));
+        note_look(ring, requests[i], is_done ? polled[i].revents != 0 || is_impatient(requests[i]) : is_ready(requests[i]));
 }
 
 /* Looks at all of them. */
@@ -67,15 +55,14 @@ static void look_at_all(struct ring *ring)
 
 bool is_found_ready(struct ring *ring, struct request *request)
 {
-    if (request->is_told)
-        return true;
-    if (!wulgach_lookout_is_stale(&ring->lookout, request->looked_at))
-        return request->is_found_ready;
-    if (ring->running.count > 1)
-        look_at_all(ring);
-    else
-        look_at(ring, request);
-    return request->is_found_ready;
+    uint32_t sighting;
+    while ((sighting = wulgach_waiter_sighting(&request->waiter, &ring->lookout)) == WULGACH_SIGHTING_UNSEEN) {
+        if (ring->running.count > 1)
+            look_at_all(ring);
+        else
+            look_at(ring, request);
+    }
+    return sighting == WULGACH_SIGHTING_READY;
 }
 
 void hold_files(struct ring *ring)

@@ -7,9 +7,6 @@
 /* Looks at the descriptor of a request that has just started. */
 void look_at(const struct ring *ring, struct request *request);
 
-/* A poll was carried out, and has taken what was there: it isn't looked at again in this moment. */
-void note_taken(const struct ring *ring, struct request *request);
-
 /* Whether a running request wouldn't wait, as of this moment. */
 bool is_found_ready(struct ring *ring, struct request *request);
 

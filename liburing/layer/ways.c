@@ -51,7 +51,7 @@ void note_patient(struct ring *ring, struct request *request)
 void note_running(struct ring *ring, struct request *request)
 {
     static const struct wulgach_moment nothing;
-    if (is_by_choice() && wulgach_can_finish(&request->standing, &request->needs, &request->course, &nothing) != WULGACH_LOOK_FINISHES)
+    if (is_by_choice() && wulgach_can_finish(&request->waiter, &ring->lookout, &request->standing, &request->needs, &request->course, &nothing) != WULGACH_LOOK_FINISHES)
         note_patient(ring, request);
 }
 

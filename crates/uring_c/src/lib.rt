@@ -39,5 +39,6 @@ mod update_exports;
 mod uses_exports;
 mod volume_exports;
 mod wait_exports;
+mod waiter_exports;
 mod watched_exports;
 mod whole_call_exports;

@@ -1,6 +1,6 @@
-//! What a ring looks out for, for C: functions of `c/wulgach_waits.h`.
-ghost use Rattle.std.specs.Prelude.{◌≡◌, ◌==◌, ◌+◌, ◌<◌, ◌^◌, not, List, [], ◌∷◌};
-ghost use Rattle.uring_enter.specs.Lookouts.{Happening, Found, Started, Left, Touched, Waited, Moved, Told, Heard, Opened, Ended, Changed, Woke, KeepsLookout, have_to_wait, has_changed, moments, passed};
+//! What a ring looks out for, for C: functions of `c/wulgach_lookout.h`.
+ghost use Rattle.std.specs.Prelude.{◌≡◌, ◌+◌, ◌<◌, ◌^◌, List, [], ◌∷◌};
+ghost use Rattle.uring_enter.specs.Lookouts.{Happening, Found, Started, Left, Touched, Updated, Moved, Heard, Opened, Ended, Changed, Woke, KeepsLookout, has_changed, moments, rounds, releases, passed};
 
 use uring_enter::{EndOfOne, Lookout};
 
@@ -39,7 +39,7 @@ pub extern "C" fn wulgach_lookout_leaves(lookout: &mut Lookout, place: u64)
     lookout.leaves(place);
 }
 
-/// A cancel has found the one at this place, or an update has changed it.
+/// A cancel has found the one at this place.
 #[unsafe(no_mangle)]
 pub extern "C" fn wulgach_lookout_touches(lookout: &mut Lookout, place: u64)
     ensures { (log : List Happening) → KeepsLookout log lookout.old
@@ -48,31 +48,23 @@ pub extern "C" fn wulgach_lookout_touches(lookout: &mut Lookout, place: u64)
     lookout.touches(place);
 }
 
-/// One was carried out, and would have waited.
+/// An update has changed the one at this place, which was asked again, and can be finished or waits.
 #[unsafe(no_mangle)]
-pub extern "C" fn wulgach_lookout_waits(lookout: &mut Lookout)
+pub extern "C" fn wulgach_lookout_updates(lookout: &mut Lookout, place: u64, finishes: bool)
     ensures { (log : List Happening) → KeepsLookout log lookout.old
-        → KeepsLookout (Waited ∷ log) lookout.new }
+        → KeepsLookout (Updated place finishes ∷ log) lookout.new }
 {
-    lookout.waits();
+    lookout.updates(place, finishes);
 }
 
 /// An operation was carried out that can make a descriptor ready.
 #[unsafe(no_mangle)]
 pub extern "C" fn wulgach_lookout_moves(lookout: &mut Lookout)
-    ensures { (log : List Happening) → KeepsLookout log lookout.old → moments log + 1 < 2 ^ 64
+    ensures { (log : List Happening) → KeepsLookout log lookout.old
+        → moments log + 1 < 2 ^ 64 → rounds log + 1 < 2 ^ 64
         → KeepsLookout (Moved ∷ log) lookout.new }
 {
     lookout.moves();
-}
-
-/// A poll was told of what its pipe had, and has no more.
-#[unsafe(no_mangle)]
-pub extern "C" fn wulgach_lookout_tells(lookout: &mut Lookout)
-    ensures { (log : List Happening) → KeepsLookout log lookout.old → moments log + 1 < 2 ^ 64
-        → KeepsLookout (Told ∷ log) lookout.new }
-{
-    lookout.tells();
 }
 
 /// What was written to pipes was heard, as a call began or slept no longer.
@@ -103,31 +95,22 @@ pub extern "C" fn wulgach_lookout_wakes(lookout: &mut Lookout) -> bool
     lookout.wakes()
 }
 
-/// A call begins, or sleeps no longer. Returns whether those that had to wait are to be carried out again.
+/// A call begins, or sleeps no longer.
 #[unsafe(no_mangle)]
-pub extern "C" fn wulgach_lookout_opens(lookout: &mut Lookout) -> bool
-    ensures forgets { (log : List Happening) → KeepsLookout log lookout.old → result ≡ have_to_wait log }
-    ensures after { (log : List Happening) → KeepsLookout log lookout.old → moments log + 1 < 2 ^ 64
+pub extern "C" fn wulgach_lookout_opens(lookout: &mut Lookout)
+    ensures { (log : List Happening) → KeepsLookout log lookout.old
+        → moments log + 1 < 2 ^ 64 → rounds log + 1 < 2 ^ 64 → releases log + 1 < 2 ^ 64
         → KeepsLookout (Opened ∷ log) lookout.new }
 {
-    lookout.opens()
+    lookout.opens();
 }
 
-/// A request has ended. Returns whether those that had to wait are to be carried out again.
+/// A request has ended.
 #[unsafe(no_mangle)]
-pub extern "C" fn wulgach_lookout_ends(lookout: &mut Lookout, end: &EndOfOne) -> bool
-    ensures forgets { (log : List Happening) → KeepsLookout log lookout.old → result ≡ have_to_wait log }
-    ensures after { (log : List Happening) → KeepsLookout log lookout.old
+pub extern "C" fn wulgach_lookout_ends(lookout: &mut Lookout, end: &EndOfOne)
+    ensures { (log : List Happening) → KeepsLookout log lookout.old
+        → rounds log + 1 < 2 ^ 64 → releases log + 1 < 2 ^ 64
         → KeepsLookout (Ended end.now ∷ log) lookout.new }
 {
-    lookout.ends(*end)
-}
-
-/// Whether a descriptor that was looked at in this moment is to be looked at again.
-#[unsafe(no_mangle)]
-pub extern "C" fn wulgach_lookout_is_stale(lookout: &Lookout, looked_at: u64) -> bool
-    ensures { (log : List Happening) → KeepsLookout log lookout.now
-        → result ≡ not (looked_at == moments log) }
-{
-    lookout.is_stale(looked_at)
+    lookout.ends(*end);
 }

@@ -1,4 +1,4 @@
-//! When a sleep isn't begun, what came of one, and which polls are told of writes, for C: functions of `c/wulgach_waits.h`.
+//! When a sleep isn't begun, what came of one, and which polls are told of writes, for C: functions of `c/wulgach_waits.h` and `c/wulgach_lookout.h`.
 ghost use Rattle.std.specs.Prelude.{◌≡◌};
 ghost use Rattle.uring_enter.specs.PipePolls as polls;
 ghost use Rattle.uring_enter.specs.Sleeping as sleeping;

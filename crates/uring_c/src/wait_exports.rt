@@ -1,21 +1,20 @@
 //! What carrying out an operation needs, whether it has to wait, and what becomes of a try, for C: functions of `c/wulgach_waits.h`.
-ghost use Rattle.std.specs.Prelude.{◌≡◌, true, false, List, MatchOption};
-ghost use Rattle.uring_enter.specs.declared.act.Fact.{Fact};
-ghost use Rattle.uring_enter.specs.Courses.{KeepsCourse, is_cancelled};
+ghost use Rattle.std.specs.Prelude.{◌≡◌, true, false, MatchOption};
 ghost use Rattle.uring_enter.specs.Needs as needed;
 ghost use Rattle.uring_enter.specs.Descriptors as found;
 ghost use Rattle.uring_enter.specs.Readiness as ready;
 ghost use Rattle.uring_enter.specs.Tries as tried;
 ghost use Rattle.uring_enter.specs.CallTries as called;
-ghost use Rattle.uring_crossing.specs.WaitForm.{word_of_finding, word_of_look, word_of_step, end_of_step, task_of, word_of_turn, end_of_turn, doing_of};
+ghost use Rattle.uring_enter.specs.Instances as instances;
+ghost use Rattle.uring_crossing.specs.WaitForm.{word_of_finding, word_of_step, end_of_step, task_of, word_of_turn, end_of_turn, doing_of};
 
 use uring_crossing::wait_words::{
-    doing, finding_word, look_word, step_end, step_word, task, turn_end, turn_word,
+    doing, finding_word, step_end, step_word, task, turn_end, turn_word,
 };
 use uring_enter::{
-    Call, Course, Known, Moment, Nature, Needs, Patience, Standing, Submission, Transfer, Trial,
-    asks_instance, is_impatient, needs_of, next_finding, next_look, next_step, next_turn,
-    no_buffer_fault, poll_result, start_fault, unpolled_result,
+    Call, Known, Nature, Needs, Patience, PollStart, Submission, Transfer, Trial, asks_instance,
+    instance_events, is_impatient, needs_of, next_finding, next_step, next_turn, no_buffer_fault,
+    poll_result, poll_start, start_fault, unpolled_result,
 };
 
 /// Writes what the operation of an entry needs.
@@ -32,20 +31,6 @@ pub extern "C" fn wulgach_find_kind(entry: &Submission, trial: &Trial, known: &K
     ensures { result ≡ word_of_finding (found.next_of entry.now trial.now known.now) }
 {
     finding_word(next_finding(entry, trial, known))
-}
-
-/// Returns whether a request that runs can be finished, or what is to be asked next.
-#[unsafe(no_mangle)]
-pub extern "C" fn wulgach_can_finish(
-    standing: &Standing,
-    needs: &Needs,
-    course: &Course,
-    known: &Moment,
-) -> u32
-    ensures { (log : List Fact) → KeepsCourse log course.now
-        → result ≡ word_of_look (ready.look_of standing.now needs.now (is_cancelled log) known.now) }
-{
-    look_word(next_look(standing, needs, course, known))
 }
 
 /// Whether a request doesn't wait, whatever its descriptor has.
@@ -113,6 +98,22 @@ pub extern "C" fn wulgach_asks_instance(entry: &Submission) -> bool
     ensures { result ≡ called.asks_instance entry.now }
 {
     asks_instance(entry)
+}
+
+/// For what an instance is asked that is to tell of these events of a poll.
+#[unsafe(no_mangle)]
+pub extern "C" fn wulgach_instance_events(events: u16) -> u32
+    ensures { result ≡ instances.instance_events events }
+{
+    instance_events(events)
+}
+
+/// Writes how a poll for these events starts, which can have more than one completion or can't, where asking an instance came to this.
+#[unsafe(no_mangle)]
+pub extern "C" fn wulgach_poll_starts(events: u16, goes_on: bool, res: i32, start: &mut PollStart)
+    ensures { start.new ≡ instances.poll_start events goes_on res }
+{
+    *start = poll_start(events, goes_on, res);
 }
 
 /// What a poll for these events ends with whose descriptor can't be polled, also if it goes on.

@@ -1,5 +1,5 @@
 -- Whether a request has to wait, and what becomes of a try, in words that C can read.
-use Rattle.std.specs.Prelude.{ℕ, ℤ, ◌==◌, Option, Some, None, if◌then◌else◌}
+use Rattle.std.specs.Prelude.{ℕ, ℤ, ◌==◌, Option, Some, None, List, ◌∷◌, if◌then◌else◌}
 use Rattle.uring_enter.specs.declared.descriptor.Kind.TheVariants.{Never, AtOnce, Tried, Stream, Wrong}
 use Rattle.uring_enter.specs.declared.descriptor.Question.TheVariants.{Status, Offsets, Access}
 use Rattle.uring_enter.specs.declared.descriptor.Finding.{Finding}
@@ -8,6 +8,9 @@ use Rattle.uring_enter.specs.declared.ready.Wanted.TheVariants.{Count, Posting, 
 use Rattle.uring_enter.specs.declared.ready.Look.{Look}
 use Rattle.uring_enter.specs.declared.ready.Look.TheVariants as look
 use Rattle.uring_enter.specs.declared.transfer.How.TheVariants as how
+use Rattle.uring_enter.specs.declared.sighting.Sighting.{Sighting}
+use Rattle.uring_enter.specs.declared.sighting.Sighting.TheVariants as sighting
+use Rattle.uring_enter.specs.Waiters.{Turn, FoundWaiting}
 use Rattle.uring_enter.specs.declared.transfer.Task.{Task}
 use Rattle.uring_enter.specs.declared.transfer.Task.TheVariants.{Calls, Finds, Polls}
 use Rattle.uring_enter.specs.declared.transfer.Step.{Step}
@@ -36,6 +39,16 @@ word_of_look (look.Asks Count) = 2
 word_of_look (look.Asks Posting) = 3
 word_of_look (look.Asks Buffer) = 4
 word_of_look (look.Asks Readiness) = 5
+
+-- what has happened to a request that was asked so: of one that can't be finished, that it was found to wait
+abbrev pub behind_look : List Turn → ℕ → List Turn
+behind_look log word = if word == 0 then FoundWaiting ∷ log else log
+
+-- 0 and 1 say whether a descriptor is ready, and 2 that it is to be looked at. Our own rule
+abbrev pub word_of_sighting : Sighting → ℕ
+word_of_sighting sighting.Unready = 0
+word_of_sighting sighting.Ready = 1
+word_of_sighting sighting.Unseen = 2
 
 -- an end is 0, a wait 1, and what is done counts from 2, calls in the order of `How` from 4. Our own rule
 abbrev pub word_of_step : Step → ℕ

@@ -2,7 +2,7 @@
 ghost use Rattle.std.specs.Prelude.{◌≡◌};
 ghost use Rattle.uring_crossing.specs.WaitForm as spec;
 
-use uring_enter::{Doing, Finding, How, Kind, Look, Question, Step, Task, Turn, Wanted};
+use uring_enter::{Doing, Finding, How, Kind, Look, Question, Sighting, Step, Task, Turn, Wanted};
 
 /// The word of what is to be asked of a descriptor, or of what the request is on it.
 pub fn finding_word(finding: Finding) -> u32
@@ -31,6 +31,17 @@ pub fn look_word(look: Look) -> u32
         Look::Asks(Wanted::Posting) => 3,
         Look::Asks(Wanted::Buffer) => 4,
         Look::Asks(Wanted::Readiness) => 5,
+    }
+}
+
+/// The word of whether a descriptor is ready.
+pub fn sighting_word(sighting: Sighting) -> u32
+    ensures { result ≡ spec.word_of_sighting sighting }
+{
+    match sighting {
+        Sighting::Unready => 0,
+        Sighting::Ready => 1,
+        Sighting::Unseen => 2,
     }
 }
 

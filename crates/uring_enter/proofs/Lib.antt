@@ -14,6 +14,8 @@ mod ReadinessRuns
 mod ChainRuns
 mod WayRuns
 mod DescriptorRuns
+mod Counts
 mod LookoutRuns
+mod WaiterRuns
 mod CallTryRuns
 mod DutyRuns

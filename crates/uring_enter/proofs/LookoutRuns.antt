@@ -1,40 +1,24 @@
 -- The laws of what a ring looks out for.
-use Rattle.std.proofs.Common.{◌≡◌, ◌≤◌, Bool, true, false, not, ◌&&◌, ◌||◌, ◌==◌, ◌⊎◌, inl, inr, List, [], ◌∷◌, ◌++◌, if◌then◌else◌, refl, sym, ap, ◌∙◌, arith}
+use Rattle.std.proofs.Common.{◌≡◌, ◌≤◌, ℕ, ◌+◌, Bool, true, false, not, ◌&&◌, ◌||◌, ◌==◌, ◌⊎◌, inl, inr, List, [], ◌∷◌, ◌++◌, if◌then◌else◌, refl, sym, ap, ◌∙◌, arith}
 use Rattle.std.proofs.lemmas.Bool.{false≢true, true≢false, or_parts}
 use Rattle.uring_enter.specs.Drainings as drains
 use Rattle.uring_enter.specs.Drainings.{Drainage}
-use Rattle.uring_enter.specs.Lookouts.{Happening, Found, Started, Left, Touched, Waited, Moved, Told, Heard, Opened, Ended, Changed, Woke, have_to_wait, moments, has_changed, EndLetsNone, LooksAfresh, WakesForEach, TakesItsOwn}
+use Rattle.uring_enter.specs.Lookouts.{Happening, Found, Started, Left, Touched, Updated, Waited, Moved, Told, Heard, Opened, Ended, Changed, Woke, have_to_wait, makes_ready, moments, has_moved, has_changed, EndLetsNone, LooksAfresh, WakesForEach, TakesItsOwn}
 use Rattle.uring_enter.specs.Readiness.{can_finish}
+use Rattle.uring_enter.proofs.Counts.{grows}
 
 no_less : (newer earlier : List Happening) → moments earlier ≤ moments (newer ++ earlier)
 no_less [] earlier = omega arith
-no_less (Found _ ∷ newer) earlier = no_less newer earlier
-no_less (Started _ ∷ newer) earlier = no_less newer earlier
-no_less (Left _ ∷ newer) earlier = no_less newer earlier
-no_less (Touched _ ∷ newer) earlier = no_less newer earlier
-no_less (Waited ∷ newer) earlier = no_less newer earlier
-no_less (Heard ∷ newer) earlier = no_less newer earlier
-no_less (Changed ∷ newer) earlier = no_less newer earlier
-no_less (Woke ∷ newer) earlier = no_less newer earlier
-no_less (Moved ∷ newer) earlier = omega (arith, no_less newer earlier)
-no_less (Told ∷ newer) earlier = omega (arith, no_less newer earlier)
-no_less (Opened ∷ newer) earlier = omega (arith, no_less newer earlier)
-no_less (Ended _ ∷ newer) earlier = no_less newer earlier
+no_less (h ∷ newer) earlier = grows (moments earlier) (moments (newer ++ earlier)) (makes_ready h) (no_less newer earlier)
+
+-- a count that hasn't risen counted nothing
+none_counted : (b k : Bool) (n c : ℕ) → c ≤ n → (n ≡ c → k ≡ false) → (if b then n + 1 else n) ≡ c → (b || k) ≡ false
+none_counted true k n c le rest same = absurd (omega (arith, le, same))
+none_counted false k n c le rest same = rest same
 
 pub looks_afresh : LooksAfresh
 looks_afresh [] earlier same = refl
-looks_afresh (Found _ ∷ newer) earlier same = looks_afresh newer earlier same
-looks_afresh (Started _ ∷ newer) earlier same = looks_afresh newer earlier same
-looks_afresh (Left _ ∷ newer) earlier same = looks_afresh newer earlier same
-looks_afresh (Touched _ ∷ newer) earlier same = looks_afresh newer earlier same
-looks_afresh (Waited ∷ newer) earlier same = looks_afresh newer earlier same
-looks_afresh (Heard ∷ newer) earlier same = looks_afresh newer earlier same
-looks_afresh (Changed ∷ newer) earlier same = looks_afresh newer earlier same
-looks_afresh (Woke ∷ newer) earlier same = looks_afresh newer earlier same
-looks_afresh (Told ∷ newer) earlier same = absurd (omega (arith, no_less newer earlier, same))
-looks_afresh (Moved ∷ newer) earlier same = absurd (omega (arith, no_less newer earlier, same))
-looks_afresh (Opened ∷ newer) earlier same = absurd (omega (arith, no_less newer earlier, same))
-looks_afresh (Ended _ ∷ newer) earlier same = looks_afresh newer earlier same
+looks_afresh (h ∷ newer) earlier same = none_counted (makes_ready h) (has_moved newer) (moments (newer ++ earlier)) (moments earlier) (no_less newer earlier) (looks_afresh newer earlier) same
 
 -- who has found a buffer waits for its descriptor alone
 waits_on : (selects bf mb af lb mr lr : Bool) → (bf || mb ≡ true → af || lb ≡ true) → lr ≡ mr
@@ -86,15 +70,15 @@ or_true true = refl
 or_true false = refl
 
 pub end_lets_none : EndLetsNone
-end_lets_none log drainages staged linux is_draining end before after n is_cancelled m l is lets waits =
+end_lets_none log drainages staged linux is_draining end had_to_wait has_to_wait before after n is_cancelled m l is lets waits =
     let parts = or_parts (end.is_count_reached || end.has_drains) (have_to_wait log) lets in
     let others = or_parts end.is_count_reached end.has_drains parts.0 in
     let none : drains.outstanding drainages == 0 ≡ true = opposite (drains.outstanding drainages == 0) (sym is.told ∙ others.1) in
     let posts : l.may_post ≡ true → m.may_post ≡ true = λ may.
     is.posted_before ∙ ap (λ b. (linux || b) && staged == 0) none ∙ ap (λ b. b && staged == 0) (or_true linux)
     ∙ both (linux || drains.outstanding (drains.Ended is_draining ∷ drainages) == 0) (staged == 0) (sym is.posted_after ∙ may) in
-    ap (λ b. can_finish record { has_to_wait = after.has_to_wait; is_stream = b; has_found_buffer = after.has_found_buffer } n is_cancelled l) is.stream ∙
-    none_more before.has_to_wait after.has_to_wait is_cancelled n.is_timeout n.goes_on before.is_stream n.selects m.has_counted l.has_counted m.may_post l.may_post before.has_found_buffer m.has_buffer after.has_found_buffer l.has_buffer m.is_ready l.is_ready
+    ap (λ b. can_finish record { is_stream = b; has_found_buffer = after.has_found_buffer } n has_to_wait is_cancelled l) is.stream ∙
+    none_more had_to_wait has_to_wait is_cancelled n.is_timeout n.goes_on before.is_stream n.selects m.has_counted l.has_counted m.may_post l.may_post before.has_found_buffer m.has_buffer after.has_found_buffer l.has_buffer m.is_ready l.is_ready
     (λ has. true≢false (sym (is.waits has) ∙ parts.1))
     (λ has. unless end.is_count_reached (is.counted has) others.0)
     posts is.buffer is.ready waits
@@ -104,9 +88,10 @@ one_changes earlier (Found _) is = absurd (false≢true is)
 one_changes earlier (Started _) is = absurd (false≢true is)
 one_changes earlier (Left _) is = absurd (false≢true is)
 one_changes earlier (Touched _) is = absurd (false≢true is)
+one_changes earlier (Updated _ _) is = absurd (false≢true is)
 one_changes earlier Waited is = absurd (false≢true is)
 one_changes earlier Moved is = absurd (false≢true is)
-one_changes earlier Told is = absurd (false≢true is)
+one_changes earlier Told is = refl
 one_changes earlier Heard is = absurd (false≢true is)
 one_changes earlier Opened is = absurd (false≢true is)
 one_changes earlier (Ended _) is = refl
@@ -119,9 +104,10 @@ wakes_for_each (Found _ ∷ newer) earlier one is none = wakes_for_each newer ea
 wakes_for_each (Started _ ∷ newer) earlier one is none = wakes_for_each newer earlier one is none
 wakes_for_each (Left _ ∷ newer) earlier one is none = wakes_for_each newer earlier one is none
 wakes_for_each (Touched _ ∷ newer) earlier one is none = wakes_for_each newer earlier one is none
+wakes_for_each (Updated _ _ ∷ newer) earlier one is none = wakes_for_each newer earlier one is none
 wakes_for_each (Waited ∷ newer) earlier one is none = wakes_for_each newer earlier one is none
 wakes_for_each (Moved ∷ newer) earlier one is none = wakes_for_each newer earlier one is none
-wakes_for_each (Told ∷ newer) earlier one is none = wakes_for_each newer earlier one is none
+wakes_for_each (Told ∷ newer) earlier one is none = refl
 wakes_for_each (Heard ∷ newer) earlier one is none = wakes_for_each newer earlier one is none
 wakes_for_each (Opened ∷ newer) earlier one is none = wakes_for_each newer earlier one is none
 wakes_for_each (Ended _ ∷ newer) earlier one is none = refl
@@ -134,6 +120,7 @@ takes_its_own (Found _ ∷ newer) earlier none = takes_its_own newer earlier non
 takes_its_own (Started _ ∷ newer) earlier none = takes_its_own newer earlier none
 takes_its_own (Left _ ∷ newer) earlier none = takes_its_own newer earlier none
 takes_its_own (Touched _ ∷ newer) earlier none = takes_its_own newer earlier none
+takes_its_own (Updated _ _ ∷ newer) earlier none = takes_its_own newer earlier none
 takes_its_own (Waited ∷ newer) earlier none = takes_its_own newer earlier none
 takes_its_own (Moved ∷ newer) earlier none = refl
 takes_its_own (Told ∷ newer) earlier none = takes_its_own newer earlier none

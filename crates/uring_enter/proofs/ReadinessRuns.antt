@@ -62,7 +62,7 @@ fresh_one known Buffer is = not_asked known.knows_buffer is
 fresh_one known Readiness is = not_asked known.knows_readiness is
 
 pub looks_once : LooksOnce
-looks_once s n is_cancelled known wanted is =
+looks_once s n has_to_wait is_cancelled known wanted is =
     fresh_one known wanted
     (ap (is_fresh known.knows_count known.knows_posting known.knows_buffer known.knows_readiness) (sym is)
-    ∙ all known.knows_count known.knows_posting known.knows_buffer known.knows_readiness s.has_to_wait is_cancelled n.is_timeout known.has_counted n.goes_on known.may_post s.is_stream n.selects s.has_found_buffer known.has_buffer known.is_ready)
+    ∙ all known.knows_count known.knows_posting known.knows_buffer known.knows_readiness has_to_wait is_cancelled n.is_timeout known.has_counted n.goes_on known.may_post s.is_stream n.selects s.has_found_buffer known.has_buffer known.is_ready)

@@ -31,6 +31,8 @@ pub mod Descriptors
 pub mod Readiness
 pub mod Lookouts
 pub mod PipePolls
+pub mod Waiters
+pub mod Instances
 pub mod Sleeping
 pub mod Tries
 pub mod CallTries

@@ -16,11 +16,11 @@ use Rattle.uring_enter.specs.Needs.{is_transfer, is_of_sockets, is_splice}
 abbrev pub finds_what_it_wants : Standing → Needs → Moment → Bool
 finds_what_it_wants s n m = n.selects && not s.has_found_buffer && not m.has_buffer || m.is_ready
 
--- whether a request that runs, which a cancel has found or not, can be finished: one that a cancel has found can, whatever else is so; one that would have waited waits until another has ended, which is our own rule; a timeout until its count is reached, since its time ends it by itself; any other, until its completion may be posted if it goes on, and its descriptor is ready if it may have to wait for that
-abbrev pub can_finish : Standing → Needs → Bool → Moment → Bool
-can_finish s n is_cancelled m =
+-- whether a request that runs, which has to wait or hasn't, and which a cancel has found or not, can be finished: one that a cancel has found can, whatever else is so; one that has to wait, since it would have waited, can't, which is our own rule; a timeout until its count is reached, since its time ends it by itself; any other, until its completion may be posted if it goes on, and its descriptor is ready if it may have to wait for that
+abbrev pub can_finish : Standing → Needs → (has_to_wait is_cancelled : Bool) → Moment → Bool
+can_finish s n has_to_wait is_cancelled m =
     if is_cancelled then true else
-    if s.has_to_wait then false else
+    if has_to_wait then false else
     if n.is_timeout then m.has_counted else
     if n.goes_on && not m.may_post then false else
     if s.is_stream then finds_what_it_wants s n m else true
@@ -48,8 +48,9 @@ with_descriptor m is_ready = record {
 
 -- a request that isn't polled is finished or not whatever its descriptor is: so a sleep misses none that its descriptor would let go on
 abbrev pub PollsWhatMatters : Type 0
-PollsWhatMatters = (s : Standing) (n : Needs) (is_cancelled : Bool) (m : Moment) → polls s ≡ false
-    → can_finish s n is_cancelled (with_descriptor m true) ≡ can_finish s n is_cancelled (with_descriptor m false)
+PollsWhatMatters = (s : Standing) (n : Needs) (has_to_wait is_cancelled : Bool) (m : Moment) → polls s ≡ false
+    → can_finish s n has_to_wait is_cancelled (with_descriptor m true)
+    ≡ can_finish s n has_to_wait is_cancelled (with_descriptor m false)
 
 -- what is known of the moment: what was asked of it
 abbrev pub was_asked : Wanted → Moment → Bool
@@ -71,10 +72,10 @@ look_at_descriptor s n m =
     if not m.knows_readiness then Asks Readiness else told m.is_ready
 
 -- what is asked next, or whether it can be finished: nothing is asked that doesn't matter. Our own rule
-abbrev pub look_of : Standing → Needs → Bool → Moment → Look
-look_of s n is_cancelled m =
+abbrev pub look_of : Standing → Needs → (has_to_wait is_cancelled : Bool) → Moment → Look
+look_of s n has_to_wait is_cancelled m =
     if is_cancelled then Finishes else
-    if s.has_to_wait then Waits else
+    if has_to_wait then Waits else
     if n.is_timeout then look_at_count m else
     if n.goes_on && not m.knows_posting then Asks Posting else
     if n.goes_on && not m.may_post then Waits else
@@ -89,14 +90,14 @@ pub record Fits (known m : Moment) : Type 0 where
 
 -- whatever was asked before, what is told is whether the request can be finished by all that is so
 abbrev pub FinishesWhatCan : Type 0
-FinishesWhatCan = (s : Standing) (n : Needs) (is_cancelled : Bool) (known m : Moment) → Fits known m
-    → (look_of s n is_cancelled known ≡ Finishes → can_finish s n is_cancelled m ≡ true)
-    × (look_of s n is_cancelled known ≡ Waits → can_finish s n is_cancelled m ≡ false)
+FinishesWhatCan = (s : Standing) (n : Needs) (has_to_wait is_cancelled : Bool) (known m : Moment) → Fits known m
+    → (look_of s n has_to_wait is_cancelled known ≡ Finishes → can_finish s n has_to_wait is_cancelled m ≡ true)
+    × (look_of s n has_to_wait is_cancelled known ≡ Waits → can_finish s n has_to_wait is_cancelled m ≡ false)
 
 -- nothing is asked twice
 abbrev pub LooksOnce : Type 0
-LooksOnce = (s : Standing) (n : Needs) (is_cancelled : Bool) (known : Moment) (wanted : Wanted)
-    → look_of s n is_cancelled known ≡ Asks wanted → was_asked wanted known ≡ false
+LooksOnce = (s : Standing) (n : Needs) (has_to_wait is_cancelled : Bool) (known : Moment) (wanted : Wanted)
+    → look_of s n has_to_wait is_cancelled known ≡ Asks wanted → was_asked wanted known ≡ false
 
 -- what has flags of a message: an operation of sockets, but ACCEPT (13) and CONNECT (16)
 abbrev pub has_message_flags : ℕ → Bool

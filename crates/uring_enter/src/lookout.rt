@@ -1,7 +1,7 @@
 //! What a ring looks out for: which of the requests that run are looked at again, whether what was written to pipes may be its own, and whether threads that sleep on it are woken. Our own rules: a kernel is told of what changes; here all is looked at.
 
-ghost use Rattle.std.specs.Prelude.{◌≡◌, ◌==◌, ◌+◌, ◌<◌, ◌^◌, not, List, [], ◌∷◌};
-ghost use Rattle.uring_enter.specs.Lookouts.{Happening, Found, Started, Left, Touched, Waited, Moved, Told, Heard, Opened, Ended, Changed, Woke, KeepsLookout, EndLetsNone, LooksAfresh, WakesForEach, TakesItsOwn, moments, passed};
+ghost use Rattle.std.specs.Prelude.{◌≡◌, ◌+◌, ◌<◌, ◌^◌, List, [], ◌∷◌};
+ghost use Rattle.uring_enter.specs.Lookouts.{Happening, Found, Started, Left, Touched, Updated, Waited, Moved, Told, Heard, Opened, Ended, Changed, Woke, KeepsLookout, EndLetsNone, LooksAfresh, WakesForEach, TakesItsOwn, moments, rounds, releases, passed};
 ghost use Rattle.uring_enter.specs.Lookouts as spec;
 
 /// What a ring looks out for.
@@ -11,8 +11,14 @@ pub struct Lookout {
     /// So many of the first requests that run, by number, are passed over: they are known to wait.
     pub count: u64,
 
-    /// How often a descriptor may have become ready: at each of these moments it is looked at once.
+    /// How often a descriptor may have become ready, from 1 on: at each of these moments it is looked at once.
     pub moment: u64,
+
+    /// How often something has happened behind which none is passed over, from 1 on: in each of these rounds one that waits is asked once.
+    pub round: u64,
+
+    /// How often those that had to wait were let go, from 1 on.
+    pub release: u64,
 
     /// One was carried out and would have waited, and isn't to be carried out again yet.
     pub have_to_wait: bool,
@@ -42,7 +48,9 @@ impl Lookout {
     {
         Lookout {
             count: 0,
-            moment: 0,
+            moment: 1,
+            round: 1,
+            release: 1,
             have_to_wait: false,
             may_be_own: false,
             has_changed: false,
@@ -73,12 +81,22 @@ impl Lookout {
         self.count = place.min(self.count);
     }
 
-    /// A cancel has found the one at this place, or an update has changed it.
+    /// A cancel has found the one at this place.
     pub fn touches(&mut self, place: u64)
         ensures { (log : List Happening) → KeepsLookout log self.old
             → KeepsLookout (Touched place ∷ log) self.new }
     {
         if place < self.count {
+            self.count = place;
+        }
+    }
+
+    /// An update has changed the one at this place, which was asked again, and can be finished or waits. One that waits is passed over as before, and so are those behind it.
+    pub fn updates(&mut self, place: u64, finishes: bool)
+        ensures { (log : List Happening) → KeepsLookout log self.old
+            → KeepsLookout (Updated place finishes ∷ log) self.new }
+    {
+        if finishes && place < self.count {
             self.count = place;
         }
     }
@@ -93,21 +111,26 @@ impl Lookout {
 
     /// An operation was carried out that can make a descriptor ready.
     pub fn moves(&mut self)
-        ensures { (log : List Happening) → KeepsLookout log self.old → moments log + 1 < 2 ^ 64
+        ensures { (log : List Happening) → KeepsLookout log self.old
+            → moments log + 1 < 2 ^ 64 → rounds log + 1 < 2 ^ 64
             → KeepsLookout (Moved ∷ log) self.new }
     {
         self.count = 0;
         self.moment = self.moment.saturating_add(1);
+        self.round = self.round.saturating_add(1);
         self.may_be_own = true;
     }
 
-    /// A poll was told of what its pipe had, and has no more.
+    /// A poll has heard of a write to its pipe. It may go on, and a thread that sleeps may wait for it.
     pub fn tells(&mut self)
-        ensures { (log : List Happening) → KeepsLookout log self.old → moments log + 1 < 2 ^ 64
+        ensures { (log : List Happening) → KeepsLookout log self.old
+            → moments log + 1 < 2 ^ 64 → rounds log + 1 < 2 ^ 64
             → KeepsLookout (Told ∷ log) self.new }
     {
         self.count = 0;
         self.moment = self.moment.saturating_add(1);
+        self.round = self.round.saturating_add(1);
+        self.has_changed = true;
     }
 
     /// What was written to pipes was heard, as a call began or slept no longer.
@@ -118,32 +141,33 @@ impl Lookout {
         self.may_be_own = false;
     }
 
-    /// A call begins, or sleeps no longer. Says whether those that had to wait are to be carried out again.
-    pub fn opens(&mut self) -> bool
-        ensures forgets { (log : List Happening) → KeepsLookout log self.old → result ≡ spec.have_to_wait log }
-        ensures after { (log : List Happening) → KeepsLookout log self.old → moments log + 1 < 2 ^ 64
+    /// A call begins, or sleeps no longer.
+    pub fn opens(&mut self)
+        ensures { (log : List Happening) → KeepsLookout log self.old
+            → moments log + 1 < 2 ^ 64 → rounds log + 1 < 2 ^ 64 → releases log + 1 < 2 ^ 64
             → KeepsLookout (Opened ∷ log) self.new }
     {
-        let forgets = self.have_to_wait;
         self.count = 0;
         self.moment = self.moment.saturating_add(1);
+        self.round = self.round.saturating_add(1);
+        self.release = self.release.saturating_add(1);
         self.have_to_wait = false;
-        forgets
     }
 
-    /// A request has ended. Says whether those that had to wait are to be carried out again.
-    pub fn ends(&mut self, end: EndOfOne) -> bool
-        ensures forgets { (log : List Happening) → KeepsLookout log self.old → result ≡ spec.have_to_wait log }
-        ensures after { (log : List Happening) → KeepsLookout log self.old
+    /// A request has ended.
+    pub fn ends(&mut self, end: EndOfOne)
+        ensures { (log : List Happening) → KeepsLookout log self.old
+            → rounds log + 1 < 2 ^ 64 → releases log + 1 < 2 ^ 64
             → KeepsLookout (Ended end ∷ log) self.new }
     {
-        let forgets = self.have_to_wait;
-        if end.is_count_reached || end.has_drains || forgets {
-            self.count = 0;
-        }
+        let lets_others = end.is_count_reached || end.has_drains || self.have_to_wait;
+        self.release = self.release.saturating_add(1);
         self.have_to_wait = false;
         self.has_changed = true;
-        forgets
+        if lets_others {
+            self.count = 0;
+            self.round = self.round.saturating_add(1);
+        }
     }
 
     /// Something else has changed for which a thread may sleep.
@@ -163,14 +187,6 @@ impl Lookout {
         let has_changed = self.has_changed;
         self.has_changed = false;
         has_changed
-    }
-
-    /// Whether a descriptor that was looked at in this moment is to be looked at again: it may have become ready since.
-    pub fn is_stale(&self, looked_at: u64) -> bool
-        ensures { (log : List Happening) → KeepsLookout log self.now
-            → result ≡ not (looked_at == moments log) }
-    {
-        looked_at != self.moment
     }
 }
 

@@ -14,9 +14,6 @@ use crate::submission::Submission;
 #[repr(C)]
 #[derive(Clone, Copy, Drop)]
 pub struct Standing {
-    /// It was carried out and would have waited, and nothing has ended since.
-    pub has_to_wait: bool,
-
     /// It may have to wait for its descriptor.
     pub is_stream: bool,
 
@@ -85,14 +82,20 @@ pub struct Patience {
     pub has_begun: bool,
 }
 
-/// What is to be asked next of a request that runs, or whether it can be finished.
-pub fn next_look(standing: &Standing, needs: &Needs, course: &Course, known: &Moment) -> Look
+/// What is to be asked next of a request that runs, and has to wait or hasn't, or whether it can be finished.
+pub fn next_look(
+    standing: &Standing,
+    needs: &Needs,
+    has_to_wait: bool,
+    course: &Course,
+    known: &Moment,
+) -> Look
     ensures { (log : List Fact) → KeepsCourse log course.now
-        → result ≡ spec.look_of standing.now needs.now (is_cancelled log) known.now }
+        → result ≡ spec.look_of standing.now needs.now has_to_wait (is_cancelled log) known.now }
 {
     if course.is_cancelled {
         Look::Finishes
-    } else if standing.has_to_wait {
+    } else if has_to_wait {
         Look::Waits
     } else if needs.is_timeout {
         look_at_count(known)

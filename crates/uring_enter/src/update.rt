@@ -1,9 +1,11 @@
-//! What an update makes of a poll, and of a timeout's flags. io_uring_enter(2), IORING_OP_POLL_REMOVE and IORING_OP_TIMEOUT_REMOVE.
+//! What an update makes of a poll, also of one that waits, and of a timeout's flags. io_uring_enter(2), IORING_OP_POLL_REMOVE and IORING_OP_TIMEOUT_REMOVE.
 
-ghost use Rattle.std.specs.Prelude.{◌≡◌};
+ghost use Rattle.std.specs.Prelude.{◌≡◌, List, ◌∷◌};
 ghost use Rattle.uring_enter.specs.Updates as spec;
+ghost use Rattle.uring_enter.specs.Waiters.{Turn, WasUpdated, KeepsWaiter};
 
 use crate::submission::Submission;
+use crate::waiter::Waiter;
 
 /// What an update may change of a poll.
 #[repr(C)]
@@ -95,4 +97,15 @@ pub fn updated_flags(flags: u32, entry: &Submission) -> u32
     ensures { result ≡ spec.updated_flags flags entry.now }
 {
     flags & !1 | entry.op_flags & 1
+}
+
+impl Waiter {
+    /// An update has changed it: it need wait for no other's end.
+    pub fn meets_update(&mut self)
+        ensures { (log : List Turn) → KeepsWaiter log self.old
+            → KeepsWaiter (WasUpdated ∷ log) self.new }
+    {
+        self.found_in = 0;
+        self.waited_in = 0;
+    }
 }

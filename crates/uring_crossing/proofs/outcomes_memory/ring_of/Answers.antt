@@ -1,8 +1,8 @@
 use Rattle.std.proofs.Common.{◌≤◌, ℕ, subst, sym}
 use Rattle.std.specs.Prelude.{All}
 use Rattle.std.proofs.lemmas.Bool.{both_ways}
-use Rattle.uring_c.proofs.Starts.{no_walk_long}
-use Rattle.uring_c.proofs.outcomes_memory.ring_of.Goals as goal
+use Rattle.uring_crossing.proofs.Starts.{no_walk_long}
+use Rattle.uring_crossing.proofs.outcomes_memory.ring_of.Goals as goal
 
 pub returns-then-not-fit : goal.returns-then-not-fit
 returns-then-not-fit c =

@@ -3,9 +3,9 @@ use Rattle.std.specs.declared.vec.Vec.{Vec}
 use Rattle.std.specs.declared.alloc.Global.{Global}
 use Rattle.uring_entry.specs.Layout.{Sqe}
 use Rattle.uring_outcomes.specs.Faults.{entry_count}
-use Rattle.uring_c.specs.Cuts.{cut}
-use Rattle.uring_c.proofs.Cutting.{cut_within}
-use Rattle.uring_c.proofs.outcomes_memory.walk.Goals as goal
+use Rattle.uring_crossing.specs.Cuts.{cut}
+use Rattle.uring_crossing.proofs.Cutting.{cut_within}
+use Rattle.uring_crossing.proofs.outcomes_memory.walk.Goals as goal
 
 pub found_in-requires : goal.found_in-requires
 found_in-requires g c =

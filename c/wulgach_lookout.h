@@ -1,0 +1,146 @@
+/* Wulgach: which of the requests that run are asked whether they can be finished, and what is known of each, as decisions, for whoever keeps a
+ * ring as the kernel does. The functions are in the library of wulgach.h, and proved as those are. The layer under liburing calls them.
+ */
+#ifndef WULGACH_LOOKOUT_H
+#define WULGACH_LOOKOUT_H
+
+#include "wulgach_course.h"
+#include "wulgach_waits.h"
+
+#ifdef __cplusplus
+extern "C" {
+#endif
+
+/* ---- what a ring looks out for ---- */
+
+/* Which of the requests that run are looked at again, whether what was written to pipes may be the ring's own, and whether threads that
+ * sleep on it are woken. It is the caller's memory, and its fields are the library's. */
+struct wulgach_lookout {
+    uint64_t count;             /* so many of the first requests that run, by number, are passed over: they are known to wait */
+    uint64_t moment;            /* how often a descriptor may have become ready, from 1 on */
+    uint64_t round;             /* how often something has happened behind which none is passed over, from 1 on */
+    uint64_t release;           /* how often those that had to wait were let go, from 1 on */
+    bool have_to_wait;          /* one was carried out and would have waited, and isn't to be carried out again yet */
+    bool may_be_own;            /* what was written to a pipe since it was last heard may be the ring's own */
+    bool has_changed;           /* something has changed since the threads that sleep were last woken */
+};
+
+/* What the end of a request can change for others. */
+struct wulgach_end_of_one {
+    bool is_count_reached;      /* a count is reached for which a timeout waits */
+    bool has_drains;            /* requests that drain were outstanding, itself among them */
+};
+
+/* Begins a ring to which nothing has happened. */
+void wulgach_lookout_begin(struct wulgach_lookout *lookout);
+
+/* The first one that isn't passed over was looked at, and can't be finished. */
+void wulgach_lookout_passes(struct wulgach_lookout *lookout);
+
+/* One has started, and stands at this place, from 0; the one at this place runs no more; a cancel has found it. */
+void wulgach_lookout_starts(struct wulgach_lookout *lookout, uint64_t place);
+void wulgach_lookout_leaves(struct wulgach_lookout *lookout, uint64_t place);
+void wulgach_lookout_touches(struct wulgach_lookout *lookout, uint64_t place);
+
+/* An update has changed the one at this place, which was asked again then: it can be finished, or waits. One that waits is passed over as
+ * before, and so are those behind it. */
+void wulgach_lookout_updates(struct wulgach_lookout *lookout, uint64_t place, bool finishes);
+
+/* An operation was carried out that can make a descriptor ready. */
+void wulgach_lookout_moves(struct wulgach_lookout *lookout);
+
+/* A call begins, or sleeps no longer; or a request has ended: those that had to wait needn't now. Behind an end that wasn't told to let others
+ * be finished, none can be that couldn't before. */
+void wulgach_lookout_opens(struct wulgach_lookout *lookout);
+void wulgach_lookout_ends(struct wulgach_lookout *lookout, const struct wulgach_end_of_one *end);
+
+/* What was written to pipes was heard, as a call began or slept no longer. Behind an operation that was carried out since, what is written
+ * may be the ring's own (`may_be_own`), and isn't told. */
+void wulgach_lookout_hears(struct wulgach_lookout *lookout);
+
+/* Something else has changed for which a thread may sleep: entries were taken, or completions have come into the ring. */
+void wulgach_lookout_changes(struct wulgach_lookout *lookout);
+
+/* Threads that sleep may be woken. Returns whether they are: something has changed since they last were. */
+bool wulgach_lookout_wakes(struct wulgach_lookout *lookout);
+
+/* ---- which polls are told of writes ---- */
+
+/* A request that runs, as far as it says whether it is told of a write. */
+struct wulgach_pipe_poll {
+    uint32_t watch;             /* by what number writes to its pipe are told; 0: it has none */
+    uint32_t events;            /* what a poll waits for, as poll(2) has it */
+    bool is_poll;
+    bool is_of_pipe;            /* its descriptor is a pipe's */
+    bool is_cancelled;          /* a cancel has found it */
+};
+
+/* Whether a request is to be told of writes to its pipe: it is a poll for what that has to be read. */
+bool wulgach_awaits_writes(const struct wulgach_pipe_poll *poll);
+
+/* Whether it awaits the writes of this number; and whether it is told of one, where its pipe has something to be read or nothing: of what is
+ * gone. */
+bool wulgach_awaits_write(const struct wulgach_pipe_poll *poll, uint32_t watch);
+bool wulgach_is_told_of_write(const struct wulgach_pipe_poll *poll, uint32_t watch, bool is_there);
+
+/* ---- what is known of a request that runs ---- */
+
+/* Whether it has to wait, whether it is known to wait, and whether its descriptor is ready, as of what has happened to it and to its ring: of
+ * the latter nothing need be noted here. It is the caller's memory; its fields are the library's, and may be read. */
+struct wulgach_waiter {
+    uint64_t found_in;          /* the round of its ring in which it was found to wait, or 0 */
+    uint64_t waited_in;         /* how often those that had to wait had been let go when it would have waited, or 0 */
+    uint64_t seen_in;           /* the moment of its ring in which its descriptor was looked at last, or 0, */
+    bool was_ready;             /* and it was ready then */
+    bool has_heard;             /* it has heard of a write to its pipe, and what was written was there then */
+    bool is_told;               /* it was told of a write, and what was written is gone */
+};
+
+/* Begins a request that has started just now: zeros, so that memory of zeros needs no call. Of one that hasn't started nothing is noted. */
+void wulgach_waiter_begin(struct wulgach_waiter *waiter);
+
+/* Returns whether a request that runs can be finished, or what is asked next (enum wulgach_look), as far as the moment is known. One that was
+ * found to wait isn't asked again until something has happened to it below, or to its ring, that can let it go on. One that would have waited
+ * can't be finished until another has ended, a call has begun, or one has slept; one that a cancel has found can; a timeout if its count is
+ * reached; another if its completion may be posted, where it goes on, and if its descriptor is ready, where it may have to wait; or if it is to
+ * take a provided buffer and has found none. */
+uint32_t wulgach_can_finish(struct wulgach_waiter *waiter, const struct wulgach_lookout *lookout, const struct wulgach_standing *standing, const struct wulgach_needs *needs, const struct wulgach_course *course, const struct wulgach_moment *known);
+
+/* It was carried out, and would have waited. */
+void wulgach_waiter_waits(struct wulgach_waiter *waiter, struct wulgach_lookout *lookout);
+
+/* A cancel has found it; an update has changed it, so that it need wait for no other's end. */
+void wulgach_waiter_meets_cancel(struct wulgach_waiter *waiter);
+void wulgach_waiter_meets_update(struct wulgach_waiter *waiter);
+
+enum wulgach_sighting {
+    WULGACH_SIGHTING_UNREADY = 0,
+    WULGACH_SIGHTING_READY = 1,
+    WULGACH_SIGHTING_UNSEEN = 2     /* it is to be looked at */
+};
+
+/* Returns whether the descriptor of a request is ready (enum wulgach_sighting), by when it was looked at last. One that was told of a write is,
+ * whatever its descriptor says. */
+uint32_t wulgach_waiter_sighting(const struct wulgach_waiter *waiter, const struct wulgach_lookout *lookout);
+
+/* Its descriptor was looked at, and was ready or not. Returns whether it is to be found out if its pipe has something: it had heard of a write,
+ * and has found nothing. Then wulgach_waiter_misses is called. */
+bool wulgach_waiter_sees(struct wulgach_waiter *waiter, const struct wulgach_lookout *lookout, bool is_ready);
+
+/* A poll has heard of a write to its pipe, and what was written is there still, or gone. It need wait for no other's end, and is told of what
+ * is gone. */
+void wulgach_waiter_hears(struct wulgach_waiter *waiter, struct wulgach_lookout *lookout, const struct wulgach_pipe_poll *poll, bool is_there);
+
+/* A poll that had heard of a write has found nothing, and its pipe has something all the same, or nothing. Returns whether it was told of any:
+ * of this one if it is gone, unless it may be the ring's own requests that have read it. */
+bool wulgach_waiter_misses(struct wulgach_waiter *waiter, const struct wulgach_lookout *lookout, const struct wulgach_pipe_poll *poll, bool is_there);
+
+/* A poll was carried out, and has taken what there was: its descriptor isn't looked at again in this moment. Returns whether it was told of a
+ * write. */
+bool wulgach_waiter_takes(struct wulgach_waiter *waiter, const struct wulgach_lookout *lookout);
+
+#ifdef __cplusplus
+}
+#endif
+
+#endif
