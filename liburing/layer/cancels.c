@@ -21,6 +21,7 @@
 static void look_again_at(struct ring *ring, struct request *request)
 {
     request->waits_in = 0;
+    rouse(ring, request);
     if (request->course.has_started)
         wulgach_lookout_touches(&ring->lookout, place_of(&ring->running, request->number));
 }
@@ -81,10 +82,10 @@ bool cancel_running(struct ring *ring, uint64_t user_data)
 {
     struct wulgach_search search;
     wulgach_search_begin(&search, user_data);
-    for (size_t i = 0; i < ring->running.count; i++) {
-        struct request *request = ring->running.rows[i];
+    for (size_t i = 0; i < ring->requests.count; i++) {
+        struct request *request = ring->requests.rows[i];
         struct wulgach_outstanding seen = seen_of(request);
-        if (wulgach_search_sees(&search, &seen))
+        if (seen.runs && wulgach_search_sees(&search, &seen))
             cancel_request(ring, request);
     }
     return wulgach_search_has_cancelled(&search);
@@ -131,6 +132,8 @@ static void look_at_changed(struct ring *ring, struct request *poll)
 
 static int32_t change_poll(struct ring *ring, struct request *poll, const struct io_uring_sqe *change)
 {
+    rouse(ring, poll);
+    delist(ring, poll);
     struct wulgach_poll changed = {
         .user_data = poll->entry.user_data,
         .events = poll->entry.poll32_events,

@@ -63,6 +63,10 @@ void end_of(struct ring *ring, struct request *request, int32_t res, int32_t tol
     note_counts(ring);
     if (request->file)
         unwatch(ring, request->file->fd);
+    if (request->is_enlisted)
+        delist(ring, request);
+    if (request->watch > 0)
+        leave_pipe(ring, request);
     look_behind(ring, request);
     note_issuable_behind(ring, request, told);
     if (request->is_draining)

@@ -79,6 +79,8 @@ static size_t list_watched(const struct ring *ring, struct watched *watched)
     size_t count = 0, kept = 0;
     if (ring->pipes.count > 0)
         list_one(&watched[count++], ring->pipes.inotify, EPOLLIN, 0);
+    if (ring->dormant.instance >= 0)
+        list_one(&watched[count++], ring->dormant.instance, EPOLLIN, 0);
     for (size_t i = 0; i < ring->running.count; i++) {
         const struct request *request = ring->running.rows[i];
         if (!request->standing.is_stream)
@@ -152,7 +154,7 @@ static void watch_streams(struct ring *ring, int fd)
 {
     if (ring->running.count == 0 && ring->watched_count == 0)
         return;
-    struct watched *watched = calloc(ring->running.count + 2, sizeof *watched);
+    struct watched *watched = calloc(ring->running.count + 3, sizeof *watched);
     if (!watched)
         return;
     size_t count = list_watched(ring, watched);

@@ -25,6 +25,10 @@ struct request {
     bool is_found_ready;            /* and whether it was ready */
     uint64_t waits_in;              /* of one that runs: the round in which it was found to wait, or 0 */
     bool is_patient;                /* it runs, and stands among those that may have to wait */
+    bool is_dormant;                /* it runs, and isn't looked at: the ring's epoll instance tells when its descriptor is ready; */
+    bool is_enlisted;               /* the instance has that, */
+    bool is_unlisted;               /* or doesn't take it */
+    struct file *duplicate;         /* by which it has it, where another request has given it the descriptor itself; or NULL */
     struct wulgach_standing standing;   /* whether it would have waited, and nothing has ended since; whether it may have to wait for a descriptor; and whether it has found a provided buffer */
     int32_t fault;                  /* of a refused entry: what it ends with */
     bool is_draining;               /* a member of its chain drains, or it does: those behind wait until all of them have ended */
@@ -50,6 +54,7 @@ struct request {
     int epoll;                      /* what tells of the events of a poll that goes on; or negative */
     bool is_of_pipe;                /* a poll for what a pipe has to be read: */
     int watch;                      /* the number by which writes to that are told, or 0, */
+    struct request *watched_before, *watched_behind;    /* and the polls that stand beside it among those of the same number, or NULL; */
     bool is_heard;                  /* whether something was written, and was there still, */
     bool is_told;                   /* and whether something was written, and is gone */
     /* What the entry points to, copied when it is submitted: the application may reuse it at once. */

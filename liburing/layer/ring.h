@@ -6,6 +6,7 @@
 
 #include "buffers.h"
 #include "completions.h"
+#include "dormant.h"
 #include "extras.h"
 #include "files.h"
 #include "memory.h"
@@ -50,7 +51,8 @@ struct ring {
     struct wulgach_core core;
     bool is_linux;                      /* which keeps requests by Linux's rules; else by the manual pages' */
     struct requests requests;           /* accepted and not ended */
-    struct requests running;            /* those of them that were started */
+    struct requests running;            /* those of them that were started and are looked at: */
+    struct dormant dormant;             /* the others wait for their descriptors */
     struct requests patient;            /* where ways are chosen: those of the running ones that may have to wait, */
     struct request **waiting;           /* and those of them that have to at a choice, */
     size_t waiting_room;                /* with room for so many */

@@ -18,6 +18,11 @@ void note_taken(const struct ring *ring, struct request *request)
     request->is_found_ready = false;
 }
 
+void note_ready(const struct ring *ring, struct request *request)
+{
+    note(ring, request, true);
+}
+
 void look_at(const struct ring *ring, struct request *request)
 {
     note(ring, request, is_ready(request));
@@ -78,14 +83,17 @@ bool is_found_ready(struct ring *ring, struct request *request)
     return request->is_found_ready;
 }
 
+void hold_file_of(struct request *request)
+{
+    if (!wulgach_keeps_open(&request->standing, request->file, request->epoll >= 0))
+        return;
+    request->file = hold_file(request->fd);
+    if (request->file)
+        request->fd = request->file->fd;
+}
+
 void hold_files(struct ring *ring)
 {
-    for (size_t i = 0; i < ring->running.count; i++) {
-        struct request *request = ring->running.rows[i];
-        if (!wulgach_keeps_open(&request->standing, request->file, request->epoll >= 0))
-            continue;
-        request->file = hold_file(request->fd);
-        if (request->file)
-            request->fd = request->file->fd;
-    }
+    for (size_t i = 0; i < ring->running.count; i++)
+        hold_file_of(ring->running.rows[i]);
 }
