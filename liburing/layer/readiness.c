@@ -152,7 +152,7 @@ void unwatch(struct ring *ring, int fd)
 /* Puts the streams that are waited for in the place of those that were. If memory is refused, the next call tries. */
 static void watch_streams(struct ring *ring, int fd)
 {
-    if (ring->running.count == 0 && ring->watched_count == 0)
+    if (ring->running.count == 0 && ring->dormant.count == 0 && ring->watched_count == 0)
         return;
     struct watched *watched = calloc(ring->running.count + 3, sizeof *watched);
     if (!watched)
