@@ -139,10 +139,8 @@ static void fall_asleep(struct ring *ring, struct request *request)
     request->is_patient = false;
 }
 
-void let_sleep(struct ring *ring)
+__attribute__((noinline)) static void let_many_sleep(struct ring *ring)
 {
-    if (ring->running.count <= MOST_AWAKE)
-        return;
     for (size_t i = 0; i < ring->running.count;) {
         struct request *request = ring->running.rows[i];
         if (is_to_sleep(ring, request) && has_instance(ring) && is_asleep(ring, request))
@@ -153,6 +151,12 @@ void let_sleep(struct ring *ring)
     /* (there was room for them, and is: no memory is asked for) */
     reserve_requests(&ring->running, ring->requests.count - ring->running.count);
     reserve_ways(ring, ring->requests.count);
+}
+
+void let_sleep(struct ring *ring)
+{
+    if (ring->running.count > MOST_AWAKE)
+        let_many_sleep(ring);
 }
 
 /* ---- waking ---- */

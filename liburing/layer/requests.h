@@ -21,21 +21,19 @@ struct request {
     struct wulgach_course course;   /* what has become of it: it has started, was cancelled, was carried out, has ended */
     struct io_uring_sqe entry;      /* as the application wrote it */
     enum mapping mapping;           /* what the core was told of it */
+    int32_t fault;                  /* of a refused entry: what it ends with */
+    uint64_t waits_in;              /* of one that runs: the round in which it was found to wait, or 0 */
     uint64_t looked_at;             /* of one that may have to wait: the moment at which its descriptor was last looked at, */
     bool is_found_ready;            /* and whether it was ready */
-    uint64_t waits_in;              /* of one that runs: the round in which it was found to wait, or 0 */
+    struct wulgach_standing standing;   /* whether it would have waited, and nothing has ended since; whether it may have to wait for a descriptor; and whether it has found a provided buffer */
     bool is_patient;                /* it runs, and stands among those that may have to wait */
     bool is_dormant;                /* it runs, and isn't looked at: the ring's epoll instance tells when its descriptor is ready; */
     bool is_enlisted;               /* the instance has that, */
-    bool is_unlisted;               /* or doesn't take it */
-    struct file *duplicate;         /* by which it has it, where another request has given it the descriptor itself; or NULL */
-    struct wulgach_standing standing;   /* whether it would have waited, and nothing has ended since; whether it may have to wait for a descriptor; and whether it has found a provided buffer */
-    int32_t fault;                  /* of a refused entry: what it ends with */
-    bool is_draining;               /* a member of its chain drains, or it does: those behind wait until all of them have ended */
-    struct file *file;              /* the registered file that it is carried out on, if it is one */
-    int fd;                         /* the descriptor that it is carried out on */
-    struct file *second_file;       /* of a splice: where it reads */
-    int second_fd;
+    bool is_unlisted;               /* or doesn't take it; */
+    struct file *duplicate;         /* and by which it has it, where another request has given it the descriptor itself; or NULL */
+    struct file *file;              /* the registered file that it is carried out on, if it is one, */
+    struct file *second_file;       /* and of a splice: where it reads */
+    int fd, second_fd;              /* their descriptors, or those that the entry names */
     struct buffer *buffer;          /* the registered buffer that it uses, or NULL */
     struct wulgach_needs needs;     /* what its operation needs, and of which kind it is: as zeros, but of a token */
     bool is_assigned;               /* these are known: when it is accepted, or, behind a link or beside a drain, when it starts */
@@ -43,6 +41,7 @@ struct request {
     bool is_tried;                  /* whether it may have to wait isn't known: it is tried first, */
     bool is_tried_at_once;          /* and nothing was asked of its descriptor, */
     bool was_tried;                 /* or it was */
+    bool is_draining;               /* a member of its chain drains, or it does: those behind wait until all of them have ended */
     uint64_t wanted;                /* of one that takes a provided buffer: how many bytes at most, or 0 */
     uint64_t done;                  /* the bytes that a transfer of sockets has moved so far */
     int32_t started;                /* what its start found out: an error number that it ends with, or 0 */
@@ -51,12 +50,12 @@ struct request {
     uint64_t call;                  /* the number of the call that submitted it */
     uint64_t begun;                 /* how many had started before it, and itself */
     bool has_fired;                 /* a linked timeout: the request before it was cancelled by it */
-    int epoll;                      /* what tells of the events of a poll that goes on; or negative */
     bool is_of_pipe;                /* a poll for what a pipe has to be read: */
-    int watch;                      /* the number by which writes to that are told, or 0, */
-    struct request *watched_before, *watched_behind;    /* and the polls that stand beside it among those of the same number, or NULL; */
     bool is_heard;                  /* whether something was written, and was there still, */
-    bool is_told;                   /* and whether something was written, and is gone */
+    bool is_told;                   /* whether something was written, and is gone, */
+    int watch;                      /* the number by which writes to it are told, or 0, */
+    struct request *watched_before, *watched_behind;    /* and the polls that stand beside it among those of the same number, or NULL */
+    int epoll;                      /* what tells of the events of a poll that goes on; or negative */
     /* What the entry points to, copied when it is submitted: the application may reuse it at once. */
     struct iovec *vectors, one;     /* (one stands here) */
     uint32_t vector_count;
