@@ -76,6 +76,7 @@ void end_of(struct ring *ring, struct request *request, int32_t res, int32_t tol
     note_issuable_behind(ring, request, told);
     if (request->is_draining)
         wulgach_drains_end(&ring->drains, true);
+    take_from_directory(ring, request);
     end_request(&ring->requests, request);
     ring->completions.is_behind = true;
 }

@@ -64,7 +64,7 @@ struct request {
     void *value;                    /* of an extended attribute, an address, or a message */
     struct open_how *how;
     struct __kernel_timespec *time;
-    struct request *next;           /* of those that are kept */
+    struct request *before, *next;  /* its neighbours in the directory, if that is kept; or of those that have ended and are kept the next */
 };
 
 /* Requests by rising number. The first are taken out by moving `rows` on. */

@@ -42,6 +42,7 @@ void free_ring(struct ring *ring)
     free_polled(ring);
     free_pipes(&ring->pipes);
     free_dormant(&ring->dormant);
+    free_directory(&ring->directory);
     free_files(ring);
     free_buffers(ring);
     free_groups(ring);
