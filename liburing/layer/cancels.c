@@ -21,6 +21,7 @@
 static void look_again_at(struct ring *ring, struct request *request)
 {
     wulgach_waiter_meets_cancel(&request->waiter);
+    rouse(ring, request);
     wulgach_lookout_touches(&ring->lookout, place_of(&ring->running, request->number));
 }
 
@@ -68,23 +69,24 @@ static bool look_for(struct ring *ring, struct wulgach_cancel *cancel, const str
 static int32_t cancel_all(struct ring *ring, const struct wulgach_sought *sought, const struct request *canceller)
 {
     struct wulgach_cancel cancel;
+    struct seeking seeking;
     wulgach_cancel_begin(&cancel, sought);
-    for (size_t i = 0; i < ring->requests.count; i++) {
-        struct request *request = ring->requests.rows[i];
+    begin_seeking(&seeking, ring, sought);
+    for (struct request *request; (request = next_sought(&seeking));)
         if (request != canceller && look_for(ring, &cancel, request))
             cancel_request(ring, request);
-    }
     return wulgach_cancel_result(&cancel);
 }
 
 bool cancel_running(struct ring *ring, uint64_t user_data)
 {
     struct wulgach_search search;
+    struct seeking seeking;
     wulgach_search_begin(&search, user_data);
-    for (size_t i = 0; i < ring->running.count; i++) {
-        struct request *request = ring->running.rows[i];
+    begin_seeking_named(&seeking, ring, user_data);
+    for (struct request *request; (request = next_sought(&seeking));) {
         struct wulgach_outstanding seen = seen_of(request);
-        if (wulgach_search_sees(&search, &seen))
+        if (seen.runs && wulgach_search_sees(&search, &seen))
             cancel_request(ring, request);
     }
     return wulgach_search_has_cancelled(&search);
@@ -109,12 +111,12 @@ struct request *find_request(struct ring *ring, const struct io_uring_sqe *seeke
     struct wulgach_sought sought;
     struct wulgach_cancel cancel;
     wulgach_sought_of(submission_of(seeker), &sought);
+    struct seeking seeking;
     wulgach_cancel_begin(&cancel, &sought);
-    for (size_t i = 0; i < ring->requests.count; i++) {
-        struct request *request = ring->requests.rows[i];
+    begin_seeking(&seeking, ring, &sought);
+    for (struct request *request; (request = next_sought(&seeking));)
         if (look_for(ring, &cancel, request))
             return request;
-    }
     return NULL;
 }
 
@@ -128,12 +130,16 @@ static void look_at_changed(struct ring *ring, struct request *poll)
 
 static int32_t change_poll(struct ring *ring, struct request *poll, const struct io_uring_sqe *change)
 {
+    rouse(ring, poll);
+    delist(ring, poll);
     struct wulgach_poll changed = {
         .user_data = poll->entry.user_data,
         .events = poll->entry.poll32_events,
     };
     wulgach_updated_poll(&changed, submission_of(change));
+    take_from_directory(ring, poll);
     poll->entry.user_data = changed.user_data;
+    put_into_directory(ring, poll);
     poll->entry.poll32_events = changed.events;
     wulgach_needs_of(submission_of(&poll->entry), &poll->needs);
     if (wulgach_course_begins_afresh(&poll->course)) {

@@ -28,6 +28,13 @@ static void look_behind(struct ring *ring, const struct request *ended)
         take_request(&ring->patient, ended);
 }
 
+/* Nothing tells of its descriptor any more. */
+__attribute__((noinline)) static void forget_descriptor(struct ring *ring, struct request *request)
+{
+    delist(ring, request);
+    leave_pipe(ring, request);
+}
+
 void end_of(struct ring *ring, struct request *request, int32_t res, int32_t told)
 {
     trace_result(ring, request, res);
@@ -40,10 +47,13 @@ void end_of(struct ring *ring, struct request *request, int32_t res, int32_t tol
     note_counts(ring);
     if (request->file)
         unwatch(ring, request->file->fd);
+    if (request->standing.is_stream)
+        forget_descriptor(ring, request);
     look_behind(ring, request);
     note_issuable_behind(ring, request, told);
     if (request->is_draining)
         wulgach_drains_end(&ring->drains, true);
+    take_from_directory(ring, request);
     end_request(&ring->requests, request);
     ring->completions.is_behind = true;
 }

@@ -66,6 +66,7 @@ void post_extra(struct ring *ring, uint64_t call, uint64_t user_data, int32_t re
     wulgach_member_first(&request->member, ring->accepted++, &(struct wulgach_link){.links = false});
     wulgach_course_begin(&request->course);
     add_request(&ring->requests, request);
+    put_into_directory(ring, request);
     trace_note(ring, "request %llu: a completion of the layer's own", (unsigned long long)request->number);
     int32_t told = end_own(ring, request, res);
     end_of(ring, request, res, told);

@@ -29,6 +29,7 @@ void free_pipes(struct pipes *pipes)
     if (pipes->inotify >= 0)
         close(pipes->inotify);
     free(pipes->watches);
+    free(pipes->written);
 }
 
 /* A request, as far as it says which writes it is told of. */
@@ -73,19 +74,32 @@ static int make_inotify(void)
     return high;
 }
 
+/* Makes room for one more watch; false if memory was refused. */
+static bool reserve_watch(struct pipes *pipes)
+{
+    if (pipes->count < pipes->room)
+        return true;
+    size_t room = 2 * (pipes->room + 4);
+    struct watch *watches = realloc(pipes->watches, room * sizeof *watches);
+    if (watches)
+        pipes->watches = watches;
+    int *written = realloc(pipes->written, room * sizeof *written);
+    if (written)
+        pipes->written = written;
+    if (!watches || !written)
+        return false;
+    pipes->room = room;
+    return true;
+}
+
 /* The watch of a descriptor's pipe, which is one however many descriptors it has; 0: there is none to be had. */
 static int watch_of(struct pipes *pipes, int fd)
 {
     char path[32];
     if (pipes->inotify < 0)
         pipes->inotify = make_inotify();
-    if (pipes->count == pipes->room) {
-        struct watch *watches = realloc(pipes->watches, 2 * (pipes->room + 4) * sizeof *watches);
-        if (!watches)
-            return 0;
-        pipes->watches = watches;
-        pipes->room = 2 * (pipes->room + 4);
-    }
+    if (!reserve_watch(pipes))
+        return 0;
     snprintf(path, sizeof path, "/proc/self/fd/%d", fd);
     int watch = inotify_add_watch(pipes->inotify, path, IN_MODIFY);
     return watch < 0 ? 0 : watch;
@@ -105,49 +119,86 @@ static size_t place_of_watch(const struct pipes *pipes, int number)
     return low;
 }
 
-/* A running poll awaits writes by this watch. A new one has room. */
-static void await_by(struct pipes *pipes, int number)
+/* The watch of a number, or NULL. */
+static struct watch *watch_by(const struct pipes *pipes, int number)
 {
     size_t place = place_of_watch(pipes, number);
-    struct watch *at = pipes->watches + place;
-    if (place == pipes->count || at->number != number) {
-        memmove(at + 1, at, (pipes->count - place) * sizeof *at);
-        pipes->count++;
-        at->number = number;
-    }
-    at->is_awaited = true;
+    return place < pipes->count && pipes->watches[place].number == number ? &pipes->watches[place] : NULL;
 }
 
-/* Sees that each running poll has its watch. Those that were submitted together wait for the same pipe, mostly. */
+/* Adds a watch without polls. There is room. */
+static struct watch *add_watch(struct pipes *pipes, int number)
+{
+    struct watch *at = pipes->watches + place_of_watch(pipes, number);
+    memmove(at + 1, at, (size_t)(pipes->watches + pipes->count - at) * sizeof *at);
+    *at = (struct watch){.number = number};
+    pipes->count++;
+    pipes->idle++;
+    return at;
+}
+
+/* A running poll waits by this watch. A new one has room. */
+static void wait_by(struct pipes *pipes, struct request *request, int number)
+{
+    struct watch *watch = watch_by(pipes, number);
+    if (!watch)
+        watch = add_watch(pipes, number);
+    pipes->idle -= !watch->polls;
+    request->watch = number;
+    request->watched_behind = watch->polls;
+    if (watch->polls)
+        watch->polls->watched_before = request;
+    watch->polls = request;
+}
+
+void leave_pipe(struct ring *ring, struct request *request)
+{
+    struct watch *watch = request->watch > 0 ? watch_by(&ring->pipes, request->watch) : NULL;
+    if (!watch)
+        return;
+    if (request->watched_before)
+        request->watched_before->watched_behind = request->watched_behind;
+    else
+        watch->polls = request->watched_behind;
+    if (request->watched_behind)
+        request->watched_behind->watched_before = request->watched_before;
+    ring->pipes.idle += !watch->polls;
+    request->watch = 0;
+    request->watched_before = request->watched_behind = NULL;
+}
+
+/* Sees that each running poll has its watch: a dormant one had it before. Those that were submitted together wait for the same pipe, mostly. */
 static void add_watches(struct ring *ring)
 {
     const struct request *before = NULL;
     for (size_t i = 0; i < ring->running.count; i++) {
         struct request *request = ring->running.rows[i];
         if (!is_watching(request)) {
-            request->watch = 0;
+            leave_pipe(ring, request);
             continue;
         }
-        if (request->watch == 0)
-            request->watch = before && before->fd == request->fd ? before->watch : watch_of(&ring->pipes, request->fd);
-        if (request->watch > 0)
-            await_by(&ring->pipes, request->watch);
+        int watch = request->watch;
+        if (watch == 0)
+            watch = before && before->fd == request->fd ? before->watch : watch_of(&ring->pipes, request->fd);
+        if (request->watch == 0 && watch > 0)
+            wait_by(&ring->pipes, request, watch);
         before = request;
     }
 }
 
-/* Takes away those that no poll waits for any more. */
+/* Takes away those that no poll waits by any more. */
 static void drop_watches(struct pipes *pipes)
 {
     size_t kept = 0;
-    for (size_t i = 0; i < pipes->count; i++) {
-        struct watch watch = pipes->watches[i];
-        if (watch.is_awaited)
-            pipes->watches[kept++] = (struct watch){.number = watch.number};
+    for (size_t i = 0; pipes->idle > 0 && i < pipes->count; i++) {
+        if (pipes->watches[i].polls)
+            pipes->watches[kept++] = pipes->watches[i];
         else
-            inotify_rm_watch(pipes->inotify, watch.number);
+            inotify_rm_watch(pipes->inotify, pipes->watches[i].number);
     }
-    pipes->count = kept;
+    if (pipes->idle > 0)
+        pipes->count = kept;
+    pipes->idle = 0;
 }
 
 static bool has_something(const struct request *request)
@@ -161,42 +212,47 @@ static void tell(struct ring *ring, struct request *request, bool is_there)
 {
     struct wulgach_pipe_poll seen = seen_of(request);
     wulgach_waiter_hears(&request->waiter, &ring->lookout, &seen, is_there);
+    rouse(ring, request);
 }
 
-/* The watch by which a request hears of a write, or NULL: there was none. */
-static struct watch *written_watch_of(const struct pipes *pipes, const struct request *request)
+/* Tells the polls that wait by a watch: the first says whether what was written is there still. Returns whether one has heard. */
+static bool tell_of_write(struct ring *ring, const struct watch *watch)
 {
-    size_t place = request->watch > 0 ? place_of_watch(pipes, request->watch) : pipes->count;
-    bool is_written = place < pipes->count && pipes->watches[place].number == request->watch && pipes->watches[place].is_written;
-    return is_written && is_watching_by(request, request->watch) ? &pipes->watches[place] : NULL;
+    bool is_known = false, is_there = false;
+    for (struct request *request = watch->polls; request; request = request->watched_behind) {
+        if (!is_watching_by(request, watch->number))
+            continue;
+        if (!is_known)
+            is_there = has_something(request);
+        is_known = true;
+        tell(ring, request, is_there);
+    }
+    return is_known;
 }
 
-/* What was written while nobody looked: the first watcher of each pipe says whether it is there still. Returns whether a poll has heard of any. */
+/* What was written while nobody looked. Returns whether a poll has heard of any. */
 static bool tell_of_writes(struct ring *ring)
 {
+    struct pipes *pipes = &ring->pipes;
     bool is_heard = false;
-    for (size_t i = 0; i < ring->running.count; i++) {
-        struct request *request = ring->running.rows[i];
-        struct watch *watch = written_watch_of(&ring->pipes, request);
-        if (!watch)
-            continue;
-        if (!watch->is_known)
-            watch->is_there = has_something(request);
-        watch->is_known = is_heard = true;
-        tell(ring, request, watch->is_there);
+    for (size_t i = 0; i < pipes->written_count; i++) {
+        struct watch *watch = watch_by(pipes, pipes->written[i]);
+        is_heard |= tell_of_write(ring, watch);
+        watch->is_written = false;
     }
-    for (size_t i = 0; i < ring->pipes.count; i++)
-        ring->pipes.watches[i].is_written = ring->pipes.watches[i].is_known = false;
+    pipes->written_count = 0;
     return is_heard;
 }
 
 /* Notes what an event says. Returns whether a pipe was written to that is watched. */
 static bool note_write(struct pipes *pipes, const struct inotify_event *event)
 {
-    size_t place = place_of_watch(pipes, event->wd);
-    if (!(event->mask & IN_MODIFY) || place == pipes->count || pipes->watches[place].number != event->wd)
+    struct watch *watch = watch_by(pipes, event->wd);
+    if (!(event->mask & IN_MODIFY) || !watch)
         return false;
-    pipes->watches[place].is_written = true;
+    if (!watch->is_written)
+        pipes->written[pipes->written_count++] = watch->number;
+    watch->is_written = true;
     return true;
 }
 

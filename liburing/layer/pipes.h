@@ -11,18 +11,19 @@ struct ring;
 
 /* What tells of writes to a pipe: one, however many polls that has. */
 struct watch {
-    int number;         /* the kernel's */
-    bool is_awaited;    /* by a poll that runs */
-    bool is_written;    /* its pipe was written to, of which polls haven't heard yet, */
-    bool is_known;      /* and it is known whether */
-    bool is_there;      /* what was written is there still */
+    int number;             /* the kernel's */
+    struct request *polls;  /* those that wait by it, one of them first; NULL: it is to be taken away */
+    bool is_written;        /* its pipe was written to, of which polls haven't heard yet */
 };
 
 /* The pipes that a ring's polls wait for. */
 struct pipes {
     int inotify;            /* what tells of writes to them, or negative */
     struct watch *watches;  /* one for each, by rising number, */
-    size_t count, room;     /* how many there are, and may be */
+    size_t count, room;     /* how many there are, and may be; */
+    size_t idle;            /* so many have no poll any more */
+    int *written;           /* the numbers of those that were written to, of which there is room for as many, */
+    size_t written_count;   /* and how many these are */
 };
 
 void make_pipes(struct pipes *pipes);
@@ -30,6 +31,9 @@ void free_pipes(struct pipes *pipes);
 
 /* Whether a poll waits for what a pipe has to be read. */
 bool is_poll_of_pipe(const struct request *request);
+
+/* A request ends: it waits for no pipe any more. */
+void leave_pipe(struct ring *ring, struct request *request);
 
 /* A call returns, or sleeps: from now on writes to the pipes that running polls wait for count. If the kernel refuses, they don't. Returns
  * whether one has heard meanwhile of what another thread wrote, so that it may go on. */

@@ -173,6 +173,8 @@ void go_on_with(struct ring *ring, struct request *request)
 /* The least running request that can be finished, or NULL. */
 static struct request *first_to_finish(struct ring *ring)
 {
+    if (ring->dormant.count > 0)
+        rouse_ready(ring);
     for (; ring->lookout.count < ring->running.count; wulgach_lookout_passes(&ring->lookout))
         if (can_finish(ring, ring->running.rows[ring->lookout.count]))
             return ring->running.rows[ring->lookout.count];

@@ -79,6 +79,8 @@ static size_t list_watched(const struct ring *ring, struct watched *watched)
     size_t count = 0, kept = 0;
     if (ring->pipes.count > 0)
         list_one(&watched[count++], ring->pipes.inotify, EPOLLIN, 0);
+    if (ring->dormant.instance >= 0)
+        list_one(&watched[count++], ring->dormant.instance, EPOLLIN, 0);
     for (size_t i = 0; i < ring->running.count; i++) {
         const struct request *request = ring->running.rows[i];
         if (!wulgach_polls(&request->standing))
@@ -150,9 +152,9 @@ void unwatch(struct ring *ring, int fd)
 /* Puts the streams that are waited for in the place of those that were. If memory is refused, the next call tries. */
 static void watch_streams(struct ring *ring, int fd)
 {
-    if (ring->running.count == 0 && ring->watched_count == 0)
+    if (ring->running.count == 0 && ring->dormant.count == 0 && ring->watched_count == 0)
         return;
-    struct watched *watched = calloc(ring->running.count + 2, sizeof *watched);
+    struct watched *watched = calloc(ring->running.count + 3, sizeof *watched);
     if (!watched)
         return;
     size_t count = list_watched(ring, watched);

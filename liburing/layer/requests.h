@@ -25,6 +25,10 @@ struct request {
     struct wulgach_waiter waiter;   /* of one that runs: what is known of whether it waits; as zeros, until something has happened to it */
     bool is_patient;                /* it runs, and stands among those that may have to wait */
     struct wulgach_standing standing;   /* whether it may have to wait for a descriptor, and whether it has found a provided buffer */
+    bool is_dormant;                /* it runs, and isn't looked at: the ring's epoll instance tells when its descriptor is ready; */
+    bool is_enlisted;               /* the instance has that, */
+    bool is_unlisted;               /* or doesn't take it; */
+    struct file *duplicate;         /* and by which it has it, where another request has given it the descriptor itself; or NULL */
     int32_t fault;                  /* of a refused entry: what it ends with */
     bool is_draining;               /* a member of its chain drains, or it does: those behind wait until all of them have ended */
     struct file *file;              /* the registered file that it is carried out on, if it is one */
@@ -38,6 +42,7 @@ struct request {
     bool is_tried;                  /* whether it may have to wait isn't known: it is tried first, */
     bool is_tried_at_once;          /* and nothing was asked of its descriptor, */
     bool was_tried;                 /* or it was */
+    bool is_draining;               /* a member of its chain drains, or it does: those behind wait until all of them have ended */
     uint64_t wanted;                /* of one that takes a provided buffer: how many bytes at most, or 0 */
     uint64_t done;                  /* the bytes that a transfer of sockets has moved so far */
     int32_t started;                /* what its start found out: an error number that it ends with, or 0 */
@@ -47,7 +52,8 @@ struct request {
     uint64_t begun;                 /* how many had started before it, and itself */
     bool has_fired;                 /* a linked timeout: the request before it was cancelled by it */
     bool is_of_pipe;                /* a poll for what a pipe has to be read: */
-    int watch;                      /* the number by which writes to that are told, or 0 */
+    int watch;                      /* the number by which writes to that are told, or 0, */
+    struct request *watched_before, *watched_behind;    /* and the polls that stand beside it among those of the same number, or NULL */
     int epoll;                      /* what tells of the events of a poll that goes on; or negative */
     /* What the entry points to, copied when it is submitted: the application may reuse it at once. */
     struct iovec *vectors, one;     /* (one stands here) */
@@ -57,7 +63,7 @@ struct request {
     void *value;                    /* of an extended attribute, an address, or a message */
     struct open_how *how;
     struct __kernel_timespec *time;
-    struct request *next;           /* of those that are kept */
+    struct request *before, *next;  /* its neighbours in the directory, if that is kept; or of those that have ended and are kept the next */
 };
 
 /* Requests by rising number. The first are taken out by moving `rows` on. */

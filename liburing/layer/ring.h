@@ -6,6 +6,8 @@
 
 #include "buffers.h"
 #include "completions.h"
+#include "directory.h"
+#include "dormant.h"
 #include "extras.h"
 #include "files.h"
 #include "memory.h"
@@ -49,8 +51,10 @@ struct ring {
     struct memory memory;
     struct wulgach_core core;
     bool is_linux;                      /* which keeps requests by Linux's rules; else by the manual pages' */
-    struct requests requests;           /* accepted and not ended */
-    struct requests running;            /* those of them that were started */
+    struct requests requests;           /* accepted and not ended, */
+    struct directory directory;         /* and where cancels look for them by user data */
+    struct requests running;            /* those of them that were started and are looked at: */
+    struct dormant dormant;             /* the others wait for their descriptors */
     struct requests patient;            /* where ways are chosen: those of the running ones that may have to wait, */
     struct request **waiting;           /* and those of them that have to at a choice, */
     size_t waiting_room;                /* with room for so many */

@@ -41,6 +41,8 @@ void free_ring(struct ring *ring)
     free_memory(&ring->memory);
     free_polled(ring);
     free_pipes(&ring->pipes);
+    free_dormant(&ring->dormant);
+    free_directory(&ring->directory);
     free_files(ring);
     free_buffers(ring);
     free_groups(ring);
@@ -112,6 +114,7 @@ static int make_ring(struct ring **made, uint32_t entries, struct io_uring_param
     wulgach_table_begin(&ring->buffers.table);
     wulgach_restrictions_none(&ring->restrictions);
     make_pipes(&ring->pipes);
+    make_dormant(&ring->dormant);
     wulgach_shown_begin(&ring->completions.at);
     wulgach_drains_begin(&ring->drains);
     wulgach_lookout_begin(&ring->lookout);

@@ -40,6 +40,8 @@ static nfds_t list_streams(const struct ring *ring, struct pollfd *streams)
         if (wulgach_polls(&request->standing))
             streams[count++] = poll_of(request);
     }
+    if (ring->dormant.count > 0)
+        streams[count++] = (struct pollfd){.fd = ring->dormant.instance, .events = POLLIN};
     return count;
 }
 
@@ -69,7 +71,7 @@ static int poll_unlocked(struct ring *ring, struct pollfd *polled, nfds_t count,
 
 int sleep_until(struct ring *ring, const struct wulgach_limit *until, const sigset_t *signals)
 {
-    struct pollfd *polled = calloc(ring->running.count + 2, sizeof *polled);
+    struct pollfd *polled = calloc(ring->running.count + 3, sizeof *polled);
     if (!polled)
         return -ENOMEM;
     wake_sleepers(ring);

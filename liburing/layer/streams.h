@@ -13,5 +13,6 @@ bool is_found_ready(struct ring *ring, struct request *request);
 /* Keeps the files of the running requests that wait, as the kernel does, whatever the application closes. If descriptors are
  * used up, one that can't be kept is taken as it stands. */
 void hold_files(struct ring *ring);
+void hold_file_of(struct request *request);
 
 #endif

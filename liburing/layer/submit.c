@@ -93,6 +93,7 @@ static void accept_one(struct ring *ring, struct request *request, const struct 
         wulgach_member_first(&request->member, ring->accepted++, &link);
     wulgach_course_begin(&request->course);
     add_request(&ring->requests, request);
+    put_into_directory(ring, request);
 }
 
 /* Notes which members of a chain drain. */

@@ -124,13 +124,20 @@ void note_ended(struct ring *ring, const struct request *request)
         clock_timeout(ring, behind, wulgach_timing_behind_end(&behind->member, &request->member));
 }
 
+/* The running request of a number, dormant or not; or NULL. */
+static struct request *running_or_none(const struct ring *ring, uint64_t number)
+{
+    struct request *request = request_or_none(&ring->requests, number);
+    return request && request->course.has_started ? request : NULL;
+}
+
 void fire_linked_timeout(struct ring *ring, const struct wulgach_timeout *timeout)
 {
     struct request *linked = request_of(&ring->requests, timeout->number);
     uint64_t number;
     end_timeout(ring, linked);
     demand(wulgach_timeout_cancels(timeout, &number) == 0, "a timeout isn't linked");
-    struct request *limited = request_or_none(&ring->running, number);
+    struct request *limited = running_or_none(ring, number);
     if (wulgach_timeout_fires(timeout, limited, limited && is_cancellable(limited))) {
         cancel_request(ring, limited);
         linked->has_fired = true;

@@ -1,6 +1,7 @@
-/* Calls with as many requests as a ring takes: a chain's members end in order, and loose requests each once.
+/* Calls with as many requests as a ring takes: a chain's members end in order, and loose requests each once; and small calls beside as many that
+ * wait.
  *
- *   chains [KIND [LENGTH]]       one call of a kind, of so many requests; tests/growth counts its instructions
+ *   chains [KIND [LENGTH]]       one call of a kind, of so many requests, or small calls beside so many; tests/growth counts its instructions
  */
 #define _GNU_SOURCE
 #include "engines.h"
@@ -80,6 +81,43 @@ static void call_of(const struct kind *kind, unsigned length)
     close(ends[1]);
 }
 
+/* A call of its own for a no-op, for a poll that ends once its pipe is written to, and for the update of one that waits. */
+static void make_calls(struct ring *ring, const int *ends, unsigned calls)
+{
+    char byte;
+    for (unsigned i = 0; i < calls; i++) {
+        put(ring, IORING_OP_NOP, 0, 0);
+        check(enter(ring, 1, 1, IORING_ENTER_GETEVENTS) == 1 && reap(ring).res == 0);
+        put_plain(ring, IORING_OP_POLL_ADD, 1, ends[0])->poll32_events = POLLIN;
+        check(enter(ring, 1, 0, 0) == 1);
+        check(write(ends[1], "x", 1) == 1);
+        check(enter(ring, 0, 1, IORING_ENTER_GETEVENTS) == 0 && reap(ring).res == POLLIN);
+        check(read(ends[0], &byte, 1) == 1);
+        struct io_uring_sqe *entry = put(ring, IORING_OP_POLL_REMOVE, 2, 0);
+        entry->addr = OTHERS;
+        entry->len = IORING_POLL_UPDATE_EVENTS;
+        entry->poll32_events = POLLIN;
+        check(enter(ring, 1, 1, IORING_ENTER_GETEVENTS) == 1 && reap(ring).res == 0);
+    }
+}
+
+/* Small calls, or none, beside as many polls that wait. */
+enum { CALLS = 256 };
+
+static void calls_beside(unsigned calls, unsigned length)
+{
+    struct ring ring;
+    int quiet[2], ends[2];
+    check(pipe(quiet) == 0 && pipe(ends) == 0);
+    make_ring(&ring, LONGEST, 0, 0);
+    submit_polls(&ring, quiet[0], length);
+    check(enter_for(&ring, 1, 1000) == -ETIME);
+    make_calls(&ring, ends, calls);
+    close_ring(&ring);
+    for (int i = 0; i < 2; i++)
+        check(close(quiet[i]) == 0 && close(ends[i]) == 0);
+}
+
 int main(int count, char **words)
 {
     long length = count > 2 ? atol(words[2]) : LONGEST;
@@ -89,6 +127,11 @@ int main(int count, char **words)
         test = kinds[i].name;
         if (count < 2 || strcmp(words[1], test) == 0)
             call_of(&kinds[i], (unsigned)length);
+    }
+    for (unsigned calls = 0; calls <= CALLS; calls += CALLS) {
+        test = calls > 0 ? "calls" : "polls";
+        if (count < 2 || strcmp(words[1], test) == 0)
+            calls_beside(calls, (unsigned)length);
     }
     return 0;
 }

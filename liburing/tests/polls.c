@@ -1,5 +1,5 @@
 /* Tests of a ring's descriptor that polls, by direct calls. All hold under every policy. A test that hangs ends by an
- * alarm. They are run with WULGACH_TEST_POLLED, which has ring.h set such rings up. The layer's calls of poll and ppoll go through the
+ * alarm. They are run with WULGACH_TEST_POLLED, which has ring.h set such rings up. The layer's calls of poll, epoll_wait and ppoll go through the
  * wrapped ones of this program, behind which it does what another thread might do just then.
  */
 #define _GNU_SOURCE
@@ -262,11 +262,9 @@ static void test_come_and_gone(void)
 static const int *raced;
 static int until_write, until_read;
 
-int __real_poll(struct pollfd *polled, nfds_t count, int patience);
-int __wrap_poll(struct pollfd *polled, nfds_t count, int patience)
+static int use_pipe(int result)
 {
     char byte;
-    int result = __real_poll(polled, count, patience);
     if (raced && result == 0 && until_write-- == 0)
         check(write(raced[1], "x", 1) == 1);
     else if (raced && result > 0 && until_read-- == 0)
@@ -274,15 +272,33 @@ int __wrap_poll(struct pollfd *polled, nfds_t count, int patience)
     return result;
 }
 
+int __real_poll(struct pollfd *polled, nfds_t count, int patience);
+int __wrap_poll(struct pollfd *polled, nfds_t count, int patience)
+{
+    return use_pipe(__real_poll(polled, count, patience));
+}
+
+int __real_epoll_wait(int fd, struct epoll_event *events, int most, int patience);
+int __wrap_epoll_wait(int fd, struct epoll_event *events, int most, int patience)
+{
+    return use_pipe(__real_epoll_wait(fd, events, most, patience));
+}
+
 /* Whatever look of a call it is behind which a pipe is read that was written to, before the call or in it: the poll ends, and until it has the
- * descriptor is readable. */
-static void test_gone_behind_a_look(void)
+ * descriptor is readable. Beside so many that wait it is the same. */
+static void gone_behind_a_look(unsigned others)
 {
     struct ring ring;
-    int ends[2];
+    int ends[2], quiet[2];
     char byte;
-    check(pipe2(ends, O_NONBLOCK) == 0);
-    make_ring(&ring, 4, 0, 0);
+    check(pipe2(ends, O_NONBLOCK) == 0 && pipe(quiet) == 0);
+    make_ring(&ring, 64, 0, 0);
+    for (unsigned i = 0; i < others; i++) {
+        struct io_uring_sqe *entry = put(&ring, IORING_OP_POLL_ADD, 0, 0);
+        entry->fd = quiet[0];
+        entry->poll32_events = POLLIN;
+    }
+    check(enter(&ring, others, 0, 0) == (long)others);
     for (int round = 0; round < 16; round++) {
         bool is_written_before = round & 1, is_waiting = round & 2;
         submit_poll(&ring, ends[0]);
@@ -301,9 +317,17 @@ static void test_gone_behind_a_look(void)
         }
         check(reap(&ring).res == POLLIN && count_ready(&ring) == 0);
     }
-    close(ends[0]);
-    close(ends[1]);
+    for (int i = 0; i < 2; i++) {
+        close(ends[i]);
+        close(quiet[i]);
+    }
     close_ring(&ring);
+}
+
+static void test_gone_behind_a_look(void)
+{
+    gone_behind_a_look(0);
+    gone_behind_a_look(40);
 }
 
 /* A sleep that is to begin: it is held until it may. */

@@ -2,7 +2,8 @@
  * own. Set-up may then fail, a call may submit less or fail, and an operation may end with an error. But nothing hangs or
  * crashes, the next call goes on, and each request that was accepted has one completion.
  *
- *   refused          all of them, for a descriptor that is memory and for one that polls
+ *   refused          all of them, for a descriptor that is memory and for one that polls, of a ring on which few requests wait and of one on
+ *                    which many do
  */
 #define _GNU_SOURCE
 #include "ring.h"
@@ -49,6 +50,7 @@ WRAP(int, ftruncate, -1, ENOSPC, (int fd, off_t length), (fd, length))
 WRAP(int, eventfd, -1, EMFILE, (unsigned count, int flags), (count, flags))
 WRAP(int, epoll_create1, -1, EMFILE, (int flags), (flags))
 WRAP(int, epoll_ctl, -1, ENOMEM, (int at, int change, int fd, struct epoll_event *event), (at, change, fd, event))
+WRAP(int, epoll_wait, -1, EINVAL, (int at, struct epoll_event *events, int most, int limit), (at, events, most, limit))
 WRAP(int, fstat, -1, EIO, (int fd, struct stat *status), (fd, status))
 WRAP(int, stat, -1, EACCES, (const char *path, struct stat *status), (path, status))
 WRAP(void *, mmap, MAP_FAILED, ENOMEM, (void *at, size_t size, int protection, int flags, int fd, off_t offset), (at, size, protection, flags, fd, offset))
@@ -96,7 +98,7 @@ static bool open_refused(struct ring *ring, bool is_polled)
     memset(ring, 0, sizeof *ring);
     struct io_uring_params *params = &ring->params;
     is_in_layer = true;
-    ring->fd = (int)(is_polled ? wulgach_polled_syscall(SYS_io_uring_setup, 16u, params) : wulgach_syscall(SYS_io_uring_setup, 16u, params));
+    ring->fd = (int)(is_polled ? wulgach_polled_syscall(SYS_io_uring_setup, 64u, params) : wulgach_syscall(SYS_io_uring_setup, 64u, params));
     is_in_layer = false;
     check(ring->fd >= 0 || refused <= asked);
     if (ring->fd < 0)
@@ -109,15 +111,16 @@ static bool open_refused(struct ring *ring, bool is_polled)
     return true;
 }
 
-enum { REQUESTS = 9 };
+/* The requests, and the polls beside them where many wait, which have the user data behind theirs. */
+enum { REQUESTS = 9, CROWD = 36 };
 
-static unsigned reap_refused(struct ring *ring, unsigned *seen)
+static unsigned reap_refused(struct ring *ring, uint64_t *seen)
 {
     unsigned reaped = 0;
     for (; count_ready(ring) > 0; reaped++) {
         struct completion found = reap(ring);
-        check(found.user_data < REQUESTS && !(*seen & 1u << found.user_data));
-        *seen |= 1u << found.user_data;
+        check(found.user_data < REQUESTS + CROWD && !(*seen & UINT64_C(1) << found.user_data));
+        *seen |= UINT64_C(1) << found.user_data;
     }
     return reaped;
 }
@@ -140,26 +143,40 @@ static void put_all(struct ring *ring, int file, const int *ends, char *bytes, s
     put(ring, IORING_OP_NOP, 8, IOSQE_IO_DRAIN);
 }
 
-static void run_refused(bool is_polled)
+static void put_crowd(struct ring *ring, int fd)
+{
+    for (unsigned i = 0; i < CROWD; i++) {
+        struct io_uring_sqe *entry = put(ring, IORING_OP_POLL_ADD, REQUESTS + i, 0);
+        entry->fd = fd;
+        entry->poll32_events = POLLIN;
+    }
+}
+
+static void run_refused(bool is_polled, bool is_crowded)
 {
     struct ring ring, second;
     char bytes[64] = "bytes of";
     struct iovec vectors[2] = {{bytes + 24, 3}, {bytes + 32, 5}};
     struct __kernel_timespec time = {0, 1000};
-    int ends[2], file = make_file();
-    check(pipe(ends) == 0);
+    int ends[2], quiet[2], file = make_file();
+    unsigned requests = REQUESTS + (is_crowded ? CROWD : 0), submitted = 0, reaped = 0;
+    uint64_t seen = 0;
+    check(pipe(ends) == 0 && pipe(quiet) == 0);
     if (!open_refused(&ring, is_polled))
         return;
+    if (is_crowded)
+        put_crowd(&ring, quiet[0]);
     put_all(&ring, file, ends, bytes, vectors, &time);
-    unsigned submitted = 0, reaped = 0, seen = 0;
-    for (int round = 0; submitted < REQUESTS || reaped < submitted; round++) {
+    for (int round = 0; submitted < requests || reaped < submitted; round++) {
         check(round < 200);
-        long result = enter_refused(&ring, REQUESTS - submitted, 1);
+        long result = enter_refused(&ring, requests - submitted, 1);
         check(result >= 0 || result == -ETIME || refused <= asked);
         submitted += result > 0 ? (unsigned)result : 0;
         reaped += reap_refused(&ring, &seen);
         if (round == 2)
             check(write(ends[1], "four and", 8) == 8);
+        if (round == 4)
+            check(write(quiet[1], "x", 1) == 1);
     }
     close_ring(&ring);
     if (open_refused(&second, is_polled))
@@ -167,7 +184,7 @@ static void run_refused(bool is_polled)
 }
 
 /* In a child that is to be quick. Returns how many calls the layer made, or ends the program. */
-static long run_child(long number, bool is_polled)
+static long run_child(long number, bool is_polled, bool is_crowded)
 {
     int results[2];
     struct {
@@ -179,7 +196,7 @@ static long run_child(long number, bool is_polled)
     if (child == 0) {
         alarm(10);
         refused = number;
-        run_refused(is_polled);
+        run_refused(is_polled, is_crowded);
         told.asked = asked;
         snprintf(told.name, sizeof told.name, "%s", refused_name);
         _exit(write(results[1], &told, sizeof told) == sizeof told ? 0 : 1);
@@ -187,7 +204,7 @@ static long run_child(long number, bool is_polled)
     int status;
     check(waitpid(child, &status, 0) == child);
     if (status != 0) {
-        printf("refused: call %ld of the layer, %s: status %#x\n", number, is_polled ? "polled" : "memory", (unsigned)status);
+        printf("refused: call %ld of the layer, %s, %s wait: status %#x\n", number, is_polled ? "polled" : "memory", is_crowded ? "many" : "few", (unsigned)status);
         exit(1);
     }
     check(read(results[0], &told, sizeof told) == sizeof told);
@@ -199,11 +216,12 @@ static long run_child(long number, bool is_polled)
 int main(void)
 {
     test = "refused";
-    for (int is_polled = 0; is_polled < 2; is_polled++) {
+    for (int kind = 0; kind < 4; kind++) {
+        bool is_polled = kind % 2, is_crowded = kind / 2;
         long number = 1;
-        while (run_child(number, is_polled) >= number)
+        while (run_child(number, is_polled, is_crowded) >= number)
             number++;
-        printf("%s: %ld calls, each refused in turn\n", is_polled ? "a descriptor that polls" : "memory", number - 1);
+        printf("%s, %s wait: %ld calls, each refused in turn\n", is_polled ? "a descriptor that polls" : "memory", is_crowded ? "many" : "few", number - 1);
         fflush(stdout);
     }
     return 0;

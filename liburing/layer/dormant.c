@@ -1,0 +1,224 @@
+/* A descriptor that is looked at costs as much in each call as it does in the first, however long nothing comes. So where more requests
+ * wait than a poll(2) looks at in passing, they become dormant: they leave those that the lookout has run, and come back, as if they had started,
+ * once their descriptor is ready, a cancel has found them, an update has changed them or a poll hears of a write. Whether one waits for nothing but
+ * its descriptor the library says.
+ *
+ * The instance is asked once a moment, as descriptors are looked at once. It has each for one event, and is given it again when its request is
+ * to be dormant again: then the kernel looks whether it is ready already. It knows a descriptor by its number and its file, so a request whose
+ * descriptor it has already, as a registered file's, gets a duplicate. What it doesn't take is looked at as before.
+ */
+#define _GNU_SOURCE
+#include "dormant.h"
+#include "files.h"
+#include "operations.h"
+#include "pipes.h"
+#include "ring.h"
+#include "streams.h"
+#include "ways.h"
+
+#include <errno.h>
+#include <fcntl.h>
+#include <sys/epoll.h>
+#include <unistd.h>
+
+/* How many of those that run are looked at in any case; a program that closes a low number twice doesn't close the instance; and how many
+ * descriptors it tells of at once. */
+enum { MOST_AWAKE = 32, HIGH_NUMBER = 512, MOST_TOLD = 64 };
+
+void make_dormant(struct dormant *dormant)
+{
+    *dormant = (struct dormant){.instance = -1};
+}
+
+void free_dormant(struct dormant *dormant)
+{
+    if (dormant->instance >= 0)
+        close(dormant->instance);
+}
+
+/* An instance under a high number. */
+static int make_instance(void)
+{
+    int low = epoll_create1(EPOLL_CLOEXEC);
+    int high = low < 0 ? -1 : fcntl(low, F_DUPFD_CLOEXEC, HIGH_NUMBER);
+    if (high < 0)
+        return low;
+    close(low);
+    return high;
+}
+
+/* A ring's descriptor that polls has the instance before that has anything: so a request that waits for the ring itself isn't taken. */
+static bool is_polled_for(const struct ring *ring, int instance)
+{
+    struct epoll_event event = {.events = EPOLLIN};
+    return ring->ready_fd < 0 || epoll_ctl(ring->called_fd, EPOLL_CTL_ADD, instance, &event) == 0;
+}
+
+static bool has_instance(struct ring *ring)
+{
+    struct dormant *dormant = &ring->dormant;
+    if (dormant->instance >= 0 || dormant->is_refused)
+        return !dormant->is_refused;
+    int instance = make_instance();
+    dormant->is_refused = instance < 0 || !is_polled_for(ring, instance);
+    if (!dormant->is_refused)
+        dormant->instance = instance;
+    else if (instance >= 0)
+        close(instance);
+    return !dormant->is_refused;
+}
+
+/* ---- which descriptors the instance has ---- */
+
+static bool change(const struct ring *ring, int how, const struct request *request, const struct pollfd *polled)
+{
+    struct epoll_event event = {.events = (uint16_t)polled->events | EPOLLONESHOT, .data.u64 = request->number};
+    int fd = request->duplicate ? request->duplicate->fd : polled->fd;
+    return epoll_ctl(ring->dormant.instance, how, fd, &event) == 0;
+}
+
+/* Gives the instance a request's descriptor, for one event. False: it doesn't take it. */
+static bool enlist(struct ring *ring, struct request *request)
+{
+    struct pollfd polled = poll_of(request);
+    if (request->is_enlisted)
+        return change(ring, EPOLL_CTL_MOD, request, &polled);
+    request->is_enlisted = change(ring, EPOLL_CTL_ADD, request, &polled);
+    if (request->is_enlisted || errno != EEXIST)
+        return request->is_enlisted;
+    request->duplicate = hold_file(polled.fd);
+    request->is_enlisted = request->duplicate && change(ring, EPOLL_CTL_ADD, request, &polled);
+    return request->is_enlisted;
+}
+
+void delist(struct ring *ring, struct request *request)
+{
+    if (request->is_enlisted) {
+        struct pollfd polled = poll_of(request);
+        change(ring, EPOLL_CTL_DEL, request, &polled);
+        request->is_enlisted = false;
+    }
+    release_file(request->duplicate);
+    request->duplicate = NULL;
+}
+
+/* ---- falling asleep ---- */
+
+/* Whether it can be finished as of such a moment, though it was found to wait. */
+static bool finishes_in(const struct ring *ring, const struct request *request, const struct wulgach_moment *moment)
+{
+    struct wulgach_waiter waiter = request->waiter;
+    wulgach_waiter_meets_cancel(&waiter);
+    return wulgach_can_finish(&waiter, &ring->lookout, &request->standing, &request->needs, &request->course, moment) == WULGACH_LOOK_FINISHES;
+}
+
+/* Whether the library says that a request waits while its descriptor isn't ready, whatever else is so, and doesn't once it is. */
+static bool waits_for_descriptor(const struct ring *ring, const struct request *request)
+{
+    static const struct wulgach_moment silent = {.knows_posting = true, .may_post = true, .knows_buffer = true, .knows_readiness = true};
+    static const struct wulgach_moment ready = {.knows_posting = true, .may_post = true, .knows_buffer = true, .knows_readiness = true, .is_ready = true};
+    return !finishes_in(ring, request, &silent) && finishes_in(ring, request, &ready);
+}
+
+/* Whether a request is to become dormant. A splice waits for one descriptor or the other. */
+static bool is_to_sleep(const struct ring *ring, const struct request *request)
+{
+    bool is_silent = wulgach_waiter_sighting(&request->waiter, &ring->lookout) == WULGACH_SIGHTING_UNREADY;
+    return is_silent && !request->is_unlisted && !request->needs.needs_second && waits_for_descriptor(ring, request);
+}
+
+/* Makes one dormant, if it keeps its file, and the instance takes that. */
+static bool is_asleep(struct ring *ring, struct request *request)
+{
+    hold_file_of(request);
+    if ((request->file || request->epoll >= 0) && enlist(ring, request))
+        return true;
+    delist(ring, request);
+    request->is_unlisted = true;
+    return false;
+}
+
+static void fall_asleep(struct ring *ring, struct request *request)
+{
+    request->is_dormant = true;
+    ring->dormant.count++;
+    wulgach_lookout_leaves(&ring->lookout, take_request(&ring->running, request));
+    if (request->is_patient)
+        take_request(&ring->patient, request);
+    request->is_patient = false;
+}
+
+__attribute__((noinline)) static void let_many_sleep(struct ring *ring)
+{
+    for (size_t i = 0; i < ring->running.count;) {
+        struct request *request = ring->running.rows[i];
+        if (is_to_sleep(ring, request) && has_instance(ring) && is_asleep(ring, request))
+            fall_asleep(ring, request);
+        else
+            i++;
+    }
+    /* (there was room for them, and is: no memory is asked for) */
+    reserve_requests(&ring->running, ring->requests.count - ring->running.count);
+    reserve_ways(ring, ring->requests.count);
+}
+
+void let_sleep(struct ring *ring)
+{
+    if (ring->running.count > MOST_AWAKE)
+        let_many_sleep(ring);
+}
+
+/* ---- waking ---- */
+
+static void wake(struct ring *ring, struct request *request)
+{
+    request->is_dormant = false;
+    ring->dormant.count--;
+    wulgach_lookout_starts(&ring->lookout, insert_request(&ring->running, request));
+    note_patient(ring, request);
+}
+
+void rouse(struct ring *ring, struct request *request)
+{
+    if (request->is_dormant)
+        wake(ring, request);
+}
+
+/* The kernel refuses to tell: all are looked at from now on. */
+static void rouse_all(struct ring *ring)
+{
+    ring->dormant.is_refused = true;
+    for (size_t i = 0; i < ring->requests.count; i++)
+        rouse(ring, ring->requests.rows[i]);
+}
+
+/* The descriptor of a request is ready, or was that of one that has ended. A thread that sleeps doesn't know of it. */
+static void rouse_told(struct ring *ring, uint64_t number)
+{
+    struct request *request = request_or_none(&ring->requests, number);
+    if (!request || !request->is_dormant)
+        return;
+    wake(ring, request);
+    note_look(ring, request, true);
+    wulgach_lookout_changes(&ring->lookout);
+}
+
+__attribute__((noinline)) static void ask_instance(struct ring *ring)
+{
+    struct epoll_event events[MOST_TOLD];
+    int count;
+    wulgach_waiter_sees(&ring->dormant.asked, &ring->lookout, false);
+    do {
+        count = epoll_wait(ring->dormant.instance, events, MOST_TOLD, 0);
+        for (int i = 0; i < count; i++)
+            rouse_told(ring, events[i].data.u64);
+    } while (count == MOST_TOLD);
+    if (count < 0)
+        rouse_all(ring);
+}
+
+void rouse_ready(struct ring *ring)
+{
+    if (wulgach_waiter_sighting(&ring->dormant.asked, &ring->lookout) == WULGACH_SIGHTING_UNSEEN)
+        ask_instance(ring);
+}
