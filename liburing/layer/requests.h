@@ -22,19 +22,17 @@ struct request {
     struct wulgach_course course;   /* what has become of it: it has started, was cancelled, was carried out, has ended */
     struct io_uring_sqe entry;      /* as the application wrote it */
     enum mapping mapping;           /* what the core was told of it */
+    int32_t fault;                  /* of a refused entry: what it ends with */
     struct wulgach_waiter waiter;   /* of one that runs: what is known of whether it waits; as zeros, until something has happened to it */
-    bool is_patient;                /* it runs, and stands among those that may have to wait */
     struct wulgach_standing standing;   /* whether it may have to wait for a descriptor, and whether it has found a provided buffer */
+    bool is_patient;                /* it runs, and stands among those that may have to wait */
     bool is_dormant;                /* it runs, and isn't looked at: the ring's epoll instance tells when its descriptor is ready; */
     bool is_enlisted;               /* the instance has that, */
     bool is_unlisted;               /* or doesn't take it; */
     struct file *duplicate;         /* and by which it has it, where another request has given it the descriptor itself; or NULL */
-    int32_t fault;                  /* of a refused entry: what it ends with */
-    bool is_draining;               /* a member of its chain drains, or it does: those behind wait until all of them have ended */
-    struct file *file;              /* the registered file that it is carried out on, if it is one */
-    int fd;                         /* the descriptor that it is carried out on */
-    struct file *second_file;       /* of a splice: where it reads */
-    int second_fd;
+    struct file *file;              /* the registered file that it is carried out on, if it is one, */
+    struct file *second_file;       /* and of a splice: where it reads */
+    int fd, second_fd;              /* their descriptors, or those that the entry names */
     struct buffer *buffer;          /* the registered buffer that it uses, or NULL */
     struct wulgach_needs needs;     /* what its operation needs, and of which kind it is: as zeros, but of a token */
     bool is_assigned;               /* these are known: when it is accepted, or, behind a link or beside a drain, when it starts */
