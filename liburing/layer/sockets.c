@@ -53,10 +53,8 @@ int copy_message(struct request *request, uint64_t from)
     fault = copy_in(request->vectors, (uintptr_t)message->msg_iov, size);
     if (fault < 0)
         return fault;
-    if (request->entry.flags & IOSQE_BUFFER_SELECT && message->msg_iovlen == 0) {
-        *request->vectors = (struct iovec){0};
-        message->msg_iovlen = 1;
-    }
+    request->vectors[message->msg_iovlen] = (struct iovec){0};      /* an empty one, if there is one more */
+    message->msg_iovlen = wulgach_message_vectors(submission_of(&request->entry), message->msg_iovlen);
     request->vector_count = (uint32_t)message->msg_iovlen;
     message->msg_iov = request->vectors;
     fault = measure_vectors(request);

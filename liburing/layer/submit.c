@@ -1,5 +1,6 @@
 /* Stages what the application has published, as far as the library says that the call takes it, at the moment when the kernel would read
- * it, and has the core take it in one call. If memory is refused, what is staged stays so, and waits in the core: the next call goes on with it.
+ * it, and has the core take it in one call. What comes of it where memory is refused the library says: if the core is refused it, what is staged
+ * stays so, and waits there, and the next call goes on with it.
  */
 #include "submit.h"
 #include "account.h"
@@ -138,14 +139,15 @@ static void note_chains(struct ring *ring, size_t first)
     end_asking();
 }
 
-/* Has the core take what is staged, behind which this head stands; it has the first `given` of it already. */
-static int take_staged(struct ring *ring, uint32_t given, uint32_t head)
+/* Has the core take what is staged, behind which this head stands; it has the first `given` of it already. Writes how many requests it has
+ * accepted, and returns true; false if it was refused memory. */
+static bool take_staged(struct ring *ring, uint32_t given, uint32_t head, uint32_t *came)
 {
     uint32_t count = (uint32_t)ring->staged.count;
     uint64_t accepted = ring->accepted;
     struct wulgach_taken taken;
     if (!submit_staged(ring, given, &taken))
-        return wulgach_missing_fault(WULGACH_NO_MEMORY_OWN);
+        return false;
     for (uint32_t i = 0; i < count; i++)
         accept_one(ring, ring->staged.rows[i], i > 0 ? ring->staged.rows[i - 1] : NULL);
     drop_requests(&ring->staged, count);
@@ -163,7 +165,8 @@ static int take_staged(struct ring *ring, uint32_t given, uint32_t head)
         trace_request(ring, ring->requests.rows[i]);
         record_accepted(ring, ring->requests.rows[i]);
     }
-    return (int)taken.accepted;
+    *came = taken.accepted;
+    return true;
 }
 
 bool reserve_all(struct ring *ring, uint32_t count)
@@ -188,10 +191,16 @@ int submit(struct ring *ring, uint32_t count)
         .submits_all = ring->flags & IORING_SETUP_SUBMIT_ALL,
     };
     struct wulgach_taking taking;
-    uint32_t cell, most = wulgach_taking_begin(&taking, &asked, &cell);
-    if (most == 0)
-        return 0;
-    if (!reserve_all(ring, most) || stage_taken(ring, &taking, cell) == 0)
-        return wulgach_missing_fault(WULGACH_NO_MEMORY_OWN);
-    return take_staged(ring, given, taking.next);
+    uint32_t cell, phase = WULGACH_PHASE_FINDS, came = wulgach_taking_begin(&taking, &asked, &cell);
+    bool is_refused = false;
+    int64_t submitted;
+    while ((phase = wulgach_next_phase(phase, came, is_refused, &submitted)) != WULGACH_PHASE_ENDS) {
+        if (phase == WULGACH_PHASE_MAKES_ROOM)
+            is_refused = !reserve_all(ring, came);
+        else if (phase == WULGACH_PHASE_STAGES)
+            came = stage_taken(ring, &taking, cell);
+        else
+            is_refused = !take_staged(ring, given, taking.next, &came);
+    }
+    return (int)submitted;
 }
