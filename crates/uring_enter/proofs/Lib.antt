@@ -17,3 +17,4 @@ mod DescriptorRuns
 mod LookoutRuns
 mod CallTryRuns
 mod DutyRuns
+mod AfreshRuns

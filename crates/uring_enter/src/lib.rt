@@ -91,6 +91,8 @@ pub use buffer::vector_fault;
 pub use call_results::has_begun;
 pub use call_results::is_stream_type;
 pub use call_results::placed_result;
+pub use call_results::tells_message;
+pub use call_results::told_result;
 pub use cancel::Cancel;
 pub use cancel::Outstanding;
 pub use cancel::Sought;
