@@ -235,20 +235,10 @@ enum wulgach_onward {
  * it, and an entry with a fault, unless the ring submits all or the entry links the next. */
 uint32_t wulgach_taking_took(struct wulgach_taking *taking, const struct wulgach_item *item, uint32_t *cell);
 
-/* What a call that submits does, one thing after the other. */
-enum wulgach_phase {
-    WULGACH_PHASE_FINDS = 0,        /* it finds how many positions it takes at most, */
-    WULGACH_PHASE_MAKES_ROOM = 1,   /* makes room for their requests, */
-    WULGACH_PHASE_STAGES = 2,       /* stages them, as far as there is memory, */
-    WULGACH_PHASE_GIVES = 3,        /* and gives the core what it has staged */
-    WULGACH_PHASE_ENDS = 4
-};
-
-/* Returns what it does behind this (enum wulgach_phase), which has come to so many positions, or, of what the core was given, to so many
- * requests; or for which memory was refused. Once it is over, it writes what the submission comes to: as many requests as were accepted, 0
- * where there is no position to take, or -11 (EAGAIN) where memory was refused: for room, for the first position, or for what the core was
- * given, which then stays staged. Where it is refused for a later position, those before it are submitted. */
-uint32_t wulgach_next_phase(uint32_t last, uint32_t count, bool is_refused, int64_t *submitted);
+/* The fault of a call that memory was refused behind so many positions that it has staged, or 0: then it submits these. Refused for the next
+ * position, it is -11 (EAGAIN) if there are none. By the core, which was given them, it is -11: they stay staged, and the next call goes on
+ * with them. */
+int32_t wulgach_refusal_fault(uint32_t staged, bool is_core);
 
 /* ---- what goes on next ---- */
 

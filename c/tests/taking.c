@@ -36,23 +36,7 @@ static void take_positions(void)
     asked.tail = asked.head;
     cell = 99;
     demand(wulgach_taking_begin(&taking, &asked, &cell) == 0 && cell == 99, "nothing is published");
-}
-
-/* What comes behind this: what is done next, or what the submission comes to. */
-static int64_t behind(uint32_t last, uint32_t count, bool is_refused)
-{
-    int64_t submitted = 99;
-    uint32_t next = wulgach_next_phase(last, count, is_refused, &submitted);
-    demand((next == WULGACH_PHASE_ENDS) == (submitted != 99), "it comes to something once it is over");
-    return next == WULGACH_PHASE_ENDS ? submitted : next;
-}
-
-static void submit(void)
-{
-    demand(behind(WULGACH_PHASE_FINDS, 0, false) == 0 && behind(WULGACH_PHASE_FINDS, 5, false) == WULGACH_PHASE_MAKES_ROOM, "what it finds");
-    demand(behind(WULGACH_PHASE_MAKES_ROOM, 5, false) == WULGACH_PHASE_STAGES && behind(WULGACH_PHASE_MAKES_ROOM, 5, true) == -11, "room");
-    demand(behind(WULGACH_PHASE_STAGES, 1, false) == WULGACH_PHASE_GIVES && behind(WULGACH_PHASE_STAGES, 0, false) == -11, "what is staged");
-    demand(behind(WULGACH_PHASE_GIVES, 4, false) == 4 && behind(WULGACH_PHASE_GIVES, 4, true) == -11, "what the core takes");
+    demand(wulgach_refusal_fault(0, false) == -11 && wulgach_refusal_fault(1, false) == 0 && wulgach_refusal_fault(1, true) == -11, "memory is refused");
 }
 
 static void choose(void)
@@ -204,7 +188,6 @@ int main(void)
 {
     end_copies();
     take_positions();
-    submit();
     choose();
     post();
     search_and_update();

@@ -62,24 +62,26 @@ static struct wulgach_item item_of(const struct request *request)
     };
 }
 
-/* Stages the positions that a call takes, the first of which has its word in this cell, but those that are staged already, and returns how many it takes. If memory is refused, these
- * are all that could be staged. */
-static uint32_t stage_taken(struct ring *ring, struct wulgach_taking *taking, uint32_t cell)
+/* Stages the positions that a call takes, `most` at most, the first of which has its word in this cell, but those that are staged already.
+ * Returns the fault of a call that memory was refused, or 0: then it submits what is staged. */
+static int32_t stage_taken(struct ring *ring, struct wulgach_taking *taking, uint32_t most, uint32_t cell)
 {
     uint32_t count = 0, onward;
+    if (!reserve_all(ring, most))
+        return wulgach_refusal_fault(count, false);
     do {
         struct request *row = NULL;
         if (count < ring->staged.count)
             row = ring->staged.rows[count];
         else if (!stage(ring, load_word(&ring->memory.array[cell]), &row))
-            break;
+            return wulgach_refusal_fault(count, false);
         count++;
         struct wulgach_item item = item_of(row);
         onward = wulgach_taking_took(taking, &item, &cell);
         if (onward == WULGACH_ENDS_CALL)
             note_rule(row ? CALL_STOPS : WORD_IS_DROPPED);
     } while (onward == WULGACH_TAKES);
-    return count;
+    return 0;
 }
 
 /* Gives the request of a position that was taken a number. */
@@ -139,15 +141,15 @@ static void note_chains(struct ring *ring, size_t first)
     end_asking();
 }
 
-/* Has the core take what is staged, behind which this head stands; it has the first `given` of it already. Writes how many requests it has
- * accepted, and returns true; false if it was refused memory. */
-static bool take_staged(struct ring *ring, uint32_t given, uint32_t head, uint32_t *came)
+/* Has the core take what is staged, behind which this head stands; it has the first `given` of it already. Returns how many requests it has
+ * accepted, or the fault of a call that it refused for want of memory. */
+static int take_staged(struct ring *ring, uint32_t given, uint32_t head)
 {
     uint32_t count = (uint32_t)ring->staged.count;
     uint64_t accepted = ring->accepted;
     struct wulgach_taken taken;
     if (!submit_staged(ring, given, &taken))
-        return false;
+        return wulgach_refusal_fault(count, true);
     for (uint32_t i = 0; i < count; i++)
         accept_one(ring, ring->staged.rows[i], i > 0 ? ring->staged.rows[i - 1] : NULL);
     drop_requests(&ring->staged, count);
@@ -165,8 +167,7 @@ static bool take_staged(struct ring *ring, uint32_t given, uint32_t head, uint32
         trace_request(ring, ring->requests.rows[i]);
         record_accepted(ring, ring->requests.rows[i]);
     }
-    *came = taken.accepted;
-    return true;
+    return (int)taken.accepted;
 }
 
 bool reserve_all(struct ring *ring, uint32_t count)
@@ -191,16 +192,9 @@ int submit(struct ring *ring, uint32_t count)
         .submits_all = ring->flags & IORING_SETUP_SUBMIT_ALL,
     };
     struct wulgach_taking taking;
-    uint32_t cell, phase = WULGACH_PHASE_FINDS, came = wulgach_taking_begin(&taking, &asked, &cell);
-    bool is_refused = false;
-    int64_t submitted;
-    while ((phase = wulgach_next_phase(phase, came, is_refused, &submitted)) != WULGACH_PHASE_ENDS) {
-        if (phase == WULGACH_PHASE_MAKES_ROOM)
-            is_refused = !reserve_all(ring, came);
-        else if (phase == WULGACH_PHASE_STAGES)
-            came = stage_taken(ring, &taking, cell);
-        else
-            is_refused = !take_staged(ring, given, taking.next, &came);
-    }
-    return (int)submitted;
+    uint32_t cell, most = wulgach_taking_begin(&taking, &asked, &cell);
+    if (most == 0)
+        return 0;
+    int32_t fault = stage_taken(ring, &taking, most, cell);
+    return fault < 0 ? fault : take_staged(ring, given, taking.next);
 }

@@ -19,7 +19,6 @@ pub mod ShownForm
 pub mod CourseForm
 pub mod EntryForm
 pub mod TakingForm
-pub mod PhaseForm
 pub mod RegisterForm
 pub mod UsesForm
 pub mod WaitForm

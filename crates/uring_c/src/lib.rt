@@ -44,7 +44,6 @@ mod outcomes_exports;
 mod outcomes_memory;
 mod outcomes_place;
 mod parts;
-mod phase_exports;
 mod piece_exports;
 mod provided_exports;
 mod reaching_exports;

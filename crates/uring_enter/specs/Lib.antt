@@ -37,7 +37,6 @@ pub mod CallTries
 pub mod Copies
 pub mod Shots
 pub mod Takings
-pub mod Phases
 pub mod Ways
 pub mod Drainings
 pub mod Updates
