@@ -79,6 +79,11 @@ void wulgach_transfer_call(const struct wulgach_submission *entry, const struct 
 /* Whether a connect that came to this goes on without its call: to -115 (EINPROGRESS). */
 bool wulgach_has_begun(int32_t came_to);
 
+/* Whether what belongs to a message, its sizes and flags, is told behind a call of this entry that came to this: it has received one. And
+ * what that ends with, where they could be told, or had not to be; or couldn't: -14 (EFAULT), though the message is gone. */
+bool wulgach_tells_message(const struct wulgach_submission *entry, int32_t came_to);
+int32_t wulgach_told_result(int32_t came_to, bool is_told);
+
 /* Returns what a file ends with that was put into this slot, where its entry asked for that one or, by 2^32 - 1
  * (IORING_FILE_INDEX_ALLOC), for any: the slot of one that asked for any, else 0. */
 int32_t wulgach_placed_result(uint32_t asked, uint32_t slot);

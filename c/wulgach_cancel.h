@@ -31,7 +31,8 @@ struct wulgach_outstanding {
     uint32_t fd;        /* the descriptor that its entry names */
     uint8_t code;       /* its operation */
     bool is_token;      /* it is carried out outside of the core: WULGACH_FORM_TOKEN */
-    bool is_registered; /* its entry names a registered file */
+    bool needs_file;    /* it is carried out on a file, */
+    bool is_registered; /* which its entry names by the slot of a table */
     bool is_assigned;   /* on what it is carried out is known */
     bool is_cancelled;  /* a cancel has chosen it before */
     bool runs;          /* it has started */
@@ -123,8 +124,15 @@ struct wulgach_poll {
 /* Changes a poll as this entry updates it. Whether it goes on stays as it is. */
 void wulgach_updated_poll(struct wulgach_poll *poll, const struct wulgach_submission *entry);
 
-/* The flags of a timeout behind an update by this entry: whether the new time is absolute is the update's, and its clock stays. */
-uint32_t wulgach_updated_flags(uint32_t flags, const struct wulgach_submission *entry);
+/* What an update may change of a timeout, beside its time. */
+struct wulgach_terms {
+    uint64_t count;     /* how many completions it counts; 0: none */
+    uint32_t flags;     /* IORING_TIMEOUT_.., as its entry has them */
+};
+
+/* Changes the terms of a timeout as this entry updates it: whether the new time is absolute is the update's, and its clock stays; it has no
+ * count any more, be it one that has started or not. */
+void wulgach_updated_terms(struct wulgach_terms *terms, const struct wulgach_submission *entry);
 
 #ifdef __cplusplus
 }

@@ -92,7 +92,8 @@ struct wulgach_posted {
     uint32_t flags;
     uint64_t token;         /* the core's user data, */
     int32_t told;           /* and its result */
-    uint64_t call;          /* the number of the call that submitted it, */
+    bool is_message;        /* it tells of a message of another ring, or of a tag: no call on this ring has submitted it */
+    uint64_t call;          /* the number of the call that submitted it, of all on the ring, those of io_uring_register(2) among them, */
     uint64_t ended;         /* and of that in which it ended */
 };
 

@@ -235,6 +235,11 @@ enum wulgach_onward {
  * it, and an entry with a fault, unless the ring submits all or the entry links the next. */
 uint32_t wulgach_taking_took(struct wulgach_taking *taking, const struct wulgach_item *item, uint32_t *cell);
 
+/* The fault of a call that memory was refused behind so many positions that it has staged, or 0: then it submits these. Refused for the next
+ * position, it is -11 (EAGAIN) if there are none. By the core, which was given them, it is -11: they stay staged, and the next call goes on
+ * with them. */
+int32_t wulgach_refusal_fault(uint32_t staged, bool is_core);
+
 /* ---- what goes on next ---- */
 
 /* How many requests run that needn't wait, and how many the core lets start; and whether the call may return instead. */

@@ -60,7 +60,7 @@ bool wulgach_is_served(uint8_t code);
 bool wulgach_goes_on(const struct wulgach_shown *shown, const struct wulgach_submission *entry, uint64_t done, int32_t res, uint32_t entries);
 
 /* Whether an eventfd is told of a completion, where it is registered for all, or only for what ends behind the call that submitted
- * it. */
+ * it: in another call on the ring. A message comes behind them all. */
 bool wulgach_tells(const struct wulgach_posted *posted, bool is_async_alone);
 
 /* ---- what an entry points to ---- */
@@ -108,6 +108,9 @@ bool wulgach_has_one_buffer(const struct wulgach_submission *entry);
 int32_t wulgach_time_fault(int64_t seconds, int64_t nanoseconds);
 int32_t wulgach_message_fault(uint64_t vectors);
 int32_t wulgach_room_fault(const struct wulgach_submission *entry, uint32_t name, uint64_t control);
+
+/* How many vectors the message of an entry has that has so many: none count as an empty one, where it takes a provided buffer. */
+uint64_t wulgach_message_vectors(const struct wulgach_submission *entry, uint64_t vectors);
 
 /* The fault of vectors with one more, behind others that have the fault `before`, or 0: -22 if the length of one is negative, else -14 (EFAULT) if
  * no program can have one. Of a lone one no more is looked at than a transfer moves; of an entry that takes a provided buffer nothing is. */
@@ -215,9 +218,14 @@ struct wulgach_core_entry {
 /* Writes what the core is given of an entry that is this to it (enum wulgach_form). */
 void wulgach_core_entry_of(const struct wulgach_submission *entry, uint32_t form, struct wulgach_core_entry *made);
 
-/* The flags that the core is told of an entry, by Linux's rules, where these were its flags and the next entry of its call is this one: a
- * soft link before a linked timeout that ends the chain is told as a hard one, so that the timeout posts as its own flags say. */
-uint8_t wulgach_flags_before(uint8_t flags, const struct wulgach_submission *next);
+/* The flags that the core is told of an entry, where these were its flags and the next entry of its call is this one. By Linux's rules a
+ * soft link before a linked timeout that ends the chain is told as a hard one, so that the timeout posts as its own flags say; by the manual
+ * pages' all stay. */
+uint8_t wulgach_flags_before(uint8_t flags, const struct wulgach_submission *next, bool linux_rules);
+
+/* Returns what an entry is to the core (enum wulgach_form) whose end a completion is that belongs to no end of a request, as an event or a
+ * message, and writes its operation: by Linux's rules an unknown one, which is refused, and waits for no drain; else a no-op. */
+uint32_t wulgach_extra_of(bool linux_rules, uint8_t *code);
 
 /* Whether the flags of an entry are those of a drain. */
 bool wulgach_is_drain(uint8_t flags);

@@ -255,7 +255,7 @@ uint64_t wulgach_table_content(const struct wulgach_table *table, const uint64_t
 enum wulgach_row {
     WULGACH_ROW_KEEPS = 0,
     WULGACH_ROW_EMPTIES = 1,
-    WULGACH_ROW_FILLS = 2,      /* empties it, and gives it the file or buffer that the row names */
+    WULGACH_ROW_FILLS = 2,      /* gives it the file or buffer that the row names, in the place of what it has */
     WULGACH_ROW_REFUSED = 3     /* the call ends with a fault */
 };
 
@@ -264,6 +264,17 @@ enum wulgach_row {
  * tag (-22), and another has 1 to 2^30 bytes (-14, EFAULT). */
 uint32_t wulgach_file_row(int32_t fd, uint64_t tag, bool is_update, int32_t *fault);
 uint32_t wulgach_buffer_row(uint64_t from, uint64_t size, uint64_t tag, int32_t *fault);
+
+/* What an update does with a slot by such a row. */
+enum wulgach_row_step {
+    WULGACH_STEP_EMPTIES = 0,   /* the slot is emptied, */
+    WULGACH_STEP_MAKES = 1,     /* the file or buffer of the row is looked for, and made, */
+    WULGACH_STEP_PUTS = 2       /* and the slot gets it */
+};
+
+/* Returns what an update does by a row (enum wulgach_row): the bit 1 << STEP of each step, which are done by rising bits until one fails. A
+ * slot that gets a file is emptied first, so it stays empty if there is none; one that gets a buffer keeps what it has until that is there. */
+uint32_t wulgach_row_steps(uint32_t row, bool is_of_files);
 
 /* The fault of a descriptor that a request is to close or to register, or 0: -9 (EBADF) of none and of a ring. */
 int32_t wulgach_holding_fault(int32_t fd, bool is_ring);

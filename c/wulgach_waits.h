@@ -71,7 +71,7 @@ enum wulgach_missing {
     WULGACH_NO_DIRECTION = 1,       /* a file isn't open for reading, or for writing: -9 */
     WULGACH_NO_BUFFER = 2,          /* a registered buffer isn't there: -14 (EFAULT) */
     WULGACH_NO_MEMORY = 3,          /* memory of the application's can't be read, or written: -14 */
-    WULGACH_NO_MEMORY_OWN = 4,      /* there is no memory for the requests that a call takes: -11 (EAGAIN) */
+    WULGACH_NO_MEMORY_OWN = 4,      /* there is no memory for what is kept of a ring: -12 (ENOMEM) */
     WULGACH_NO_PATH_END = 5,        /* a path doesn't end in 4,096 bytes: -36 (ENAMETOOLONG) */
     WULGACH_NO_ROOM = 6,            /* a buffer has no room for what stands in front of a message: -14 */
     WULGACH_NO_PROVIDED = 7,        /* a group has no buffer: -105 (ENOBUFS) */

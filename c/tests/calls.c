@@ -164,6 +164,9 @@ static void look_at_faults(void)
 static void look_at_results(void)
 {
     demand(wulgach_has_begun(-115) && !wulgach_has_begun(-11) && !wulgach_has_begun(0), "a connect that goes on");
+    struct wulgach_submission receive = {.opcode = 10}, send = {.opcode = 9};
+    demand(wulgach_tells_message(&receive, 0) && !wulgach_tells_message(&receive, -11) && !wulgach_tells_message(&send, 5), "what is told of a message");
+    demand(wulgach_told_result(5, true) == 5 && wulgach_told_result(5, false) == -14, "one that can't be told");
     demand(wulgach_placed_result(UINT32_MAX, 7) == 7 && wulgach_placed_result(8, 7) == 0, "a file for any slot, and for one");
     demand(wulgach_is_stream_type(1) && wulgach_is_stream_type(5) && !wulgach_is_stream_type(2) && !wulgach_is_stream_type(0), "streams");
 }

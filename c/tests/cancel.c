@@ -17,9 +17,9 @@ static void demand(bool holds, const char *what)
 static int32_t look(const struct wulgach_sought *sought, const bool *wanted)
 {
     static const struct wulgach_outstanding requests[] = {
-        {.user_data = 1, .fd = 4, .is_assigned = true, .is_token = true},
-        {.user_data = 1, .fd = 5, .is_assigned = true, .is_token = true, .runs = true, .is_stream = true},
-        {.user_data = 2, .file = 9, .is_registered = true, .is_assigned = true, .is_token = true, .may_start = true},
+        {.user_data = 1, .fd = 4, .needs_file = true, .is_assigned = true, .is_token = true},
+        {.user_data = 1, .fd = 5, .needs_file = true, .is_assigned = true, .is_token = true, .runs = true, .is_stream = true},
+        {.user_data = 2, .file = 9, .needs_file = true, .is_registered = true, .is_assigned = true, .is_token = true, .may_start = true},
     };
     struct wulgach_cancel cancel;
     wulgach_cancel_begin(&cancel, sought);

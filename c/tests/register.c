@@ -152,6 +152,7 @@ static int32_t buffer_row(uint64_t from, uint64_t size, uint64_t tag)
 static void look_at_rows(void)
 {
     demand(file_row(0, 1, false) == WULGACH_ROW_FILLS && file_row(-1, 0, false) == WULGACH_ROW_EMPTIES && file_row(-1, 1, true) == -22, "files");
+    demand(wulgach_row_steps(WULGACH_ROW_FILLS, true) == 7 && wulgach_row_steps(WULGACH_ROW_FILLS, false) == 6 && wulgach_row_steps(WULGACH_ROW_EMPTIES, false) == 1 && wulgach_row_steps(WULGACH_ROW_KEEPS, true) == 0 && wulgach_row_steps(WULGACH_ROW_REFUSED, true) == 0, "what is done with a slot");
     demand(file_row(-2, 0, true) == WULGACH_ROW_KEEPS && file_row(-2, 1, true) == -22 && file_row(-2, 1, false) == WULGACH_ROW_FILLS && file_row(-3, 0, true) == WULGACH_ROW_FILLS, "those that stay");
     demand(buffer_row(0, 0, 0) == WULGACH_ROW_EMPTIES && buffer_row(0, 0, 1) == -22 && buffer_row(0, 1, 1) == -14, "no buffer");
     demand(buffer_row(8, 0, 0) == -14 && buffer_row(8, 1, 1) == WULGACH_ROW_FILLS && buffer_row(8, 1 << 30, 0) == WULGACH_ROW_FILLS && buffer_row(8, (1 << 30) + 1, 0) == -14, "buffers");

@@ -36,6 +36,7 @@ static void take_positions(void)
     asked.tail = asked.head;
     cell = 99;
     demand(wulgach_taking_begin(&taking, &asked, &cell) == 0 && cell == 99, "nothing is published");
+    demand(wulgach_refusal_fault(0, false) == -11 && wulgach_refusal_fault(1, false) == 0 && wulgach_refusal_fault(1, true) == -11, "memory is refused");
 }
 
 static void choose(void)
@@ -100,7 +101,10 @@ static void search_and_update(void)
     demand(wulgach_timeout_removal(&(struct wulgach_submission){0}) == WULGACH_REMOVAL_CANCELS && wulgach_timeout_removal(&(struct wulgach_submission){.op_flags = 3}) == WULGACH_REMOVAL_UPDATES && wulgach_timeout_removal(&(struct wulgach_submission){.op_flags = 19}) == WULGACH_REMOVAL_UPDATES_LINKED && wulgach_timeout_removal(&(struct wulgach_submission){.op_flags = 17}) == WULGACH_REMOVAL_CANCELS, "a timeout's");
     struct wulgach_linked linked = {.user_data = 5, .is_linked = true, .runs = true}, still = {.user_data = 5, .is_linked = true}, loose = {.user_data = 5, .runs = true};
     demand(wulgach_updates_linked(5, &linked) && !wulgach_updates_linked(6, &linked) && !wulgach_updates_linked(5, &still) && !wulgach_updates_linked(5, &loose), "a linked timeout's");
-    demand(wulgach_updated_flags(33, &(struct wulgach_submission){.op_flags = 2}) == 32 && wulgach_updated_flags(40, &(struct wulgach_submission){.op_flags = 3}) == 41, "a timeout's flags");
+    struct wulgach_terms relative = {.count = 5, .flags = 33}, absolute = {.flags = 40};
+    wulgach_updated_terms(&relative, &(struct wulgach_submission){.op_flags = 2});
+    wulgach_updated_terms(&absolute, &(struct wulgach_submission){.op_flags = 3});
+    demand(relative.flags == 32 && relative.count == 0 && absolute.flags == 41 && absolute.count == 0, "a timeout's terms");
 }
 
 /* What comes behind so many pieces of an entry, none of which has a fault, and which hold one vector. */
@@ -130,6 +134,8 @@ static void copy_pieces(void)
     demand(NEXT(0, .opcode = OPENAT2, .len = 4097) == -7 && wulgach_how_fault(false) == -7 && wulgach_how_fault(true) == 0, "a longer structure");
     demand(wulgach_time_fault(0, 0) == 0 && wulgach_time_fault(-1, 5) == -22 && wulgach_time_fault(5, -1) == -22, "a time");
     demand(wulgach_message_fault(1024) == 0 && wulgach_message_fault(1025) == -90, "a message");
+    struct wulgach_submission selects = {.opcode = RECVMSG, .flags = 32};
+    demand(wulgach_message_vectors(&selects, 0) == 1 && wulgach_message_vectors(&selects, 2) == 2 && wulgach_message_vectors(&(struct wulgach_submission){.opcode = RECVMSG}, 0) == 0, "its vectors");
     struct wulgach_submission receive = {.opcode = RECVMSG, .ioprio = 2};
     demand(wulgach_room_fault(&receive, 8, 8) == 0 && wulgach_room_fault(&receive, UINT32_MAX, 8) == -22 && wulgach_room_fault(&receive, INT32_MAX, 8) == -75 && wulgach_room_fault(&set, UINT32_MAX, 8) == 0, "what stands in front");
     struct wulgach_core_entry made;
@@ -144,8 +150,10 @@ static void copy_pieces(void)
     wulgach_core_entry_of(&cancel, WULGACH_FORM_REFUSED, &made);
     demand(made.code == 22 && made.len == 65 && made.flags == 94, "an entry with another");
     struct wulgach_submission timeout = {.opcode = 15}, linked = {.opcode = 15, .flags = 4}, other = {.opcode = 11};
-    demand(wulgach_flags_before(70, &timeout) == 78 && wulgach_flags_before(72, &timeout) == 72 && wulgach_flags_before(66, &timeout) == 66, "before a linked timeout");
-    demand(wulgach_flags_before(4, &linked) == 4 && wulgach_flags_before(4, &other) == 4, "before another");
+    demand(wulgach_flags_before(70, &timeout, true) == 78 && wulgach_flags_before(72, &timeout, true) == 72 && wulgach_flags_before(66, &timeout, true) == 66, "before a linked timeout");
+    demand(wulgach_flags_before(4, &linked, true) == 4 && wulgach_flags_before(4, &other, true) == 4 && wulgach_flags_before(70, &timeout, false) == 70, "before another, or by other rules");
+    uint8_t code = 5;
+    demand(wulgach_extra_of(true, &code) == WULGACH_FORM_REFUSED && code == 255 && wulgach_extra_of(false, &code) == WULGACH_FORM_TOKEN && code == 0, "a completion that belongs to no end");
     demand(wulgach_names_slot(7, 8) && !wulgach_names_slot(8, 8), "a slot");
     for (int code = 0; code < 256; code++) {
         struct wulgach_submission entry = {.opcode = (uint8_t)code, .flags = 32, .addr = 8, .len = 3};

@@ -176,7 +176,7 @@ static void seek(void)
 
 static void miss(void)
 {
-    static const int32_t faults[] = {-EBADF, -EBADF, -EFAULT, -EFAULT, -EAGAIN, -ENAMETOOLONG, -EFAULT, -ENOBUFS, -ENOENT, 0};
+    static const int32_t faults[] = {-EBADF, -EBADF, -EFAULT, -EFAULT, -ENOMEM, -ENAMETOOLONG, -EFAULT, -ENOBUFS, -ENOENT, 0};
     for (uint32_t what = 0; what < sizeof faults / sizeof *faults; what++)
         demand(wulgach_missing_fault(what) == faults[what], "what isn't found");
 }

@@ -59,12 +59,17 @@ static int make_buffer(struct ring *ring, uint64_t *word, const struct iovec *by
     if (!buffer || (tag && !message)) {
         free(buffer);
         free(message);
-        return -ENOMEM;
+        return wulgach_missing_fault(WULGACH_NO_MEMORY_OWN);
     }
     *buffer = (struct buffer){.bytes = *bytes, .told = &ring->inbox, .tag = message};
     wulgach_uses_begin(&buffer->uses, message != NULL);
     *word = (uintptr_t)buffer;
     return 0;
+}
+
+static int make_there(struct ring *ring, uint64_t *word, const struct iovec *bytes, uint64_t tag)
+{
+    return is_there(bytes) ? make_buffer(ring, word, bytes, tag) : wulgach_missing_fault(WULGACH_NO_MEMORY);
 }
 
 /* Makes the buffer of a row, if the row has one. */
@@ -77,7 +82,7 @@ static int make_row(struct ring *ring, uint64_t *word, uint64_t vectors, uint64_
     int result = read_row(&bytes, &tag, vectors, tags, index);
     if (result < 0 || wulgach_buffer_row((uintptr_t)bytes.iov_base, bytes.iov_len, tag, &fault) != WULGACH_ROW_FILLS)
         return result < 0 ? result : fault;
-    return is_there(&bytes) ? make_buffer(ring, word, &bytes, tag) : wulgach_missing_fault(WULGACH_NO_MEMORY);
+    return make_there(ring, word, &bytes, tag);
 }
 
 /* Of a table that isn't registered after all, no tag is told. */
@@ -102,7 +107,7 @@ int register_buffers(struct ring *ring, uint64_t vectors, uint64_t tags, uint32_
         return result;
     uint64_t *words = calloc(count, sizeof *words);
     if (!words)
-        return -ENOMEM;
+        return wulgach_missing_fault(WULGACH_NO_MEMORY_OWN);
     for (uint32_t i = 0; result == 0 && i < count && (vectors || tags); i++)
         result = make_row(ring, &words[i], vectors, tags, i);
     if (result < 0) {
@@ -130,16 +135,31 @@ void free_buffers(struct ring *ring)
     wulgach_table_unregister(&ring->buffers.table);
 }
 
-int update_buffers(struct ring *ring, uint32_t offset, uint64_t vectors, uint64_t tags, uint32_t count)
+/* Does with a slot what the library says that a row does, step by step. It gets the buffer that was made, or none. */
+static int update_buffer(struct ring *ring, uint32_t slot, const struct iovec *bytes, uint64_t tag)
 {
     struct buffers *buffers = &ring->buffers;
-    int result = wulgach_table_updating_fault(&buffers->table, offset, count);
+    int32_t fault;
+    uint64_t word = 0;
+    uint32_t steps = wulgach_row_steps(wulgach_buffer_row((uintptr_t)bytes->iov_base, bytes->iov_len, tag, &fault), false);
+    for (; steps && fault == 0; steps &= steps - 1)
+        if (__builtin_ctz(steps) == WULGACH_STEP_MAKES)
+            fault = make_there(ring, &word, bytes, tag);
+        else
+            release_buffer(buffer_of(wulgach_table_fill(&buffers->table, buffers->words, buffers->table.count, slot, word)));
+    return fault;
+}
+
+int update_buffers(struct ring *ring, uint32_t offset, uint64_t vectors, uint64_t tags, uint32_t count)
+{
+    int result = wulgach_table_updating_fault(&ring->buffers.table, offset, count);
     uint32_t done = 0;
     while (result == 0 && done < count) {
-        uint64_t word;
-        result = vectors ? make_row(ring, &word, vectors, tags, done) : wulgach_missing_fault(WULGACH_NO_MEMORY);
+        struct iovec bytes;
+        uint64_t tag;
+        result = vectors ? read_row(&bytes, &tag, vectors, tags, done) : wulgach_missing_fault(WULGACH_NO_MEMORY);
         if (result == 0)
-            release_buffer(buffer_of(wulgach_table_fill(&buffers->table, buffers->words, buffers->table.count, offset + done, word)));
+            result = update_buffer(ring, offset + done, &bytes, tag);
         done += result == 0;
     }
     return wulgach_updated(done, result);

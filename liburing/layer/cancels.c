@@ -41,8 +41,8 @@ static struct wulgach_outstanding seen_of(const struct request *request)
         .file = (uintptr_t)request->file,
         .fd = (uint32_t)request->entry.fd,
         .is_registered = request->entry.flags & IOSQE_FIXED_FILE,
-        /* (what needs no file has none, whatever descriptor its entry names) */
-        .is_assigned = request->is_assigned && request->needs.needs_file,
+        .needs_file = request->needs.needs_file,
+        .is_assigned = request->is_assigned,
         .code = request->entry.opcode,
         .is_token = request->mapping == TOKEN,
         .is_cancelled = request->course.is_cancelled,
@@ -66,14 +66,14 @@ static bool look_for(struct ring *ring, struct wulgach_cancel *cancel, const str
 }
 
 /* Cancels what is sought, and returns what the canceller ends with. */
-static int32_t cancel_all(struct ring *ring, const struct wulgach_sought *sought, const struct request *canceller)
+static int32_t cancel_all(struct ring *ring, const struct wulgach_sought *sought)
 {
     struct wulgach_cancel cancel;
     struct seeking seeking;
     wulgach_cancel_begin(&cancel, sought);
     begin_seeking(&seeking, ring, sought);
     for (struct request *request; (request = next_sought(&seeking));)
-        if (request != canceller && look_for(ring, &cancel, request))
+        if (look_for(ring, &cancel, request))
             cancel_request(ring, request);
     return wulgach_cancel_result(&cancel);
 }
@@ -101,7 +101,7 @@ static int32_t cancel_by(struct ring *ring, const struct request *canceller)
     bool is_there = sought.is_fixed ? file != NULL : sought.is_by_fd && fcntl(entry->fd, F_GETFD) >= 0;
     sought.file = (uintptr_t)file;
     int32_t fault = wulgach_seeking_fault(&sought, is_there);
-    int32_t res = fault < 0 ? fault : cancel_all(ring, &sought, canceller);
+    int32_t res = fault < 0 ? fault : cancel_all(ring, &sought);
     release_file(file);
     return res;
 }

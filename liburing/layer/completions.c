@@ -46,6 +46,7 @@ bool note_end(struct ring *ring, const struct request *request, int32_t told)
         .flags = request->flags,
         .token = request->token,
         .told = told,
+        .is_message = request->is_message,
         .call = request->call,
         .ended = ring->call_number,
     };

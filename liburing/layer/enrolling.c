@@ -45,7 +45,7 @@ static int make_table(void)
             wulgach_enrolled_begin(table, MOST);
         pthread_setspecific(key, table);
     }
-    return table ? 0 : -ENOMEM;
+    return table ? 0 : wulgach_missing_fault(WULGACH_NO_MEMORY_OWN);
 }
 
 /* Puts a ring into the row that it gets. */

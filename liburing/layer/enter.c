@@ -221,10 +221,10 @@ static int carry_call_out(struct ring *ring, struct waiting *waiting, uint32_t f
 
 static int enter_ring(struct ring *ring, uint32_t flags, struct waiting *waiting)
 {
+    ring->call_number++;
     int result = wulgach_entering_fault(&ring->issuer, (uint32_t)this_thread(), waiting->to_submit, flags & IORING_ENTER_GETEVENTS);
     if (result < 0)
         return result;
-    ring->call_number++;
     do_duties_at_begin(ring, false);
     result = carry_call_out(ring, waiting, flags);
     assign_before(ring, UINT64_MAX);

@@ -1,8 +1,7 @@
 /* The core posts one completion for a request, and knows of no others. So each extra one is a request to it, of the layer's
  * own, submitted, issued and ended at once, whose completion shows the event. So the order in the ring and what overflows
- * are the core's here too. By Linux's rules it is one of an unknown operation, which waits for no drain and takes none that is owed. By
- * the manual pages' it is a no-op: as that would have to wait behind a drain, events and messages are left where they are
- * until the library says that one may be posted.
+ * are the core's here too. What it is to the core the library says, by Linux's rules or the manual pages', and when one may be posted:
+ * until then events and messages are left where they are.
  */
 #include "extras.h"
 #include "descriptors.h"
@@ -16,8 +15,6 @@
 #include <errno.h>
 #include <fcntl.h>
 #include <stdlib.h>
-
-enum { UNKNOWN_OPERATION = 255 };
 
 bool can_post_extra(struct ring *ring)
 {
@@ -44,16 +41,16 @@ static int32_t end_own(struct ring *ring, struct request *request, int32_t res)
     return TOLD_SUCCESS;
 }
 
-void post_extra(struct ring *ring, uint64_t call, uint64_t user_data, int32_t res, uint32_t flags)
+static void post(struct ring *ring, uint64_t call, bool is_message, uint64_t user_data, int32_t res, uint32_t flags)
 {
     struct wulgach_entry entry;
     struct request *request = make_request(&ring->requests);
     demand(request != NULL, "out of memory");
     request->entry.user_data = request->token = user_data;
-    request->entry.opcode = ring->is_linux ? UNKNOWN_OPERATION : IORING_OP_NOP;
-    request->mapping = ring->is_linux ? REFUSED : TOKEN;
+    request->mapping = (enum mapping)wulgach_extra_of(ring->is_linux, &request->entry.opcode);
     request->flags = flags;
     request->call = call;
+    request->is_message = is_message;
     write_token(&entry, request);
     load_head(ring);
     fill_slot(ring, 0, &entry);
@@ -70,6 +67,11 @@ void post_extra(struct ring *ring, uint64_t call, uint64_t user_data, int32_t re
     trace_note(ring, "request %llu: a completion of the layer's own", (unsigned long long)request->number);
     int32_t told = end_own(ring, request, res);
     end_of(ring, request, res, told);
+}
+
+void post_extra(struct ring *ring, uint64_t call, uint64_t user_data, int32_t res, uint32_t flags)
+{
+    post(ring, call, false, user_data, res, flags);
 }
 
 bool has_messages(struct ring *ring)
@@ -96,7 +98,7 @@ __attribute__((noinline)) static void post_waiting(struct ring *ring)
 {
     struct message *message;
     while (has_messages(ring) && can_post_extra(ring) && (message = take_message(&ring->inbox))) {
-        post_extra(ring, NO_CALL, message->user_data, message->res, message->flags);
+        post(ring, 0, true, message->user_data, message->res, message->flags);
         free(message);
     }
 }
@@ -157,7 +159,7 @@ static int32_t send_to(struct ring *ring, struct ring *target, const struct io_u
     struct wulgach_message told;
     struct message *message = make_message_of(0, 0);
     if (!message)
-        return -ENOMEM;
+        return wulgach_missing_fault(WULGACH_NO_MEMORY_OWN);
     int32_t res = is_file ? send_file(ring, target, entry) : 0;
     if (!wulgach_told_of(submission_of(entry), res, &told)) {
         free(message);

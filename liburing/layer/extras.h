@@ -29,10 +29,7 @@ struct inbox {
 /* Whether an extra completion can be posted now: by the manual pages' rules no drain is outstanding; and there is memory. */
 bool can_post_extra(struct ring *ring);
 
-/* What no call has submitted. */
-static const uint64_t NO_CALL = UINT64_MAX;
-
-/* Posts one, of a request that the call of this number has submitted, or NO_CALL. It can be posted. */
+/* Posts one, of a request that the call of this number has submitted. It can be posted. */
 void post_extra(struct ring *ring, uint64_t call, uint64_t user_data, int32_t res, uint32_t flags);
 
 /* A message that is yet to be put; NULL if memory was refused. */

@@ -97,7 +97,7 @@ static int make_file_with(struct file **made, int fd, struct inbox *told, struct
     *made = malloc(sizeof **made);
     if (!*made) {
         close(copy);
-        return -ENOMEM;
+        return wulgach_missing_fault(WULGACH_NO_MEMORY_OWN);
     }
     **made = (struct file){.fd = copy, .told = told, .tag = tag};
     wulgach_uses_begin(&(*made)->uses, tag != NULL);
@@ -114,7 +114,7 @@ static int make_tagged_file(struct ring *ring, struct file **made, int fd, uint6
 {
     struct message *message = tag ? make_message_of(tag, 0) : NULL;
     if (tag && !message)
-        return -ENOMEM;
+        return wulgach_missing_fault(WULGACH_NO_MEMORY_OWN);
     int result = make_file_with(made, fd, &ring->inbox, message);
     if (result < 0)
         free(message);
@@ -203,7 +203,7 @@ int register_files(struct ring *ring, uint64_t fds, uint64_t tags, uint32_t coun
         return result;
     uint64_t *words = calloc(count, sizeof *words);
     if (!words)
-        return -ENOMEM;
+        return wulgach_missing_fault(WULGACH_NO_MEMORY_OWN);
     for (uint32_t i = 0; result == 0 && i < count && (fds || tags); i++)
         result = make_row(ring, &words[i], fds, tags, i);
     if (result == 0)
@@ -221,17 +221,17 @@ int unregister_files(struct ring *ring, bool has_argument)
     return result;
 }
 
+/* Does with a slot what the library says that a row does, step by step. It gets the file that was made, or none. */
 static int update_file(struct ring *ring, uint32_t slot, int fd, uint64_t tag)
 {
     int32_t fault;
     struct file *file = NULL;
-    uint32_t row = wulgach_file_row(fd, tag, true, &fault);
-    if (row == WULGACH_ROW_EMPTIES || row == WULGACH_ROW_FILLS)
-        put_slot(&ring->files, slot, NULL);
-    if (row == WULGACH_ROW_FILLS)
-        fault = make_tagged_file(ring, &file, fd, tag);
-    if (file)
-        put_slot(&ring->files, slot, file);
+    uint32_t steps = wulgach_row_steps(wulgach_file_row(fd, tag, true, &fault), true);
+    for (; steps && fault == 0; steps &= steps - 1)
+        if (__builtin_ctz(steps) == WULGACH_STEP_MAKES)
+            fault = make_tagged_file(ring, &file, fd, tag);
+        else
+            put_slot(&ring->files, slot, file);
     return fault;
 }
 

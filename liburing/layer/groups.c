@@ -86,7 +86,7 @@ int32_t provide_buffers(struct ring *ring, const struct io_uring_sqe *entry)
         return fault;
     struct group *group = any_group(ring, entry->buf_group);
     bool is_provided = group && make_room(group, asked.count) && wulgach_group_provide(&group->kept, group->rows, group->room, &asked);
-    return is_provided ? 0 : -ENOMEM;
+    return is_provided ? 0 : wulgach_missing_fault(WULGACH_NO_MEMORY_OWN);
 }
 
 int32_t remove_buffers(struct ring *ring, const struct io_uring_sqe *entry)
@@ -120,7 +120,7 @@ int register_buffer_ring(struct ring *ring, uint64_t at, uint32_t count)
         return wulgach_missing_fault(WULGACH_NO_MEMORY);
     struct group *group = any_group(ring, asked.bgid);
     if (!group)
-        return -ENOMEM;
+        return wulgach_missing_fault(WULGACH_NO_MEMORY_OWN);
     group->ring = asked.ring_addr;
     wulgach_group_register(&group->kept, (uint16_t)asked.ring_entries);
     return 0;

@@ -93,8 +93,7 @@ static int cancel_at_once(struct ring *ring, uint32_t code, uint64_t at)
     if (result < 0)
         return result;
     struct request cancel = {.entry = {.opcode = IORING_OP_ASYNC_CANCEL, .addr = asked.addr, .fd = asked.fd, .cancel_flags = asked.flags}};
-    /* What it ends has ended behind the call that submitted it. */
-    ring->call_number++;
+    /* (what it has found ends as it goes on: so its time limit is never over before) */
     result = act_on_others(ring, &cancel);
     end_cancelled(ring);
     do_duties_at_return(ring);
@@ -156,6 +155,7 @@ int register_at(int fd, uint32_t code, void *argument, uint32_t count)
     struct wulgach_caller caller = {.fd = fd, .is_open = fcntl(fd, F_GETFD) >= 0};
     struct ring *ring = caller.is_open ? lock_ring(fd) : NULL;
     if (ring) {
+        ring->call_number++;
         caller.is_ring = true;
         caller.is_another = wulgach_issuer_is_another(&ring->issuer, (uint32_t)this_thread());
         caller.is_allowed = allows_call(ring, code);

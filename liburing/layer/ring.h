@@ -77,7 +77,7 @@ struct ring {
     uint32_t own_positions;             /* how many positions of the core's submission ring were the layer's own */
     struct wulgach_eventfd telling;     /* whether an eventfd is registered, and of what it is told; */
     int eventfd;                        /* then one of the layer's own */
-    uint64_t call_number;               /* how many calls were made that can end requests */
+    uint64_t call_number;               /* how many calls were made on it */
     struct wulgach_issuer issuer;       /* the one thread that may call, or submit, if there is one; and whether the ring is disabled */
     struct wulgach_strict strict;       /* where the layer is strict, or goes by Linux's rules: what it has seen of its entries */
     struct wulgach_restrictions restrictions;

@@ -82,7 +82,7 @@ static int fill_ring(struct ring *ring, const struct wulgach_setup *setup, struc
         return result;
     note_ring();
     if (!make_entries(ring, setup->sq))
-        return -ENOMEM;
+        return wulgach_missing_fault(WULGACH_NO_MEMORY_OWN);
     int fd = is_polled ? make_polled(ring) : make_file();
     if (fd < 0)
         return fd;
@@ -107,7 +107,7 @@ static int make_ring(struct ring **made, uint32_t entries, struct io_uring_param
         return result;
     struct ring *ring = calloc(1, sizeof *ring);
     if (!ring)
-        return -ENOMEM;
+        return wulgach_missing_fault(WULGACH_NO_MEMORY_OWN);
     pthread_mutex_init(&ring->lock, NULL);
     make_inbox(&ring->inbox);
     make_files(&ring->files);

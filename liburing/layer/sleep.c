@@ -73,7 +73,7 @@ int sleep_until(struct ring *ring, const struct wulgach_limit *until, const sigs
 {
     struct pollfd *polled = calloc(ring->running.count + 3, sizeof *polled);
     if (!polled)
-        return -ENOMEM;
+        return wulgach_missing_fault(WULGACH_NO_MEMORY_OWN);
     wake_sleepers(ring);
     struct sleeper self = {.wake = eventfd(0, EFD_CLOEXEC | EFD_NONBLOCK), .next = ring->sleepers};
     ring->sleepers = &self;

@@ -53,10 +53,8 @@ int copy_message(struct request *request, uint64_t from)
     fault = copy_in(request->vectors, (uintptr_t)message->msg_iov, size);
     if (fault < 0)
         return fault;
-    if (request->entry.flags & IOSQE_BUFFER_SELECT && message->msg_iovlen == 0) {
-        *request->vectors = (struct iovec){0};
-        message->msg_iovlen = 1;
-    }
+    request->vectors[message->msg_iovlen] = (struct iovec){0};      /* an empty one, if there is one more */
+    message->msg_iovlen = wulgach_message_vectors(submission_of(&request->entry), message->msg_iovlen);
     request->vector_count = (uint32_t)message->msg_iovlen;
     message->msg_iov = request->vectors;
     fault = measure_vectors(request);
@@ -88,8 +86,8 @@ static void advance(struct request *request, uint64_t moved)
     }
 }
 
-/* What the kernel tells of a message that was received: sizes and flags, where the application's stands. */
-static int tell_message(const struct request *request)
+/* What the kernel tells of a message that was received: sizes and flags, where the application's stands. False if it can't be written. */
+static bool tell_message(const struct request *request)
 {
     const struct msghdr *message = request->value;
     uint64_t at = request->entry.addr;
@@ -98,15 +96,14 @@ static int tell_message(const struct request *request)
         result = copy_out(at + offsetof(struct msghdr, msg_controllen), &message->msg_controllen, sizeof message->msg_controllen);
     if (result == 0)
         result = copy_out(at + offsetof(struct msghdr, msg_flags), &message->msg_flags, sizeof message->msg_flags);
-    return result;
+    return result == 0;
 }
 
 int32_t move_message(struct request *request, const struct wulgach_means *means)
 {
-    int32_t res = make_call(&means->call);
-    int fault = res >= 0 && means->kind == WULGACH_BY_RECEIVE_MESSAGE ? tell_message(request) : 0;
-    if (fault < 0)
-        return fault;
+    int32_t came_to = make_call(&means->call);
+    bool is_told = !wulgach_tells_message(submission_of(&request->entry), came_to) || tell_message(request);
+    int32_t res = wulgach_told_result(came_to, is_told);
     if (res > 0)
         advance(request, (uint64_t)res);
     return res;
@@ -133,13 +130,12 @@ static int32_t receive_into_buffer(struct request *request, int32_t *filled)
     struct wulgach_held held = {.fd = request->fd, .value = (uintptr_t)&message};
     struct wulgach_means means;
     wulgach_means_of(submission_of(&request->entry), &held, &means);
-    int32_t res = make_call(&means.call);
+    int32_t came_to = make_call(&means.call);
+    struct io_uring_recvmsg_out told = {message.msg_namelen, (uint32_t)message.msg_controllen, (uint32_t)came_to, (uint32_t)message.msg_flags};
+    bool is_told = !wulgach_tells_message(submission_of(&request->entry), came_to) || copy_out((uintptr_t)at, &told, sizeof told) == 0;
+    int32_t res = wulgach_told_result(came_to, is_told);
     if (res < 0)
         return res;
-    struct io_uring_recvmsg_out told = {message.msg_namelen, (uint32_t)message.msg_controllen, (uint32_t)res, (uint32_t)message.msg_flags};
-    int fault = copy_out((uintptr_t)at, &told, sizeof told);
-    if (fault < 0)
-        return fault;
     request->done = (uint32_t)res;
     *filled = (int32_t)wulgach_layout_filled(&layout, (uint32_t)res);
     return res;

@@ -1,5 +1,6 @@
 /* Stages what the application has published, as far as the library says that the call takes it, at the moment when the kernel would read
- * it, and has the core take it in one call. If memory is refused, what is staged stays so, and waits in the core: the next call goes on with it.
+ * it, and has the core take it in one call. What comes of it where memory is refused the library says: if the core is refused it, what is staged
+ * stays so, and waits there, and the next call goes on with it.
  */
 #include "submit.h"
 #include "account.h"
@@ -61,24 +62,26 @@ static struct wulgach_item item_of(const struct request *request)
     };
 }
 
-/* Stages the positions that a call takes, the first of which has its word in this cell, but those that are staged already, and returns how many it takes. If memory is refused, these
- * are all that could be staged. */
-static uint32_t stage_taken(struct ring *ring, struct wulgach_taking *taking, uint32_t cell)
+/* Stages the positions that a call takes, `most` at most, the first of which has its word in this cell, but those that are staged already.
+ * Returns the fault of a call that memory was refused, or 0: then it submits what is staged. */
+static int32_t stage_taken(struct ring *ring, struct wulgach_taking *taking, uint32_t most, uint32_t cell)
 {
     uint32_t count = 0, onward;
+    if (!reserve_all(ring, most))
+        return wulgach_refusal_fault(count, false);
     do {
         struct request *row = NULL;
         if (count < ring->staged.count)
             row = ring->staged.rows[count];
         else if (!stage(ring, load_word(&ring->memory.array[cell]), &row))
-            break;
+            return wulgach_refusal_fault(count, false);
         count++;
         struct wulgach_item item = item_of(row);
         onward = wulgach_taking_took(taking, &item, &cell);
         if (onward == WULGACH_ENDS_CALL)
             note_rule(row ? CALL_STOPS : WORD_IS_DROPPED);
     } while (onward == WULGACH_TAKES);
-    return count;
+    return 0;
 }
 
 /* Gives the request of a position that was taken a number. */
@@ -139,14 +142,15 @@ static void note_chains(struct ring *ring, size_t first)
     end_asking();
 }
 
-/* Has the core take what is staged, behind which this head stands; it has the first `given` of it already. */
+/* Has the core take what is staged, behind which this head stands; it has the first `given` of it already. Returns how many requests it has
+ * accepted, or the fault of a call that it refused for want of memory. */
 static int take_staged(struct ring *ring, uint32_t given, uint32_t head)
 {
     uint32_t count = (uint32_t)ring->staged.count;
     uint64_t accepted = ring->accepted;
     struct wulgach_taken taken;
     if (!submit_staged(ring, given, &taken))
-        return wulgach_missing_fault(WULGACH_NO_MEMORY_OWN);
+        return wulgach_refusal_fault(count, true);
     for (uint32_t i = 0; i < count; i++)
         accept_one(ring, ring->staged.rows[i], i > 0 ? ring->staged.rows[i - 1] : NULL);
     drop_requests(&ring->staged, count);
@@ -192,7 +196,6 @@ int submit(struct ring *ring, uint32_t count)
     uint32_t cell, most = wulgach_taking_begin(&taking, &asked, &cell);
     if (most == 0)
         return 0;
-    if (!reserve_all(ring, most) || stage_taken(ring, &taking, cell) == 0)
-        return wulgach_missing_fault(WULGACH_NO_MEMORY_OWN);
-    return take_staged(ring, given, taking.next);
+    int32_t fault = stage_taken(ring, &taking, most, cell);
+    return fault < 0 ? fault : take_staged(ring, given, taking.next);
 }

@@ -146,10 +146,11 @@ void fire_linked_timeout(struct ring *ring, const struct wulgach_timeout *timeou
 
 int32_t change_timeout(struct ring *ring, struct request *timeout, const struct request *change)
 {
+    struct wulgach_terms terms = {.count = timeout->entry.off, .flags = timeout->entry.timeout_flags};
+    wulgach_updated_terms(&terms, submission_of(&change->entry));
     *timeout->time = *change->time;
-    timeout->entry.timeout_flags = wulgach_updated_flags(timeout->entry.timeout_flags, submission_of(&change->entry));
-    /* (one that hasn't started has no count then) */
-    timeout->entry.off = 0;
+    timeout->entry.off = terms.count;
+    timeout->entry.timeout_flags = terms.flags;
     wulgach_times_change(&ring->times, ring->timeouts, ring->timeouts_room, timeout->number, time_left(timeout));
     return 0;
 }

@@ -22,10 +22,10 @@ void free_entries(struct ring *ring)
 }
 
 /* The entry before this one in its call, now that this one is known. */
-static void note_entry_before(struct wulgach_entry *before, const struct request *request)
+static void note_entry_before(const struct ring *ring, struct wulgach_entry *before, const struct request *request)
 {
     uint8_t flags = (uint8_t)(before->words[0] >> 8);
-    uint8_t told = wulgach_flags_before(flags, submission_of(&request->entry));
+    uint8_t told = wulgach_flags_before(flags, submission_of(&request->entry), ring->is_linux);
     before->words[0] ^= (uint64_t)(flags ^ told) << 8;
 }
 
@@ -33,8 +33,8 @@ void note_entry(struct ring *ring, const struct request *request)
 {
     size_t place = ring->staged.count;
     write_token(&ring->entries[place], request);
-    if (ring->is_linux && place > 0 && ring->staged.rows[place - 1])
-        note_entry_before(&ring->entries[place - 1], request);
+    if (place > 0 && ring->staged.rows[place - 1])
+        note_entry_before(ring, &ring->entries[place - 1], request);
 }
 
 /* Traces a step of a whole call, with an answer that has one word at most. */

@@ -11,7 +11,7 @@ missing_of word =
     if word == 1 then Some missing.Direction else
     if word == 2 then Some missing.Buffer else
     if word == 3 then Some missing.Memory else
-    if word == 4 then Some missing.ForRequests else
+    if word == 4 then Some missing.OwnMemory else
     if word == 5 then Some missing.PathEnd else
     if word == 6 then Some missing.Room else
     if word == 7 then Some missing.Provided else

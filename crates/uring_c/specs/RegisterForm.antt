@@ -1,5 +1,5 @@
 -- What a row of a list does, in words that C can read, and what a call is refused for whose number C gives.
-use Rattle.std.specs.Prelude.{ℕ, ℤ, pos, Bool, Option, Some, None}
+use Rattle.std.specs.Prelude.{ℕ, ℤ, pos, Bool, ◌==◌, Option, Some, None, if◌then◌else◌}
 use Rattle.uring_register.specs.declared.registering.Row.{Row}
 use Rattle.uring_register.specs.declared.registering.Row.TheVariants.{Keeps, Empties, Fills, Refused}
 use Rattle.uring_register.specs.declared.call.Call.{Call}
@@ -13,6 +13,13 @@ word_of_row Keeps = 0
 word_of_row Empties = 1
 word_of_row Fills = 2
 word_of_row (Refused _) = 3
+
+-- what a row does, by that word
+abbrev pub row_of_word : ℕ → Row
+row_of_word word =
+    if word == 0 then Keeps else
+    if word == 1 then Empties else
+    if word == 2 then Fills else Refused (pos 0)
 
 abbrev pub fault_of_row : Row → ℤ
 fault_of_row (Refused fault) = fault

@@ -9,7 +9,7 @@ ghost use Rattle.uring_crossing.specs.WaitForm.{task_of};
 use uring_crossing::wait_words::task;
 use uring_enter::{
     Fault, Held, Means, Submission, SystemCall, Transfer, Vectors, can_have, has_begun,
-    is_stream_type, means_of, placed_result, transfer_call,
+    is_stream_type, means_of, placed_result, tells_message, told_result, transfer_call,
 };
 
 /// By what an operation is carried out: `struct wulgach_means` of the header.
@@ -115,6 +115,22 @@ pub extern "C" fn wulgach_has_begun(came_to: i32) -> bool
     ensures { result ≡ results.has_begun came_to }
 {
     has_begun(came_to)
+}
+
+/// Whether what belongs to a message is told behind a call of this entry that came to this.
+#[unsafe(no_mangle)]
+pub extern "C" fn wulgach_tells_message(entry: &Submission, came_to: i32) -> bool
+    ensures { result ≡ results.tells_message entry.now came_to }
+{
+    tells_message(entry, came_to)
+}
+
+/// What a call ends with that came to this, and behind which that could be told, or couldn't.
+#[unsafe(no_mangle)]
+pub extern "C" fn wulgach_told_result(came_to: i32, is_told: bool) -> i32
+    ensures { result ≡ results.told_result came_to is_told }
+{
+    told_result(came_to, is_told)
 }
 
 /// What a file ends with that was put into this slot, where its entry asked for that one or for any.

@@ -3,10 +3,12 @@ ghost use Rattle.std.specs.Prelude.{◌≡◌, ◌+◌, ◌<◌, ◌^◌, is_som
 ghost use Rattle.uring_enter.specs.CoreEntries as spec;
 ghost use Rattle.uring_enter.specs.Layouts as layouts;
 ghost use Rattle.uring_enter.specs.NoOps.{result_of};
+ghost use Rattle.uring_c.specs.EntryForm.{word_of_form};
 ghost use Rattle.uring_c.specs.RingForm.{form_of_word};
 
+use crate::form_exports::form_word;
 use uring_enter::{
-    CoreEntry, Form, Layout, Member, Submission, core_entry_of, flags_before, is_drain,
+    CoreEntry, Form, Layout, Member, Submission, core_entry_of, extra_of, flags_before, is_drain,
     is_one_chain, layout_of, no_op_result, slot_of,
 };
 
@@ -42,12 +44,23 @@ pub extern "C" fn wulgach_core_entry_of(entry: &Submission, form: u32, made: &mu
     *made = core_entry_of(entry, form_by_word(form));
 }
 
-/// The flags that the core is told of an entry, by Linux's rules, where these were its flags and the next entry of its call is this one.
+/// The flags that the core is told of an entry, by Linux's rules or the manual pages', where these were its flags and the next entry of its call is this one.
 #[unsafe(no_mangle)]
-pub extern "C" fn wulgach_flags_before(flags: u8, next: &Submission) -> u8
-    ensures { result ≡ spec.flags_before flags next.now }
+pub extern "C" fn wulgach_flags_before(flags: u8, next: &Submission, linux_rules: bool) -> u8
+    ensures { result ≡ spec.flags_before flags next.now linux_rules }
 {
-    flags_before(flags, next)
+    flags_before(flags, next, linux_rules)
+}
+
+/// Returns what an entry is to the core whose end a completion is that belongs to no end of a request, and writes its operation.
+#[unsafe(no_mangle)]
+pub extern "C" fn wulgach_extra_of(linux_rules: bool, code: &mut u8) -> u32
+    ensures form { result ≡ word_of_form (spec.extra_of linux_rules).form }
+    ensures code { code.new ≡ (spec.extra_of linux_rules).code }
+{
+    let extra = extra_of(linux_rules);
+    *code = extra.code;
+    form_word(extra.form)
 }
 
 fn form_by_word(word: u32) -> Form

@@ -24,7 +24,7 @@ pub extern "C" fn wulgach_form_of(
     form_word(form)
 }
 
-fn form_word(form: Form) -> u32
+pub(crate) fn form_word(form: Form) -> u32
     ensures { result ≡ word_of_form form }
 {
     match form {

@@ -23,7 +23,7 @@ fn missing(word: u32) -> Option<Missing>
         1 => Some(Missing::Direction),
         2 => Some(Missing::Buffer),
         3 => Some(Missing::Memory),
-        4 => Some(Missing::ForRequests),
+        4 => Some(Missing::OwnMemory),
         5 => Some(Missing::PathEnd),
         6 => Some(Missing::Room),
         7 => Some(Missing::Provided),

@@ -13,7 +13,7 @@ ghost use Rattle.uring_crossing.specs.CourseForm.{entry_of};
 use uring_crossing::course_words::entry_if;
 use uring_enter::{
     Copying, Entry, Piece, Submission, What, has_one_buffer, how_fault, length_with, message_fault,
-    next_piece, open_fault, room_fault, time_fault, vector_fault,
+    message_vectors, next_piece, open_fault, room_fault, time_fault, vector_fault,
 };
 
 /// A piece that is copied: `struct wulgach_piece` of the header.
@@ -126,6 +126,14 @@ pub extern "C" fn wulgach_message_fault(vectors: u64) -> i32
     ensures { result ≡ spec.message_fault vectors }
 {
     message_fault(vectors)
+}
+
+/// How many vectors a message with so many has.
+#[unsafe(no_mangle)]
+pub extern "C" fn wulgach_message_vectors(entry: &Submission, vectors: u64) -> u64
+    ensures { result ≡ spec.message_vectors entry.now vectors }
+{
+    message_vectors(entry, vectors)
 }
 
 /// The fault of a message that is received again and again, with so many bytes of an address and of control data, or 0.

@@ -6,11 +6,11 @@ ghost use Rattle.uring_register.specs.Restricting.{restricting_fault as fault_of
 ghost use Rattle.uring_register.specs.Restricting.{enabling_fault as fault_of_enabling};
 ghost use Rattle.uring_register.specs.Tables.{Filing, Registered, Unregistered, Filled, KeepsTable, IsGiven, GivesNone, range_fault, behind_range, size, content};
 ghost use Rattle.uring_register.specs.Registering as spec;
-ghost use Rattle.uring_c.specs.RegisterForm.{word_of_row, fault_of_row};
+ghost use Rattle.uring_c.specs.RegisterForm.{row_of_word, word_of_row, fault_of_row};
 
 use uring_register::{
     Restriction, Restrictions, Row, Table, buffer_row, enabling_fault, file_row, restricting_fault,
-    updated,
+    row_steps, updated,
 };
 
 /// A ring has no restrictions.
@@ -244,6 +244,25 @@ pub extern "C" fn wulgach_buffer_row(from: u64, size: u64, tag: u64, fault: &mut
     let row = buffer_row(from, size, tag);
     *fault = row_fault_of(row);
     row_word(row)
+}
+
+/// What an update does with a slot by a row that does this, the bit of each step.
+#[unsafe(no_mangle)]
+pub extern "C" fn wulgach_row_steps(row: u32, is_of_files: bool) -> u32
+    ensures { result ≡ spec.steps_of (row_of_word row) is_of_files }
+{
+    row_steps(row_by_word(row), is_of_files)
+}
+
+fn row_by_word(word: u32) -> Row
+    ensures { result ≡ row_of_word word }
+{
+    match word {
+        0 => Row::Keeps,
+        1 => Row::Empties,
+        2 => Row::Fills,
+        _ => Row::Refused(0),
+    }
 }
 
 fn row_word(row: Row) -> u32

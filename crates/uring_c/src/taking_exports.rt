@@ -1,12 +1,13 @@
 //! Which positions a call takes, and what goes on next, for C: functions of `c/wulgach_enter.h`.
 ghost use Rattle.std.specs.Prelude.{◌≡◌, ◌+◌, ◌<◌, ◌^◌, ℕ, length, false, List, [], ◌∷◌};
 ghost use Rattle.uring_enter.specs.Takings.{KeepsTaking, most, next_of, has_ended};
+ghost use Rattle.uring_enter.specs.Takings.{refusal_fault as refused};
 ghost use Rattle.uring_enter.specs.Ways.{way_of, count_of};
 ghost use Rattle.uring_enter.specs.Drainings.{Drainage, Accepted, Ended, KeepsChain, KeepsDrains, outstanding, may_post};
 ghost use Rattle.uring_enter.specs.Drainings.{drains as chain_drains};
 ghost use Rattle.uring_c.specs.TakingForm.{word_of_next, cell_of_next, word_of_way, place_of_way};
 
-use uring_enter::{Chain, Drains, Item, Onward, Submitting, Taking, Way, Ways};
+use uring_enter::{Chain, Drains, Item, Onward, Submitting, Taking, Way, Ways, refusal_fault};
 
 /// Begins a call that has taken nothing, and writes the cell of its first position. Returns how many it takes at most: where that is 0, the cell stays as it was.
 #[unsafe(no_mangle)]
@@ -38,6 +39,14 @@ pub extern "C" fn wulgach_taking_took(taking: &mut Taking, item: &Item, cell: &m
     let next = taking.took(*item);
     *cell = next_cell(next, *cell);
     next_word(next)
+}
+
+/// The fault of a call that memory was refused behind so many positions that it has staged, by the core or for the next one; 0: it submits these.
+#[unsafe(no_mangle)]
+pub extern "C" fn wulgach_refusal_fault(staged: u32, is_core: bool) -> i32
+    ensures { result ≡ refused staged is_core }
+{
+    refusal_fault(staged, is_core)
 }
 
 fn next_word(next: Onward) -> u32

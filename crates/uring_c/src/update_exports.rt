@@ -4,8 +4,8 @@ ghost use Rattle.uring_enter.specs.Updates as spec;
 ghost use Rattle.uring_c.specs.TakingForm.{word_of_removal};
 
 use uring_enter::{
-    Linked, Poll, Removal, Submission, poll_removal, timeout_removal, updated_flags, updated_poll,
-    updates_linked,
+    Linked, Poll, Removal, Submission, Terms, poll_removal, timeout_removal, updated_poll,
+    updated_terms, updates_linked,
 };
 
 /// What the removal of a poll does.
@@ -50,10 +50,10 @@ pub extern "C" fn wulgach_updated_poll(poll: &mut Poll, entry: &Submission)
     *poll = updated_poll(*poll, entry);
 }
 
-/// The flags of a timeout behind an update by this entry.
+/// Changes the terms of a timeout as this entry updates it.
 #[unsafe(no_mangle)]
-pub extern "C" fn wulgach_updated_flags(flags: u32, entry: &Submission) -> u32
-    ensures { result ≡ spec.updated_flags flags entry.now }
+pub extern "C" fn wulgach_updated_terms(terms: &mut Terms, entry: &Submission)
+    ensures { terms.new ≡ spec.updated_terms terms.old entry.now }
 {
-    updated_flags(flags, entry)
+    *terms = updated_terms(*terms, entry);
 }

@@ -19,3 +19,4 @@ mod LookoutRuns
 mod WaiterRuns
 mod CallTryRuns
 mod DutyRuns
+mod AfreshRuns

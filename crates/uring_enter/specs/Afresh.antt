@@ -1,9 +1,10 @@
 -- What becomes of a request that an update changes, or that a cancel waits for, by what has happened to it, the newest first.
-use Rattle.std.specs.Prelude.{◌≡◌, Bool, true, false, not, ◌&&◌, List, if◌then◌else◌}
+use Rattle.std.specs.Prelude.{◌≡◌, Bool, true, false, not, ◌&&◌, List, ◌∷◌, if◌then◌else◌}
 use Rattle.uring_enter.specs.declared.act.Fact.{Fact}
 use Rattle.uring_enter.specs.declared.afresh.Awaited.{Awaited}
 use Rattle.uring_enter.specs.declared.afresh.Awaited.TheVariants.{NotAwaited, Runs, Waits}
-use Rattle.uring_enter.specs.Courses.{has_started, has_ended, is_cancelled}
+use Rattle.uring_enter.specs.declared.act.Fact.TheVariants.{Started}
+use Rattle.uring_enter.specs.Courses.{has_started, has_ended, is_cancelled, is_tried, act, is_ending}
 
 -- a poll that runs is begun afresh by its update: so what is there already is told, and of one that goes on told again. io_uring_enter(2), IORING_OP_POLL_REMOVE; what Linux 6.18 was seen to do
 abbrev pub begins_afresh : List Fact → Bool
@@ -24,3 +25,9 @@ asks_start log = is_cancelled log && not (has_started log) && not (has_ended log
 -- where it isn't asked, it doesn't matter
 abbrev pub AsksForTheStart : Type 0
 AsksForTheStart = (log : List Fact) → asks_start log ≡ false → awaited log true ≡ awaited log false
+
+-- a request that such a cancel waits for, and that isn't being carried out, ends the moment that it goes on; one that hasn't started, the moment that it has. So no time passes until all have ended, and the cancel's time limit isn't over before, however short it is: it isn't looked at. IORING_REGISTER_SYNC_CANCEL
+abbrev pub EndsAtOnce : Type 0
+EndsAtOnce = (log : List Fact) (may_start : Bool) → is_tried log ≡ false
+    → (awaited log may_start ≡ Runs → is_ending (act log) ≡ true)
+    × (awaited log may_start ≡ Waits → is_ending (act (Started ∷ log)) ≡ true)

@@ -1,12 +1,21 @@
 -- What a request makes of the result of a system call, where that is more than the result.
-use Rattle.std.specs.Prelude.{ℕ, ℤ, pos, Bool, ◌||◌, ◌==◌, if◌then◌else◌}
+use Rattle.std.specs.Prelude.{ℕ, ℤ, pos, Bool, not, ◌&&◌, ◌||◌, ◌==◌, if◌then◌else◌}
 use Rattle.std.specs.Ordering.{int_eq}
-use Rattle.uring_entry.specs.Errors.{error}
+use Rattle.uring_enter.specs.declared.submission.Submission.{Submission}
+use Rattle.uring_entry.specs.Errors.{error, is_below}
 use Rattle.uring_enter.specs.NoOps.{signed}
 
 -- a connect that came to -115 (EINPROGRESS) goes on by itself, and ends as its socket does. One that came to -11 (EAGAIN), as of a local socket whose peer takes no more, hasn't begun, and is made again. connect(2), ERRORS
 abbrev pub has_begun : ℤ → Bool
 has_begun came_to = int_eq came_to (error 115)
+
+-- behind a RECVMSG (10) that has received a message its sizes and flags are told, where its entry has them told. recvmsg(2)
+abbrev pub tells_message : Submission → ℤ → Bool
+tells_message e came_to = e.opcode == 10 && not (is_below came_to)
+
+-- where they can't be written it ends with -14 (EFAULT), though the message is gone. recvmsg(2), ERRORS; what the kernel does
+abbrev pub told_result : ℤ → (is_told : Bool) → ℤ
+told_result came_to is_told = if is_told then came_to else error 14
 
 -- a file that is put into a slot ends with 0; with the slot, in 32 bits, if its entry asked for any, by 2^32 - 1 (IORING_FILE_INDEX_ALLOC). io_uring_enter(2), IORING_OP_OPENAT and IORING_OP_ACCEPT
 abbrev pub placed_result : (asked slot : ℕ) → ℤ

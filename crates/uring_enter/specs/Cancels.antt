@@ -10,9 +10,10 @@ use Rattle.uring_entry.specs.Errors.{error}
 abbrev pub is_of_all : Sought → Bool
 is_of_all s = s.is_all || s.is_any
 
--- whether a request is carried out on the descriptor, or on the registered file, that a cancel looks for
+-- whether a request is carried out on the descriptor, or on the registered file, that a cancel looks for. One that is carried out on no file isn't, whatever descriptor its entry names: what Linux 6.18 does
 abbrev pub fits_fd : Sought → Outstanding → Bool
 fits_fd s r =
+    if not r.needs_file then false else
     if s.is_fixed then r.is_registered && r.file == s.file else
     not r.is_registered && r.is_assigned && r.fd == s.fd
 

@@ -1,13 +1,14 @@
 -- What is read of the submission ring, and what the core is given of it. io_uring(7), Submitting I/O requests; that the core is told no more of an entry is our own rule.
 use Rattle.std.specs.Prelude.{ℕ, Bool, not, ◌&&◌, ◌==◌, nat_lt, Option, Some, None, if◌then◌else◌}
 use Rattle.uring_enter.specs.declared.core_entry.CoreEntry.{CoreEntry}
+use Rattle.uring_enter.specs.declared.core_entry.Extra.{Extra}
 use Rattle.uring_enter.specs.declared.form.Form.{Form}
 use Rattle.uring_enter.specs.declared.form.Form.TheVariants.{Token, Cancel, Refused}
 use Rattle.uring_enter.specs.declared.member.Member.{Member}
 use Rattle.uring_enter.specs.declared.submission.Submission.{Submission}
 use Rattle.uring_enter.specs.Clocks.{has_some}
 use Rattle.uring_enter.specs.Forms.{core_flags, first_fault}
-use Rattle.uring_entry.specs.Errors.{is_below}
+use Rattle.uring_entry.specs.Errors.{error, is_below}
 use Rattle.std.specs.Int.RustNames.{bit_or}
 
 -- the slot that an index word names in a table of so many entries: one past its end names none, and is dropped. io_uring_setup(2), struct io_sqring_offsets
@@ -38,10 +39,15 @@ abbrev pub target_of : Form → Submission → ℕ
 target_of Cancel e = e.addr
 target_of _ e = 0
 
--- By Linux's rules, the flags of an entry with these before the next entry of its call: where a linked timeout (15) ends the chain behind it, IO_LINK (4) is told as IO_HARDLINK (8). So the timeout ends by itself whatever becomes of the request that it limits, and posts as its own flags say, which Linux 6.18 was seen to do
-abbrev pub flags_before : ℕ → Submission → ℕ
-flags_before flags next =
-    if has_some flags 4 && not (has_some flags 8) && (next.opcode == 15 && not (has_some next.flags 12)) then bit_or flags 8 else flags
+-- the flags of an entry with these before the next entry of its call. By Linux's rules, where a linked timeout (15) ends the chain behind it, IO_LINK (4) is told as IO_HARDLINK (8). So the timeout ends by itself whatever becomes of the request that it limits, and posts as its own flags say, which Linux 6.18 was seen to do
+abbrev pub flags_before : ℕ → Submission → (linux : Bool) → ℕ
+flags_before flags next linux =
+    if linux && has_some flags 4 && not (has_some flags 8) && (next.opcode == 15 && not (has_some next.flags 12)) then bit_or flags 8 else flags
+
+-- the core posts one completion of a request, and one that belongs to no end is posted as the end of an entry of its own. By Linux's rules that is one of an unknown operation (255), which is refused: it waits for no drain, and takes none that is owed. By the manual pages' it is a no-op (0), which succeeds. Our own rule
+abbrev pub extra_of : (linux : Bool) → Extra
+extra_of linux =
+    if linux then record { code = 255; form = Refused (error 22) } else record { code = 0; form = Token }
 
 -- the core's entry of an application's
 abbrev pub core_entry_of : Submission → Form → CoreEntry

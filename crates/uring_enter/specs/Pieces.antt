@@ -100,6 +100,10 @@ open_fault e flags = if not (e.file_index == 0) && has_some flags 524288 then er
 abbrev pub message_fault : ℕ → ℤ
 message_fault vectors = if nat_le vectors 1024 then pos 0 else error 90
 
+-- a message that is to take a provided buffer (32) and has no vectors has an empty one, which the buffer takes the place of. What Linux 6.18 does
+abbrev pub message_vectors : Submission → ℕ → ℕ
+message_vectors e vectors = if has_some e.flags 32 && vectors == 0 then 1 else vectors
+
 -- a RECVMSG that goes on puts 16 bytes, the address and the control data in front of the bytes of each message: -75 (EOVERFLOW) where no number of 31 bits says how many
 abbrev pub room_fault : Submission → ℕ → ℕ → ℤ
 room_fault e name control =

@@ -39,6 +39,10 @@ completion_flags Notice _ = 8
 completion_flags Own of_buffer = of_buffer
 completion_flags Cancelled _ = 0
 
--- an eventfd is told of each completion, or only of those of requests that ended behind the call that submitted them
+-- a completion comes behind the call that submitted its request if the request ends in another call on the ring, be that one of io_uring_register(2): a cancel, by which what it finds ends. No call on the ring has submitted a message of another ring, or the tag of what is registered: such a one comes behind them all. That a message does is our own rule
+abbrev pub is_behind : Posted → Bool
+is_behind end = end.is_message || not (end.call == end.ended)
+
+-- an eventfd is told of each completion, or only of those that come behind the call that submitted their request
 abbrev pub tells : Posted → Bool → Bool
-tells end is_async_alone = not (end.call == end.ended) || not is_async_alone
+tells end is_async_alone = is_behind end || not is_async_alone

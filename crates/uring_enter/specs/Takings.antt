@@ -1,11 +1,12 @@
 -- Which positions of the submission ring a call takes, by what stood at those that it has taken, the newest first. io_uring(7), Submitting I/O requests; io_uring_setup(2), IORING_SETUP_SUBMIT_ALL; io_uring_enter(2), to_submit; but where the kernel is named.
-use Rattle.std.specs.Prelude.{◌≡◌, ℕ, ◌+◌, ◌-◌, ◌%◌, ◌^◌, Bool, false, not, ◌&&◌, ◌||◌, nat_lt, min, max, length, List, [], ◌∷◌, if◌then◌else◌}
+use Rattle.std.specs.Prelude.{◌≡◌, ℕ, ℤ, pos, ◌+◌, ◌-◌, ◌%◌, ◌^◌, Bool, false, not, ◌&&◌, ◌||◌, ◌==◌, nat_lt, min, max, length, List, [], ◌∷◌, if◌then◌else◌}
 use Rattle.std.specs.Int.RustNames.{bit_and}
 use Rattle.uring_enter.specs.declared.taking.Submitting.{Submitting}
 use Rattle.uring_enter.specs.declared.taking.Item.{Item}
 use Rattle.uring_enter.specs.declared.taking.Taking.{Taking}
 use Rattle.uring_enter.specs.declared.taking.Onward.{Onward}
 use Rattle.uring_enter.specs.declared.taking.Onward.TheVariants.{Takes, IsFull, HasEnded}
+use Rattle.uring_entry.specs.Errors.{error}
 
 -- how many positions are published: head and tail are words that wrap, and there are no more than the ring has entries
 abbrev pub published : Submitting → ℕ
@@ -35,6 +36,10 @@ abbrev pub next_of : Submitting → List Item → Onward
 next_of a taken =
     if has_ended a.submits_all taken then HasEnded else
     if takes_more a taken then Takes (cell_of a taken) else IsFull
+
+-- where memory is refused for a position, the call submits those before it, and ends with -11 (EAGAIN) if there are none: io_uring_enter(2), ERRORS; what the kernel does. Where the core is refused it for what it is given, the call ends so too; that stays staged, and the next one goes on with it: our own rule
+abbrev pub refusal_fault : (staged : ℕ) → (is_core : Bool) → ℤ
+refusal_fault staged is_core = if is_core || staged == 0 then error 11 else pos 0
 
 -- how many more a call takes, if none of them ends it
 abbrev pub left_of : Submitting → List Item → ℕ

@@ -1,9 +1,10 @@
--- What an update makes of a poll, and of a timeout's flags. io_uring_enter(2), IORING_OP_POLL_REMOVE and IORING_OP_TIMEOUT_REMOVE.
+-- What an update makes of a poll, and of a timeout. io_uring_enter(2), IORING_OP_POLL_REMOVE and IORING_OP_TIMEOUT_REMOVE.
 use Rattle.std.specs.Prelude.{ℕ, Bool, ◌&&◌, ◌==◌, if◌then◌else◌}
 use Rattle.std.specs.Int.RustNames.{bit_and, bit_or}
 use Rattle.uring_enter.specs.declared.submission.Submission.{Submission}
 use Rattle.uring_enter.specs.declared.update.Linked.{Linked}
 use Rattle.uring_enter.specs.declared.update.Poll.{Poll}
+use Rattle.uring_enter.specs.declared.update.Terms.{Terms}
 use Rattle.uring_enter.specs.declared.update.Removal.{Removal}
 use Rattle.uring_enter.specs.declared.update.Removal.TheVariants.{Cancel, Update, UpdateLinked}
 use Rattle.uring_enter.specs.Clocks.{has_some}
@@ -31,3 +32,7 @@ updated_poll p e = record {
 -- whether the new time is absolute the update says: IORING_TIMEOUT_ABS is 1. Its clock is that of the timeout, which keeps all other flags of 32 bits: what Linux 6.18 was seen to do
 abbrev pub updated_flags : ℕ → Submission → ℕ
 updated_flags flags e = bit_or (bit_and flags 4294967294) (bit_and e.op_flags 1)
+
+-- its new time is all that it waits for then: it has no count any more, be it one that has started or not. What Linux 6.18 does
+abbrev pub updated_terms : Terms → Submission → Terms
+updated_terms t e = record { count = 0; flags = updated_flags t.flags e }

@@ -4,7 +4,7 @@ ghost use Rattle.std.specs.Prelude.{◌≡◌, List};
 ghost use Rattle.uring_enter.specs.declared.act.Fact.{Fact};
 ghost use Rattle.uring_enter.specs.Courses.{KeepsCourse};
 ghost use Rattle.uring_enter.specs.Afresh as spec;
-ghost use Rattle.uring_enter.specs.Afresh.{AsksForTheStart};
+ghost use Rattle.uring_enter.specs.Afresh.{AsksForTheStart, EndsAtOnce};
 
 use crate::course::Course;
 
@@ -52,6 +52,11 @@ impl Course {
         }
     }
 }
+
+/// Whoever a cancel by io_uring_register(2) waits for ends the moment that it goes on: so the cancel's time limit isn't over before, however short it is.
+pub fn ends_at_once()
+    ensures { EndsAtOnce }
+{}
 
 /// Where it isn't asked whether the request may start, it doesn't matter.
 pub fn asks_for_the_start()

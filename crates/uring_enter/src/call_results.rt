@@ -1,15 +1,30 @@
-//! What a request makes of the result of a system call, where that is more than the result: a connect that has begun, a file that was put into a slot, a socket that was asked what it is.
+//! What a request makes of the result of a system call, where that is more than the result: a connect that has begun, a message that was received, a file that was put into a slot, a socket that was asked what it is.
 
 ghost use Rattle.std.specs.Prelude.{◌≡◌};
 ghost use Rattle.uring_enter.specs.CallResults as spec;
 
 use crate::no_op::signed;
+use crate::submission::Submission;
 
 /// Whether a connect that came to this goes on without its call: it isn't made again.
 pub fn has_begun(came_to: i32) -> bool
     ensures { result ≡ spec.has_begun came_to }
 {
     came_to == -115
+}
+
+/// Whether what belongs to a message, its sizes and flags, is told behind a call of this entry that came to this.
+pub fn tells_message(entry: &Submission, came_to: i32) -> bool
+    ensures { result ≡ spec.tells_message entry.now came_to }
+{
+    entry.opcode == 10 && came_to >= 0
+}
+
+/// What a call ends with that came to this, and behind which that could be told, or had not to be; or couldn't.
+pub fn told_result(came_to: i32, is_told: bool) -> i32
+    ensures { result ≡ spec.told_result came_to is_told }
+{
+    if is_told { came_to } else { -14 }
 }
 
 /// What a file ends with that was put into this slot, where its entry asked for that one or for any.

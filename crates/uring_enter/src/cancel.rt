@@ -55,6 +55,9 @@ pub struct Outstanding {
     /// It is carried out outside of the core, which has neither ended it by itself nor cancels by it.
     pub is_token: bool,
 
+    /// It is carried out on a file.
+    pub needs_file: bool,
+
     /// Its entry names a registered file.
     pub is_registered: bool,
 
@@ -158,7 +161,9 @@ fn fits(sought: Sought, request: &Outstanding) -> bool
 fn fits_fd(sought: Sought, request: &Outstanding) -> bool
     ensures { result ≡ fits_fd sought request.now }
 {
-    if sought.is_fixed {
+    if !request.needs_file {
+        false
+    } else if sought.is_fixed {
         request.is_registered && request.file == sought.file
     } else {
         !request.is_registered && request.is_assigned && request.fd == sought.fd

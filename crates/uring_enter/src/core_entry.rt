@@ -58,15 +58,40 @@ pub fn core_entry_of(entry: &Submission, form: Form) -> CoreEntry
     }
 }
 
-/// The flags that the core is told of an entry, by Linux's rules, where these were its flags and the next entry of its call is this one. A soft link before a linked timeout that ends the chain is told as a hard one: so the timeout ends by itself, and posts as its own flags say.
-pub fn flags_before(flags: u8, next: &Submission) -> u8
-    ensures { result ≡ spec.flags_before flags next.now }
+/// The flags that the core is told of an entry, where these were its flags and the next entry of its call is this one. By Linux's rules a soft link before a linked timeout that ends the chain is told as a hard one: so the timeout ends by itself, and posts as its own flags say. By the manual pages' they stay as they were.
+pub fn flags_before(flags: u8, next: &Submission, linux: bool) -> u8
+    ensures { result ≡ spec.flags_before flags next.now linux }
 {
-    let is_soft = flags & 4 != 0 && flags & 8 == 0;
+    let is_soft = linux && flags & 4 != 0 && flags & 8 == 0;
     if is_soft && (next.opcode == 15 && next.flags & 12 == 0) {
         flags | 8
     } else {
         flags
+    }
+}
+
+/// What a completion that belongs to no end of a request is to the core, as an entry of its own.
+#[derive(Clone, Copy, Drop)]
+pub struct Extra {
+    pub code: u8,
+
+    pub form: Form,
+}
+
+/// Which entry the core is given for such a completion.
+pub fn extra_of(linux: bool) -> Extra
+    ensures { result ≡ spec.extra_of linux }
+{
+    if linux {
+        Extra {
+            code: 255,
+            form: Form::Refused(-22),
+        }
+    } else {
+        Extra {
+            code: 0,
+            form: Form::Token,
+        }
     }
 }
 

@@ -18,8 +18,8 @@ pub enum Missing {
     /// Memory of the application's that can be read, or written.
     Memory,
 
-    /// Memory for the requests that a call takes.
-    ForRequests,
+    /// Memory for what is kept of a ring.
+    OwnMemory,
 
     /// The end of a path.
     PathEnd,
@@ -41,7 +41,7 @@ pub fn missing_fault(what: Missing) -> i32
     match what {
         Missing::File | Missing::Direction => -9,
         Missing::Buffer | Missing::Memory | Missing::Room => -14,
-        Missing::ForRequests => -11,
+        Missing::OwnMemory => -12,
         Missing::PathEnd => -36,
         Missing::Provided => -105,
         Missing::Request => -2,

@@ -186,6 +186,17 @@ pub fn message_fault(vectors: u64) -> i32
     if vectors <= 1024 { 0 } else { -90 }
 }
 
+/// How many vectors a message with so many has: where its entry takes a provided buffer, none count as an empty one.
+pub fn message_vectors(entry: &Submission, vectors: u64) -> u64
+    ensures { result ≡ spec.message_vectors entry.now vectors }
+{
+    if entry.flags & 32 != 0 && vectors == 0 {
+        1
+    } else {
+        vectors
+    }
+}
+
 /// The fault of a message that is received again and again, with so many bytes of an address and of control data in each buffer, or 0.
 pub fn room_fault(entry: &Submission, name: u32, control: u64) -> i32
     ensures { result ≡ spec.room_fault entry.now name control }

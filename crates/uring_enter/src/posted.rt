@@ -34,7 +34,10 @@ pub struct Posted {
     /// The result that the core was told or gave.
     pub told: i32,
 
-    /// The number of the call that submitted its request,
+    /// It tells of a message of another ring, or of a tag, and no call on the ring has submitted it.
+    pub is_message: bool,
+
+    /// The number of the call that submitted its request, of all calls on the ring, those of io_uring_register(2) among them,
     pub call: u64,
 
     /// and of that in which it ended.

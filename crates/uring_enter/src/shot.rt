@@ -2,7 +2,7 @@
 
 ghost use Rattle.std.specs.Prelude.{◌≡◌, List};
 ghost use Rattle.uring_enter.specs.Showing.{Change, KeepsShown};
-ghost use Rattle.uring_enter.specs.Shots.{brings, completion_flags, goes_on, has_room, shot_of, tells};
+ghost use Rattle.uring_enter.specs.Shots.{brings, completion_flags, goes_on, has_room, is_behind, shot_of, tells};
 
 use crate::needs::goes_on;
 use crate::posted::Posted;
@@ -103,6 +103,13 @@ impl Posted {
     pub fn tells(&self, is_async_alone: bool) -> bool
         ensures { result ≡ tells self.now is_async_alone }
     {
-        self.call != self.ended || !is_async_alone
+        self.is_behind() || !is_async_alone
+    }
+
+    /// Whether it comes behind the call that submitted its request.
+    fn is_behind(&self) -> bool
+        ensures { result ≡ is_behind self.now }
+    {
+        self.is_message || self.call != self.ended
     }
 }

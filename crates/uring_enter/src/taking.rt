@@ -1,7 +1,7 @@
-//! Which positions of the submission ring a call takes. io_uring(7), Submitting I/O requests; io_uring_setup(2), IORING_SETUP_SUBMIT_ALL.
+//! Which positions of the submission ring a call takes, and what it does where memory is refused. io_uring(7), Submitting I/O requests; io_uring_setup(2), IORING_SETUP_SUBMIT_ALL; io_uring_enter(2), ERRORS.
 
 ghost use Rattle.std.specs.Prelude.{◌≡◌, false, List, [], ◌∷◌};
-ghost use Rattle.uring_enter.specs.Takings.{KeepsTaking, next_of, ends, has_ended};
+ghost use Rattle.uring_enter.specs.Takings.{KeepsTaking, next_of, ends, has_ended, refusal_fault};
 
 /// What a call that submits finds in its ring, and how many it is asked for.
 #[repr(C)]
@@ -111,6 +111,13 @@ impl Taking {
             Onward::IsFull
         }
     }
+}
+
+/// The fault of a call that memory was refused behind so many positions that it has staged: by the core, which was given these, or for the next one. 0: it has none, and submits what it has staged.
+pub fn refusal_fault(staged: u32, is_core: bool) -> i32
+    ensures { result ≡ refusal_fault staged is_core }
+{
+    if is_core || staged == 0 { -11 } else { 0 }
 }
 
 /// Whether a call takes no more behind this.

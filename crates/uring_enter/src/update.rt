@@ -1,4 +1,4 @@
-//! What an update makes of a poll, also of one that waits, and of a timeout's flags. io_uring_enter(2), IORING_OP_POLL_REMOVE and IORING_OP_TIMEOUT_REMOVE.
+//! What an update makes of a poll, also of one that waits, and of a timeout. io_uring_enter(2), IORING_OP_POLL_REMOVE and IORING_OP_TIMEOUT_REMOVE.
 
 ghost use Rattle.std.specs.Prelude.{◌≡◌, List, ◌∷◌};
 ghost use Rattle.uring_enter.specs.Updates as spec;
@@ -15,6 +15,17 @@ pub struct Poll {
 
     /// The events that it waits for.
     pub events: u32,
+}
+
+/// What an update may change of a timeout, beside its time.
+#[repr(C)]
+#[derive(Clone, Copy, Drop)]
+pub struct Terms {
+    /// How many completions it counts; 0: none.
+    pub count: u64,
+
+    /// IORING_TIMEOUT_.., as its entry has them.
+    pub flags: u32,
 }
 
 /// A request as an update of linked timeouts sees it.
@@ -92,8 +103,17 @@ pub fn updated_poll(poll: Poll, entry: &Submission) -> Poll
     }
 }
 
-/// The flags of a timeout behind an update by this entry: whether its time is absolute is the update's, and its clock stays.
-pub fn updated_flags(flags: u32, entry: &Submission) -> u32
+/// A timeout's terms behind an update by this entry: whether its time is absolute is the update's, and its clock stays. It has no count any more, whether or not it has started.
+pub fn updated_terms(terms: Terms, entry: &Submission) -> Terms
+    ensures { result ≡ spec.updated_terms terms entry.now }
+{
+    Terms {
+        count: 0,
+        flags: updated_flags(terms.flags, entry),
+    }
+}
+
+fn updated_flags(flags: u32, entry: &Submission) -> u32
     ensures { result ≡ spec.updated_flags flags entry.now }
 {
     flags & !1 | entry.op_flags & 1

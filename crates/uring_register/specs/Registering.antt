@@ -1,6 +1,7 @@
 -- What becomes of the calls of io_uring_register(2) that change a table of registered files or buffers, and of the operations that do: faults, in the kernel's order, and what a row of a list does. io_uring_register(2), IORING_REGISTER_FILES2, IORING_REGISTER_FILES_UPDATE2, IORING_REGISTER_BUFFERS2 and ERRORS; io_uring_enter(2), `file_index` of IORING_OP_OPENAT and IORING_OP_CLOSE.
-use Rattle.std.specs.Prelude.{ℕ, ℤ, pos, negsuc, ◌+◌, ◌-◌, ◌^◌, Bool, not, ◌&&◌, ◌||◌, ◌==◌, nat_lt, nat_le, min, List, if◌then◌else◌}
+use Rattle.std.specs.Prelude.{ℕ, ℤ, pos, negsuc, ◌+◌, ◌-◌, ◌^◌, Bool, true, false, not, ◌&&◌, ◌||◌, ◌==◌, nat_lt, nat_le, min, List, if◌then◌else◌}
 use Rattle.std.specs.Ordering.{int_eq}
+use Rattle.std.specs.Int.RustNames.{bit_or}
 use Rattle.uring_register.specs.declared.registering.Row.{Row}
 use Rattle.uring_register.specs.declared.registering.Row.TheVariants.{Keeps, Empties, Fills, Refused}
 use Rattle.uring_register.specs.Tables.{Filing, is_registered, size, content}
@@ -20,6 +21,41 @@ abbrev pub buffer_row : ℕ → ℕ → ℕ → Row
 buffer_row from bytes tag =
     if from == 0 then (if bytes == 0 then unless_tagged tag Empties else Refused (error 14)) else
     if bytes == 0 || nat_lt (2 ^ 30) bytes then Refused (error 14) else Fills
+
+-- what an update does with a slot by a row
+pub data Step : Type 0 where
+  -- it is emptied, and what it had is gone
+  Emptying : Step
+  -- the file or buffer that the row names is looked for, and made
+  Making : Step
+  -- it gets that
+  Putting : Step
+
+-- the place of a step among those of one row: they are done by rising places, until one fails
+abbrev pub place : Step → ℕ
+place Emptying = 0
+place Making = 1
+place Putting = 2
+
+abbrev pub fills : Row → Bool
+fills Fills = true
+fills _ = false
+
+-- a slot of a table of files is emptied before the new file is looked for, so it stays empty where there is none; one of buffers keeps what it has until there is another: what Linux 6.18 was seen to do
+abbrev pub is_done : Row → (is_of_files : Bool) → Step → Bool
+is_done Empties is_of_files Emptying = true
+is_done Fills is_of_files Emptying = is_of_files
+is_done _ is_of_files Emptying = false
+is_done row is_of_files Making = fills row
+is_done row is_of_files Putting = fills row
+
+abbrev pub step_bit : Row → (is_of_files : Bool) → Step → ℕ
+step_bit row is_of_files step = if is_done row is_of_files step then 2 ^ place step else 0
+
+-- a set of steps: the bit of each is 2 to the power of its place. Our own rule
+abbrev pub steps_of : Row → (is_of_files : Bool) → ℕ
+steps_of row is_of_files =
+    bit_or (bit_or (step_bit row is_of_files Emptying) (step_bit row is_of_files Making)) (step_bit row is_of_files Putting)
 
 -- a call ends at the first row that can't be done: those before it stay so, and it returns how many these are, or the fault if it is the first
 abbrev pub updated : ℕ → ℤ → ℤ

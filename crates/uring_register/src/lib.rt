@@ -39,7 +39,7 @@ pub use group_rows::group_argument_fault;
 pub use holding::{Telling, behind_telling, holding_fault, telling_fault};
 pub use issuer::Issuer;
 pub use issuer_laws::{disabled_has_none, keeps_its_issuer, knows_its_issuer};
-pub use registering::{Row, buffer_row, file_row, updated};
+pub use registering::{Row, buffer_row, file_row, row_steps, updated};
 pub use restrictions::{Restriction, Restrictions, enabling_fault, restricting_fault};
 pub use table::Table;
 pub use table_laws::{gives_free_slots, gives_what_is_free, keeps_others};

@@ -1,6 +1,6 @@
 //! What becomes of the calls of io_uring_register(2) that change a table of registered files or buffers, and of the operations that do.
 
-ghost use Rattle.std.specs.Prelude.{◌≡◌, ◌≢◌, ◌+◌, MatchResult, pos, List, ℕ, true};
+ghost use Rattle.std.specs.Prelude.{◌≡◌, ◌≢◌, ◌+◌, MatchResult, pos, List, ℕ, true, if◌then◌else◌};
 ghost use Rattle.uring_register.specs.Tables.{Filing, KeepsTable, IsGiven, GivesNone};
 ghost use Rattle.uring_register.specs.Registering as spec;
 
@@ -15,7 +15,7 @@ pub enum Row {
     /// It is emptied.
     Empties,
 
-    /// It is emptied, and gets the file or buffer that the row names.
+    /// It gets the file or buffer that the row names, in the place of what it has.
     Fills,
 
     /// The list ends with this fault.
@@ -59,6 +59,36 @@ pub fn buffer_row(from: u64, size: u64, tag: u64) -> Row
     } else {
         Row::Fills
     }
+}
+
+/// What an update does with a slot by a row, the bit of each: it is emptied (1), the file or buffer of the row is made (2), and the slot gets it (4). These are done by rising bits, until one fails.
+pub fn row_steps(row: Row, is_of_files: bool) -> u32
+    ensures { result ≡ spec.steps_of row is_of_files }
+{
+    bit(1, empties(row, is_of_files)) | bit(2, fills(row)) | bit(4, fills(row))
+}
+
+/// Whether a slot is emptied before anything else is done with it.
+fn empties(row: Row, is_of_files: bool) -> bool
+    ensures { result ≡ spec.is_done row is_of_files spec.Emptying }
+{
+    match row {
+        Row::Empties => true,
+        Row::Fills => is_of_files,
+        _ => false,
+    }
+}
+
+fn fills(row: Row) -> bool
+    ensures { result ≡ spec.fills row }
+{
+    matches!(row, Row::Fills)
+}
+
+fn bit(weight: u32, is_done: bool) -> u32
+    ensures { result ≡ (if is_done then weight else 0) }
+{
+    if is_done { weight } else { 0 }
 }
 
 /// What a call returns that has changed so many slots, and ended with this fault or 0.
