@@ -38,7 +38,9 @@ fn open_call(machine: &mut Machine, count: u32) -> Seen {
     let is_same = machine.counts() == before;
     let is_closed = machine.step(Step::Take) == Answer::NoCall;
     Seen {
-        is_right: is_same && is_closed && machine.step(Step::Begin { count }) == Answer::Call(count),
+        is_right: is_same
+            && is_closed
+            && machine.step(Step::Begin { count }) == Answer::Call(count),
         was_refused: true,
     }
 }

@@ -147,10 +147,7 @@ fn stands(machine: &Machine, fd: i32, len: u32, writes: u64) -> bool {
 
 /// Whether the user data at this place of the completions that rest is this.
 fn rests(machine: &Machine, place: u64, wanted: Option<u64>) -> bool {
-    machine
-        .rest(place)
-        .map(|completion| completion.user_data())
-        == wanted
+    machine.rest(place).map(|completion| completion.user_data()) == wanted
 }
 
 /// Whether a machine tells this.

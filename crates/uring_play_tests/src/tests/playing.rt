@@ -95,7 +95,11 @@ fn many_go_through<R: Threads + Wait + Copy + Send + 'static>(
 ) -> Result<bool, AllocError> {
     let input = many_calls(alloc)?;
     let wanted = many_completions(alloc)?;
-    Ok(goes_with_all(rt, alloc, &plain(input.as_bytes(), Ok(()), wanted.as_bytes())))
+    Ok(goes_with_all(
+        rt,
+        alloc,
+        &plain(input.as_bytes(), Ok(()), wanted.as_bytes()),
+    ))
 }
 
 #[test]

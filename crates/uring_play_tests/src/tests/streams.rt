@@ -29,7 +29,10 @@ fn unread(letters: usize, input: &[u8]) -> Case<'_> {
 }
 
 /// How much of the input is read where a read that then fails isn't a read fault.
-fn unfaulted_read<R: Threads + Wait + Copy + Send + 'static>(rt: R, alloc: Global) -> Option<usize> {
+fn unfaulted_read<R: Threads + Wait + Copy + Send + 'static>(
+    rt: R,
+    alloc: Global,
+) -> Option<usize> {
     let input = INPUT.as_bytes();
     for count in 0..=input.len() {
         if !goes(rt, alloc, 2, &unread(0, &input[..count])) {
@@ -165,7 +168,12 @@ fn is_bad<R: Threads + Wait + Copy + Send + 'static>(
     let Ok(input) = line_of_letters(alloc, before, behind) else {
         return false;
     };
-    let is_so = goes(rt, alloc, 2, &plain(&input, Err(PlayFault::Line(line)), b""));
+    let is_so = goes(
+        rt,
+        alloc,
+        2,
+        &plain(&input, Err(PlayFault::Line(line)), b""),
+    );
     drop(input);
     is_so
 }

@@ -204,13 +204,7 @@ static CHECKS: [Check; 16] = [
 ];
 
 /// Whether a check over a submission ring of 4 entries and two files, which goes on to the end or not, comes to its verdict and writes this report.
-fn is_told(
-    alloc: Global,
-    setup: &Setup,
-    row: &Check,
-    is_all: bool,
-    report: &str,
-) -> bool {
+fn is_told(alloc: Global, setup: &Setup, row: &Check, is_all: bool, report: &str) -> bool {
     let mut writer = Vec::new(alloc);
     let mut reader = row.trace.as_bytes();
     let result = check(alloc, &mut reader, &mut writer, setup, is_all, row.ends);

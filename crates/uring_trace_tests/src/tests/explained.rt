@@ -28,13 +28,7 @@ const TOO_MUCH: &str =
     "uring: line 26: bad line: column 6: a blank too many, wanted: counts, sizes, overflow, requests, why or file\nuring: line 27: bad line: column 11: `01`, wanted: FD, a number from -2147483648 to 2147483647\n";
 
 /// Whether answers and notes to this input are these, and it is told that a line was bad.
-fn is_explained(
-    alloc: Global,
-    setup: &Setup,
-    mut input: &[u8],
-    told: &str,
-    noted: &str,
-) -> bool {
+fn is_explained(alloc: Global, setup: &Setup, mut input: &[u8], told: &str, noted: &str) -> bool {
     let mut answers = Vec::new(alloc);
     let mut notes = Vec::new(alloc);
     let result = explain(alloc, &mut input, &mut answers, &mut notes, setup);

@@ -195,7 +195,10 @@ fn judged(report: &Report<Open>, progress: &Progress) -> (bool, bool) {
     let is_whole = progress.is_whole();
     let traced = told(report.trace());
     let right = progress.is_right() && is_over(report, is_whole) && traced.is_over();
-    (right, progress.refusals > 0 || traced.refused > 0 || !is_whole)
+    (
+        right,
+        progress.refusals > 0 || traced.refused > 0 || !is_whole,
+    )
 }
 
 /// Whether a play on these ends to its end is right, and whether memory was refused.

@@ -292,7 +292,12 @@ fn go_as_they_should(rt: HostRuntime) -> Result<(), Fail> {
     for play in &PLAYS {
         let lanes = first_wrong_at_new_ends::<KernelLanes>(rt.alloc(), play)?;
         let words = first_wrong_at_new_ends::<KernelWords>(rt.alloc(), play)?;
-        assert_eq!(rt; [lanes, words], [None; 2], "{}: the first wrong rows", play.name);
+        assert_eq!(rt;
+            [lanes, words],
+            [None; 2],
+            "{}: the first wrong rows",
+            play.name
+        );
     }
     Ok(())
 }

@@ -1,8 +1,8 @@
 //! A ring of four that is settled.
 ghost use Rattle.std.specs.Prelude.{◌≡◌, ◌≤◌, vec_capacity};
 
-use super::super::told::{Left, left_in};
 use super::super::nop;
+use super::super::told::{Left, left_in};
 use std::alloc::{AllocError, Global};
 use std::test::Fail;
 use uring_entry::Setup;
