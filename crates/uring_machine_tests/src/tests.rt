@@ -5,7 +5,6 @@ mod growth;
 mod recorded;
 mod settling;
 mod sizes;
-mod whole_calls;
 
 use uring_entry::Sqe;
 use uring_machine::{Answer, Machine, Step};

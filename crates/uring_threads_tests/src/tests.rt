@@ -1,9 +1,7 @@
 //! The ends over lanes and over shared words, on one thread and in threads of their own.
 
-mod all_ends;
 mod dice;
 mod dropped;
-mod dropped_word;
 mod ends;
 mod gates;
 mod growth;
@@ -16,10 +14,10 @@ mod replay;
 mod rests;
 mod results;
 mod rounds;
+mod rows;
 mod settled;
 mod threads;
 mod told;
-mod waiting;
 mod words;
 
 use uring_entry::Sqe;

@@ -2,39 +2,125 @@
 
 ghost use Rattle.std.specs.Prelude.{IsTrue};
 
-use super::{check_done, first_false};
+mod histories;
+
+use histories::HISTORIES;
 use std::alloc::Global;
-use std::test::Fail;
-use uring_entry::{Doom, Fault, Op, Since, Sqe, Why};
-use uring_linux::{Found, Issued, LinuxDispatch, Posts, ReserveError};
+use uring_entry::{Op, Since, Sqe, Why};
+use uring_linux::{Found, Issued, LinuxDispatch, Posts};
 
-const DRAIN: u8 = 2;
+/// An entry of a call.
+#[derive(Clone, Copy)]
+enum Put {
+    /// A no-op with this user data and these flags.
+    Nop(u64, u8),
 
-const LINK: u8 = 4;
+    /// An entry with this user data and these flags, of an operation that isn't served.
+    Faulty(u64, u8),
 
-const SKIP: u8 = 64;
-
-/// A call of one entry.
-fn one(dispatch: &mut LinuxDispatch, entry: Sqe) -> Result<(), ReserveError>
-    requires { IsTrue dispatch.old.is_between_calls }
-    ensures { IsTrue dispatch.new.is_between_calls }
-{
-    dispatch.reserve(1)?;
-    dispatch.accept(entry);
-    dispatch.end_call();
-    Ok(())
+    /// A cancel with this user data, of the request with that.
+    Cancel(u64, u64),
 }
 
-/// A call of two entries.
-fn two(dispatch: &mut LinuxDispatch, first: Sqe, second: Sqe) -> Result<(), ReserveError>
+/// What is done to a dispatcher, or asked of it, and the answer that is wanted.
+#[derive(Clone, Copy)]
+enum Event {
+    /// A call of one entry.
+    One(Put),
+
+    /// A call of two.
+    Two(Put, Put),
+
+    /// The issue of this request starts it.
+    Starts(u64),
+
+    /// It finds that this request has to wait.
+    NotReady(u64),
+
+    /// It ends it with this result, and posts a completion or none.
+    Ends(u64, i32, bool),
+
+    /// This running no-op ends with 0.
+    Finish(u64),
+
+    /// This running request ends with this result, and posts a completion for this user data.
+    Fails(u64, i32, u64),
+
+    /// What the dispatcher tells.
+    Tells(Told),
+}
+
+/// What is told, and the answer that is wanted.
+#[derive(Clone, Copy)]
+enum Told {
+    /// Why this request stands as it does.
+    Stands(u64, Why),
+
+    /// This request waits for that one, for this reason.
+    Waits(u64, u64, Since),
+
+    /// What this cancel would find.
+    WouldFind(u64, Option<Found>),
+
+    /// Whether this request would post, if it ended with this result.
+    WouldPost(u64, i32, Option<bool>),
+
+    /// How many requests are outstanding, running and issuable.
+    Counts(u64, u64, u64),
+
+    /// The issuable request with so many before it.
+    NthIssuable(u64, Option<u64>),
+
+    /// The first issuable request from this one on.
+    NextIssuable(u64, Option<u64>),
+
+    /// The first issuable request.
+    Next(Option<u64>),
+
+    /// The first outstanding request.
+    Least(Option<u64>),
+
+    /// The operation of this request, if it runs.
+    Running(u64, Option<Op>),
+
+    /// This request's entry is kept no more.
+    Gone(u64),
+}
+
+/// The entry that goes into a call.
+fn entry(put: Put) -> Sqe {
+    match put {
+        Put::Nop(user_data, flags) => Sqe::nop(user_data, flags),
+        Put::Faulty(user_data, flags) => Sqe::with_opcode(99, user_data, flags),
+        Put::Cancel(user_data, target) => Sqe::cancel(user_data, 0, target),
+    }
+}
+
+/// A call of one entry. Whether there was memory for it.
+fn one(dispatch: &mut LinuxDispatch, put: Put) -> bool
     requires { IsTrue dispatch.old.is_between_calls }
     ensures { IsTrue dispatch.new.is_between_calls }
 {
-    dispatch.reserve(2)?;
-    dispatch.accept(first);
-    dispatch.accept(second);
+    if dispatch.reserve(1).is_err() {
+        return false;
+    }
+    dispatch.accept(entry(put));
     dispatch.end_call();
-    Ok(())
+    true
+}
+
+/// A call of two entries. Whether there was memory for it.
+fn two(dispatch: &mut LinuxDispatch, first: Put, second: Put) -> bool
+    requires { IsTrue dispatch.old.is_between_calls }
+    ensures { IsTrue dispatch.new.is_between_calls }
+{
+    if dispatch.reserve(2).is_err() {
+        return false;
+    }
+    dispatch.accept(entry(first));
+    dispatch.accept(entry(second));
+    dispatch.end_call();
+    true
 }
 
 /// Whether the issue of this request starts it.
@@ -65,171 +151,16 @@ fn ends(dispatch: &mut LinuxDispatch, n: u64, res: i32, posts: bool) -> bool
     }
 }
 
-/// Ends a running no-op.
-fn finish(dispatch: &mut LinuxDispatch, n: u64) -> bool
+/// Whether a running request is ended with this result, and what it posts is as wanted, if that is asked.
+fn finish(dispatch: &mut LinuxDispatch, n: u64, res: i32, wanted: Option<u64>) -> bool
     requires { IsTrue dispatch.old.is_between_calls }
     ensures { IsTrue dispatch.new.is_between_calls }
 {
-    dispatch.end_running(n, 0).is_some()
-}
-
-/// Nobody waits for a group whose draining member has a fault.
-fn faulty_drain(alloc: Global) -> Result<Option<usize>, Fail> {
-    let mut dispatch = LinuxDispatch::new(alloc);
-    one(&mut dispatch, Sqe::nop(0, 0))?;
-    let first = starts(&mut dispatch, 0);
-    two(
-        &mut dispatch,
-        Sqe::with_opcode(99, 1, DRAIN),
-        Sqe::nop(2, 0),
-    )?;
-    let behind = starts(&mut dispatch, 2);
-    let faulty = ends(&mut dispatch, 1, -22, true);
-    Ok(first_false(&[first, behind, faulty]))
-}
-
-/// If the flag stands on a healthy member of a faulty group, later requests wait for all earlier ones.
-fn drain_of_a_faulty_group(alloc: Global) -> Result<Option<usize>, Fail> {
-    let mut dispatch = LinuxDispatch::new(alloc);
-    one(&mut dispatch, Sqe::nop(0, 0))?;
-    let first = starts(&mut dispatch, 0);
-    two(
-        &mut dispatch,
-        Sqe::nop(1, DRAIN | LINK),
-        Sqe::with_opcode(99, 2, 0),
-    )?;
-    one(&mut dispatch, Sqe::nop(3, 0))?;
-    let out_of_turn = waits(&mut dispatch, 2);
-    let head = ends(&mut dispatch, 1, -125, true);
-    let faulty = ends(&mut dispatch, 2, -22, true);
-    let held = waits(&mut dispatch, 3);
-    let ended = finish(&mut dispatch, 0);
-    let behind = starts(&mut dispatch, 3);
-    Ok(first_false(&[first, out_of_turn, head, faulty, held, ended, behind]))
-}
-
-/// If a member that isn't the head of its chain drains, the group after that chain drains too, even in a later call.
-fn owed_drain(alloc: Global) -> Result<Option<usize>, Fail> {
-    let mut dispatch = LinuxDispatch::new(alloc);
-    two(&mut dispatch, Sqe::nop(0, LINK), Sqe::nop(1, DRAIN))?;
-    let first = starts(&mut dispatch, 0);
-    one(&mut dispatch, Sqe::nop(2, 0))?;
-    one(&mut dispatch, Sqe::nop(3, 0))?;
-    let ended = finish(&mut dispatch, 0);
-    let second = starts(&mut dispatch, 1) && finish(&mut dispatch, 1);
-    let held = waits(&mut dispatch, 3);
-    let owed = starts(&mut dispatch, 2) && finish(&mut dispatch, 2);
-    let last = starts(&mut dispatch, 3);
-    Ok(first_false(&[first, ended, second, held, owed, last]))
-}
-
-/// A request of a later call waits for a running request that was accepted behind the drain in its own call.
-fn held_by_a_later_one(alloc: Global) -> Result<Option<usize>, Fail> {
-    let mut dispatch = LinuxDispatch::new(alloc);
-    two(&mut dispatch, Sqe::nop(1, DRAIN), Sqe::nop(2, 0))?;
-    let drain = starts(&mut dispatch, 0) && finish(&mut dispatch, 0);
-    let running = starts(&mut dispatch, 1);
-    one(&mut dispatch, Sqe::nop(3, 0))?;
-    let held = waits(&mut dispatch, 2);
-    let ended = finish(&mut dispatch, 1);
-    let behind = starts(&mut dispatch, 2);
-    Ok(first_false(&[drain, running, held, ended, behind]))
-}
-
-/// A drain fails once the ring has used skipped success.
-fn drain_beside_skip(alloc: Global) -> Result<Option<usize>, Fail> {
-    let mut dispatch = LinuxDispatch::new(alloc);
-    two(&mut dispatch, Sqe::nop(0, SKIP), Sqe::nop(1, DRAIN))?;
-    Ok(first_false(&[ends(&mut dispatch, 1, -95, true)]))
-}
-
-/// A cancel finds what runs, and not what is held back, which runs later.
-fn cancels(alloc: Global) -> Result<Option<usize>, Fail> {
-    let mut dispatch = LinuxDispatch::new(alloc);
-    two(&mut dispatch, Sqe::nop(7, LINK), Sqe::nop(8, 0))?;
-    two(&mut dispatch, Sqe::cancel(1, 0, 8), Sqe::cancel(2, 0, 7))?;
-    let running = starts(&mut dispatch, 0);
-    let none = dispatch.would_find(2) == Some(Found::Nobody);
-    let one = dispatch.would_find(3) == Some(Found::Running(0));
-    let nobody = ends(&mut dispatch, 2, -2, true);
-    let found = ends(&mut dispatch, 3, -114, true);
-    let no_more = dispatch.would_find(3).is_none() && dispatch.would_find(0).is_none();
-    let ended = finish(&mut dispatch, 0);
-    let later = starts(&mut dispatch, 1);
-    Ok(first_false(&[running, none, one, nobody, found, no_more, ended, later]))
-}
-
-/// Behind a failure that skips nobody posts, also in a chain with a fault whose head skips.
-fn silent_members(alloc: Global) -> Result<Option<usize>, Fail> {
-    let mut dispatch = LinuxDispatch::new(alloc);
-    two(
-        &mut dispatch,
-        Sqe::nop(1, LINK | SKIP),
-        Sqe::with_opcode(99, 2, 0),
-    )?;
-    let head = ends(&mut dispatch, 0, -125, true);
-    let silent = ends(&mut dispatch, 1, -22, false);
-    two(&mut dispatch, Sqe::nop(3, LINK | SKIP), Sqe::nop(4, 0))?;
-    let running = starts(&mut dispatch, 2);
-    let failed = matches!(dispatch.end_running(2, -5), Some(Posts::Completion(3)));
-    let told = dispatch.would_post(3, -125) == Some(false) && dispatch.would_post(2, -5).is_none();
-    let cancelled = ends(&mut dispatch, 3, -125, false);
-    Ok(first_false(&[head, silent, running, failed, told, cancelled]))
-}
-
-/// Whether this request waits for that one, for this reason.
-fn waits_for(dispatch: &LinuxDispatch, n: u64, least: u64, since: Since) -> bool
-    requires { IsTrue dispatch.now.is_between_calls }
-{
-    dispatch.why(n) == Why::Waits { least, since }
-}
-
-/// Whether this dooms the request.
-fn is_doomed_by(dispatch: &LinuxDispatch, n: u64, doom: Doom) -> bool
-    requires { IsTrue dispatch.now.is_between_calls }
-{
-    dispatch.why(n) == Why::IsDoomed(doom)
-}
-
-/// Of a chain with a fault the second is told to be doomed in its turn, and not before.
-fn reasons_in_a_group(dispatch: &mut LinuxDispatch) -> Result<Option<usize>, ReserveError>
-    requires { IsTrue dispatch.old.is_between_calls }
-    ensures { IsTrue dispatch.new.is_between_calls }
-{
-    two(dispatch, Sqe::nop(0, LINK), Sqe::with_opcode(99, 1, 0))?;
-    let head = is_doomed_by(dispatch, 0, Doom::FaultOf(1));
-    let held = waits_for(dispatch, 1, 0, Since::SameGroup);
-    let ended = ends(dispatch, 0, -125, true) && dispatch.why(0) == Why::HasEnded;
-    let faulty = is_doomed_by(dispatch, 1, Doom::OwnFault(Fault::Opcode));
-    let last = ends(dispatch, 1, -22, true) && dispatch.why(2) == Why::NeverAccepted;
-    Ok(first_false(&[head, held, ended, faulty, last]))
-}
-
-/// A drain and one behind it are deferred while a request runs, and a drain behind skipped success is refused.
-fn reasons_beside_a_drain(dispatch: &mut LinuxDispatch) -> Result<Option<usize>, ReserveError>
-    requires { IsTrue dispatch.old.is_between_calls }
-    ensures { IsTrue dispatch.new.is_between_calls }
-{
-    one(dispatch, Sqe::nop(2, 0))?;
-    let running = starts(dispatch, 2) && dispatch.why(2) == Why::Runs;
-    one(dispatch, Sqe::nop(3, DRAIN))?;
-    two(dispatch, Sqe::nop(4, SKIP), Sqe::nop(5, DRAIN))?;
-    let drain = waits_for(dispatch, 3, 2, Since::Deferred);
-    let behind = waits_for(dispatch, 4, 2, Since::Deferred);
-    let refused = is_doomed_by(dispatch, 5, Doom::RefusedDrain);
-    let free = ends(dispatch, 5, -95, true)
-        && finish(dispatch, 2)
-        && dispatch.why(3) == Why::MayStart;
-    let still = waits_for(dispatch, 4, 3, Since::Deferred);
-    Ok(first_false(&[running, drain, behind, refused, free, still]))
-}
-
-/// Both, one behind the other.
-fn reasons(alloc: Global) -> Result<Option<usize>, Fail> {
-    let mut dispatch = LinuxDispatch::new(alloc);
-    let in_a_group = reasons_in_a_group(&mut dispatch)?;
-    let beside_a_drain = reasons_beside_a_drain(&mut dispatch)?;
-    Ok(in_a_group.or(beside_a_drain))
+    match dispatch.end_running(n, res) {
+        Some(Posts::Completion(user_data)) => wanted.is_none() || wanted == Some(user_data),
+        Some(Posts::Nothing) => wanted.is_none(),
+        None => false,
+    }
 }
 
 /// Whether so many requests are outstanding, running and issuable.
@@ -242,58 +173,66 @@ fn has(dispatch: &LinuxDispatch, outstanding: u64, running: u64, issuable: u64) 
     are_outstanding && are_running && are_issuable
 }
 
-/// A chain of two, a drain and one behind it, each in its turn; then all but the last have been let go.
-fn counts(dispatch: &mut LinuxDispatch) -> Result<Option<usize>, ReserveError>
+/// Whether this is told.
+fn tells(dispatch: &LinuxDispatch, told: Told) -> bool
+    requires { IsTrue dispatch.now.is_between_calls }
+{
+    match told {
+        Told::Stands(n, wanted) => dispatch.why(n) == wanted,
+        Told::Waits(n, least, since) => dispatch.why(n) == Why::Waits { least, since },
+        Told::WouldFind(n, wanted) => dispatch.would_find(n) == wanted,
+        Told::WouldPost(n, res, wanted) => dispatch.would_post(n, res) == wanted,
+        Told::Counts(outstanding, running, issuable) => {
+            has(dispatch, outstanding, running, issuable)
+        }
+        Told::NthIssuable(k, wanted) => dispatch.nth_issuable(k) == wanted,
+        Told::NextIssuable(n, wanted) => dispatch.next_issuable(n) == wanted,
+        Told::Next(wanted) => dispatch.next() == wanted,
+        Told::Least(wanted) => dispatch.least() == wanted,
+        Told::Running(n, wanted) => dispatch.running_op(n) == wanted,
+        Told::Gone(n) => dispatch.entry(n).is_none(),
+    }
+}
+
+/// Makes an event happen. Whether it went as wanted.
+fn goes(dispatch: &mut LinuxDispatch, event: Event) -> bool
+    requires { IsTrue dispatch.old.is_between_calls }
+    ensures { IsTrue dispatch.new.is_between_calls }
+{
+    match event {
+        Event::One(put) => one(dispatch, put),
+        Event::Two(first, second) => two(dispatch, first, second),
+        Event::Starts(n) => starts(dispatch, n),
+        Event::NotReady(n) => waits(dispatch, n),
+        Event::Ends(n, res, posts) => ends(dispatch, n, res, posts),
+        Event::Finish(n) => finish(dispatch, n, 0, None),
+        Event::Fails(n, res, user_data) => finish(dispatch, n, res, Some(user_data)),
+        Event::Tells(told) => tells(dispatch, told),
+    }
+}
+
+/// The place of the first event that went otherwise.
+fn first_wrong(dispatch: &mut LinuxDispatch, events: &[Event]) -> Option<usize>
     requires { IsTrue dispatch.old.is_between_calls }
 {
-    two(dispatch, Sqe::nop(0, LINK), Sqe::nop(1, 0))?;
-    one(dispatch, Sqe::nop(2, DRAIN))?;
-    one(dispatch, Sqe::nop(3, 0))?;
-    let new = has(dispatch, 4, 0, 1) && dispatch.nth_issuable(0) == Some(0);
-    let no_other = dispatch.nth_issuable(1).is_none() && dispatch.next_issuable(1).is_none();
-    let first = starts(dispatch, 0) && has(dispatch, 4, 1, 0);
-    let operation = dispatch.running_op(0) == Some(Op::Nop) && dispatch.running_op(1).is_none();
-    let second = finish(dispatch, 0) && dispatch.next() == Some(1);
-    let chain = starts(dispatch, 1) && finish(dispatch, 1) && has(dispatch, 2, 0, 1);
-    let drain = starts(dispatch, 2) && finish(dispatch, 2) && has(dispatch, 1, 0, 1);
-    one(dispatch, Sqe::nop(4, 0))?;
-    let held = dispatch.nth_issuable(0) == Some(3) && dispatch.next_issuable(4).is_none();
-    let gone = dispatch.entry(2).is_none() && dispatch.least() == Some(3);
-    let behind = starts(dispatch, 3) && finish(dispatch, 3) && dispatch.next_issuable(4) == Some(4);
-    Ok(first_false(&[
-        new, no_other, first, operation, second, chain, drain, held, gone, behind,
-    ]))
+    for place in 0..events.len() {
+        if !goes(dispatch, events[place]) {
+            return Some(place);
+        }
+    }
+    None
 }
 
 /// The same, with a dispatcher of its own.
-fn counts_made(alloc: Global) -> Result<Option<usize>, Fail> {
+fn first_wrong_of_new(alloc: Global, events: &[Event]) -> Option<usize> {
     let mut dispatch = LinuxDispatch::new(alloc);
-    let wrong = counts(&mut dispatch)?;
-    drop(dispatch);
-    Ok(wrong)
+    first_wrong(&mut dispatch, events)
 }
 
 #[test]
-fn tells_reasons_as_linux_does(rt: HostRuntime) -> Result<(), Fail> {
-    check_done(&rt, reasons(rt.alloc()))
-}
-
-#[test]
-fn counts_as_linux_does(rt: HostRuntime) -> Result<(), Fail> {
-    check_done(&rt, counts_made(rt.alloc()))
-}
-
-#[test]
-fn drains_as_linux_does(rt: HostRuntime) -> Result<(), Fail> {
-    check_done(&rt, faulty_drain(rt.alloc()))?;
-    check_done(&rt, drain_of_a_faulty_group(rt.alloc()))?;
-    check_done(&rt, owed_drain(rt.alloc()))?;
-    check_done(&rt, held_by_a_later_one(rt.alloc()))
-}
-
-#[test]
-fn refuses_cancels_and_stays_silent_as_linux_does(rt: HostRuntime) -> Result<(), Fail> {
-    check_done(&rt, drain_beside_skip(rt.alloc()))?;
-    check_done(&rt, cancels(rt.alloc()))?;
-    check_done(&rt, silent_members(rt.alloc()))
+fn does_as_linux_does(rt: HostRuntime) {
+    for (name, events) in &HISTORIES {
+        let wrong = first_wrong_of_new(rt.alloc(), events);
+        assert_eq!(rt; wrong, None, "{name}");
+    }
 }

@@ -1,182 +1,268 @@
-//! What a machine tells of itself, and that it settles. What owns a machine returns plain values, and asserts nothing: so the tests are proved soon.
+//! What a machine tells of itself, and that it settles.
 
 use crate::tests::{publish, take_call};
-use bitflags::Flags;
 use std::alloc::Global;
 use std::test::Fail;
-use uring_entry::{Op, Setup, Sqe, SqeFlags};
+use uring_entry::{Op, Setup, Sqe};
 use uring_files::FileState;
-use uring_machine::{Counts, Machine, Step};
+use uring_machine::{Answer, Counts, Machine, Step};
 
-/// A new machine with rings of 4 and 2 files, to which these entries were submitted in one call.
-fn submitted(alloc: Global, entries: &[Sqe]) -> Result<Machine, Fail> {
-    let setup = Setup::new(4, Some(4), 2, 0)?;
-    let mut machine = Machine::new(alloc, &setup)?;
-    submit(&mut machine, entries);
-    Ok(machine)
+/// An entry of a call.
+#[derive(Clone, Copy)]
+enum Put {
+    /// A no-op with this user data and these flags.
+    Nop(u64, u8),
+
+    /// An entry with this user data, of an operation that isn't served.
+    Faulty(u64),
+
+    /// A write with this user data, of `ab` to file 0 from offset 2 on.
+    Write(u64),
+
+    /// A sync with this user data, of file 1.
+    Sync(u64),
+}
+
+/// What is done to a machine, or asked of it, and the answer that is wanted.
+#[derive(Clone, Copy)]
+enum Event {
+    /// These entries, of which there are at most three, are submitted in one call.
+    Submit(&'static [Put]),
+
+    /// This request is started.
+    Issue(u64),
+
+    /// This running no-op ends with 0.
+    Finish(u64),
+
+    /// So many steps settle the machine.
+    Settle(u64),
+
+    /// The machine tells this.
+    Tells(Told),
+}
+
+/// What a machine tells, and the answer that is wanted.
+#[derive(Clone, Copy)]
+enum Told {
+    /// How many requests were accepted, and are outstanding and running; and how many completions were posted and reaped.
+    Counts(u64, u64, u64, u64, u64),
+
+    /// The slots of the submission ring.
+    Slots(u32),
+
+    /// The least outstanding request, and the first issuable one.
+    LeastAndNext(Option<u64>, Option<u64>),
+
+    /// This request doesn't run.
+    RunsNot(u64),
+
+    /// This request runs, and is the write.
+    RunsWrite(u64),
+
+    /// The user data of the completion at this place of those that rest.
+    Rest(u64, Option<u64>),
+
+    /// How a file stands: its length, and how many writes it has had.
+    File(i32, u32, u64),
+
+    /// There is no such file.
+    NoFile(i32),
+
+    /// The byte of file 0 at this offset.
+    Byte(u64, Option<u8>),
+}
+
+use Event::{Finish, Issue, Settle, Submit, Tells};
+use Put::{Faulty, Nop, Sync, Write};
+use Told::{Byte, File, LeastAndNext, NoFile, Rest, RunsNot, RunsWrite, Slots};
+
+const DRAIN: u8 = 2;
+
+const LINK: u8 = 4;
+
+/// The answer to the finish of a no-op.
+const ENDED: Answer = Answer::Ended {
+    res: 0,
+    bytes: [0; 64],
+};
+
+/// The entry that goes into a call.
+fn entry(put: Put) -> Sqe {
+    match put {
+        Put::Nop(user_data, flags) => Sqe::nop(user_data, flags),
+        Put::Faulty(user_data) => Sqe::with_opcode(99, user_data, 0),
+        Put::Write(user_data) => Sqe::write(user_data, 0, 0, 2, b"ab"),
+        Put::Sync(user_data) => Sqe::fsync(user_data, 0, 1),
+    }
 }
 
 /// Submits these entries in one call.
-fn submit(machine: &mut Machine, entries: &[Sqe]) {
-    let count = publish(machine, entries);
+fn submit(machine: &mut Machine, puts: &[Put]) {
+    let mut entries = [Sqe::nop(0, 0); 3];
+    for (entry_there, put) in entries.iter_mut().zip(puts) {
+        *entry_there = entry(*put);
+    }
+    let count = publish(machine, &entries[..puts.len().min(3)]);
     machine.step(Step::Begin { count });
     take_call(machine, count);
 }
 
-/// The steps that settle a new machine with these entries, and its counts then.
-fn settled(alloc: Global, entries: &[Sqe]) -> Result<(u64, Counts), Fail> {
-    let mut machine = submitted(alloc, entries)?;
-    let steps = machine.settle_idle();
-    let counts = machine.counts();
-    drop(machine);
-    Ok((steps, counts))
+/// The write as an operation.
+fn write() -> Op {
+    let mut bytes = [0; 64];
+    bytes[0] = b'a';
+    bytes[1] = b'b';
+    Op::Write {
+        fd: 0,
+        off: 2,
+        len: 2,
+        bytes,
+    }
 }
 
-/// The counts of a machine that is idle, of whose completions none was reaped.
-fn idle(accepted: u64, posted: u64) -> Counts {
-    Counts {
+/// Whether a machine counts so many.
+fn counts(machine: &Machine, requests: [u64; 3], completions: [u64; 2]) -> bool {
+    let [accepted, outstanding, running] = requests;
+    let [posted, reaped] = completions;
+    let wanted = Counts {
         accepted,
-        outstanding: 0,
-        running: 0,
+        outstanding,
+        running,
         posted,
-        reaped: 0,
-    }
+        reaped,
+    };
+    machine.counts() == wanted
 }
 
-#[test]
-fn drain_settles(rt: HostRuntime) -> Result<(), Fail> {
-    let entries = [
-        Sqe::nop(1, 0),
-        Sqe::nop(2, SqeFlags::IO_DRAIN.bits()),
-        Sqe::nop(3, 0),
-    ];
-    assert!(rt; settled(rt.alloc(), &entries)? == (6, idle(3, 3)));
-    Ok(())
-}
-
-#[test]
-fn faulty_group_settles(rt: HostRuntime) -> Result<(), Fail> {
-    let entries = [
-        Sqe::nop(1, SqeFlags::IO_LINK.bits()),
-        Sqe::with_opcode(99, 2, 0),
-    ];
-    assert!(rt; settled(rt.alloc(), &entries)? == (2, idle(2, 2)));
-    Ok(())
-}
-
-/// Issues and finishes the first three requests.
-fn end_three(machine: &mut Machine) {
-    for number in 0..3 {
-        machine.step(Step::Issue { number });
-        machine.step(Step::Finish { number });
-    }
-}
-
-/// The user data of the completions that rest, by their places.
-fn user_data_of_rest(machine: &Machine) -> [Option<u64>; 4] {
-    let mut rest = [None; 4];
-    for (place, user_data) in rest.iter_mut().enumerate() {
-        *user_data = machine
-            .rest(place as u64)
-            .map(|completion| completion.user_data());
-    }
-    rest
-}
-
-/// Those once two calls were submitted and each request was finished. The ring holds two of them.
-fn resting(alloc: Global) -> Result<[Option<u64>; 4], Fail> {
-    let setup = Setup::new(2, Some(2), 2, 0)?;
-    let mut machine = Machine::new(alloc, &setup)?;
-    submit(&mut machine, &[Sqe::nop(1, 0), Sqe::nop(2, 0)]);
-    submit(&mut machine, &[Sqe::nop(3, 0)]);
-    end_three(&mut machine);
-    let rest = user_data_of_rest(&machine);
-    drop(machine);
-    Ok(rest)
-}
-
-#[test]
-fn completions_rest_until_reaped(rt: HostRuntime) -> Result<(), Fail> {
-    let rest = resting(rt.alloc())?;
-    assert!(rt; rest == [Some(1), Some(2), Some(3), None]);
-    Ok(())
-}
-
-/// What a machine tells as it runs a sync, once both entries are accepted: the least and the next request before the sync is issued and after, and the operations of both.
-#[derive(Clone, Copy)]
-struct Told {
-    sq: u32,
-    least: [Option<u64>; 2],
-    next: [Option<u64>; 2],
-    running: [Option<Op>; 2],
-}
-
-impl Told {
-    /// Whether the write stayed the least, the sync came next, and only the write ran by then.
-    fn is_right(&self) -> bool {
-        let mut bytes = [0; 64];
-        bytes[0] = b'a';
-        bytes[1] = b'b';
-        let write = Op::Write {
-            fd: 0,
-            off: 2,
-            len: 2,
-            bytes,
-        };
-        self.sq == 4
-            && self.least == [Some(0), Some(0)]
-            && self.next == [Some(0), Some(1)]
-            && self.running == [None, Some(write)]
-    }
-}
-
-/// What a machine tells as it runs a sync, which is the second of its requests.
-fn told_of(machine: &mut Machine) -> Told {
-    let (least, next) = (machine.least(), machine.next());
-    machine.step(Step::Issue { number: 0 });
-    Told {
-        sq: machine.setup().sq(),
-        least: [least, machine.least()],
-        next: [next, machine.next()],
-        running: [machine.running_op(1), machine.running_op(0)],
-    }
-}
-
-/// The states of the two files and of one that isn't there, and bytes of the first.
-fn files_of(machine: &Machine) -> ([Option<FileState>; 3], [Option<u8>; 5]) {
-    let states = [machine.state(0), machine.state(1), machine.state(2)];
-    let mut bytes = [None; 5];
-    for (at, byte) in bytes.iter_mut().enumerate() {
-        *byte = machine.byte(0, at as u64);
-    }
-    (states, bytes)
-}
-
-/// What a machine tells of a write and a sync of another file, and of the files once it is idle.
-fn written(alloc: Global) -> Result<(Told, [Option<FileState>; 3], [Option<u8>; 5]), Fail> {
-    let entries = [Sqe::write(1, 0, 0, 2, b"ab"), Sqe::fsync(2, 0, 1)];
-    let mut machine = submitted(alloc, &entries)?;
-    let told = told_of(&mut machine);
-    machine.settle_idle();
-    let (states, bytes) = files_of(&machine);
-    drop(machine);
-    Ok((told, states, bytes))
-}
-
-/// How a file of this length stands after so many writes, none of them synced.
-fn state(len: u32, writes: u64) -> Option<FileState> {
-    Some(FileState {
+/// Whether a file stands so, and none of its writes is synced.
+fn stands(machine: &Machine, fd: i32, len: u32, writes: u64) -> bool {
+    let wanted = FileState {
         len,
         writes,
         synced: 0,
-    })
+    };
+    machine.state(fd) == Some(wanted)
 }
 
+/// Whether the user data at this place of the completions that rest is this.
+fn rests(machine: &Machine, place: u64, wanted: Option<u64>) -> bool {
+    machine.rest(place).map(|completion| completion.user_data()) == wanted
+}
+
+/// Whether a machine tells this.
+fn tells(machine: &Machine, told: Told) -> bool {
+    match told {
+        Told::Counts(accepted, outstanding, running, posted, reaped) => counts(
+            machine,
+            [accepted, outstanding, running],
+            [posted, reaped],
+        ),
+        Told::Slots(wanted) => machine.setup().sq() == wanted,
+        Told::LeastAndNext(least, next) => machine.least() == least && machine.next() == next,
+        Told::RunsNot(number) => machine.running_op(number).is_none(),
+        Told::RunsWrite(number) => machine.running_op(number) == Some(write()),
+        Told::Rest(place, wanted) => rests(machine, place, wanted),
+        Told::File(fd, len, writes) => stands(machine, fd, len, writes),
+        Told::NoFile(fd) => machine.state(fd).is_none(),
+        Told::Byte(at, wanted) => machine.byte(0, at) == wanted,
+    }
+}
+
+/// Makes an event happen. Whether it went as wanted.
+fn goes(machine: &mut Machine, event: Event) -> bool {
+    match event {
+        Event::Submit(puts) => {
+            submit(machine, puts);
+            true
+        }
+        Event::Issue(number) => machine.step(Step::Issue { number }) == Answer::Run,
+        Event::Finish(number) => machine.step(Step::Finish { number }) == ENDED,
+        Event::Settle(wanted) => machine.settle_idle() == wanted,
+        Event::Tells(told) => tells(machine, told),
+    }
+}
+
+/// The place of the first event that went otherwise.
+fn first_wrong(machine: &mut Machine, events: &[Event]) -> Option<usize> {
+    for (place, event) in events.iter().enumerate() {
+        if !goes(machine, *event) {
+            return Some(place);
+        }
+    }
+    None
+}
+
+/// The same, on a new machine with rings of this size and 2 files.
+fn first_wrong_of_new(alloc: Global, size: u32, events: &[Event]) -> Result<Option<usize>, Fail> {
+    let setup = Setup::new(size, Some(size), 2, 0)?;
+    let mut machine = Machine::new(alloc, &setup)?;
+    let wrong = first_wrong(&mut machine, events);
+    drop(machine);
+    Ok(wrong)
+}
+
+const DRAIN_SETTLES: &[Event] = &[
+    Submit(&[Nop(1, 0), Nop(2, DRAIN), Nop(3, 0)]),
+    Settle(6),
+    Tells(Told::Counts(3, 0, 0, 3, 0)),
+];
+
+const FAULTY_GROUP_SETTLES: &[Event] = &[
+    Submit(&[Nop(1, LINK), Faulty(2)]),
+    Settle(2),
+    Tells(Told::Counts(2, 0, 0, 2, 0)),
+];
+
+/// Three requests of two calls are finished, and none of their completions is reaped. The ring holds two of them.
+const COMPLETIONS_REST: &[Event] = &[
+    Submit(&[Nop(1, 0), Nop(2, 0)]),
+    Submit(&[Nop(3, 0)]),
+    Issue(0),
+    Finish(0),
+    Issue(1),
+    Finish(1),
+    Issue(2),
+    Finish(2),
+    Tells(Rest(0, Some(1))),
+    Tells(Rest(1, Some(2))),
+    Tells(Rest(2, Some(3))),
+    Tells(Rest(3, None)),
+];
+
+/// The write is the least and comes first. It stays the least while it runs, and the sync comes next. Both files stand as they should once the machine is idle, and there is no third.
+const WRITE_REACHES_ITS_FILE: &[Event] = &[
+    Submit(&[Write(1), Sync(2)]),
+    Tells(LeastAndNext(Some(0), Some(0))),
+    Issue(0),
+    Tells(Slots(4)),
+    Tells(LeastAndNext(Some(0), Some(1))),
+    Tells(RunsNot(1)),
+    Tells(RunsWrite(0)),
+    Settle(3),
+    Tells(File(0, 4, 1)),
+    Tells(File(1, 0, 0)),
+    Tells(NoFile(2)),
+    Tells(Byte(0, Some(0))),
+    Tells(Byte(1, Some(0))),
+    Tells(Byte(2, Some(b'a'))),
+    Tells(Byte(3, Some(b'b'))),
+    Tells(Byte(4, None)),
+];
+
+/// The histories, with their names and the size of their rings.
+static HISTORIES: [(&str, u32, &[Event]); 4] = [
+    ("a drain settles", 4, DRAIN_SETTLES),
+    ("a faulty group settles", 4, FAULTY_GROUP_SETTLES),
+    ("completions rest until reaped", 2, COMPLETIONS_REST),
+    ("a write reaches its file", 4, WRITE_REACHES_ITS_FILE),
+];
+
 #[test]
-fn write_reaches_its_file(rt: HostRuntime) -> Result<(), Fail> {
-    let (told, states, bytes) = written(rt.alloc())?;
-    assert!(rt; told.is_right());
-    assert!(rt; states == [state(4, 1), state(0, 0), None]);
-    assert!(rt; bytes == [Some(0), Some(0), Some(b'a'), Some(b'b'), None]);
+fn machines_tell_and_settle(rt: HostRuntime) -> Result<(), Fail> {
+    for (name, size, events) in &HISTORIES {
+        let wrong = first_wrong_of_new(rt.alloc(), *size, events)?;
+        assert_eq!(rt; wrong, None, "{name}");
+    }
     Ok(())
 }

@@ -5,207 +5,144 @@ use super::{nop, turn};
 use std::alloc::Global;
 use std::test::Fail;
 use uring_entry::{Cqe, Sqe};
+use uring_threads::Worked::{Done, Idle};
 use uring_threads::{
     AppEnd, AppLanes, CloseRefusal, Item, Kernel, KernelLanes, Open, SubmitRefusal, Turn, Worked,
     Worker,
 };
 
-/// What the worker at this place does in its next three turns.
-fn three_turns(workers: &mut [Worker<Open>], place: usize) -> Option<[Worked; 3]> {
-    let worker = workers.get_mut(place)?;
-    Some([worker.turn(), worker.turn(), worker.turn()])
-}
+/// All ends over lanes.
+type Lanes = Ends<KernelLanes, Open>;
 
-/// The application submits two calls, and goes.
-fn submit_and_go(app: AppEnd<AppLanes>) {
-    let mut app = app;
-    let _first = app.submit(&[nop(1)]);
-    let _second = app.submit(&[nop(2), nop(3)]);
-    drop(app);
-}
-
-/// Four turns of the dispatcher, unless the system is out of memory, and what worker 0 does in three turns between the second and the third.
-#[derive(Clone, Copy)]
-struct Served {
-    turns: [Option<Turn>; 4],
-    worked: Option<[Worked; 3]>,
-    // Whether the dispatcher is idle then.
-    idle: bool,
-}
-
-impl Served {
-    /// Whether all jobs are done and delivered, and the ring isn't closed.
-    fn is_right(&self) -> bool {
-        let turns = [
-            Some(turn(1, 1, 0, 0)),
-            Some(turn(2, 2, 0, 0)),
-            Some(turn(0, 0, 3, 3)),
-            Some(turn(0, 0, 0, 0)),
-        ];
-        let worked = [Worked::Done(0), Worked::Done(1), Worked::Done(2)];
-        self.turns == turns && self.worked == Some(worked) && !self.idle
+/// Whether the dispatcher's next turns are these.
+fn turns(kernel: &mut Kernel<KernelLanes>, wanted: &[Turn]) -> bool {
+    for each in wanted {
+        if kernel.turn().ok() != Some(*each) {
+            return false;
+        }
     }
+    true
 }
 
-/// Serves two calls.
-fn serve_two_calls(kernel: &mut Kernel<KernelLanes>, workers: &mut [Worker<Open>]) -> Served {
-    let (first, second) = (kernel.turn().ok(), kernel.turn().ok());
-    let worked = three_turns(workers, 0);
-    let (third, fourth) = (kernel.turn().ok(), kernel.turn().ok());
-    Served {
-        turns: [first, second, third, fourth],
-        worked,
-        idle: kernel.idle(),
+/// Whether the next turns of worker 0 are these.
+fn works(workers: &mut [Worker<Open>], wanted: &[Worked]) -> bool {
+    let Some(worker) = workers.first_mut() else {
+        return false;
+    };
+    for each in wanted {
+        if worker.turn() != *each {
+            return false;
+        }
     }
+    true
 }
 
-/// Whether it goes so if the application goes behind two calls.
-fn is_served_without_application(alloc: Global) -> Result<bool, Fail> {
+/// The application goes behind two calls: whether all jobs are done and delivered, and the ring isn't closed.
+fn go_on_without_application(ends: Lanes) -> bool {
     let Ends {
-        app,
+        mut app,
         mut kernel,
         mut workers,
-    } = new_ends::<KernelLanes>(alloc, 2, 2)?;
-    submit_and_go(app);
-    let right = serve_two_calls(&mut kernel, &mut workers).is_right();
+    } = ends;
+    let first = app.submit(&[nop(1)]).is_ok();
+    let second = app.submit(&[nop(2), nop(3)]).is_ok();
+    drop(app);
+    let taken = turns(&mut kernel, &[turn(1, 1, 0, 0), turn(2, 2, 0, 0)]);
+    let done = works(&mut workers, &[Done(0), Done(1), Done(2)]);
+    let delivered = turns(&mut kernel, &[turn(0, 0, 3, 3), turn(0, 0, 0, 0)]);
+    let idle = kernel.idle();
     drop(kernel);
     drop(workers);
-    Ok(right)
+    first && second && taken && done && delivered && !idle
 }
 
-#[test]
-fn the_dispatcher_goes_on_without_the_application(rt: HostRuntime) -> Result<(), Fail> {
-    assert!(rt; is_served_without_application(rt.alloc())?);
-    Ok(())
+/// Whether four more items are put and no more, and nothing comes back.
+fn is_full_behind_four(app: &mut AppEnd<AppLanes>) -> bool {
+    let put = app.submit(&[nop(2), nop(3), nop(4), nop(5)]) == Ok(());
+    let full = app.submit(&[nop(6)]) == Err(SubmitRefusal::Full);
+    let open = app.close() == Err(CloseRefusal::Full);
+    put && full && open && app.reap().is_none()
 }
 
-/// What became of the others when the dispatcher went behind one of two calls: the worker's turns, the submits of four and of one, the close and the reap.
-#[derive(Clone, Copy)]
-struct Left {
-    // The first call was submitted and taken in.
-    taken: bool,
-    worked: Option<[Worked; 3]>,
-    submits: [Result<(), SubmitRefusal>; 2],
-    close: Result<(), CloseRefusal>,
-    reaped: Option<Cqe>,
-}
-
-impl Left {
-    /// Whether the job was done, the next four items were put and no more, and nothing comes back.
-    fn is_right(&self) -> bool {
-        let worked = [Worked::Done(0), Worked::Idle, Worked::Idle];
-        self.taken
-            && self.worked == Some(worked)
-            && self.submits == [Ok(()), Err(SubmitRefusal::Full)]
-            && self.close == Err(CloseRefusal::Full)
-            && self.reaped == None
-    }
-}
-
-/// One call is submitted and taken in, and the dispatcher goes. Whether each of these went.
-fn take_one_call(app: &mut AppEnd<AppLanes>, mut kernel: Kernel<KernelLanes>) -> bool {
+/// The dispatcher goes once it has taken a call in: whether its job is done, four more items are put and no more, and nothing comes back.
+fn go_on_without_dispatcher(ends: Lanes) -> bool {
+    let Ends {
+        mut app,
+        mut kernel,
+        mut workers,
+    } = ends;
     let submitted = app.submit(&[nop(1)]).is_ok();
     let taken = kernel.turn().is_ok();
     drop(kernel);
-    submitted && taken
-}
-
-/// What the others do behind it.
-fn go_on_without_dispatcher(
-    taken: bool,
-    app: &mut AppEnd<AppLanes>,
-    workers: &mut [Worker<Open>],
-) -> Left {
-    Left {
-        taken,
-        worked: three_turns(workers, 0),
-        submits: [
-            app.submit(&[nop(2), nop(3), nop(4), nop(5)]),
-            app.submit(&[nop(6)]),
-        ],
-        close: app.close(),
-        reaped: app.reap(),
-    }
-}
-
-/// Whether they go on so on new ends.
-fn go_on_right_without_dispatcher(alloc: Global) -> Result<bool, Fail> {
-    let Ends {
-        mut app,
-        kernel,
-        mut workers,
-    } = new_ends::<KernelLanes>(alloc, 2, 2)?;
-    let taken = take_one_call(&mut app, kernel);
-    let right = go_on_without_dispatcher(taken, &mut app, &mut workers).is_right();
+    let done = works(&mut workers, &[Done(0), Idle, Idle]);
+    let full = is_full_behind_four(&mut app);
     drop(app);
     drop(workers);
-    Ok(right)
+    submitted && taken && done && full
 }
 
-#[test]
-fn the_others_go_on_without_the_dispatcher(rt: HostRuntime) -> Result<(), Fail> {
-    assert!(rt; go_on_right_without_dispatcher(rt.alloc())?);
-    Ok(())
-}
-
-/// What the others did once worker 1 went with a job: the dispatcher's turns, those of worker 0, and what is reaped.
-#[derive(Clone, Copy)]
-struct WithoutWorker {
-    turns: [Option<Turn>; 3],
-    worked: Option<[Worked; 3]>,
-    reaped: [Option<Cqe>; 2],
-}
-
-impl WithoutWorker {
-    /// Whether the no-op was done by worker 0 and comes back, and the write doesn't.
-    fn is_right(&self) -> bool {
-        let turns = [
-            Some(turn(2, 2, 0, 0)),
-            Some(turn(0, 0, 1, 1)),
-            Some(turn(0, 0, 0, 0)),
-        ];
-        let worked = [Worked::Done(1), Worked::Idle, Worked::Idle];
-        self.turns == turns
-            && self.worked == Some(worked)
-            && self.reaped == [Some(Cqe::new(2, 0, [0; 64])), None]
-    }
-}
-
-/// A write goes to worker 1, which then goes.
-fn go_on_without_worker(
+/// Whether the no-op that worker 0 has is done and comes back, and the write beside it doesn't.
+fn brings_one_back(
     app: &mut AppEnd<AppLanes>,
     kernel: &mut Kernel<KernelLanes>,
-    workers: &mut Vec<Worker<Open>>,
-) -> WithoutWorker {
-    let write = Item::Entry(Sqe::write(1, 0, 1, 0, &[98]));
-    let _submitted = app.submit(&[write, nop(2)]);
-    let first = kernel.turn().ok();
-    drop(workers.pop());
-    let worked = three_turns(workers, 0);
-    let (second, third) = (kernel.turn().ok(), kernel.turn().ok());
-    WithoutWorker {
-        turns: [first, second, third],
-        worked,
-        reaped: [app.reap(), app.reap()],
-    }
+    workers: &mut [Worker<Open>],
+) -> bool {
+    let done = works(workers, &[Done(1), Idle, Idle]);
+    let delivered = turns(kernel, &[turn(0, 0, 1, 1), turn(0, 0, 0, 0)]);
+    let back = app.reap() == Some(Cqe::new(2, 0, [0; 64]));
+    done && delivered && back && app.reap().is_none()
 }
 
-/// Whether they go on so on new ends.
-fn go_on_right_without_worker(alloc: Global) -> Result<bool, Fail> {
+/// A write goes to worker 1, which then goes: whether the no-op beside it is done by worker 0 and comes back, and the write doesn't.
+fn go_on_without_worker(ends: Lanes) -> bool {
     let Ends {
         mut app,
         mut kernel,
         mut workers,
-    } = new_ends::<KernelLanes>(alloc, 2, 2)?;
-    let right = go_on_without_worker(&mut app, &mut kernel, &mut workers).is_right();
+    } = ends;
+    let write = Item::Entry(Sqe::write(1, 0, 1, 0, &[98]));
+    let submitted = app.submit(&[write, nop(2)]).is_ok();
+    let taken = turns(&mut kernel, &[turn(2, 2, 0, 0)]);
+    drop(workers.pop());
+    let right = brings_one_back(&mut app, &mut kernel, &mut workers);
     drop(app);
     drop(kernel);
     drop(workers);
-    Ok(right)
+    submitted && taken && right
+}
+
+/// The end that goes.
+#[derive(Clone, Copy)]
+enum Gone {
+    Application,
+    Dispatcher,
+    Worker,
+}
+
+/// Whether the others of two workers' ends go on without it.
+fn go_on_without(alloc: Global, gone: Gone) -> Result<bool, Fail> {
+    match new_ends(alloc, 2, 2) {
+        Ok(ends) => Ok(go_on(ends, gone)),
+        Err(fault) => Err(fault),
+    }
+}
+
+/// The same of these ends.
+fn go_on(ends: Lanes, gone: Gone) -> bool {
+    match gone {
+        Gone::Application => go_on_without_application(ends),
+        Gone::Dispatcher => go_on_without_dispatcher(ends),
+        Gone::Worker => go_on_without_worker(ends),
+    }
 }
 
 #[test]
-fn the_others_go_on_without_a_worker(rt: HostRuntime) -> Result<(), Fail> {
-    assert!(rt; go_on_right_without_worker(rt.alloc())?);
+fn the_others_go_on(rt: HostRuntime) -> Result<(), Fail> {
+    let application = go_on_without(rt.alloc(), Gone::Application)?;
+    let dispatcher = go_on_without(rt.alloc(), Gone::Dispatcher)?;
+    let worker = go_on_without(rt.alloc(), Gone::Worker)?;
+    assert!(rt; application, "without the application");
+    assert!(rt; dispatcher, "without the dispatcher");
+    assert!(rt; worker, "without a worker");
     Ok(())
 }

@@ -30,6 +30,9 @@ pub trait Ports: KernelPort {
         setup: &Setup,
         gates: Vec<G>,
     ) -> Result<Ends<Self, G>, LanesFault>;
+
+    /// What the application sees of this dropped word: over lanes there is none.
+    fn shown(dropped: u32) -> Option<u32>;
 }
 
 impl Ports for KernelLanes {
@@ -47,6 +50,10 @@ impl Ports for KernelLanes {
             Err(fault) => Err(fault),
         }
     }
+
+    fn shown(_dropped: u32) -> Option<u32> {
+        None
+    }
 }
 
 impl Ports for KernelWords {
@@ -63,6 +70,10 @@ impl Ports for KernelWords {
             }),
             Err(fault) => Err(fault),
         }
+    }
+
+    fn shown(dropped: u32) -> Option<u32> {
+        Some(dropped)
     }
 }
 

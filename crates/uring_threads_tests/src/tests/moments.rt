@@ -1,15 +1,17 @@
 //! What settling reports at one moment, with something on its way between any two ends.
 
-use super::ends::{Ends, Ports, new_ends};
+use super::ends::{Ports, new_ends};
+use super::nop;
 use super::replay::{has_events, replays};
+use super::rows::Put::{Nop, Write};
+use super::rows::Row::{Submit, Turn, Work};
+use super::rows::{Row, first_wrong};
 use super::told::{Told, tell};
-use super::{nop, turn};
 use std::alloc::Global;
 use std::test::Fail;
 use uring_entry::{Cqe, Sqe};
-use uring_threads::{
-    Answer, Counts, FileState, Item, KernelLanes, KernelPort, Open, Report, Step, Worked,
-};
+use uring_threads::Worked::Done;
+use uring_threads::{Answer, Counts, FileState, KernelLanes, Open, Report, Step};
 use uring_words::KernelWords;
 
 /// Bytes that are nothing.
@@ -20,21 +22,15 @@ fn write(user_data: u64, fd: i32, byte: u8) -> Sqe {
     Sqe::write(user_data, 0, fd, 0, &[byte])
 }
 
-/// Three requests are started, the two writes are carried out, the first one's completion is delivered, and one more no-op is submitted. Whether each call does what it should.
-fn goes_half_way<K: KernelPort>(ends: &mut Ends<K, Open>) -> bool {
-    let call = [
-        Item::Entry(write(1, 0, 97)),
-        Item::Entry(write(2, 1, 98)),
-        nop(3),
-    ];
-    let submitted = ends.submit(&call);
-    let started = ends.turn() == Some(turn(3, 3, 0, 0));
-    let first = ends.work(0) == Some(Worked::Done(0));
-    let delivered = ends.turn() == Some(turn(0, 0, 1, 1));
-    let second = ends.work(1) == Some(Worked::Done(1));
-    let more = ends.submit(&[nop(4)]);
-    submitted && started && first && delivered && second && more
-}
+/// Three requests are started, the two writes are carried out, the first one's completion is delivered, and one more no-op is submitted.
+static HALF_WAY: [Row; 6] = [
+    Submit(&[Write(1, 0, 97), Write(2, 1, 98), Nop(3)]),
+    Turn(3, 3, 0, 0),
+    Work(0, Done(0)),
+    Turn(0, 0, 1, 1),
+    Work(1, Done(1)),
+    Submit(&[Nop(4)]),
+];
 
 /// A write that ended with its one byte written.
 fn written() -> Answer {
@@ -134,12 +130,12 @@ fn is_right(alloc: Global, report: &Report<Open>) -> Result<bool, Fail> {
 /// Whether the ends of two workers go half way, and then report it.
 fn is_reported<K: Ports>(alloc: Global) -> Result<bool, Fail> {
     let mut ends = new_ends::<K>(alloc, 2, 2)?;
-    let goes = goes_half_way(&mut ends);
+    let wrong = first_wrong(&mut ends, &HALF_WAY);
     let report = ends.settle(alloc)?;
     let right = is_right(alloc, &report);
     drop(report);
     let right = right?;
-    Ok(goes && right)
+    Ok(wrong == None && right)
 }
 
 #[test]

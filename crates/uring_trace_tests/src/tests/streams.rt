@@ -59,12 +59,12 @@ impl Write for SlowWriter {
 /// Whether these steps get these answers over slow streams, of which the reader and the writer are each interrupted at one call.
 fn goes_on(
     alloc: Global,
+    setup: &Setup,
     steps: &[u8],
     answers: &[u8],
     read: Option<u64>,
     write: Option<u64>,
-) -> Result<bool, Fail> {
-    let setup = Setup::new(4, Some(4), 2, 0)?;
+) -> bool {
     let mut reader = SlowReader {
         rest: steps,
         calls: 0,
@@ -75,10 +75,10 @@ fn goes_on(
         calls: 0,
         interrupted_at: write,
     };
-    let result = trace(alloc, &mut reader, &mut writer, &setup, false);
+    let result = trace(alloc, &mut reader, &mut writer, setup, false);
     let is_so = result == Ok(()) && writer.held.as_slice() == answers;
     drop(writer);
-    Ok(is_so)
+    is_so
 }
 
 /// These bytes, so many times.
@@ -91,42 +91,47 @@ fn repeated(alloc: Global, bytes: &[u8], count: u64) -> Result<Vec<u8>, AllocErr
 }
 
 /// Whether 100,000 bytes of steps get their answers, a byte at a time.
-fn goes_on_for_long(alloc: Global) -> Result<bool, Fail> {
-    let steps = repeated(alloc, b"next\n", 20_000)?;
-    let answers = repeated(alloc, b"none\n", 20_000)?;
-    let is_so = goes_on(
-        alloc,
-        steps.as_slice(),
-        answers.as_slice(),
-        Some(50_000),
-        Some(50_000),
-    );
+fn goes_on_for_long(alloc: Global, setup: &Setup) -> bool {
+    let Ok(steps) = repeated(alloc, b"next\n", 20_000) else {
+        return false;
+    };
+    let is_so = is_answered_for_long(alloc, setup, &steps);
     drop(steps);
+    is_so
+}
+
+/// Whether these steps get as many answers.
+fn is_answered_for_long(alloc: Global, setup: &Setup, steps: &[u8]) -> bool {
+    let Ok(answers) = repeated(alloc, b"none\n", 20_000) else {
+        return false;
+    };
+    let call = Some(50_000);
+    let is_so = goes_on(alloc, setup, steps, &answers, call, call);
     drop(answers);
     is_so
 }
 
 #[test]
 fn slow_streams_are_no_faults(rt: HostRuntime) -> Result<(), Fail> {
-    assert!(rt; goes_on_for_long(rt.alloc())?);
+    let setup = Setup::new(4, Some(4), 2, 0)?;
+    assert!(rt; goes_on_for_long(rt.alloc(), &setup));
     Ok(())
 }
 
 /// Whether a trace goes on through an interruption of this call of its reader, of its writer, and of both.
-fn goes_on_through(alloc: Global, call: u64) -> Result<bool, Fail> {
+fn goes_on_through(alloc: Global, setup: &Setup, call: u64) -> bool {
     let (steps, answers) = (STEPS.as_bytes(), ANSWERS.as_bytes());
     let call = Some(call);
-    Ok(
-        goes_on(alloc, steps, answers, call, None)?
-            && goes_on(alloc, steps, answers, None, call)?
-            && goes_on(alloc, steps, answers, call, call)?,
-    )
+    goes_on(alloc, setup, steps, answers, call, None)
+        && goes_on(alloc, setup, steps, answers, None, call)
+        && goes_on(alloc, setup, steps, answers, call, call)
 }
 
 #[test]
 fn interruptions_are_no_faults(rt: HostRuntime) -> Result<(), Fail> {
+    let setup = Setup::new(4, Some(4), 2, 0)?;
     for call in 0..120 {
-        assert!(rt; goes_on_through(rt.alloc(), call)?, "at call {call}");
+        assert!(rt; goes_on_through(rt.alloc(), &setup, call), "at call {call}");
     }
     Ok(())
 }
@@ -158,24 +163,24 @@ fn first_lines(text: &'static str, count: usize) -> &'static [u8] {
 }
 
 /// Whether a reader that fails behind these steps gives a read fault, behind the answers to the complete lines.
-fn fails_to_read(alloc: Global, steps: &[u8]) -> Result<bool, Fail> {
-    let setup = Setup::new(4, Some(4), 2, 0)?;
+fn fails_to_read(alloc: Global, setup: &Setup, steps: &[u8]) -> bool {
     let complete = steps.iter().filter(|byte| **byte == b'\n').count();
     let mut reader = FailingReader { rest: steps };
     let mut output = Vec::new(alloc);
-    let result = trace(alloc, &mut reader, &mut output, &setup, false);
+    let result = trace(alloc, &mut reader, &mut output, setup, false);
     let is_so = result == Err(TraceFault::Read)
         && output.as_slice() == first_lines(ANSWERS, complete);
     drop(output);
-    Ok(is_so)
+    is_so
 }
 
 #[test]
 fn a_failing_read_is_a_read_fault(rt: HostRuntime) -> Result<(), Fail> {
+    let setup = Setup::new(4, Some(4), 2, 0)?;
     let steps = STEPS.as_bytes();
     for count in 0..=steps.len() {
         assert!(rt;
-            fails_to_read(rt.alloc(), &steps[..count])?,
+            fails_to_read(rt.alloc(), &setup, &steps[..count]),
             "after {count} bytes"
         );
     }
@@ -207,27 +212,26 @@ impl Write for FullWriter {
 }
 
 /// Whether a writer with room for so many bytes gives a write fault, and holds the beginning of the answers.
-fn fails_to_write(alloc: Global, room: usize, takes_none: bool) -> Result<bool, Fail> {
-    let setup = Setup::new(4, Some(4), 2, 0)?;
+fn fails_to_write(alloc: Global, setup: &Setup, room: usize, takes_none: bool) -> bool {
     let mut writer = FullWriter {
         held: Vec::new(alloc),
         room,
         takes_none,
     };
-    let result = trace(alloc, &mut STEPS.as_bytes(), &mut writer, &setup, false);
+    let result = trace(alloc, &mut STEPS.as_bytes(), &mut writer, setup, false);
     let wanted = ANSWERS.as_bytes().get(..room).unwrap_or_default();
     let is_so = result == Err(TraceFault::Write) && writer.held.as_slice() == wanted;
     drop(writer);
-    Ok(is_so)
+    is_so
 }
 
 #[test]
 fn a_failing_write_is_a_write_fault(rt: HostRuntime) -> Result<(), Fail> {
+    let setup = Setup::new(4, Some(4), 2, 0)?;
     for room in 0..ANSWERS.len() {
-        assert!(rt;
-            fails_to_write(rt.alloc(), room, false)? && fails_to_write(rt.alloc(), room, true)?,
-            "room for {room} bytes"
-        );
+        let fails = fails_to_write(rt.alloc(), &setup, room, false);
+        let takes_none = fails_to_write(rt.alloc(), &setup, room, true);
+        assert!(rt; fails && takes_none, "room for {room} bytes");
     }
     Ok(())
 }

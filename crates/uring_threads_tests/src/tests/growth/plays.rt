@@ -35,44 +35,18 @@ fn call(place: u64) -> [Item; 4] {
 /// The flag of a soft link.
 const LINK: u8 = 4;
 
-/// What was reaped: the result of each request, by its user data less one; and whether a completion was no request's, or the second of one.
-#[derive(Clone, Copy)]
-struct Reaped {
-    results: [Option<i32>; REQUESTS],
-    has_other: bool,
-}
-
-impl Reaped {
-    /// Takes in a completion.
-    fn add(&mut self, completion: &Cqe) {
-        let place = completion.user_data().wrapping_sub(1) as usize;
-        match self.results.get_mut(place) {
-            Some(result) if result.is_none() => *result = Some(completion.res()),
-            _ => self.has_other = true,
-        }
-    }
-
-    /// Whether each request has its result: with the write whole, or refused memory.
-    fn is_right(&self, is_whole: bool) -> bool {
-        let mut wanted = [Some(0); REQUESTS];
-        if is_whole {
-            wanted[0] = Some(2);
-            wanted[4] = Some(4);
-        } else {
-            wanted[0] = Some(-12);
-            wanted[1] = Some(-125);
-        }
-        !self.has_other && self.results == wanted
-    }
-}
-
 /// How far a play is: how many calls were submitted, whether the end was closed, how many turns of the dispatcher were refused memory, and what was reaped.
 #[derive(Clone, Copy)]
 struct Progress {
     submitted: u64,
     is_closed: bool,
     refusals: u64,
-    reaped: Reaped,
+
+    // The result of each request, by its user data less one.
+    results: [Option<i32>; REQUESTS],
+
+    // A completion was no request's, or the second of one.
+    has_other: bool,
 }
 
 impl Progress {
@@ -82,10 +56,17 @@ impl Progress {
             submitted: 0,
             is_closed: false,
             refusals: 0,
-            reaped: Reaped {
-                results: [None; REQUESTS],
-                has_other: false,
-            },
+            results: [None; REQUESTS],
+            has_other: false,
+        }
+    }
+
+    /// Takes in a completion.
+    fn add(&mut self, completion: &Cqe) {
+        let place = completion.user_data().wrapping_sub(1) as usize;
+        match self.results.get_mut(place) {
+            Some(result) if result.is_none() => *result = Some(completion.res()),
+            _ => self.has_other = true,
         }
     }
 
@@ -101,7 +82,7 @@ impl Progress {
     /// Reaps a completion, if there is one.
     fn reap(&mut self, made: &mut Lanes) {
         if let Some(completion) = made.reap() {
-            self.reaped.add(&completion);
+            self.add(&completion);
         }
     }
 
@@ -116,19 +97,35 @@ impl Progress {
         self.reap(made);
         self.reap(made);
     }
-}
 
-/// A play of so many rounds.
-fn go_rounds(made: &mut Lanes, rounds: u64) -> Progress {
-    let mut progress = Progress::new();
-    for _ in 0..rounds {
-        progress.go_round(made);
+    /// So many rounds.
+    fn go_rounds(&mut self, made: &mut Lanes, rounds: u64) {
+        for _ in 0..rounds {
+            self.go_round(made);
+        }
     }
-    progress
+
+    /// Whether the write is whole, and was not refused memory.
+    fn is_whole(&self) -> bool {
+        self.results[0] == Some(2)
+    }
+
+    /// Whether each request has its result, with the write whole or refused memory, and the end is closed.
+    fn is_right(&self) -> bool {
+        let mut wanted = [Some(0); REQUESTS];
+        if self.is_whole() {
+            wanted[0] = Some(2);
+            wanted[4] = Some(4);
+        } else {
+            wanted[0] = Some(-12);
+            wanted[1] = Some(-125);
+        }
+        !self.has_other && self.is_closed && self.results == wanted
+    }
 }
 
 /// How many requests and completions a trace tells of: accepted, ended and reaped; and how often a call was refused memory.
-#[derive(Clone, Copy, PartialEq)]
+#[derive(Clone, Copy)]
 struct Traced {
     accepted: u64,
     ended: u64,
@@ -146,6 +143,12 @@ impl Traced {
             Answer::Again => self.refused = self.refused.wrapping_add(1),
             _ => {}
         }
+    }
+
+    /// Whether it tells of each request, and of one refused call at most.
+    fn is_over(&self) -> bool {
+        let all = REQUESTS as u64;
+        (self.accepted, self.ended, self.reaped) == (all, all, all) && self.refused <= 1
     }
 }
 
@@ -165,121 +168,62 @@ fn told(trace: &Events) -> Traced {
     traced
 }
 
-/// What a report says of a play.
-#[derive(Clone, Copy)]
-struct Said {
-    counts: Counts,
-    traced: Traced,
-    state: Option<FileState>,
-    is_nothing_left: bool,
+/// Whether all requests were accepted, and ended, and all that they posted was reaped; and file 0 has the write whole, or nothing.
+fn is_over(report: &Report<Open>, is_whole: bool) -> bool {
+    let all = REQUESTS as u64;
+    let counts = Counts {
+        accepted: all,
+        outstanding: 0,
+        running: 0,
+        posted: all,
+        reaped: all,
+    };
+    let state = FileState {
+        len: if is_whole { 4 } else { 0 },
+        writes: u64::from(is_whole),
+        synced: 0,
+    };
+    report.counts() == counts
+        && report.state(0) == Some(state)
+        && report.unsent().is_empty()
+        && report.undelivered().is_empty()
+        && report.waiting().is_empty()
 }
 
-/// What this one says.
-fn read_report(report: &Report<Open>) -> Said {
-    Said {
-        counts: report.counts(),
-        traced: told(report.trace()),
-        state: report.state(0),
-        is_nothing_left: report.unsent().is_empty()
-            && report.undelivered().is_empty()
-            && report.waiting().is_empty(),
-    }
+/// Whether a report says so and its trace too; and whether memory was refused, as the play went or by its trace.
+fn judged(report: &Report<Open>, progress: &Progress) -> (bool, bool) {
+    let is_whole = progress.is_whole();
+    let traced = told(report.trace());
+    let right = progress.is_right() && is_over(report, is_whole) && traced.is_over();
+    (
+        right,
+        progress.refusals > 0 || traced.refused > 0 || !is_whole,
+    )
 }
 
-impl Said {
-    /// Whether all requests were accepted, and ended, and all that they posted was reaped; and the trace tells of each, and of one refused call at most.
-    fn is_over(&self) -> bool {
-        let all = REQUESTS as u64;
-        let wanted = Counts {
-            accepted: all,
-            outstanding: 0,
-            running: 0,
-            posted: all,
-            reaped: all,
-        };
-        let traced = Traced {
-            accepted: all,
-            ended: all,
-            reaped: all,
-            refused: self.traced.refused,
-        };
-        self.is_nothing_left
-            && self.counts == wanted
-            && self.traced == traced
-            && self.traced.refused <= 1
-    }
-}
-
-/// What came of a play.
-#[derive(Clone, Copy)]
-struct Played {
-    progress: Progress,
-    is_idle: bool,
-    said: Said,
-    // Memory was refused to the ends or to settling.
-    was_refused: bool,
-}
-
-/// A play on these ends to its end, and the report of it.
-fn play_on(alloc: Global, mut made: Lanes) -> Result<Played, AllocError> {
-    let progress = go_rounds(&mut made, 40);
+/// Whether a play on these ends to its end is right, and whether memory was refused.
+fn play_on(alloc: Global, mut made: Lanes) -> Result<(bool, bool), AllocError> {
+    let mut progress = Progress::new();
+    progress.go_rounds(&mut made, 40);
     let is_idle = made.idle();
     let (report, was_refused) = settle(alloc, made)?;
-    let said = read_report(&report);
+    let (right, is_refused) = judged(&report, &progress);
     drop(report);
-    Ok(Played {
-        progress,
-        is_idle,
-        said,
-        was_refused,
-    })
+    Ok((is_idle && right, was_refused || is_refused))
 }
 
 /// The same on new ends.
-fn play(alloc: Global) -> Result<Played, Fail> {
+fn play(alloc: Global) -> Result<(bool, bool), Fail> {
     let (made, was_refused) = make(alloc)?;
-    let played = play_on(alloc, made)?;
-    Ok(Played {
-        was_refused: was_refused || played.was_refused,
-        ..played
-    })
-}
-
-impl Played {
-    /// Whether the write is whole, and was not refused memory.
-    fn is_whole(&self) -> bool {
-        self.progress.reaped.results[0] == Some(2)
-    }
-
-    /// Whether all was done, with the write whole or refused memory.
-    fn is_right(&self) -> bool {
-        let is_whole = self.is_whole();
-        let state = FileState {
-            len: if is_whole { 4 } else { 0 },
-            writes: u64::from(is_whole),
-            synced: 0,
-        };
-        self.is_idle
-            && self.progress.is_closed
-            && self.progress.reaped.is_right(is_whole)
-            && self.said.is_over()
-            && self.said.state == Some(state)
-    }
-
-    /// Whether memory was refused.
-    fn is_refused(&self) -> bool {
-        self.was_refused
-            || self.progress.refusals > 0
-            || self.said.traced.refused > 0
-            || !self.is_whole()
-    }
+    let (right, is_refused) = play_on(alloc, made)?;
+    Ok((right, was_refused || is_refused))
 }
 
 #[test]
 fn a_play_goes_on_behind_a_refusal(rt: HostRuntime) -> Result<(), Fail> {
-    let played = play(rt.alloc())?;
-    assert!(rt; played.is_right());
-    if played.is_refused() {
+    let (right, is_refused) = play(rt.alloc())?;
+    assert!(rt; right);
+    if is_refused {
         println!(rt; "refused")?;
     }
     Ok(())

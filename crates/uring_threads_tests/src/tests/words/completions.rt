@@ -1,16 +1,13 @@
 //! Completions over shared words: at every wrap, from thread to thread, and settled.
 ghost use Rattle.std.specs.Prelude.{◌≡◌};
 
-use super::super::ends::Ends;
 use super::super::told::{Left, left_in};
-use super::super::{nop, turn};
-use super::ends_at_the_wrap;
 use std::alloc::{AllocError, Global};
 use std::sync::Wait;
 use std::test::Fail;
 use std::thread::{Threads, join, yield_now};
 use uring_entry::{Cqe, Setup};
-use uring_threads::{AppPort, KernelPort, Open, Worked};
+use uring_threads::{AppPort, KernelPort};
 use uring_words::{AppWords, KernelWords, word_ports};
 
 /// How many completions go through.
@@ -77,35 +74,6 @@ fn go_across_new_ports<R: Threads + Wait + Sync>(rt: &R, alloc: Global) -> Resul
 fn completions_go_across(rt: HostRuntime) -> Result<(), Fail> {
     let in_order = go_across_new_ports(&rt, rt.alloc())?;
     assert!(rt; in_order, "each completion comes whole, in its place");
-    Ok(())
-}
-
-/// Whether a round of a no-op goes as it should.
-fn goes_round(ends: &mut Ends<KernelWords, Open>, user_data: u64) -> bool {
-    let submitted = ends.submit(&[nop(user_data)]);
-    let taken = ends.turn() == Some(turn(1, 1, 0, 0));
-    let worked = ends.work(0) == Some(Worked::Done(user_data.wrapping_sub(1)));
-    let delivered = ends.turn() == Some(turn(0, 0, 1, 1));
-    let reaped = ends.reap() == Some(Cqe::new(user_data, 0, [0; 64]));
-    submitted && taken && worked && delivered && reaped
-}
-
-/// Whether five rounds do so.
-fn five_go_round(ends: &mut Ends<KernelWords, Open>) -> bool {
-    for user_data in 1..6 {
-        if !goes_round(ends, user_data) {
-            return false;
-        }
-    }
-    true
-}
-
-#[test]
-fn a_ring_of_two_goes_round(rt: HostRuntime) -> Result<(), Fail> {
-    let mut ends = ends_at_the_wrap(rt.alloc())?;
-    let goes = five_go_round(&mut ends);
-    drop(ends);
-    assert!(rt; goes);
     Ok(())
 }
 

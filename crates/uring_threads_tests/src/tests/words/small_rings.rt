@@ -1,43 +1,13 @@
-//! A ring of two that begins at the last index word, and a ring of four that is settled.
+//! A ring of four that is settled.
 ghost use Rattle.std.specs.Prelude.{◌≡◌, ◌≤◌, vec_capacity};
 
-use super::super::ends::Ends;
+use super::super::nop;
 use super::super::told::{Left, left_in};
-use super::super::{nop, turn};
-use super::ends_at_the_wrap;
 use std::alloc::{AllocError, Global};
 use std::test::Fail;
 use uring_entry::Setup;
-use uring_threads::{AppEnd, Item, KernelPort, Open, Pulled, SubmitRefusal, Turn};
+use uring_threads::{AppEnd, Item, KernelPort, Pulled};
 use uring_words::{AppWords, KernelWords, word_ports};
-
-/// What three submits return, and a turn before the last is made again.
-type Submits = ([Result<(), SubmitRefusal>; 3], Option<Turn>);
-
-/// What comes of them.
-fn submit_thrice(ends: &mut Ends<KernelWords, Open>) -> Submits {
-    let two = ends.try_submit(&[nop(1), nop(2)]);
-    let full = ends.try_submit(&[nop(3)]);
-    let popped = ends.turn();
-    let third = ends.try_submit(&[nop(3)]);
-    ([two, full, third], popped)
-}
-
-/// The same on new ends.
-fn submits_at_the_wrap(alloc: Global) -> Result<Submits, Fail> {
-    let mut ends = ends_at_the_wrap(alloc)?;
-    let submits = submit_thrice(&mut ends);
-    drop(ends);
-    Ok(submits)
-}
-
-#[test]
-fn a_full_ring_looks_at_the_head_again(rt: HostRuntime) -> Result<(), Fail> {
-    let (submits, popped) = submits_at_the_wrap(rt.alloc())?;
-    assert!(rt; submits == [Ok(()), Err(SubmitRefusal::Full), Ok(())]);
-    assert!(rt; popped == Some(turn(2, 2, 0, 0)));
-    Ok(())
-}
 
 /// Submits two calls, of which the first is pulled. Whether all goes as it should.
 fn pulls_one_of_two(

@@ -1,0 +1,303 @@
+//! Plays of all ends on one thread, over lanes and over shared words.
+
+use super::super::ends::{Ends, Ports, open_ends};
+use super::Put::{Bad, Nop, Silent};
+use super::Row::{Close, Dropped, Full, IsIdle, Job, NoWorker, Reap, Submit, Turn, Work};
+use super::{Row, first_wrong};
+use std::alloc::Global;
+use std::test::Fail;
+use uring_entry::{BadSetup, Setup};
+use uring_threads::Worked::{Done, Idle};
+use uring_threads::{KernelLanes, Open};
+use uring_words::KernelWords;
+
+/// Which rings a play has.
+#[derive(Clone, Copy)]
+enum Rings {
+    /// Of four, with two files.
+    OfFour,
+
+    /// The same, by Linux's rules.
+    OfFourByLinux,
+
+    /// Of two, with one file, that begin at the last index word: their counts wrap at once.
+    OfTwoAtTheWrap,
+}
+
+/// Rows that are gone through so many times, with so many workers.
+#[derive(Clone, Copy)]
+struct Play {
+    name: &'static str,
+    rings: Rings,
+    workers: usize,
+    times: u64,
+    rows: &'static [Row],
+}
+
+/// A no-op is taken in, carried out by worker 0 and reaped; and the ring is idle once it is closed.
+const ONE_NO_OP: &[Row] = &[
+    Submit(&[Nop(3)]),
+    Turn(1, 1, 0, 0),
+    Work(1, Idle),
+    Work(0, Done(0)),
+    Turn(0, 0, 1, 1),
+    Reap(Some(3)),
+    IsIdle(false),
+    Close,
+    Turn(0, 0, 0, 0),
+    IsIdle(true),
+];
+
+/// Seven workers are idle while worker 0 has a no-op and once it has carried it out, and there is no further one.
+const WITHOUT_A_JOB: &[Row] = &[
+    Submit(&[Nop(1)]),
+    Turn(1, 1, 0, 0),
+    Work(1, Idle),
+    Work(2, Idle),
+    Work(3, Idle),
+    Work(4, Idle),
+    Work(5, Idle),
+    Work(6, Idle),
+    Work(7, Idle),
+    NoWorker(8),
+    Work(0, Done(0)),
+    Work(1, Idle),
+    Work(2, Idle),
+    Work(3, Idle),
+    Work(4, Idle),
+    Work(5, Idle),
+    Work(6, Idle),
+    Work(7, Idle),
+    NoWorker(8),
+    Work(0, Idle),
+];
+
+/// Two calls are taken in, each by a turn: of one no-op, and of three. All four are carried out, delivered by one turn and reaped, and no more.
+const ROUND: &[Row] = &[
+    Submit(&[Nop(1)]),
+    Submit(&[Nop(2), Nop(3), Nop(4)]),
+    Turn(1, 1, 0, 0),
+    Turn(3, 3, 0, 0),
+    Job(0),
+    Job(0),
+    Job(0),
+    Job(0),
+    Turn(0, 0, 4, 4),
+    Reap(Some(1)),
+    Reap(Some(2)),
+    Reap(Some(3)),
+    Reap(Some(4)),
+    Reap(None),
+];
+
+/// A turn that takes a call in also takes in the result of the call before it.
+const BESIDE_A_RESULT: &[Row] = &[
+    Submit(&[Nop(1)]),
+    Turn(1, 1, 0, 0),
+    Job(0),
+    Submit(&[Nop(2)]),
+    Turn(1, 1, 1, 1),
+];
+
+/// Calls are taken in behind four completions that fill the ring, with one and then three that wait.
+const BEHIND_COMPLETIONS: &[Row] = &[
+    Submit(&[Nop(1), Nop(2), Nop(3), Nop(4)]),
+    Turn(4, 4, 0, 0),
+    Job(0),
+    Job(0),
+    Job(0),
+    Job(0),
+    Turn(0, 0, 4, 4),
+    Submit(&[Nop(1)]),
+    Turn(1, 1, 0, 0),
+    Job(0),
+    Turn(0, 0, 1, 0),
+    Submit(&[Nop(1), Nop(2)]),
+    Turn(2, 2, 0, 0),
+    Job(0),
+    Job(0),
+    Turn(0, 0, 2, 0),
+    Submit(&[Nop(1), Nop(2), Nop(3)]),
+    Turn(3, 3, 0, 0),
+    Job(0),
+    Job(0),
+    Job(0),
+    Turn(0, 0, 3, 0),
+];
+
+/// The dropped word is seen at first, behind a call with one word that names no slot, behind the turn that takes it in, and once more; then behind a turn that takes in two such words, and behind one that takes in nothing.
+const DROPPED: &[Row] = &[
+    Dropped(0),
+    Submit(&[Bad(9), Silent(5)]),
+    Dropped(0),
+    Turn(2, 1, 0, 0),
+    Dropped(1),
+    Dropped(1),
+    Submit(&[Bad(4), Nop(6), Bad(4294967295)]),
+    Turn(3, 1, 0, 0),
+    Dropped(3),
+    Turn(0, 0, 0, 0),
+    Dropped(3),
+];
+
+/// A full ring looks at the head again: there is room once a turn has popped.
+const FULL: &[Row] = &[
+    Submit(&[Nop(1), Nop(2)]),
+    Full(&[Nop(3)]),
+    Turn(2, 2, 0, 0),
+    Submit(&[Nop(3)]),
+];
+
+/// Five no-ops go round, one behind the other.
+const FIVE_ROUNDS: &[Row] = &[
+    Submit(&[Nop(1)]),
+    Turn(1, 1, 0, 0),
+    Work(0, Done(0)),
+    Turn(0, 0, 1, 1),
+    Reap(Some(1)),
+    Submit(&[Nop(2)]),
+    Turn(1, 1, 0, 0),
+    Work(0, Done(1)),
+    Turn(0, 0, 1, 1),
+    Reap(Some(2)),
+    Submit(&[Nop(3)]),
+    Turn(1, 1, 0, 0),
+    Work(0, Done(2)),
+    Turn(0, 0, 1, 1),
+    Reap(Some(3)),
+    Submit(&[Nop(4)]),
+    Turn(1, 1, 0, 0),
+    Work(0, Done(3)),
+    Turn(0, 0, 1, 1),
+    Reap(Some(4)),
+    Submit(&[Nop(5)]),
+    Turn(1, 1, 0, 0),
+    Work(0, Done(4)),
+    Turn(0, 0, 1, 1),
+    Reap(Some(5)),
+];
+
+/// All plays.
+static PLAYS: [Play; 11] = [
+    Play {
+        name: "one no-op and a close",
+        rings: Rings::OfFour,
+        workers: 2,
+        times: 1,
+        rows: ONE_NO_OP,
+    },
+    Play {
+        name: "workers without a job are idle",
+        rings: Rings::OfFour,
+        workers: 8,
+        times: 1,
+        rows: WITHOUT_A_JOB,
+    },
+    Play {
+        name: "a thousand rounds with one worker",
+        rings: Rings::OfFour,
+        workers: 1,
+        times: 1000,
+        rows: ROUND,
+    },
+    Play {
+        name: "a thousand rounds with two workers",
+        rings: Rings::OfFour,
+        workers: 2,
+        times: 1000,
+        rows: ROUND,
+    },
+    Play {
+        name: "a thousand rounds with eight workers",
+        rings: Rings::OfFour,
+        workers: 8,
+        times: 1000,
+        rows: ROUND,
+    },
+    Play {
+        name: "results are taken in beside a call",
+        rings: Rings::OfFour,
+        workers: 1,
+        times: 1,
+        rows: BESIDE_A_RESULT,
+    },
+    Play {
+        name: "calls are taken in while completions wait",
+        rings: Rings::OfFour,
+        workers: 1,
+        times: 1,
+        rows: BEHIND_COMPLETIONS,
+    },
+    Play {
+        name: "words show what was dropped, and lanes do not",
+        rings: Rings::OfFour,
+        workers: 2,
+        times: 1,
+        rows: DROPPED,
+    },
+    Play {
+        name: "by Linux's rules a turn takes in what stands behind them",
+        rings: Rings::OfFourByLinux,
+        workers: 2,
+        times: 1,
+        rows: DROPPED,
+    },
+    Play {
+        name: "a full ring looks at the head again",
+        rings: Rings::OfTwoAtTheWrap,
+        workers: 1,
+        times: 1,
+        rows: FULL,
+    },
+    Play {
+        name: "a ring of two goes round",
+        rings: Rings::OfTwoAtTheWrap,
+        workers: 1,
+        times: 1,
+        rows: FIVE_ROUNDS,
+    },
+];
+
+/// The set-up of a play's rings.
+fn set_up(rings: Rings) -> Result<Setup, BadSetup> {
+    match rings {
+        Rings::OfFour => Setup::new(4, Some(4), 2, 0),
+        Rings::OfFourByLinux => Ok(Setup::new(4, Some(4), 2, 0)?.linux()),
+        Rings::OfTwoAtTheWrap => Setup::new(2, Some(2), 1, u32::MAX),
+    }
+}
+
+/// The place of the first wrong row of a play, in whichever round.
+fn first_wrong_of<K: Ports>(ends: &mut Ends<K, Open>, play: &Play) -> Option<usize> {
+    for _ in 0..play.times {
+        let wrong = first_wrong(ends, play.rows);
+        if wrong.is_some() {
+            return wrong;
+        }
+    }
+    None
+}
+
+/// The same at new ends.
+fn first_wrong_at_new_ends<K: Ports>(alloc: Global, play: &Play) -> Result<Option<usize>, Fail> {
+    let setup = set_up(play.rings)?;
+    let mut ends = open_ends::<K>(alloc, &setup, play.workers)?;
+    let wrong = first_wrong_of(&mut ends, play);
+    drop(ends);
+    Ok(wrong)
+}
+
+#[test]
+fn go_as_they_should(rt: HostRuntime) -> Result<(), Fail> {
+    for play in &PLAYS {
+        let lanes = first_wrong_at_new_ends::<KernelLanes>(rt.alloc(), play)?;
+        let words = first_wrong_at_new_ends::<KernelWords>(rt.alloc(), play)?;
+        assert_eq!(rt;
+            [lanes, words],
+            [None; 2],
+            "{}: the first wrong rows",
+            play.name
+        );
+    }
+    Ok(())
+}
