@@ -1,7 +1,7 @@
 use Rattle.std.proofs.Common.{◌==◌, ap, ◌∙◌}
 use Rattle.uring_enter.specs.Waiters.{seen_in}
 use Rattle.uring_enter.proofs.WaiterRuns.{seen}
-use Rattle.uring_enter.proofs.sighting.Waiter.is_seen.Goals as goal
+use Rattle.uring_enter.proofs.waiter.Waiter.is_seen.Goals as goal
 
 pub returns : goal.returns
 returns c log ring keeps =
