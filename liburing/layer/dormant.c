@@ -22,8 +22,8 @@
 
 /* So many of those that run are looked at in any case: that costs less than to have the instance tell of them. (Tests under the sanitizers have
  * it tell of all.) */
-#ifndef MOST_AWAKE
-#define MOST_AWAKE 32
+#ifndef MOST_LOOKED_AT
+#define MOST_LOOKED_AT 32
 #endif
 
 /* A program that closes a low number twice doesn't close the instance; and of so many descriptors that tells at once. */
@@ -106,7 +106,7 @@ void delist(struct ring *ring, struct request *request)
     request->duplicate = NULL;
 }
 
-/* ---- falling asleep ---- */
+/* ---- becoming dormant ---- */
 
 /* Whether the library says that a request waits while its descriptor isn't ready, whatever else is so, and doesn't once it is. */
 static bool waits_for_descriptor(const struct request *request)
@@ -117,14 +117,14 @@ static bool waits_for_descriptor(const struct request *request)
 }
 
 /* Whether a request is to become dormant. A splice waits for one descriptor or the other. */
-static bool is_to_sleep(const struct ring *ring, const struct request *request)
+static bool is_to_lie(const struct ring *ring, const struct request *request)
 {
     bool was_silent = !request->is_found_ready && !wulgach_lookout_is_stale(&ring->lookout, request->looked_at);
     return was_silent && !request->is_unlisted && !request->needs.needs_second && waits_for_descriptor(request);
 }
 
-/* Makes one dormant, if it keeps its file, and the instance takes that. */
-static bool is_asleep(struct ring *ring, struct request *request)
+/* Has the instance tell of one, which keeps its file from now on. False: it is looked at for ever. */
+static bool enlist_kept(struct ring *ring, struct request *request)
 {
     hold_file_of(request);
     if ((request->file || request->epoll >= 0) && enlist(ring, request))
@@ -134,7 +134,7 @@ static bool is_asleep(struct ring *ring, struct request *request)
     return false;
 }
 
-static void fall_asleep(struct ring *ring, struct request *request)
+static void lie_down(struct ring *ring, struct request *request)
 {
     request->is_dormant = true;
     ring->dormant.count++;
@@ -144,12 +144,12 @@ static void fall_asleep(struct ring *ring, struct request *request)
     request->is_patient = false;
 }
 
-__attribute__((noinline)) static void let_many_sleep(struct ring *ring)
+__attribute__((noinline)) static void let_many_lie(struct ring *ring)
 {
     for (size_t i = 0; i < ring->running.count;) {
         struct request *request = ring->running.rows[i];
-        if (is_to_sleep(ring, request) && has_instance(ring) && is_asleep(ring, request))
-            fall_asleep(ring, request);
+        if (is_to_lie(ring, request) && has_instance(ring) && enlist_kept(ring, request))
+            lie_down(ring, request);
         else
             i++;
     }
@@ -158,15 +158,15 @@ __attribute__((noinline)) static void let_many_sleep(struct ring *ring)
     reserve_ways(ring, ring->requests.count);
 }
 
-void let_sleep(struct ring *ring)
+void let_lie(struct ring *ring)
 {
-    if (ring->running.count > MOST_AWAKE)
-        let_many_sleep(ring);
+    if (ring->running.count > MOST_LOOKED_AT)
+        let_many_lie(ring);
 }
 
-/* ---- waking ---- */
+/* ---- coming back ---- */
 
-static void wake(struct ring *ring, struct request *request)
+static void bring_back(struct ring *ring, struct request *request)
 {
     request->is_dormant = false;
     request->waits_in = 0;
@@ -178,7 +178,7 @@ static void wake(struct ring *ring, struct request *request)
 void rouse(struct ring *ring, struct request *request)
 {
     if (request->is_dormant)
-        wake(ring, request);
+        bring_back(ring, request);
 }
 
 /* The kernel refuses to tell: all are looked at from now on. */
@@ -195,7 +195,7 @@ static void rouse_told(struct ring *ring, uint64_t number)
     struct request *request = request_or_none(&ring->requests, number);
     if (!request || !request->is_dormant)
         return;
-    wake(ring, request);
+    bring_back(ring, request);
     note_ready(ring, request);
     wulgach_lookout_changes(&ring->lookout);
 }
