@@ -137,9 +137,7 @@ static int32_t change_poll(struct ring *ring, struct request *poll, const struct
         .events = poll->entry.poll32_events,
     };
     wulgach_updated_poll(&changed, submission_of(change));
-    take_from_directory(ring, poll);
-    poll->entry.user_data = changed.user_data;
-    put_into_directory(ring, poll);
+    rename_in_directory(ring, poll, changed.user_data);
     poll->entry.poll32_events = changed.events;
     wulgach_needs_of(submission_of(&poll->entry), &poll->needs);
     if (wulgach_course_begins_afresh(&poll->course)) {

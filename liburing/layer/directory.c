@@ -84,6 +84,15 @@ void take_from_directory(struct ring *ring, struct request *request)
     directory->count--;
 }
 
+void rename_in_directory(struct ring *ring, struct request *request, uint64_t user_data)
+{
+    if (request->entry.user_data == user_data)
+        return;
+    take_from_directory(ring, request);
+    request->entry.user_data = user_data;
+    put_into_directory(ring, request);
+}
+
 /* ---- seeking ---- */
 
 static bool has_directory(struct ring *ring)

@@ -25,9 +25,10 @@ struct directory {
 
 void free_directory(struct directory *directory);
 
-/* Where it is kept, a request that was accepted last, or whose user data have changed, is put there; one is taken out. */
+/* Where it is kept, a request that was accepted last is put there; one is taken out; and one gets these user data. */
 void put_into_directory(struct ring *ring, struct request *request);
 void take_from_directory(struct ring *ring, struct request *request);
+void rename_in_directory(struct ring *ring, struct request *request, uint64_t user_data);
 
 /* The requests that a cancel has to look at, the oldest first. */
 struct seeking {

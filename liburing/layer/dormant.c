@@ -23,8 +23,8 @@
 
 /* So many of those that run are looked at in any case: that costs less than to have the instance tell of them. (Tests under the sanitizers have
  * it tell of all.) */
-#ifndef MOST_AWAKE
-#define MOST_AWAKE 32
+#ifndef MOST_LOOKED_AT
+#define MOST_LOOKED_AT 32
 #endif
 
 /* A program that closes a low number twice doesn't close the instance; and of so many descriptors that tells at once. */
@@ -107,7 +107,7 @@ void delist(struct ring *ring, struct request *request)
     request->duplicate = NULL;
 }
 
-/* ---- falling asleep ---- */
+/* ---- becoming dormant ---- */
 
 /* Whether it can be finished as of such a moment, though it was found to wait. */
 static bool finishes_in(const struct ring *ring, const struct request *request, const struct wulgach_moment *moment)
@@ -126,14 +126,14 @@ static bool waits_for_descriptor(const struct ring *ring, const struct request *
 }
 
 /* Whether a request is to become dormant. A splice waits for one descriptor or the other. */
-static bool is_to_sleep(const struct ring *ring, const struct request *request)
+static bool is_to_lie(const struct ring *ring, const struct request *request)
 {
     bool is_silent = wulgach_waiter_sighting(&request->waiter, &ring->lookout) == WULGACH_SIGHTING_UNREADY;
     return is_silent && !request->is_unlisted && !request->needs.needs_second && waits_for_descriptor(ring, request);
 }
 
-/* Makes one dormant, if it keeps its file, and the instance takes that. */
-static bool is_asleep(struct ring *ring, struct request *request)
+/* Has the instance tell of one, which keeps its file from now on. False: it is looked at for ever. */
+static bool enlist_kept(struct ring *ring, struct request *request)
 {
     hold_file_of(request);
     if ((request->file || request->epoll >= 0) && enlist(ring, request))
@@ -143,7 +143,7 @@ static bool is_asleep(struct ring *ring, struct request *request)
     return false;
 }
 
-static void fall_asleep(struct ring *ring, struct request *request)
+static void lie_down(struct ring *ring, struct request *request)
 {
     request->is_dormant = true;
     ring->dormant.count++;
@@ -153,12 +153,12 @@ static void fall_asleep(struct ring *ring, struct request *request)
     request->is_patient = false;
 }
 
-__attribute__((noinline)) static void let_many_sleep(struct ring *ring)
+__attribute__((noinline)) static void let_many_lie(struct ring *ring)
 {
     for (size_t i = 0; i < ring->running.count;) {
         struct request *request = ring->running.rows[i];
-        if (is_to_sleep(ring, request) && has_instance(ring) && is_asleep(ring, request))
-            fall_asleep(ring, request);
+        if (is_to_lie(ring, request) && has_instance(ring) && enlist_kept(ring, request))
+            lie_down(ring, request);
         else
             i++;
     }
@@ -167,15 +167,15 @@ __attribute__((noinline)) static void let_many_sleep(struct ring *ring)
     reserve_ways(ring, ring->requests.count);
 }
 
-void let_sleep(struct ring *ring)
+void let_lie(struct ring *ring)
 {
-    if (ring->running.count > MOST_AWAKE)
-        let_many_sleep(ring);
+    if (ring->running.count > MOST_LOOKED_AT)
+        let_many_lie(ring);
 }
 
-/* ---- waking ---- */
+/* ---- coming back ---- */
 
-static void wake(struct ring *ring, struct request *request)
+static void bring_back(struct ring *ring, struct request *request)
 {
     request->is_dormant = false;
     ring->dormant.count--;
@@ -186,7 +186,7 @@ static void wake(struct ring *ring, struct request *request)
 void rouse(struct ring *ring, struct request *request)
 {
     if (request->is_dormant)
-        wake(ring, request);
+        bring_back(ring, request);
 }
 
 /* The kernel refuses to tell: all are looked at from now on. */
@@ -203,7 +203,7 @@ static void rouse_told(struct ring *ring, uint64_t number)
     struct request *request = request_or_none(&ring->requests, number);
     if (!request || !request->is_dormant)
         return;
-    wake(ring, request);
+    bring_back(ring, request);
     note_look(ring, request, true);
     wulgach_lookout_changes(&ring->lookout);
 }

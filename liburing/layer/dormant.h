@@ -24,7 +24,7 @@ void free_dormant(struct dormant *dormant);
 
 /* A call returns, or sleeps: where many requests wait, those become dormant that were looked at in this moment and wait for nothing but their
  * descriptors. They keep their files from then on. */
-void let_sleep(struct ring *ring);
+void let_lie(struct ring *ring);
 
 /* Rouses those whose descriptors are ready, if that wasn't asked in this moment: they run among the others again. */
 void rouse_ready(struct ring *ring);

@@ -21,7 +21,7 @@ static void do_duty(struct ring *ring, enum wulgach_duty duty)
         return;
     case WULGACH_WATCHES_PIPES:
         watch_pipes(ring);
-        let_sleep(ring);
+        let_lie(ring);
         return;
     case WULGACH_SHOWS_ENDS:
         show_ends(ring);

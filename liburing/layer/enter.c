@@ -154,7 +154,7 @@ static enum wulgach_reply_kind sleep_on(struct ring *ring, struct waiting *waiti
     default:
         break;
     }
-    let_sleep(ring);
+    let_lie(ring);
     do_duties_at_rest(ring);
     enum wulgach_reply_kind kind = wait_for_any(ring, &waiting->limit, waiting->signals, &error);
     do_duties_at_begin(ring, true);
