@@ -47,6 +47,9 @@ struct wulgach_submission;
  * caller's to write. */
 void wulgach_sought_of(const struct wulgach_submission *entry, struct wulgach_sought *sought);
 
+/* Whether user data is looked for. Then a cancel passes over each request that has other, so that it need be shown those alone that have its own. */
+bool wulgach_goes_by_user_data(const struct wulgach_sought *sought);
+
 /* Why nothing is looked for, or 0: -9 (EBADF) exactly if it would be looked for by a descriptor that isn't open, or by a slot that has no
  * file. */
 int32_t wulgach_seeking_fault(const struct wulgach_sought *sought, bool is_there);

@@ -106,6 +106,10 @@ void wulgach_waiter_begin(struct wulgach_waiter *waiter);
  * take a provided buffer and has found none. */
 uint32_t wulgach_can_finish(struct wulgach_waiter *waiter, const struct wulgach_lookout *lookout, const struct wulgach_standing *standing, const struct wulgach_needs *needs, const struct wulgach_course *course, const struct wulgach_moment *known);
 
+/* Whether a request that runs waits for its descriptor alone: it may have to wait for that and for no second one, is no timeout, takes no provided
+ * buffer or has found one, and no cancel has found it. It can't be finished while its descriptor isn't ready, so it needn't be asked meanwhile. */
+bool wulgach_waits_for_descriptor_alone(const struct wulgach_standing *standing, const struct wulgach_needs *needs, const struct wulgach_course *course);
+
 /* It was carried out, and would have waited. */
 void wulgach_waiter_waits(struct wulgach_waiter *waiter, struct wulgach_lookout *lookout);
 

@@ -111,10 +111,10 @@ void begin_seeking_named(struct seeking *seeking, struct ring *ring, uint64_t us
 
 void begin_seeking(struct seeking *seeking, struct ring *ring, const struct wulgach_sought *sought)
 {
-    if (sought->is_any || sought->is_by_fd)
-        *seeking = (struct seeking){.ring = ring};
-    else
+    if (wulgach_goes_by_user_data(sought))
         begin_seeking_named(seeking, ring, sought->user_data);
+    else
+        *seeking = (struct seeking){.ring = ring};
 }
 
 struct request *next_sought(struct seeking *seeking)

@@ -109,27 +109,11 @@ void delist(struct ring *ring, struct request *request)
 
 /* ---- becoming dormant ---- */
 
-/* Whether it can be finished as of such a moment, though it was found to wait. */
-static bool finishes_in(const struct ring *ring, const struct request *request, const struct wulgach_moment *moment)
-{
-    struct wulgach_waiter waiter = request->waiter;
-    wulgach_waiter_meets_cancel(&waiter);
-    return wulgach_can_finish(&waiter, &ring->lookout, &request->standing, &request->needs, &request->course, moment) == WULGACH_LOOK_FINISHES;
-}
-
-/* Whether the library says that a request waits while its descriptor isn't ready, whatever else is so, and doesn't once it is. */
-static bool waits_for_descriptor(const struct ring *ring, const struct request *request)
-{
-    static const struct wulgach_moment silent = {.knows_posting = true, .may_post = true, .knows_buffer = true, .knows_readiness = true};
-    static const struct wulgach_moment ready = {.knows_posting = true, .may_post = true, .knows_buffer = true, .knows_readiness = true, .is_ready = true};
-    return !finishes_in(ring, request, &silent) && finishes_in(ring, request, &ready);
-}
-
-/* Whether a request is to become dormant. A splice waits for one descriptor or the other. */
+/* Whether a request is to become dormant. */
 static bool is_to_lie(const struct ring *ring, const struct request *request)
 {
     bool is_silent = wulgach_waiter_sighting(&request->waiter, &ring->lookout) == WULGACH_SIGHTING_UNREADY;
-    return is_silent && !request->is_unlisted && !request->needs.needs_second && waits_for_descriptor(ring, request);
+    return is_silent && !request->is_unlisted && wulgach_waits_for_descriptor_alone(&request->standing, &request->needs, &request->course);
 }
 
 /* Has the instance tell of one, which keeps its file from now on. False: it is looked at for ever. */

@@ -46,10 +46,10 @@ struct request {
     int32_t started;                /* what its start found out: an error number that it ends with, or 0 */
     uint32_t flags;                 /* those of its completion */
     uint64_t token;                 /* the user data that the core has */
-    uint64_t call;                  /* the number of the call that submitted it, */
-    bool is_message;                /* if one has: not where it tells of a message, or of a tag */
+    uint64_t call;                  /* the number of the call that submitted it */
     uint64_t begun;                 /* how many had started before it, and itself */
     bool has_fired;                 /* a linked timeout: the request before it was cancelled by it */
+    bool is_message;                /* one of the layer's own, which tells of a message or of a tag: no call has submitted it */
     bool is_of_pipe;                /* a poll for what a pipe has to be read: */
     int watch;                      /* the number by which writes to that are told, or 0, */
     struct request *watched_before, *watched_behind;    /* and the polls that stand beside it among those of the same number, or NULL */

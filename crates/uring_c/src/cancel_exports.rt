@@ -2,12 +2,14 @@
 ghost use Rattle.std.specs.Prelude.{◌≡◌, ℕ, List, [], ◌∷◌};
 ghost use Rattle.uring_enter.specs.declared.cancel.Outstanding.{Outstanding};
 ghost use Rattle.uring_enter.specs.declared.cancel.Sought.{Sought};
+ghost use Rattle.uring_enter.specs.Cancels as cancels;
 ghost use Rattle.uring_enter.specs.Cancels.{is_waiting as waits};
 ghost use Rattle.uring_enter.specs.Seeking as seeking;
 ghost use Rattle.uring_enter.specs.Cancels.{result_of, is_cancelled, is_asked, HasSeen, HasSought, oldest, is_stopped, has_cancelled};
 
 use uring_enter::{
-    Cancel, Outstanding, Search, Sought, Submission, is_waiting, seeking_fault, sought_of,
+    Cancel, Outstanding, Search, Sought, Submission, goes_by_user_data, is_waiting, seeking_fault,
+    sought_of,
 };
 
 /// Writes what is looked for by the entry of a cancel, or of a removal.
@@ -24,6 +26,14 @@ pub extern "C" fn wulgach_seeking_fault(sought: &Sought, is_there: bool) -> i32
     ensures { result ≡ seeking.seeking_fault sought.now is_there }
 {
     seeking_fault(sought, is_there)
+}
+
+/// Whether a cancel looks for user data, so that it need be shown those requests alone that have its own.
+#[unsafe(no_mangle)]
+pub extern "C" fn wulgach_goes_by_user_data(sought: &Sought) -> bool
+    ensures { result ≡ cancels.goes_by_user_data sought.now }
+{
+    goes_by_user_data(sought)
 }
 
 /// Whether a request that runs waits for something. A cancel ends no other.

@@ -1,10 +1,10 @@
 -- The laws of cancels.
-use Rattle.std.proofs.Common.{◌≡◌, ℕ, ◌≤◌, Bool, true, false, not, ◌&&◌, ◌||◌, List, [], ◌∷◌, refl, arith, if◌then◌else◌}
+use Rattle.std.proofs.Common.{◌≡◌, ◌==◌, ℕ, ◌≤◌, Bool, true, false, not, ◌&&◌, ◌||◌, List, [], ◌∷◌, Option, Some, None, refl, ap, arith, if◌then◌else◌}
 use Rattle.std.proofs.lemmas.Bool.{false≢true, true≢false}
 use Rattle.uring_enter.specs.declared.cancel.Sought.{Sought}
 use Rattle.uring_enter.specs.declared.cancel.Outstanding.{Outstanding}
-use Rattle.uring_enter.specs.Cancels.{is_of_all, fits, is_free, is_waiting, can_be_found, finds_any, one_more, count_of}
-use Rattle.uring_enter.specs.CancelLaws.{CancelsWhatFits, CancelsAllThatFit, CancelsTheOldest, AsksWhatMatters}
+use Rattle.uring_enter.specs.Cancels.{is_of_all, fits, fits_fd, is_free, is_waiting, is_none, can_be_found, finds_any, first_of, one_more, count_of, oldest}
+use Rattle.uring_enter.specs.CancelLaws.{CancelsWhatFits, CancelsAllThatFit, CancelsTheOldest, AsksWhatMatters, PassesOverOthers, SearchPassesOverOthers}
 
 fits_by : (b f g : Bool) → (b && f && g) ≡ true → (f ≡ true) × (g ≡ true)
 fits_by true true true is = (refl, refl)
@@ -70,3 +70,36 @@ asks_by true true true false waiting is = absurd (true≢false is)
 pub asks_what_matters : AsksWhatMatters
 asks_what_matters s earlier r is =
     asks_by (is_of_all s || not (finds_any s earlier)) (fits s r) (is_free r) r.runs (is_waiting r) is
+
+-- what looks for user data fits none that has other
+other_by : (operation apart any fd by_fd same : Bool) → (not any && not fd) ≡ true → same ≡ false
+    → (if operation && apart then false else if any then true else if fd then by_fd else same) ≡ false
+other_by true true any fd by_fd same one two = refl
+other_by true false true fd by_fd same one two = absurd (false≢true one)
+other_by true false false true by_fd same one two = absurd (false≢true one)
+other_by true false false false by_fd same one two = two
+other_by false apart true fd by_fd same one two = absurd (false≢true one)
+other_by false apart false true by_fd same one two = absurd (false≢true one)
+other_by false apart false false by_fd same one two = two
+
+unfit_by : (b f g any : Bool) (count : ℕ) → f ≡ false
+    → ((b && f && g) ≡ false) × ((((f && g) || any) ≡ any) × (one_more count (b && f && g) ≡ count))
+unfit_by true true g any count is = absurd (true≢false is)
+unfit_by true false g any count is = (refl, (refl, refl))
+unfit_by false true g any count is = absurd (true≢false is)
+unfit_by false false g any count is = (refl, (refl, refl))
+
+pub passes_over_others : PassesOverOthers
+passes_over_others s earlier r one two =
+    unfit_by (is_of_all s || not (finds_any s earlier)) (fits s r) (can_be_found r) (finds_any s earlier) (count_of s earlier)
+    (other_by s.is_of_operation (not (r.code == s.code)) s.is_any s.is_by_fd (fits_fd s r) (r.user_data == s.user_data) one two)
+
+unsought_by : (found : Option Outstanding) (r : Outstanding) (same cancelled waiting : Bool) → same ≡ false
+    → ((is_none found && same && not cancelled && waiting) ≡ false) × (first_of found same r ≡ found)
+unsought_by found r true cancelled waiting is = absurd (true≢false is)
+unsought_by None r false cancelled waiting is = (refl, refl)
+unsought_by (Some it) r false cancelled waiting is = (refl, refl)
+
+pub search_passes_over_others : SearchPassesOverOthers
+search_passes_over_others user_data earlier r is =
+    unsought_by (oldest user_data earlier) r (r.user_data == user_data) r.is_cancelled (is_waiting r) is

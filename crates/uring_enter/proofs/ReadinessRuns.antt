@@ -6,7 +6,7 @@ use Rattle.uring_enter.specs.declared.ready.Wanted.{Wanted}
 use Rattle.uring_enter.specs.declared.ready.Wanted.TheVariants.{Count, Posting, Buffer, Readiness}
 use Rattle.uring_enter.specs.declared.ready.Look.{Look}
 use Rattle.uring_enter.specs.declared.ready.Look.TheVariants.{Asks, Waits, Finishes}
-use Rattle.uring_enter.specs.Readiness.{was_asked, told, LooksOnce}
+use Rattle.uring_enter.specs.Readiness.{was_asked, told, LooksOnce, NeedsNoLook}
 
 -- whether what is asked, if anything is, wasn't asked before: `kc`, `kp`, `kb` and `kr` say what was
 abbrev is_fresh : Bool → Bool → Bool → Bool → Look → Bool
@@ -66,3 +66,22 @@ looks_once s n has_to_wait is_cancelled known wanted is =
     fresh_one known wanted
     (ap (is_fresh known.knows_count known.knows_posting known.knows_buffer known.knows_readiness) (sym is)
     ∙ all known.knows_count known.knows_posting known.knows_buffer known.knows_readiness has_to_wait is_cancelled n.is_timeout known.has_counted n.goes_on known.may_post s.is_stream n.selects s.has_found_buffer known.has_buffer known.is_ready)
+
+unready : (k w t second selects found stream c g p b : Bool)
+    → (if k then false else if t then false else if second then false else if selects && not found then false else stream) ≡ true
+    → (if k then true else if w then false else if t then c else if g && not p then false else if stream then (selects && not found && not b || false) else true) ≡ false
+unready true w t second selects found stream c g p b is = absurd (true≢false (sym is))
+unready false w true second selects found stream c g p b is = absurd (true≢false (sym is))
+unready false w false true selects found stream c g p b is = absurd (true≢false (sym is))
+unready false w false false true false stream c g p b is = absurd (true≢false (sym is))
+unready false w false false selects found false c g p b is = absurd (true≢false (sym is))
+unready false true false false selects found true c g p b is = refl
+unready false false false false selects found true c true false b is = refl
+unready false false false false false found true c true true b is = refl
+unready false false false false false found true c false p b is = refl
+unready false false false false true true true c true true b is = refl
+unready false false false false true true true c false p b is = refl
+
+pub needs_no_look : NeedsNoLook
+needs_no_look s n has_to_wait is_cancelled m is =
+    unready is_cancelled has_to_wait n.is_timeout n.needs_second n.selects s.has_found_buffer s.is_stream m.has_counted n.goes_on m.may_post m.has_buffer is

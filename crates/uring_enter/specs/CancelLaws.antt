@@ -1,8 +1,8 @@
 -- What holds of every cancel, whatever it looks at. io_uring_enter(2), IORING_OP_ASYNC_CANCEL.
-use Rattle.std.specs.Prelude.{◌≡◌, ◌≤◌, true, false, List}
+use Rattle.std.specs.Prelude.{◌≡◌, ◌==◌, ◌≤◌, ℕ, true, false, List, ◌∷◌}
 use Rattle.uring_enter.specs.declared.cancel.Sought.{Sought}
 use Rattle.uring_enter.specs.declared.cancel.Outstanding.{Outstanding}
-use Rattle.uring_enter.specs.Cancels.{is_of_all, fits, can_be_found, finds_any, is_cancelled, count_of, is_asked}
+use Rattle.uring_enter.specs.Cancels.{is_of_all, goes_by_user_data, fits, can_be_found, finds_any, is_cancelled, count_of, is_asked, oldest, is_stopped}
 
 -- what is cancelled fits, and can be found
 abbrev pub CancelsWhatFits : Type 0
@@ -24,3 +24,16 @@ CancelsTheOldest = (s : Sought) (earlier : List Outstanding) → is_of_all s ≡
 abbrev pub AsksWhatMatters : Type 0
 AsksWhatMatters = (s : Sought) (earlier : List Outstanding) (r : Outstanding) → is_asked s earlier r ≡ false
     → is_cancelled s earlier (record r { may_start = true }) ≡ is_cancelled s earlier (record r { may_start = false })
+
+-- by user data a request with other user data is never cancelled, and changes nothing for those behind it: so a cancel need be shown those alone that have its own
+abbrev pub PassesOverOthers : Type 0
+PassesOverOthers = (s : Sought) (earlier : List Outstanding) (r : Outstanding) → goes_by_user_data s ≡ true
+    → (r.user_data == s.user_data) ≡ false
+    → (is_cancelled s earlier r ≡ false)
+    × ((finds_any s (r ∷ earlier) ≡ finds_any s earlier) × (count_of s (r ∷ earlier) ≡ count_of s earlier))
+
+-- nor does a search look at one, where the core has found one that runs
+abbrev pub SearchPassesOverOthers : Type 0
+SearchPassesOverOthers = (user_data : ℕ) (earlier : List Outstanding) (r : Outstanding)
+    → (r.user_data == user_data) ≡ false
+    → (is_stopped user_data earlier r ≡ false) × (oldest user_data (r ∷ earlier) ≡ oldest user_data earlier)

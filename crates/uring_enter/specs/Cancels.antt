@@ -10,6 +10,10 @@ use Rattle.uring_entry.specs.Errors.{error}
 abbrev pub is_of_all : Sought → Bool
 is_of_all s = s.is_all || s.is_any
 
+-- whether a cancel looks for user data, and not for any or by what a request is carried out on
+abbrev pub goes_by_user_data : Sought → Bool
+goes_by_user_data s = not s.is_any && not s.is_by_fd
+
 -- whether a request is carried out on the descriptor, or on the registered file, that a cancel looks for. One that is carried out on no file isn't, whatever descriptor its entry names: what Linux 6.18 does
 abbrev pub fits_fd : Sought → Outstanding → Bool
 fits_fd s r =

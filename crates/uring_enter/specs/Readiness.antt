@@ -52,6 +52,20 @@ PollsWhatMatters = (s : Standing) (n : Needs) (has_to_wait is_cancelled : Bool) 
     → can_finish s n has_to_wait is_cancelled (with_descriptor m true)
     ≡ can_finish s n has_to_wait is_cancelled (with_descriptor m false)
 
+-- whether a request that runs, which a cancel has found or not, waits for its descriptor alone: it may have to wait for that one, is no timeout, and is to take no provided buffer, or has found one
+abbrev pub waits_for_descriptor_alone : Standing → Needs → (is_cancelled : Bool) → Bool
+waits_for_descriptor_alone s n is_cancelled =
+    if is_cancelled then false else
+    if n.is_timeout then false else
+    if n.needs_second then false else
+    if n.selects && not s.has_found_buffer then false else s.is_stream
+
+-- one that does can't be finished while its descriptor isn't ready, whatever else is so: it needn't be looked at until the kernel tells that it is
+abbrev pub NeedsNoLook : Type 0
+NeedsNoLook = (s : Standing) (n : Needs) (has_to_wait is_cancelled : Bool) (m : Moment)
+    → waits_for_descriptor_alone s n is_cancelled ≡ true
+    → can_finish s n has_to_wait is_cancelled (with_descriptor m false) ≡ false
+
 -- what is known of the moment: what was asked of it
 abbrev pub was_asked : Wanted → Moment → Bool
 was_asked Count m = m.knows_count

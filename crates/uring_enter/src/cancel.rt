@@ -3,6 +3,7 @@
 ghost use Rattle.std.specs.Prelude.{◌≡◌, List, [], ◌∷◌};
 ghost use Rattle.uring_enter.specs.declared.cancel.Outstanding.{Outstanding};
 ghost use Rattle.uring_enter.specs.declared.cancel.Sought.{Sought};
+ghost use Rattle.uring_enter.specs.Cancels as spec;
 ghost use Rattle.uring_enter.specs.Cancels.{is_of_all, fits, fits_fd, is_free, is_waiting, can_be_found, one_more, result_of, is_cancelled, is_asked, HasSeen};
 
 /// What a cancel looks for, and whether it is content with one.
@@ -175,6 +176,13 @@ fn is_free(request: &Outstanding) -> bool
     ensures { result ≡ is_free request.now }
 {
     request.is_token && !request.is_cancelled && request.code != 14
+}
+
+/// Whether a cancel looks for user data, so that it need be shown those requests alone that have its own.
+pub fn goes_by_user_data(sought: &Sought) -> bool
+    ensures { result ≡ spec.goes_by_user_data sought.now }
+{
+    !sought.is_any && !sought.is_by_fd
 }
 
 /// Whether a request that runs waits for something: for its descriptor, or as a timeout. A cancel ends no other.

@@ -1,6 +1,6 @@
 //! What holds of every cancel, whatever it looks at. Each law is the contract of a function that does nothing.
 
-ghost use Rattle.uring_enter.specs.CancelLaws.{CancelsWhatFits, CancelsAllThatFit, CancelsTheOldest, AsksWhatMatters};
+ghost use Rattle.uring_enter.specs.CancelLaws.{CancelsWhatFits, CancelsAllThatFit, CancelsTheOldest, AsksWhatMatters, PassesOverOthers, SearchPassesOverOthers};
 
 /// What is cancelled fits, and can be found.
 pub fn cancels_what_fits()
@@ -20,4 +20,14 @@ pub fn cancels_the_oldest()
 /// Where it isn't asked whether a request could start, it doesn't matter.
 pub fn asks_what_matters()
     ensures { AsksWhatMatters }
+{}
+
+/// By user data a request with other user data is passed over.
+pub fn passes_over_others()
+    ensures { PassesOverOthers }
+{}
+
+/// And so it is where the core has found one that runs.
+pub fn search_passes_over_others()
+    ensures { SearchPassesOverOthers }
 {}

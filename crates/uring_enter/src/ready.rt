@@ -4,7 +4,7 @@ ghost use Rattle.std.specs.Prelude.{◌≡◌, List};
 ghost use Rattle.uring_enter.specs.declared.act.Fact.{Fact};
 ghost use Rattle.uring_enter.specs.Courses.{KeepsCourse, is_cancelled};
 ghost use Rattle.uring_enter.specs.Readiness as spec;
-ghost use Rattle.uring_enter.specs.Readiness.{FinishesWhatCan, LooksOnce, PollsWhatMatters};
+ghost use Rattle.uring_enter.specs.Readiness.{FinishesWhatCan, LooksOnce, NeedsNoLook, PollsWhatMatters};
 
 use crate::course::Course;
 use crate::needs::{Needs, is_of_sockets, is_splice, is_transfer};
@@ -124,6 +124,20 @@ pub fn keeps_open(standing: &Standing, has_registered: bool, has_epoll: bool) ->
     standing.is_stream && !has_registered && !has_epoll
 }
 
+/// Whether a request that runs waits for its descriptor alone, so that it needn't be looked at until that is ready.
+pub fn waits_for_descriptor_alone(standing: &Standing, needs: &Needs, course: &Course) -> bool
+    ensures { (log : List Fact) → KeepsCourse log course.now
+        → result ≡ spec.waits_for_descriptor_alone standing.now needs.now (is_cancelled log) }
+{
+    if course.is_cancelled || needs.is_timeout || needs.needs_second {
+        false
+    } else if needs.selects && !standing.has_found_buffer {
+        false
+    } else {
+        standing.is_stream
+    }
+}
+
 fn told(finishes: bool) -> Look
     ensures { result ≡ spec.told finishes }
 {
@@ -189,6 +203,11 @@ pub fn finishes_what_can()
 /// A request that can't be finished but once its descriptor is ready is polled.
 pub fn polls_what_matters()
     ensures { PollsWhatMatters }
+{}
+
+/// One that waits for its descriptor alone can't be finished while that isn't ready.
+pub fn needs_no_look()
+    ensures { NeedsNoLook }
 {}
 
 /// Nothing is asked twice of a moment.
