@@ -1,5 +1,5 @@
 -- The laws of what is asked before a request is finished.
-use Rattle.std.proofs.Common.{◌≡◌, Bool, true, false, not, ◌&&◌, if◌then◌else◌, refl, sym, ap, ◌∙◌}
+use Rattle.std.proofs.Common.{◌≡◌, Bool, true, false, not, ◌&&◌, ◌||◌, if◌then◌else◌, refl, sym, ap, ◌∙◌}
 use Rattle.std.proofs.lemmas.Bool.{true≢false}
 use Rattle.uring_enter.specs.declared.ready.Moment.{Moment}
 use Rattle.uring_enter.specs.declared.ready.Wanted.{Wanted}
