@@ -1,5 +1,5 @@
 -- What is known of a request that runs, by what has happened to it and to its ring, the newest first: whether it has to wait, whether it is asked if it can be finished, and whether its descriptor is ready. Our own rules, but where another is named.
-use Rattle.std.specs.Prelude.{◌≡◌, ℕ, ◌+◌, Bool, true, false, not, ◌&&◌, ◌||◌, List, [], ◌∷◌, if◌then◌else◌}
+use Rattle.std.specs.Prelude.{◌≡◌, ℕ, Bool, true, false, not, ◌&&◌, ◌||◌, List, [], ◌∷◌, if◌then◌else◌}
 use Rattle.uring_enter.specs.declared.needs.Needs.{Needs}
 use Rattle.uring_enter.specs.declared.pipe_poll.PipePoll.{PipePoll}
 use Rattle.uring_enter.specs.declared.ready.Look.{Look}
