@@ -161,6 +161,7 @@ static void free_parts(const struct request *request)
         close(request->epoll);
     release_file(request->file);
     release_file(request->second_file);
+    release_file(request->duplicate);
     release_buffer(request->buffer);
 }
 
