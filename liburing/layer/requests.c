@@ -161,7 +161,6 @@ static void free_parts(const struct request *request)
         close(request->epoll);
     release_file(request->file);
     release_file(request->second_file);
-    release_file(request->duplicate);
     release_buffer(request->buffer);
 }
 
@@ -201,6 +200,8 @@ void free_request(struct request *request)
     if (!request)
         return;
     free_parts(request);
+    /* (one that ends by itself has none any more) */
+    release_file(request->duplicate);
     free(request);
 }
 
