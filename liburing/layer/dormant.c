@@ -21,7 +21,7 @@
 #include <sys/epoll.h>
 #include <unistd.h>
 
-/* So many of those that run are looked at in any case: that costs less than to have the instance tell of them. (Tests under the sanitizers have
+/* So many of those that wait are looked at in any case: that costs less than to have the instance tell of them. (Tests under the sanitizers have
  * it tell of all.) */
 #ifndef MOST_LOOKED_AT
 #define MOST_LOOKED_AT 32
@@ -137,8 +137,26 @@ static void lie_down(struct ring *ring, struct request *request)
     request->is_patient = false;
 }
 
+/* Whether there is room for all of them to come back, however many lie down. */
+static bool has_room(struct ring *ring)
+{
+    size_t whole = ring->requests.count;
+    return reserve_requests(&ring->running, whole) && reserve_requests(&ring->patient, whole);
+}
+
+/* Whether many wait for descriptors: timeouts don't. */
+static bool has_many(const struct ring *ring)
+{
+    size_t count = 0;
+    for (size_t i = 0; i < ring->running.count; i++)
+        count += ring->running.rows[i]->standing.is_stream;
+    return count > MOST_LOOKED_AT;
+}
+
 __attribute__((noinline)) static void let_many_lie(struct ring *ring)
 {
+    if (!has_many(ring) || !has_room(ring))
+        return;
     for (size_t i = 0; i < ring->running.count;) {
         struct request *request = ring->running.rows[i];
         if (is_to_lie(ring, request) && has_instance(ring) && enlist_kept(ring, request))
@@ -146,9 +164,6 @@ __attribute__((noinline)) static void let_many_lie(struct ring *ring)
         else
             i++;
     }
-    /* (there was room for them, and is: no memory is asked for) */
-    reserve_requests(&ring->running, ring->requests.count - ring->running.count);
-    reserve_ways(ring, ring->requests.count);
 }
 
 void let_lie(struct ring *ring)
@@ -173,10 +188,12 @@ void rouse(struct ring *ring, struct request *request)
         bring_back(ring, request);
 }
 
-/* The kernel refuses to tell: all are looked at from now on. */
+/* The kernel refuses to tell, so all are looked at from now on. The program may have closed the instance, and opened something under its number: that
+ * stays open. */
 static void rouse_all(struct ring *ring)
 {
     ring->dormant.is_refused = true;
+    ring->dormant.instance = -1;
     for (size_t i = 0; i < ring->requests.count; i++)
         rouse(ring, ring->requests.rows[i]);
 }

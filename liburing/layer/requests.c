@@ -199,6 +199,8 @@ void free_request(struct request *request)
     if (!request)
         return;
     free_parts(request);
+    /* (one that ends by itself has none any more) */
+    release_file(request->duplicate);
     free(request);
 }
 

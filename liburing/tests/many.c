@@ -374,6 +374,41 @@ static void test_some(void)
     close_ring(&ring);
 }
 
+/* How many descriptors are open while a ring is that was made just now. */
+static unsigned count_open(void)
+{
+    struct ring ring;
+    unsigned count = 0;
+    make_ring(&ring, 4, 0, 0);
+    for (int fd = 0; fd < 4096; fd++)
+        count += fcntl(fd, F_GETFD) >= 0;
+    close_ring(&ring);
+    return count;
+}
+
+/* A ring may be closed while many wait: none of their descriptors is left once another is made. */
+static void test_abandoned(void)
+{
+    struct ring ring;
+    int pair[2];
+    char bytes[8];
+    check(socketpair(AF_UNIX, SOCK_STREAM, 0, pair) == 0);
+    unsigned open = count_open();
+    for (int round = 0; round < 3; round++) {
+        make_crowded(&ring, 64);
+        check(register_at(ring.fd, IORING_REGISTER_FILES, pair, 1) == 0);
+        for (unsigned i = 0; i < 2; i++)
+            put_transfer(&ring, IORING_OP_RECV, i, IOSQE_FIXED_FILE, 0, bytes, 8, 0);
+        put_plain(&ring, IORING_OP_POLL_ADD, 2, quiet[0])->len = IORING_POLL_ADD_MULTI;
+        check(enter(&ring, 3, 0, 0) == 3);
+        rest(&ring);
+        close(quiet[0]), close(quiet[1]);
+        close_ring(&ring);
+    }
+    check(count_open() == open);
+    close(pair[0]), close(pair[1]);
+}
+
 static const struct named tests[] = {
     {"kinds", test_kinds},
     {"shared", test_shared},
@@ -385,6 +420,7 @@ static const struct named tests[] = {
     {"woken", test_woken},
     {"readable", test_readable},
     {"some", test_some},
+    {"abandoned", test_abandoned},
 };
 
 int main(int count, char **words)
