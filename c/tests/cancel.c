@@ -38,14 +38,14 @@ static void seek(void)
     poll.code = 6;
     other.code = CANCEL;
     wulgach_sought_of(&(struct wulgach_submission){.opcode = POLL_REMOVE, .addr = 5, .op_flags = 4}, &sought);
-    demand(sought.user_data == 5 && sought.is_of_operation && sought.code == 6 && !sought.is_any, "a removal looks by user data");
+    demand(sought.user_data == 5 && sought.is_of_operation && sought.code == 6 && !sought.is_any && wulgach_goes_by_user_data(&sought), "a removal looks by user data");
     wulgach_cancel_begin(&cancel, &sought);
     demand(!wulgach_cancel_sees(&cancel, &read) && wulgach_cancel_sees(&cancel, &poll), "and among requests of its operation");
     wulgach_sought_of(&(struct wulgach_submission){.opcode = CANCEL, .fd = 3, .op_flags = 11}, &sought);
-    demand(sought.fd == 3 && sought.is_by_fd && sought.is_fixed && sought.is_all && !sought.is_any && !sought.is_of_operation, "all by a slot");
+    demand(sought.fd == 3 && sought.is_by_fd && sought.is_fixed && sought.is_all && !sought.is_any && !sought.is_of_operation && !wulgach_goes_by_user_data(&sought), "all by a slot");
     demand(wulgach_seeking_fault(&sought, false) == -9 && wulgach_seeking_fault(&sought, true) == 0, "an empty slot");
     wulgach_sought_of(&(struct wulgach_submission){.opcode = CANCEL, .op_flags = 4}, &sought);
-    demand(wulgach_seeking_fault(&sought, false) == 0, "any needs no slot");
+    demand(wulgach_seeking_fault(&sought, false) == 0 && !wulgach_goes_by_user_data(&sought), "any needs no slot");
     wulgach_cancel_begin(&cancel, &sought);
     demand(!wulgach_cancel_sees(&cancel, &other) && wulgach_cancel_sees(&cancel, &read) && wulgach_cancel_result(&cancel) == 1, "a cancel finds none");
     demand(wulgach_is_waiting(&read) && wulgach_is_waiting(&timeout) && !wulgach_is_waiting(&(struct wulgach_outstanding){0}), "what waits");

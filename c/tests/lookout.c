@@ -99,6 +99,8 @@ static void ask_again(void)
     find_waiting(&waiter, &lookout);
     wulgach_waiter_meets_cancel(&waiter);
     demand(wulgach_can_finish(&waiter, &lookout, &none, &no_needs, &is_cancelled, &unknown) == WULGACH_LOOK_FINISHES, "one that a cancel has found");
+    demand(wulgach_waits_for_descriptor_alone(&stream, &no_needs, &runs) && !wulgach_waits_for_descriptor_alone(&none, &no_needs, &runs) && !wulgach_waits_for_descriptor_alone(&stream, &no_needs, &is_cancelled), "one that waits for its descriptor alone");
+    demand(!wulgach_waits_for_descriptor_alone(&stream, &(struct wulgach_needs){.selects = true}, &runs) && !wulgach_waits_for_descriptor_alone(&stream, &(struct wulgach_needs){.is_timeout = true}, &runs) && !wulgach_waits_for_descriptor_alone(&stream, &(struct wulgach_needs){.needs_second = true}, &runs), "and one that doesn't");
     wulgach_waiter_waits(&other, &lookout);
     demand(ask(&other, &lookout, &ready) == WULGACH_LOOK_WAITS, "one that would have waited");
     wulgach_lookout_moves(&lookout);
