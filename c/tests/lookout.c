@@ -59,6 +59,7 @@ static void pass_over(void)
     demand(lookout.count == 0, "an end where one had to wait");
 }
 
+static const struct wulgach_standing stream = {.is_stream = true};
 static const struct wulgach_needs no_needs;
 static const struct wulgach_course runs = {.has_started = true}, is_cancelled = {.has_started = true, .is_cancelled = true};
 static const struct wulgach_moment not_ready = {.knows_readiness = true}, ready = {.knows_readiness = true, .is_ready = true}, unknown;
@@ -66,7 +67,6 @@ static const struct wulgach_moment not_ready = {.knows_readiness = true}, ready 
 /* Whether a request that may have to wait for its descriptor is asked, and what is told of it. */
 static uint32_t ask(struct wulgach_waiter *waiter, const struct wulgach_lookout *lookout, const struct wulgach_moment *known)
 {
-    static const struct wulgach_standing stream = {.is_stream = true};
     return wulgach_can_finish(waiter, lookout, &stream, &no_needs, &runs, known);
 }
 
