@@ -4,7 +4,7 @@ ghost use Rattle.uring_enter.specs.declared.act.Fact.{Fact};
 ghost use Rattle.uring_enter.specs.Courses.{KeepsCourse, is_cancelled};
 ghost use Rattle.uring_enter.specs.Lookouts.{Happening, Waited, Told, KeepsLookout, moments, rounds};
 ghost use Rattle.uring_enter.specs.Readiness as ready;
-ghost use Rattle.uring_enter.specs.Waiters.{Turn, WouldWait, WasCancelled, WasUpdated, WasSeen, HeardWrite, MissedWrite, Took, KeepsWaiter, around};
+ghost use Rattle.uring_enter.specs.Waiters.{Encounter, WouldWait, WasCancelled, WasUpdated, WasSeen, HeardWrite, MissedWrite, Took, KeepsWaiter, around};
 ghost use Rattle.uring_enter.specs.Waiters as waiters;
 ghost use Rattle.uring_crossing.specs.WaitForm.{word_of_look, word_of_sighting, behind_look};
 
@@ -31,10 +31,10 @@ pub extern "C" fn wulgach_can_finish(
     course: &Course,
     known: &Moment,
 ) -> u32
-    ensures told { (log : List Turn) (facts : List Fact) → KeepsLookout (around log) lookout.now
+    ensures told { (log : List Encounter) (facts : List Fact) → KeepsLookout (around log) lookout.now
         → KeepsWaiter log waiter.old → KeepsCourse facts course.now
         → result ≡ word_of_look (waiters.look_of log standing.now needs.now (is_cancelled facts) known.now) }
-    ensures after { (log : List Turn) → KeepsLookout (around log) lookout.now → KeepsWaiter log waiter.old
+    ensures after { (log : List Encounter) → KeepsLookout (around log) lookout.now → KeepsWaiter log waiter.old
         → KeepsWaiter (behind_look log result) waiter.new }
 {
     look_word(waiter.look(lookout, standing, needs, course, known))
@@ -45,7 +45,7 @@ pub extern "C" fn wulgach_can_finish(
 pub extern "C" fn wulgach_waiter_waits(waiter: &mut Waiter, lookout: &mut Lookout)
     ensures of_ring { (log : List Happening) → KeepsLookout log lookout.old
         → KeepsLookout (Waited ∷ log) lookout.new }
-    ensures of_one { (log : List Turn) → KeepsLookout (around log) lookout.old → KeepsWaiter log waiter.old
+    ensures of_one { (log : List Encounter) → KeepsLookout (around log) lookout.old → KeepsWaiter log waiter.old
         → KeepsWaiter (WouldWait ∷ log) waiter.new }
 {
     waiter.waits(lookout);
@@ -54,7 +54,7 @@ pub extern "C" fn wulgach_waiter_waits(waiter: &mut Waiter, lookout: &mut Lookou
 /// A cancel has found it.
 #[unsafe(no_mangle)]
 pub extern "C" fn wulgach_waiter_meets_cancel(waiter: &mut Waiter)
-    ensures { (log : List Turn) → KeepsWaiter log waiter.old
+    ensures { (log : List Encounter) → KeepsWaiter log waiter.old
         → KeepsWaiter (WasCancelled ∷ log) waiter.new }
 {
     waiter.meets_cancel();
@@ -63,7 +63,7 @@ pub extern "C" fn wulgach_waiter_meets_cancel(waiter: &mut Waiter)
 /// An update has changed it.
 #[unsafe(no_mangle)]
 pub extern "C" fn wulgach_waiter_meets_update(waiter: &mut Waiter)
-    ensures { (log : List Turn) → KeepsWaiter log waiter.old
+    ensures { (log : List Encounter) → KeepsWaiter log waiter.old
         → KeepsWaiter (WasUpdated ∷ log) waiter.new }
 {
     waiter.meets_update();
@@ -76,9 +76,9 @@ pub extern "C" fn wulgach_waiter_sees(
     lookout: &Lookout,
     is_ready: bool,
 ) -> bool
-    ensures misses { (log : List Turn) → KeepsWaiter log waiter.old
+    ensures misses { (log : List Encounter) → KeepsWaiter log waiter.old
         → result ≡ (not is_ready && waiters.has_heard log) }
-    ensures after { (log : List Turn) → KeepsLookout (around log) lookout.now → KeepsWaiter log waiter.old
+    ensures after { (log : List Encounter) → KeepsLookout (around log) lookout.now → KeepsWaiter log waiter.old
         → KeepsWaiter (WasSeen is_ready ∷ log) waiter.new }
 {
     waiter.sees(lookout, is_ready)
@@ -95,7 +95,7 @@ pub extern "C" fn wulgach_waiter_hears(
     ensures of_ring { (log : List Happening) → KeepsLookout log lookout.old
         → moments log + 1 < 2 ^ 64 → rounds log + 1 < 2 ^ 64
         → KeepsLookout (Told ∷ log) lookout.new }
-    ensures of_one { (log : List Turn) → KeepsWaiter log waiter.old
+    ensures of_one { (log : List Encounter) → KeepsWaiter log waiter.old
         → KeepsWaiter (HeardWrite poll.now is_there ∷ log) waiter.new }
 {
     waiter.hears(lookout, poll, is_there);
@@ -109,9 +109,9 @@ pub extern "C" fn wulgach_waiter_misses(
     poll: &PipePoll,
     is_there: bool,
 ) -> bool
-    ensures told { (log : List Turn) → KeepsLookout (around log) lookout.now → KeepsWaiter log waiter.old
+    ensures told { (log : List Encounter) → KeepsLookout (around log) lookout.now → KeepsWaiter log waiter.old
         → result ≡ waiters.is_told (MissedWrite poll.now is_there ∷ log) }
-    ensures after { (log : List Turn) → KeepsLookout (around log) lookout.now → KeepsWaiter log waiter.old
+    ensures after { (log : List Encounter) → KeepsLookout (around log) lookout.now → KeepsWaiter log waiter.old
         → KeepsWaiter (MissedWrite poll.now is_there ∷ log) waiter.new }
 {
     waiter.misses(lookout, poll, is_there)
@@ -120,8 +120,8 @@ pub extern "C" fn wulgach_waiter_misses(
 /// A poll was carried out, and has taken what there was. Returns whether it was told of a write.
 #[unsafe(no_mangle)]
 pub extern "C" fn wulgach_waiter_takes(waiter: &mut Waiter, lookout: &Lookout) -> bool
-    ensures told { (log : List Turn) → KeepsWaiter log waiter.old → result ≡ waiters.is_told log }
-    ensures after { (log : List Turn) → KeepsLookout (around log) lookout.now → KeepsWaiter log waiter.old
+    ensures told { (log : List Encounter) → KeepsWaiter log waiter.old → result ≡ waiters.is_told log }
+    ensures after { (log : List Encounter) → KeepsLookout (around log) lookout.now → KeepsWaiter log waiter.old
         → KeepsWaiter (Took ∷ log) waiter.new }
 {
     waiter.takes(lookout)
@@ -130,7 +130,7 @@ pub extern "C" fn wulgach_waiter_takes(waiter: &mut Waiter, lookout: &Lookout) -
 /// Returns whether its descriptor is ready, or is to be looked at.
 #[unsafe(no_mangle)]
 pub extern "C" fn wulgach_waiter_sighting(waiter: &Waiter, lookout: &Lookout) -> u32
-    ensures { (log : List Turn) → KeepsLookout (around log) lookout.now → KeepsWaiter log waiter.now
+    ensures { (log : List Encounter) → KeepsLookout (around log) lookout.now → KeepsWaiter log waiter.now
         → result ≡ word_of_sighting (waiters.sighting_of log) }
 {
     sighting_word(waiter.sighting(lookout))

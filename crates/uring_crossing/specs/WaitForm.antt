@@ -10,7 +10,7 @@ use Rattle.uring_enter.specs.declared.ready.Look.TheVariants as look
 use Rattle.uring_enter.specs.declared.transfer.How.TheVariants as how
 use Rattle.uring_enter.specs.declared.sighting.Sighting.{Sighting}
 use Rattle.uring_enter.specs.declared.sighting.Sighting.TheVariants as sighting
-use Rattle.uring_enter.specs.Waiters.{Turn, FoundWaiting}
+use Rattle.uring_enter.specs.Waiters.{Encounter, FoundWaiting}
 use Rattle.uring_enter.specs.declared.transfer.Task.{Task}
 use Rattle.uring_enter.specs.declared.transfer.Task.TheVariants.{Calls, Finds, Polls}
 use Rattle.uring_enter.specs.declared.transfer.Step.{Step}
@@ -41,7 +41,7 @@ word_of_look (look.Asks Buffer) = 4
 word_of_look (look.Asks Readiness) = 5
 
 -- what has happened to a request that was asked so: of one that can't be finished, that it was found to wait
-abbrev pub behind_look : List Turn → ℕ → List Turn
+abbrev pub behind_look : List Encounter → ℕ → List Encounter
 behind_look log word = if word == 0 then FoundWaiting ∷ log else log
 
 -- 0 and 1 say whether a descriptor is ready, and 2 that it is to be looked at. Our own rule

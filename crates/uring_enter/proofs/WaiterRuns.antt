@@ -2,14 +2,14 @@
 use Rattle.std.proofs.Common.{◌≡◌, ◌≤◌, true, false, not, ◌==◌, List, [], ◌∷◌, refl, arith}
 use Rattle.std.proofs.lemmas.Bool.{eq-eqb, and_parts, not-true, false≢true, true≢false}
 use Rattle.uring_enter.specs.Lookouts.{Happening, Found, Started, Left, Touched, Updated, Waited, Moved, Told, Heard, Opened, Ended, Changed, Woke, have_to_wait, lets_go, makes_ready, moments, releases, renews, rounds}
-use Rattle.uring_enter.specs.Waiters.{Turn, Around, FoundWaiting, WouldWait, WasCancelled, WasUpdated, WasSeen, HeardWrite, MissedWrite, Took, around, found_in, waited_in, seen_in, is_known, has_to_wait, is_seen, RingKnows}
+use Rattle.uring_enter.specs.Waiters.{Encounter, Around, FoundWaiting, WouldWait, WasCancelled, WasUpdated, WasSeen, HeardWrite, MissedWrite, Took, around, found_in, waited_in, seen_in, is_known, has_to_wait, is_seen, RingKnows}
 use Rattle.uring_enter.proofs.Counts.{grows, stays, apart, never}
 
 rounds_begin : (log : List Happening) → 1 ≤ rounds log
 rounds_begin [] = omega arith
 rounds_begin (h ∷ log) = grows 1 (rounds log) (renews log h) (rounds_begin log)
 
-found_no_later : (log : List Turn) → found_in log ≤ rounds (around log)
+found_no_later : (log : List Encounter) → found_in log ≤ rounds (around log)
 found_no_later [] = omega arith
 found_no_later (Around h ∷ log) = grows (found_in log) (rounds (around log)) (renews (around log) h) (found_no_later log)
 found_no_later (FoundWaiting ∷ log) = omega arith
@@ -21,7 +21,7 @@ found_no_later (HeardWrite _ _ ∷ log) = omega (arith, found_no_later log)
 found_no_later (MissedWrite _ _ ∷ log) = found_no_later log
 found_no_later (Took ∷ log) = found_no_later log
 
-pub known : (log : List Turn) → (found_in log == rounds (around log)) ≡ is_known log
+pub known : (log : List Encounter) → (found_in log == rounds (around log)) ≡ is_known log
 known [] = refl
 known (Around h ∷ log) = stays (found_in log) (rounds (around log)) (renews (around log) h) (is_known log) (found_no_later log) (known log)
 known (FoundWaiting ∷ log) = eq-eqb (rounds (around log)) (rounds (around log)) refl
@@ -37,7 +37,7 @@ releases_begin : (log : List Happening) → 1 ≤ releases log
 releases_begin [] = omega arith
 releases_begin (h ∷ log) = grows 1 (releases log) (lets_go h) (releases_begin log)
 
-waited_no_later : (log : List Turn) → waited_in log ≤ releases (around log)
+waited_no_later : (log : List Encounter) → waited_in log ≤ releases (around log)
 waited_no_later [] = omega arith
 waited_no_later (Around h ∷ log) = grows (waited_in log) (releases (around log)) (lets_go h) (waited_no_later log)
 waited_no_later (FoundWaiting ∷ log) = waited_no_later log
@@ -49,7 +49,7 @@ waited_no_later (HeardWrite _ _ ∷ log) = omega arith
 waited_no_later (MissedWrite _ _ ∷ log) = waited_no_later log
 waited_no_later (Took ∷ log) = waited_no_later log
 
-pub waits : (log : List Turn) → (waited_in log == releases (around log)) ≡ has_to_wait log
+pub waits : (log : List Encounter) → (waited_in log == releases (around log)) ≡ has_to_wait log
 waits [] = refl
 waits (Around h ∷ log) = stays (waited_in log) (releases (around log)) (lets_go h) (has_to_wait log) (waited_no_later log) (waits log)
 waits (FoundWaiting ∷ log) = waits log
@@ -61,7 +61,7 @@ waits (HeardWrite _ _ ∷ log) = never (releases (around log)) (releases_begin (
 waits (MissedWrite _ _ ∷ log) = waits log
 waits (Took ∷ log) = waits log
 
-seen_no_later : (log : List Turn) → seen_in log ≤ moments (around log)
+seen_no_later : (log : List Encounter) → seen_in log ≤ moments (around log)
 seen_no_later [] = omega arith
 seen_no_later (Around h ∷ log) = grows (seen_in log) (moments (around log)) (makes_ready h) (seen_no_later log)
 seen_no_later (FoundWaiting ∷ log) = seen_no_later log
@@ -73,7 +73,7 @@ seen_no_later (HeardWrite _ _ ∷ log) = omega (arith, seen_no_later log)
 seen_no_later (MissedWrite _ _ ∷ log) = seen_no_later log
 seen_no_later (Took ∷ log) = omega arith
 
-pub seen : (log : List Turn) → (seen_in log == moments (around log)) ≡ is_seen log
+pub seen : (log : List Encounter) → (seen_in log == moments (around log)) ≡ is_seen log
 seen [] = refl
 seen (Around h ∷ log) = stays (seen_in log) (moments (around log)) (makes_ready h) (is_seen log) (seen_no_later log) (seen log)
 seen (FoundWaiting ∷ log) = seen log

@@ -2,7 +2,7 @@
 
 ghost use Rattle.std.specs.Prelude.{◌≡◌, ◌+◌, ◌<◌, ◌^◌, not, ◌&&◌, List, ◌∷◌};
 ghost use Rattle.uring_enter.specs.Lookouts.{Happening, Told, KeepsLookout, moments, rounds};
-ghost use Rattle.uring_enter.specs.Waiters.{Turn, WasSeen, HeardWrite, MissedWrite, Took, KeepsWaiter, around};
+ghost use Rattle.uring_enter.specs.Waiters.{Encounter, WasSeen, HeardWrite, MissedWrite, Took, KeepsWaiter, around};
 ghost use Rattle.uring_enter.specs.Waiters as spec;
 
 use crate::lookout::Lookout;
@@ -23,9 +23,9 @@ pub enum Sighting {
 impl Waiter {
     /// Its descriptor was looked at, and was ready or not. Says whether it is to be found out if its pipe has something: it had heard of a write, and has found nothing.
     pub fn sees(&mut self, lookout: &Lookout, is_ready: bool) -> bool
-        ensures misses { (log : List Turn) → KeepsWaiter log self.old
+        ensures misses { (log : List Encounter) → KeepsWaiter log self.old
             → result ≡ (not is_ready && spec.has_heard log) }
-        ensures after { (log : List Turn) → KeepsLookout (around log) lookout.now → KeepsWaiter log self.old
+        ensures after { (log : List Encounter) → KeepsLookout (around log) lookout.now → KeepsWaiter log self.old
             → KeepsWaiter (WasSeen is_ready ∷ log) self.new }
     {
         self.seen_in = lookout.moment;
@@ -38,7 +38,7 @@ impl Waiter {
         ensures of_ring { (log : List Happening) → KeepsLookout log lookout.old
             → moments log + 1 < 2 ^ 64 → rounds log + 1 < 2 ^ 64
             → KeepsLookout (Told ∷ log) lookout.new }
-        ensures of_one { (log : List Turn) → KeepsWaiter log self.old
+        ensures of_one { (log : List Encounter) → KeepsWaiter log self.old
             → KeepsWaiter (HeardWrite poll.now is_there ∷ log) self.new }
     {
         let is_gone = poll.is_told(poll.watch, is_there);
@@ -50,9 +50,9 @@ impl Waiter {
 
     /// One that had heard of a write has found nothing, and its pipe has something all the same, or nothing. Says whether it was told: what is gone is, unless it may be the ring's own.
     pub fn misses(&mut self, lookout: &Lookout, poll: &PipePoll, is_there: bool) -> bool
-        ensures told { (log : List Turn) → KeepsLookout (around log) lookout.now → KeepsWaiter log self.old
+        ensures told { (log : List Encounter) → KeepsLookout (around log) lookout.now → KeepsWaiter log self.old
             → result ≡ spec.is_told (MissedWrite poll.now is_there ∷ log) }
-        ensures after { (log : List Turn) → KeepsLookout (around log) lookout.now → KeepsWaiter log self.old
+        ensures after { (log : List Encounter) → KeepsLookout (around log) lookout.now → KeepsWaiter log self.old
             → KeepsWaiter (MissedWrite poll.now is_there ∷ log) self.new }
     {
         let is_gone = poll.is_told(poll.watch, is_there);
@@ -63,8 +63,8 @@ impl Waiter {
 
     /// A poll was carried out, and has taken what there was. Says whether it was told of a write.
     pub fn takes(&mut self, lookout: &Lookout) -> bool
-        ensures told { (log : List Turn) → KeepsWaiter log self.old → result ≡ spec.is_told log }
-        ensures after { (log : List Turn) → KeepsLookout (around log) lookout.now → KeepsWaiter log self.old
+        ensures told { (log : List Encounter) → KeepsWaiter log self.old → result ≡ spec.is_told log }
+        ensures after { (log : List Encounter) → KeepsLookout (around log) lookout.now → KeepsWaiter log self.old
             → KeepsWaiter (Took ∷ log) self.new }
     {
         let was_told = self.is_told;
@@ -77,7 +77,7 @@ impl Waiter {
 
     /// Whether its descriptor is ready, or is to be looked at. One that was told is, whatever its descriptor says.
     pub fn sighting(&self, lookout: &Lookout) -> Sighting
-        ensures { (log : List Turn) → KeepsLookout (around log) lookout.now → KeepsWaiter log self.now
+        ensures { (log : List Encounter) → KeepsLookout (around log) lookout.now → KeepsWaiter log self.now
             → result ≡ spec.sighting_of log }
     {
         if self.is_told {
@@ -93,7 +93,7 @@ impl Waiter {
 
     /// Whether its descriptor was looked at, and can't have become ready since.
     fn is_seen(&self, lookout: &Lookout) -> bool
-        ensures { (log : List Turn) → KeepsLookout (around log) lookout.now → KeepsWaiter log self.now
+        ensures { (log : List Encounter) → KeepsLookout (around log) lookout.now → KeepsWaiter log self.now
             → result ≡ spec.is_seen log }
     {
         self.seen_in == lookout.moment

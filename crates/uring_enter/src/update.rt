@@ -2,7 +2,7 @@
 
 ghost use Rattle.std.specs.Prelude.{◌≡◌, List, ◌∷◌};
 ghost use Rattle.uring_enter.specs.Updates as spec;
-ghost use Rattle.uring_enter.specs.Waiters.{Turn, WasUpdated, KeepsWaiter};
+ghost use Rattle.uring_enter.specs.Waiters.{Encounter, WasUpdated, KeepsWaiter};
 
 use crate::submission::Submission;
 use crate::waiter::Waiter;
@@ -122,7 +122,7 @@ fn updated_flags(flags: u32, entry: &Submission) -> u32
 impl Waiter {
     /// An update has changed it: it need wait for no other's end.
     pub fn meets_update(&mut self)
-        ensures { (log : List Turn) → KeepsWaiter log self.old
+        ensures { (log : List Encounter) → KeepsWaiter log self.old
             → KeepsWaiter (WasUpdated ∷ log) self.new }
     {
         self.found_in = 0;

@@ -4,7 +4,7 @@ ghost use Rattle.std.specs.Prelude.{◌≡◌, List, [], ◌∷◌};
 ghost use Rattle.uring_enter.specs.declared.act.Fact.{Fact};
 ghost use Rattle.uring_enter.specs.Courses.{KeepsCourse, is_cancelled};
 ghost use Rattle.uring_enter.specs.Lookouts.{Happening, Waited, KeepsLookout};
-ghost use Rattle.uring_enter.specs.Waiters.{Turn, WouldWait, WasCancelled, KeepsWaiter, KeepsThrough, RingKnows, around, behind_look};
+ghost use Rattle.uring_enter.specs.Waiters.{Encounter, WouldWait, WasCancelled, KeepsWaiter, KeepsThrough, RingKnows, around, behind_look};
 ghost use Rattle.uring_enter.specs.Waiters as spec;
 
 use crate::course::Course;
@@ -52,7 +52,7 @@ impl Waiter {
 
     /// Whether it has to wait: it would have waited, and nothing has come since behind which it needn't.
     pub fn has_to_wait(&self, lookout: &Lookout) -> bool
-        ensures { (log : List Turn) → KeepsLookout (around log) lookout.now → KeepsWaiter log self.now
+        ensures { (log : List Encounter) → KeepsLookout (around log) lookout.now → KeepsWaiter log self.now
             → result ≡ spec.has_to_wait log }
     {
         self.waited_in == lookout.release
@@ -60,7 +60,7 @@ impl Waiter {
 
     /// Whether it is known to wait: it was found so, and nothing has happened since that can let it be finished.
     pub fn is_known(&self, lookout: &Lookout) -> bool
-        ensures { (log : List Turn) → KeepsLookout (around log) lookout.now → KeepsWaiter log self.now
+        ensures { (log : List Encounter) → KeepsLookout (around log) lookout.now → KeepsWaiter log self.now
             → result ≡ spec.is_known log }
     {
         self.found_in == lookout.round
@@ -75,10 +75,10 @@ impl Waiter {
         course: &Course,
         known: &Moment,
     ) -> Look
-        ensures told { (log : List Turn) (facts : List Fact) → KeepsLookout (around log) lookout.now
+        ensures told { (log : List Encounter) (facts : List Fact) → KeepsLookout (around log) lookout.now
             → KeepsWaiter log self.old → KeepsCourse facts course.now
             → result ≡ spec.look_of log standing.now needs.now (is_cancelled facts) known.now }
-        ensures after { (log : List Turn) → KeepsLookout (around log) lookout.now → KeepsWaiter log self.old
+        ensures after { (log : List Encounter) → KeepsLookout (around log) lookout.now → KeepsWaiter log self.old
             → KeepsWaiter (behind_look log result) self.new }
     {
         let look = if self.is_known(lookout) {
@@ -96,7 +96,7 @@ impl Waiter {
     pub fn waits(&mut self, lookout: &mut Lookout)
         ensures of_ring { (log : List Happening) → KeepsLookout log lookout.old
             → KeepsLookout (Waited ∷ log) lookout.new }
-        ensures of_one { (log : List Turn) → KeepsLookout (around log) lookout.old → KeepsWaiter log self.old
+        ensures of_one { (log : List Encounter) → KeepsLookout (around log) lookout.old → KeepsWaiter log self.old
             → KeepsWaiter (WouldWait ∷ log) self.new }
     {
         self.waited_in = lookout.release;
@@ -105,7 +105,7 @@ impl Waiter {
 
     /// A cancel has found it.
     pub fn meets_cancel(&mut self)
-        ensures { (log : List Turn) → KeepsWaiter log self.old
+        ensures { (log : List Encounter) → KeepsWaiter log self.old
             → KeepsWaiter (WasCancelled ∷ log) self.new }
     {
         self.found_in = 0;
