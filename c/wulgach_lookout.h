@@ -106,6 +106,13 @@ void wulgach_waiter_begin(struct wulgach_waiter *waiter);
  * take a provided buffer and has found none. */
 uint32_t wulgach_can_finish(struct wulgach_waiter *waiter, const struct wulgach_lookout *lookout, const struct wulgach_standing *standing, const struct wulgach_needs *needs, const struct wulgach_course *course, const struct wulgach_moment *known);
 
+/* Whether a request asks for its events as it starts: a poll does, unless it has failed, with this error or 0. */
+bool wulgach_starts_poll(const struct wulgach_needs *needs, int32_t fault);
+
+/* Whether a provided buffer is looked for as a request starts: it is to take one, and may have to wait for its descriptor. Another looks for one as
+ * it is carried out. */
+bool wulgach_seeks_buffer_at_start(const struct wulgach_standing *standing, const struct wulgach_needs *needs);
+
 /* Whether a request that runs waits for its descriptor alone: it may have to wait for that and for no second one, is no timeout, takes no provided
  * buffer or has found one, and no cancel has found it. It can't be finished while its descriptor isn't ready, so it needn't be asked meanwhile. */
 bool wulgach_waits_for_descriptor_alone(const struct wulgach_standing *standing, const struct wulgach_needs *needs, const struct wulgach_course *course);

@@ -100,6 +100,8 @@ static void ask_again(void)
     wulgach_waiter_meets_cancel(&waiter);
     demand(wulgach_can_finish(&waiter, &lookout, &none, &no_needs, &is_cancelled, &unknown) == WULGACH_LOOK_FINISHES, "one that a cancel has found");
     demand(wulgach_waits_for_descriptor_alone(&stream, &no_needs, &runs) && !wulgach_waits_for_descriptor_alone(&none, &no_needs, &runs) && !wulgach_waits_for_descriptor_alone(&stream, &no_needs, &is_cancelled), "one that waits for its descriptor alone");
+    demand(wulgach_starts_poll(&(struct wulgach_needs){.is_poll = true}, 0) && !wulgach_starts_poll(&(struct wulgach_needs){.is_poll = true}, -9) && !wulgach_starts_poll(&no_needs, 0), "a poll that hasn't failed asks for its events");
+    demand(wulgach_seeks_buffer_at_start(&stream, &(struct wulgach_needs){.selects = true}) && !wulgach_seeks_buffer_at_start(&none, &(struct wulgach_needs){.selects = true}) && !wulgach_seeks_buffer_at_start(&stream, &no_needs), "and what may wait looks for its buffer");
     demand(!wulgach_waits_for_descriptor_alone(&stream, &(struct wulgach_needs){.selects = true}, &runs) && !wulgach_waits_for_descriptor_alone(&stream, &(struct wulgach_needs){.is_timeout = true}, &runs) && !wulgach_waits_for_descriptor_alone(&stream, &(struct wulgach_needs){.needs_second = true}, &runs), "and one that doesn't");
     wulgach_waiter_waits(&other, &lookout);
     demand(ask(&other, &lookout, &ready) == WULGACH_LOOK_WAITS, "one that would have waited");

@@ -132,13 +132,12 @@ static void start(struct ring *ring, struct request *request)
         assign(ring, request);
     log_start(ring, request);
     note_started(ring, request);
-    if (is_poll(request) && request->started == 0)
+    if (wulgach_starts_poll(&request->needs, request->started))
         request->started = start_poll(request);
     note_running(ring, request);
-    if (!request->standing.is_stream)
-        return;
-    look_at(ring, request);
-    if (request->needs.selects)
+    if (wulgach_polls(&request->standing))
+        look_at(ring, request);
+    if (wulgach_seeks_buffer_at_start(&request->standing, &request->needs))
         finds_buffer(ring, request);
 }
 

@@ -10,7 +10,8 @@ ghost use Rattle.uring_crossing.specs.WaitForm.{word_of_look, word_of_sighting, 
 
 use uring_crossing::wait_words::{look_word, sighting_word};
 use uring_enter::{
-    Course, Lookout, Moment, Needs, PipePoll, Standing, Waiter, waits_for_descriptor_alone,
+    Course, Lookout, Moment, Needs, PipePoll, Standing, Waiter, seeks_buffer_at_start, starts_poll,
+    waits_for_descriptor_alone,
 };
 
 /// Begins a request that has started just now.
@@ -147,4 +148,20 @@ pub extern "C" fn wulgach_waits_for_descriptor_alone(
         → result ≡ ready.waits_for_descriptor_alone standing.now needs.now (is_cancelled log) }
 {
     waits_for_descriptor_alone(standing, needs, course)
+}
+
+/// Whether a request asks for its events as it starts.
+#[unsafe(no_mangle)]
+pub extern "C" fn wulgach_starts_poll(needs: &Needs, fault: i32) -> bool
+    ensures { result ≡ ready.starts_poll needs.now fault }
+{
+    starts_poll(needs, fault)
+}
+
+/// Whether a provided buffer is looked for as a request starts.
+#[unsafe(no_mangle)]
+pub extern "C" fn wulgach_seeks_buffer_at_start(standing: &Standing, needs: &Needs) -> bool
+    ensures { result ≡ ready.seeks_buffer_at_start standing.now needs.now }
+{
+    seeks_buffer_at_start(standing, needs)
 }

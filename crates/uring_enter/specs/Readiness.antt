@@ -1,5 +1,6 @@
 -- When a request that runs can be finished without waiting. io_uring_enter(2), at each operation; but where our own rule is named.
-use Rattle.std.specs.Prelude.{◌≡◌, ℕ, Bool, true, false, not, ◌&&◌, ◌||◌, ◌==◌, if◌then◌else◌}
+use Rattle.std.specs.Prelude.{◌≡◌, ℕ, ℤ, pos, Bool, true, false, not, ◌&&◌, ◌||◌, ◌==◌, if◌then◌else◌}
+use Rattle.std.specs.Ordering.{int_eq}
 use Rattle.uring_enter.specs.declared.submission.Submission.{Submission}
 use Rattle.uring_enter.specs.declared.needs.Needs.{Needs}
 use Rattle.uring_enter.specs.declared.ready.Standing.{Standing}
@@ -24,6 +25,14 @@ can_finish s n has_to_wait is_cancelled m =
     if n.is_timeout then m.has_counted else
     if n.goes_on && not m.may_post then false else
     if s.is_stream then finds_what_it_wants s n m else true
+
+-- whether a request asks for its events as it starts: a poll does, unless it has failed by then
+abbrev pub starts_poll : Needs → ℤ → Bool
+starts_poll n fault = n.is_poll && int_eq fault (pos 0)
+
+-- whether a provided buffer is looked for as a request starts: it is to take one, and may have to wait for its descriptor. Another looks for one as it is carried out. What Linux 6.18 was seen to do
+abbrev pub seeks_buffer_at_start : Standing → Needs → Bool
+seeks_buffer_at_start s n = n.selects && s.is_stream
 
 -- whether a call that sleeps polls the descriptor of a request that runs: it may have to wait for that
 abbrev pub polls : Standing → Bool

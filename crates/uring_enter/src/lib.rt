@@ -236,6 +236,8 @@ pub use ready::needs_no_look;
 pub use ready::next_look;
 pub use ready::polls;
 pub use ready::polls_what_matters;
+pub use ready::seeks_buffer_at_start;
+pub use ready::starts_poll;
 pub use ready::waits_for_descriptor_alone;
 pub use reply::Reply;
 pub use reply::Sight;
