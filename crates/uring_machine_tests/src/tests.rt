@@ -6,8 +6,17 @@ mod recorded;
 mod settling;
 mod sizes;
 
+use std::process::Abort;
+use std::test::Fail;
 use uring_entry::Sqe;
 use uring_machine::{Answer, Machine, Step};
+
+/// Asserts that this holds, if what was done wasn't refused memory.
+fn check_done(rt: &impl Abort, holds: Result<bool, Fail>, what: &str) -> Result<(), Fail> {
+    let holds = holds?;
+    assert!(rt; holds, "{what}");
+    Ok(())
+}
 
 /// Publishes these entries, from slot 0 on, as the application does, and tells how many they are.
 fn publish(machine: &mut Machine, entries: &[Sqe]) -> u32 {

@@ -20,8 +20,24 @@ mod threads;
 mod told;
 mod words;
 
+use std::process::Abort;
+use std::test::Fail;
 use uring_entry::Sqe;
 use uring_threads::{Item, Turn};
+
+/// Asserts that this holds, if what was done wasn't refused memory.
+fn check(rt: &impl Abort, holds: Result<bool, Fail>, what: &str) -> Result<(), Fail> {
+    let holds = holds?;
+    assert!(rt; holds, "{what}");
+    Ok(())
+}
+
+/// Asserts that no seed went wrong: what did goes by its number.
+fn check_seeds(rt: &impl Abort, wrong: Result<Option<u64>, Fail>) -> Result<(), Fail> {
+    let wrong = wrong?;
+    assert_eq!(rt; wrong, None);
+    Ok(())
+}
 
 /// A no-op with this user data.
 fn nop(user_data: u64) -> Item {

@@ -2,7 +2,7 @@
 
 ghost use Rattle.std.specs.Prelude.{IsTrue};
 
-use super::{check, check_done, first_false};
+use super::{check_done, first_false};
 use std::alloc::Global;
 use std::test::Fail;
 use uring_dispatch::{Dispatch, Finished, Issued, ReserveError};
@@ -153,17 +153,6 @@ fn first_wrong_of_one(dispatch: &mut Dispatch) -> Result<Option<usize>, Fail>
     Ok(first_false(&each_call_of(dispatch).are_right(entry)))
 }
 
-/// The same of a new dispatcher.
-fn each_call_of_new(alloc: Global) -> Result<Option<usize>, Fail> {
-    let mut dispatch = Dispatch::new(alloc);
-    first_wrong_of_one(&mut dispatch)
-}
-
-#[test]
-fn each_call(rt: HostRuntime) -> Result<(), Fail> {
-    check_done(&rt, each_call_of_new(rt.alloc()))
-}
-
 /// Whether reserves are answered right of more than all numbers, of all of them, and of none, and whether nothing was accepted.
 fn are_reserves_right(dispatch: &mut Dispatch) -> [bool; 4]
     requires { IsTrue dispatch.old.is_between_calls }
@@ -177,17 +166,6 @@ fn are_reserves_right(dispatch: &mut Dispatch) -> [bool; 4]
         none == Ok(()),
         dispatch.accepted() == 0,
     ]
-}
-
-/// The same of a new dispatcher.
-fn reserves(alloc: Global) -> [bool; 4] {
-    let mut dispatch = Dispatch::new(alloc);
-    are_reserves_right(&mut dispatch)
-}
-
-#[test]
-fn refused_reserves(rt: HostRuntime) {
-    check(&rt, first_false(&reserves(rt.alloc())));
 }
 
 /// Reserves memory for 5,000 requests at once, and accepts as many in one call.
@@ -237,14 +215,37 @@ fn first_wrong_of_thousands(dispatch: &mut Dispatch) -> Result<Option<usize>, Fa
     Ok(first_false(&are_thousands_there(dispatch)))
 }
 
-/// The same of a new dispatcher.
-fn thousands(alloc: Global) -> Result<Option<usize>, Fail> {
-    let mut dispatch = Dispatch::new(alloc);
-    first_wrong_of_thousands(&mut dispatch)
+/// What is done with a dispatcher.
+#[derive(Clone, Copy)]
+enum Case {
+    EachCall,
+    RefusedReserves,
+
+    /// With ample memory room is made for 5,000 requests at once, behind as many that were accepted.
+    Thousands,
 }
 
-/// With ample memory room is made for 5,000 requests at once, behind as many that were accepted.
+/// What is first wrong of it.
+fn first_wrong(dispatch: &mut Dispatch, case: Case) -> Result<Option<usize>, Fail>
+    requires { IsTrue dispatch.old.is_between_calls }
+{
+    match case {
+        Case::EachCall => first_wrong_of_one(dispatch),
+        Case::RefusedReserves => Ok(first_false(&are_reserves_right(dispatch))),
+        Case::Thousands => first_wrong_of_thousands(dispatch),
+    }
+}
+
+/// The same of a new dispatcher.
+fn first_wrong_of_new(alloc: Global, case: Case) -> Result<Option<usize>, Fail> {
+    let mut dispatch = Dispatch::new(alloc);
+    first_wrong(&mut dispatch, case)
+}
+
 #[test]
-fn thousands_are_accepted(rt: HostRuntime) -> Result<(), Fail> {
-    check_done(&rt, thousands(rt.alloc()))
+fn dispatchers_do_as_they_should(rt: HostRuntime) -> Result<(), Fail> {
+    for case in [Case::EachCall, Case::RefusedReserves, Case::Thousands] {
+        check_done(&rt, first_wrong_of_new(rt.alloc(), case))?;
+    }
+    Ok(())
 }

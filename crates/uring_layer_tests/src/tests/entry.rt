@@ -291,12 +291,6 @@ fn served_by_flags() -> Option<u32> {
     Some(served)
 }
 
-#[test]
-fn of_all_flag_bytes_32_are_served(rt: HostRuntime) {
-    let served = served_by_flags();
-    assert_eq!(rt; served, Some(32));
-}
-
 /// How many operations are served without flags.
 fn served_by_operation() -> u32 {
     let mut served = 0;
@@ -309,9 +303,10 @@ fn served_by_operation() -> u32 {
 }
 
 #[test]
-fn of_all_operations_5_are_served(rt: HostRuntime) {
-    let served = served_by_operation();
-    assert_eq!(rt; served, 5);
+fn of_all_flag_bytes_32_are_served_and_of_all_operations_5(rt: HostRuntime) {
+    let flags = served_by_flags() == Some(32);
+    let operations = served_by_operation() == 5;
+    check(&rt, first_false(&[flags, operations]));
 }
 
 /// What is asked for, and the sizes after rounding or the refusal.

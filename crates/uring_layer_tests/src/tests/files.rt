@@ -2,7 +2,7 @@
 
 ghost use Rattle.std.specs.Prelude.{◌≤◌, length};
 
-use super::{check_done, first_false};
+use super::first_false;
 use std::alloc::Global;
 use std::test::Fail;
 use uring_entry::{Op, Outcome};
@@ -86,17 +86,6 @@ impl InTurn {
     }
 }
 
-/// The same of two new files.
-fn in_turn_on_new_files(alloc: Global) -> Result<Option<usize>, Fail> {
-    let mut files = Files::new(alloc, 2)?;
-    Ok(first_false(&in_turn(&mut files).are_right()))
-}
-
-#[test]
-fn operations_in_turn(rt: HostRuntime) -> Result<(), Fail> {
-    check_done(&rt, in_turn_on_new_files(rt.alloc()))
-}
-
 /// A transfer of up to 64 bytes: its descriptor, its offset, its length, and the result that is wanted.
 type Transfer = (i32, u64, u32, i32);
 
@@ -155,17 +144,6 @@ fn are_right_at_the_edges(files: &mut Files) -> [bool; 3] {
     ]
 }
 
-/// The same of 64 new files.
-fn edges(alloc: Global) -> Result<Option<usize>, Fail> {
-    let mut files = Files::new(alloc, 64)?;
-    Ok(first_false(&are_right_at_the_edges(&mut files)))
-}
-
-#[test]
-fn writes_at_the_edges(rt: HostRuntime) -> Result<(), Fail> {
-    check_done(&rt, edges(rt.alloc()))
-}
-
 /// Fills file 0 by whole lines of 64 bytes. How many ended otherwise than with 64.
 fn failures_of_filling(files: &mut Files) -> usize {
     let mut failures: usize = 0;
@@ -202,17 +180,6 @@ fn are_right_of_a_full_file(files: &mut Files) -> [bool; 4] {
         bytes == [Some(7), None, None],
         first_wrong_read(files, &READS_OF_A_FULL_FILE) == None,
     ]
-}
-
-/// The same of a new file.
-fn full_file(alloc: Global) -> Result<Option<usize>, Fail> {
-    let mut files = Files::new(alloc, 1)?;
-    Ok(first_false(&are_right_of_a_full_file(&mut files)))
-}
-
-#[test]
-fn reads_of_a_full_file(rt: HostRuntime) -> Result<(), Fail> {
-    check_done(&rt, full_file(rt.alloc()))
 }
 
 /// Writes behind gaps in a file that isn't empty, up to its largest size.
@@ -257,29 +224,10 @@ fn are_right_behind_gaps(file: &mut Files) -> [bool; 3] {
     ]
 }
 
-/// The same of a new file.
-fn gaps_in_one(alloc: Global) -> Result<Option<usize>, Fail> {
-    let mut file = Files::new(alloc, 1)?;
-    Ok(first_false(&are_right_behind_gaps(&mut file)))
-}
-
 /// Whether all the writes to 64 files end as they should, and how the last file stands then.
 fn are_right_in_many(files: &mut Files) -> [bool; 2] {
     let failures = failures_behind_gaps(files);
     [failures == 0, files.state(63) == standing(63_006, 2, 0)]
-}
-
-/// The same of 64 new files.
-fn gaps_in_many(alloc: Global) -> Result<Option<usize>, Fail> {
-    let mut files = Files::new(alloc, 64)?;
-    Ok(first_false(&are_right_in_many(&mut files)))
-}
-
-/// With ample memory no write is out of memory, however many files there are and however far it lies behind a file's end.
-#[test]
-fn gaps_in_files_that_are_not_empty(rt: HostRuntime) -> Result<(), Fail> {
-    check_done(&rt, gaps_in_one(rt.alloc()))?;
-    check_done(&rt, gaps_in_many(rt.alloc()))
 }
 
 /// Two writes of one file, the second behind a gap: their results, how the file stood after each, and three of its bytes.
@@ -341,14 +289,54 @@ impl Grown {
     }
 }
 
-/// Whether a new file grew by both writes, or by one of them where memory was refused to the other.
-fn grows_or_stays(alloc: Global) -> Result<Option<usize>, Fail> {
-    let mut files = Files::new(alloc, 1)?;
-    Ok(first_false(&[grow_twice(&mut files).is_right()]))
+/// What is done with files.
+#[derive(Clone, Copy)]
+enum Case {
+    InTurn,
+    Edges,
+    FullFile,
+
+    /// With ample memory no write is out of memory, however far it lies behind a file's end, and however many files there are.
+    GapsInOne,
+    GapsInMany,
+
+    /// With ample memory the writes grow the file. Run with one allocation refused, one of them ends with -12 and leaves the file as before.
+    GrowsOrStays,
 }
 
-/// With ample memory the writes grow the file. Run with one allocation refused, one of them ends with -12 and leaves the file as before.
+/// What is first wrong of it.
+fn first_wrong(files: &mut Files, case: Case) -> Option<usize> {
+    match case {
+        Case::InTurn => first_false(&in_turn(files).are_right()),
+        Case::Edges => first_false(&are_right_at_the_edges(files)),
+        Case::FullFile => first_false(&are_right_of_a_full_file(files)),
+        Case::GapsInOne => first_false(&are_right_behind_gaps(files)),
+        Case::GapsInMany => first_false(&are_right_in_many(files)),
+        Case::GrowsOrStays => first_false(&[grow_twice(files).is_right()]),
+    }
+}
+
+/// The same of so many new files.
+fn first_wrong_of_new(alloc: Global, count: u32, case: Case) -> Result<Option<usize>, Fail> {
+    let mut files = Files::new(alloc, count)?;
+    Ok(first_wrong(&mut files, case))
+}
+
+/// The cases: of each its name, and how many files it has.
+static CASES: [(&str, u32, Case); 6] = [
+    ("operations in turn", 2, Case::InTurn),
+    ("writes at the edges", 64, Case::Edges),
+    ("reads of a full file", 1, Case::FullFile),
+    ("gaps in a file that isn't empty", 1, Case::GapsInOne),
+    ("gaps in many files", 64, Case::GapsInMany),
+    ("a file grows or stays", 1, Case::GrowsOrStays),
+];
+
 #[test]
-fn a_file_grows_or_stays(rt: HostRuntime) -> Result<(), Fail> {
-    check_done(&rt, grows_or_stays(rt.alloc()))
+fn operations_do_as_they_should(rt: HostRuntime) -> Result<(), Fail> {
+    for (name, count, case) in &CASES {
+        let wrong = first_wrong_of_new(rt.alloc(), *count, *case)?;
+        assert_eq!(rt; wrong, None, "{name}");
+    }
+    Ok(())
 }

@@ -1,5 +1,6 @@
 //! Each public call of a core, which has no files: step by step, and whole submission calls with their completions reaped at once.
 
+use crate::tests::check_done;
 use bitflags::Flags;
 use std::alloc::Global;
 use std::test::Fail;
@@ -162,8 +163,7 @@ static CASES: [(&str, Case); 5] = [
 #[test]
 fn cores_go_as_they_should(rt: HostRuntime) -> Result<(), Fail> {
     for (name, case) in &CASES {
-        let goes = goes_on_a_new_core(rt.alloc(), *case)?;
-        assert!(rt; goes, "{name}");
+        check_done(&rt, goes_on_a_new_core(rt.alloc(), *case), name)?;
     }
     Ok(())
 }

@@ -254,23 +254,19 @@ fn tell(rt: HostRuntime, seen: Seen) -> Result<(), Fail> {
     Ok(())
 }
 
-#[test]
-fn a_call_asks_for_its_memory_at_begin(rt: HostRuntime) -> Result<(), Fail> {
-    let seen = see_on_a_new_machine(rt.alloc(), Case::SettleThree)?;
-    assert!(rt; seen.is_right);
-    tell(rt, seen)
-}
+/// A call asks for its memory at Begin; a refused write leaves its file; and a refused run makes no step.
+static CASES: [(&str, Case); 3] = [
+    ("a call asks for its memory at Begin", Case::SettleThree),
+    ("a refused write leaves its file", Case::WriteAndRead),
+    ("a refused run makes no step", Case::RunFour),
+];
 
 #[test]
-fn a_refused_write_leaves_its_file(rt: HostRuntime) -> Result<(), Fail> {
-    let seen = see_on_a_new_machine(rt.alloc(), Case::WriteAndRead)?;
-    assert!(rt; seen.is_right);
-    tell(rt, seen)
-}
-
-#[test]
-fn a_refused_run_makes_no_step(rt: HostRuntime) -> Result<(), Fail> {
-    let seen = see_on_a_new_machine(rt.alloc(), Case::RunFour)?;
-    assert!(rt; seen.is_right);
-    tell(rt, seen)
+fn what_was_refused_changes_nothing(rt: HostRuntime) -> Result<(), Fail> {
+    for (name, case) in &CASES {
+        let seen = see_on_a_new_machine(rt.alloc(), *case)?;
+        assert!(rt; seen.is_right, "{name}");
+        tell(rt, seen)?;
+    }
+    Ok(())
 }

@@ -1,6 +1,6 @@
 //! Answers that were recorded elsewhere: lawful ones are followed, and a changed one is told at its place, with what is wanted there.
 
-use crate::tests::publish;
+use crate::tests::{check_done, publish};
 use std::alloc::Global;
 use std::test::Fail;
 use uring_entry::{Cqe, Setup, Sqe};
@@ -82,15 +82,15 @@ fn wanted_at(event: &(Step, Answer)) -> [Wanted; 2] {
     }
 }
 
-/// The first event of which another answer isn't told at its place.
-fn first_untold(alloc: Global) -> Result<Option<usize>, Fail> {
+/// Whether of each event another answer is told at its place.
+fn are_told(alloc: Global) -> Result<bool, Fail> {
     for (place, event) in recorded().iter().enumerate() {
         let wanted = wanted_at(event).map(|wanted| Some((place, wanted)));
         if told(alloc, place, Answer::Spent)? != wanted {
-            return Ok(Some(place));
+            return Ok(false);
         }
     }
-    Ok(None)
+    Ok(true)
 }
 
 /// Whether these are told of the recorded answers with the one at `place` changed.
@@ -103,36 +103,34 @@ fn is_told(
     Ok(told(alloc, place, answer)? == wanted)
 }
 
-#[test]
-fn lawful_answers_are_followed(rt: HostRuntime) -> Result<(), Fail> {
-    assert!(rt; is_told(rt.alloc(), 99, Answer::Shut, [None, None])?);
-    Ok(())
-}
-
-#[test]
-fn each_other_answer_is_told_at_its_place(rt: HostRuntime) -> Result<(), Fail> {
-    assert_eq!(rt; first_untold(rt.alloc())?, None);
-    Ok(())
-}
-
-#[test]
-fn refusals_of_memory_are_followed(rt: HostRuntime) -> Result<(), Fail> {
-    // A call that didn't open takes nothing.
+/// Whether lawful answers, with none changed, are followed; and refusals of memory: a call that didn't open takes nothing, and the completion of the write comes behind the one that was reaped.
+fn are_followed(alloc: Global) -> Result<bool, Fail> {
     let no_call = Some((6, Wanted::Only(Answer::NoCall)));
-    let taken = is_told(rt.alloc(), 5, Answer::Again, [no_call; 2])?;
-    assert!(rt; taken);
+    let lawful = is_told(alloc, 99, Answer::Shut, [None, None])?;
+    let call = is_told(alloc, 5, Answer::Again, [no_call; 2])?;
+    let write = is_told(alloc, 14, ended(-12), [None, None])?;
+    Ok(lawful && call && write)
+}
 
-    // The completion of the write comes behind the one that was reaped.
-    let ended = is_told(rt.alloc(), 14, ended(-12), [None, None])?;
-    assert!(rt; ended);
-    Ok(())
+/// Whether an end is any apart from what operations give, and is told otherwise.
+fn is_any(alloc: Global) -> Result<bool, Fail> {
+    let end = Some((14, Wanted::EndOrNoMemory(1)));
+    is_told(alloc, 14, ended(3), [end, None])
 }
 
 #[test]
-fn ends_are_any_apart_from_operations(rt: HostRuntime) -> Result<(), Fail> {
-    let end = Some((14, Wanted::EndOrNoMemory(1)));
-    assert!(rt; is_told(rt.alloc(), 14, ended(3), [end, None])?);
-    Ok(())
+fn answers_are_followed_or_told(rt: HostRuntime) -> Result<(), Fail> {
+    check_done(
+        &rt,
+        are_followed(rt.alloc()),
+        "lawful answers and refusals of memory",
+    )?;
+    check_done(
+        &rt,
+        is_any(rt.alloc()),
+        "an end is any apart from operations",
+    )?;
+    check_done(&rt, are_told(rt.alloc()), "each other answer")
 }
 
 /// Whether a machine tells a wrong Tail, and goes on by the right answer of the step behind it.
@@ -148,11 +146,11 @@ fn would_begin(machine: &mut Machine) -> bool {
     same_answer(&machine.would_begin(3), &Answer::Call(1))
 }
 
-/// Whether one of the two goes as it should on a new machine: the first if it is of a wrong answer.
-fn goes_on_a_new_machine(alloc: Global, is_of_wrong: bool) -> Result<bool, Fail> {
+/// Whether the first or the second goes as it should on a new machine.
+fn goes_on_a_new_machine(alloc: Global, is_first: bool) -> Result<bool, Fail> {
     let setup = Setup::new(4, Some(4), 2, 0)?;
     let mut machine = Machine::new(alloc, &setup)?;
-    let goes = if is_of_wrong {
+    let goes = if is_first {
         goes_on(&mut machine)
     } else {
         would_begin(&mut machine)
@@ -162,13 +160,11 @@ fn goes_on_a_new_machine(alloc: Global, is_of_wrong: bool) -> Result<bool, Fail>
 }
 
 #[test]
-fn goes_on_after_a_wrong_answer(rt: HostRuntime) -> Result<(), Fail> {
-    assert!(rt; goes_on_a_new_machine(rt.alloc(), true)?);
-    Ok(())
-}
-
-#[test]
-fn begin_is_told_before(rt: HostRuntime) -> Result<(), Fail> {
-    assert!(rt; goes_on_a_new_machine(rt.alloc(), false)?);
-    Ok(())
+fn machines_go_on_after_a_wrong_answer_and_tell_begin_before(rt: HostRuntime) -> Result<(), Fail> {
+    check_done(
+        &rt,
+        goes_on_a_new_machine(rt.alloc(), true),
+        "a wrong answer",
+    )?;
+    check_done(&rt, goes_on_a_new_machine(rt.alloc(), false), "Begin")
 }

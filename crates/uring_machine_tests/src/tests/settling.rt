@@ -1,6 +1,6 @@
 //! What a machine tells of itself, and that it settles.
 
-use crate::tests::{publish, take_call};
+use crate::tests::{check_done, publish, take_call};
 use std::alloc::Global;
 use std::test::Fail;
 use uring_entry::{Op, Setup, Sqe};
@@ -193,13 +193,13 @@ fn first_wrong(machine: &mut Machine, events: &[Event]) -> Option<usize> {
     None
 }
 
-/// The same, on a new machine with rings of this size and 2 files.
-fn first_wrong_of_new(alloc: Global, size: u32, events: &[Event]) -> Result<Option<usize>, Fail> {
+/// Whether none does on a new machine with rings of this size and 2 files.
+fn goes_on_a_new_machine(alloc: Global, size: u32, events: &[Event]) -> Result<bool, Fail> {
     let setup = Setup::new(size, Some(size), 2, 0)?;
     let mut machine = Machine::new(alloc, &setup)?;
     let wrong = first_wrong(&mut machine, events);
     drop(machine);
-    Ok(wrong)
+    Ok(wrong.is_none())
 }
 
 const DRAIN_SETTLES: &[Event] = &[
@@ -261,8 +261,7 @@ static HISTORIES: [(&str, u32, &[Event]); 4] = [
 #[test]
 fn machines_tell_and_settle(rt: HostRuntime) -> Result<(), Fail> {
     for (name, size, events) in &HISTORIES {
-        let wrong = first_wrong_of_new(rt.alloc(), *size, events)?;
-        assert_eq!(rt; wrong, None, "{name}");
+        check_done(&rt, goes_on_a_new_machine(rt.alloc(), *size, events), name)?;
     }
     Ok(())
 }

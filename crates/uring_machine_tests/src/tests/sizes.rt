@@ -1,6 +1,6 @@
 //! Calls at size, with ample memory: so that none is refused that had no need to be.
 
-use crate::tests::take_call;
+use crate::tests::{check_done, take_call};
 use std::alloc::{AllocError, Global};
 use std::test::Fail;
 use uring_entry::{Cqe, Setup, Sqe};
@@ -21,75 +21,38 @@ fn submit(machine: &mut Machine, count: u32) -> (Answer, Answer) {
     (begun, take_call(machine, count))
 }
 
-/// What two calls on the largest rings are answered, the second of a whole ring, and the counts then.
-fn large_calls(alloc: Global) -> Result<([(Answer, Answer); 2], Counts), Fail> {
-    let setup = Setup::new(4_096, Some(8_192), 1, 0)?;
-    let mut machine = Machine::new(alloc, &setup)?;
-    let calls = [submit(&mut machine, 1_100), submit(&mut machine, 4_096)];
-    let counts = machine.counts();
-    drop(machine);
-    Ok((calls, counts))
-}
-
-#[test]
-fn a_whole_ring_is_submitted_beside_others(rt: HostRuntime) -> Result<(), Fail> {
-    let (calls, counts) = large_calls(rt.alloc())?;
+/// Whether two calls on the largest rings are answered right, the second of a whole ring, and all are counted.
+fn takes_large_calls(machine: &mut Machine) -> bool {
     let taken = |accepted, head| Answer::Taken {
         accepted,
         dropped: 0,
         head,
     };
-    let first = (Answer::Call(1_100), taken(1_100, 1_100));
-    let second = (Answer::Call(4_096), taken(4_096, 5_196));
-    assert!(rt; calls == [first, second]);
-    assert!(rt; (counts.accepted, counts.outstanding) == (5_196, 5_196));
-    Ok(())
+    let first = submit(machine, 1_100) == (Answer::Call(1_100), taken(1_100, 1_100));
+    let second = submit(machine, 4_096) == (Answer::Call(4_096), taken(4_096, 5_196));
+    let counts = machine.counts();
+    first && second && (counts.accepted, counts.outstanding) == (5_196, 5_196)
 }
 
-/// How many answers a run of so many steps gives on a new machine, and the last of them.
-fn long_run(alloc: Global, count: usize) -> Result<(usize, Option<Answer>), Fail> {
-    let setup = Setup::new(1, None, 1, 0)?;
-    let mut machine = Machine::new(alloc, &setup)?;
-    let told = run_many(alloc, &mut machine, count);
-    drop(machine);
-    Ok(told?)
-}
-
-/// The same on this machine.
-fn run_many(
-    alloc: Global,
-    machine: &mut Machine,
-    count: usize,
-) -> Result<(usize, Option<Answer>), AllocError> {
-    let steps = vec![in alloc; Step::LoadHead; count]?;
-    last_of_run(alloc, machine, steps.as_slice())
-}
-
-/// The same of these steps.
-fn last_of_run(
+/// Whether a run of these steps gives so many answers, and this as the last.
+fn gives(
     alloc: Global,
     machine: &mut Machine,
     steps: &[Step],
-) -> Result<(usize, Option<Answer>), AllocError> {
+    last: Answer,
+) -> Result<bool, AllocError> {
     let answers = run(alloc, machine, steps)?;
-    Ok((answers.len(), answers.last().copied()))
+    let is_so = answers.len() == steps.len() && answers.last().copied() == Some(last);
+    drop(answers);
+    Ok(is_so)
 }
 
-#[test]
-fn many_steps_run(rt: HostRuntime) -> Result<(), Fail> {
-    let told = long_run(rt.alloc(), 100_000)?;
-    assert!(rt; told == (100_000, Some(Answer::Head(0))));
-    Ok(())
-}
-
-/// The counts after so many rounds on a new machine.
-fn rounds(alloc: Global, count: u64) -> Result<Counts, Fail> {
-    let setup = Setup::new(1, Some(1), 1, 0)?;
-    let mut machine = Machine::new(alloc, &setup)?;
-    make_rounds(&mut machine, count);
-    let counts = machine.counts();
-    drop(machine);
-    Ok(counts)
+/// Whether a run of 100,000 steps gives as many answers.
+fn runs_many(alloc: Global, machine: &mut Machine) -> Result<bool, AllocError> {
+    let steps = vec![in alloc; Step::LoadHead; 100_000]?;
+    let is_so = gives(alloc, machine, &steps, Answer::Head(0));
+    drop(steps);
+    is_so
 }
 
 /// Makes so many calls of one request that does nothing, each of which ends and is reaped before the next.
@@ -105,8 +68,9 @@ fn make_rounds(machine: &mut Machine, count: u64) {
     }
 }
 
-#[test]
-fn many_requests_end(rt: HostRuntime) -> Result<(), Fail> {
+/// Whether 100,000 such calls are counted right.
+fn ends_many(machine: &mut Machine) -> bool {
+    make_rounds(machine, 100_000);
     let wanted = Counts {
         accepted: 100_000,
         outstanding: 0,
@@ -114,12 +78,53 @@ fn many_requests_end(rt: HostRuntime) -> Result<(), Fail> {
         posted: 100_000,
         reaped: 100_000,
     };
-    assert!(rt; rounds(rt.alloc(), 100_000)? == wanted);
+    machine.counts() == wanted
+}
+
+/// What a machine does.
+#[derive(Clone, Copy)]
+enum Case {
+    TakesLargeCalls,
+    RunsMany,
+    EndsMany,
+}
+
+/// Whether it does so as it should.
+fn goes(alloc: Global, machine: &mut Machine, case: Case) -> Result<bool, AllocError> {
+    match case {
+        Case::TakesLargeCalls => Ok(takes_large_calls(machine)),
+        Case::RunsMany => runs_many(alloc, machine),
+        Case::EndsMany => Ok(ends_many(machine)),
+    }
+}
+
+/// The same on a new machine, with rings of these sizes.
+fn goes_on_a_new_machine(alloc: Global, sq: u32, cq: u32, case: Case) -> Result<bool, Fail> {
+    let setup = Setup::new(sq, Some(cq), 1, 0)?;
+    let mut machine = Machine::new(alloc, &setup)?;
+    let is_right = goes(alloc, &mut machine, case);
+    drop(machine);
+    Ok(is_right?)
+}
+
+/// A whole ring is submitted beside others, many steps run, and many requests end: of each the sizes of its rings.
+static CASES: [(&str, u32, u32, Case); 3] = [
+    ("large calls", 4_096, 8_192, Case::TakesLargeCalls),
+    ("many steps", 1, 2, Case::RunsMany),
+    ("many requests", 1, 1, Case::EndsMany),
+];
+
+#[test]
+fn machines_go_at_size(rt: HostRuntime) -> Result<(), Fail> {
+    for (name, sq, cq, case) in &CASES {
+        let goes = goes_on_a_new_machine(rt.alloc(), *sq, *cq, *case);
+        check_done(&rt, goes, name)?;
+    }
     Ok(())
 }
 
-/// How many completions rest of so many that were promised at once to a ring of one, and then posted.
-fn promised(alloc: Global, count: u64) -> Result<(u64, Option<u64>), Fail> {
+/// Whether so many completions rest that were promised at once to a ring of one, and then posted.
+fn are_promised(alloc: Global, count: u64) -> Result<bool, Fail> {
     let setup = Setup::new(1, Some(1), 1, 0)?;
     let mut ring = Cq::new(alloc, &setup)?;
     let told = post_promised(&mut ring, count);
@@ -128,21 +133,19 @@ fn promised(alloc: Global, count: u64) -> Result<(u64, Option<u64>), Fail> {
 }
 
 /// The same of this ring.
-fn post_promised(ring: &mut Cq, count: u64) -> Result<(u64, Option<u64>), AllocError> {
+fn post_promised(ring: &mut Cq, count: u64) -> Result<bool, AllocError> {
     ring.reserve(count)?;
     ring.reserve(count)?;
     for user_data in 0..count {
         ring.post(Cqe::new(user_data, 0, [0; 64]));
     }
-    let last = ring
-        .rest(count.saturating_sub(1))
-        .map(|completion| completion.user_data());
-    Ok((ring.posted(), last))
+    let last = count.saturating_sub(1);
+    let user_data = ring.rest(last).map(|completion| completion.user_data());
+    Ok(ring.posted() == count && user_data == Some(last))
 }
 
 #[test]
 fn many_posts_are_promised(rt: HostRuntime) -> Result<(), Fail> {
-    assert!(rt; promised(rt.alloc(), 101)? == (101, Some(100)));
-    assert!(rt; promised(rt.alloc(), 10_001)? == (10_001, Some(10_000)));
-    Ok(())
+    check_done(&rt, are_promised(rt.alloc(), 101), "101 posts")?;
+    check_done(&rt, are_promised(rt.alloc(), 10_001), "10,001 posts")
 }

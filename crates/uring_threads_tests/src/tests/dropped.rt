@@ -1,7 +1,7 @@
 //! One end is dropped in the middle, and the others go on.
 
 use super::ends::{Ends, new_ends};
-use super::{nop, turn};
+use super::{check, nop, turn};
 use std::alloc::Global;
 use std::test::Fail;
 use uring_entry::{Cqe, Sqe};
@@ -119,6 +119,13 @@ enum Gone {
     Worker,
 }
 
+/// Each end, and without which the others go on.
+static GONE: [(Gone, &str); 3] = [
+    (Gone::Application, "without the application"),
+    (Gone::Dispatcher, "without the dispatcher"),
+    (Gone::Worker, "without a worker"),
+];
+
 /// Whether the others of two workers' ends go on without it.
 fn go_on_without(alloc: Global, gone: Gone) -> Result<bool, Fail> {
     match new_ends(alloc, 2, 2) {
@@ -138,11 +145,8 @@ fn go_on(ends: Lanes, gone: Gone) -> bool {
 
 #[test]
 fn the_others_go_on(rt: HostRuntime) -> Result<(), Fail> {
-    let application = go_on_without(rt.alloc(), Gone::Application)?;
-    let dispatcher = go_on_without(rt.alloc(), Gone::Dispatcher)?;
-    let worker = go_on_without(rt.alloc(), Gone::Worker)?;
-    assert!(rt; application, "without the application");
-    assert!(rt; dispatcher, "without the dispatcher");
-    assert!(rt; worker, "without a worker");
+    for (gone, what) in &GONE {
+        check(&rt, go_on_without(rt.alloc(), *gone), what)?;
+    }
     Ok(())
 }

@@ -94,7 +94,10 @@ pub fn open_ends<K: Ports>(
     workers: usize,
 ) -> Result<Ends<K, Open>, Fail> {
     let gates = vec![in alloc; Open; workers]?;
-    Ok(K::ends(alloc, setup, gates)?)
+    match K::ends(alloc, setup, gates) {
+        Ok(ends) => Ok(ends),
+        Err(fault) => Err(Fail::from(fault)),
+    }
 }
 
 impl<K: KernelPort, G: Gate> Ends<K, G> {

@@ -1,5 +1,6 @@
 //! A gate is passed once for each job, and shown its number, and the worker's files as they are before it is carried out.
 
+use super::check;
 use super::ends::{Ends, Ports};
 use std::alloc::Global;
 use std::sync::atomic::{AtomicU64, Ordering};
@@ -66,16 +67,14 @@ fn works<K: KernelPort, G: Gate>(
     worked && was_shown(shown, number.wrapping_add(1), number, len)
 }
 
-/// New ends of one worker, with a gate that notes here what it is shown.
-fn noting_ends<'a, K: Ports>(alloc: Global, shown: &'a Shown) -> Result<Ends<K, Noting<'a>>, Fail> {
+/// Whether it goes so at new ends of one worker, with a gate that notes here what it is shown.
+fn is_shown_at_new_ends<K: Ports>(alloc: Global, shown: &Shown) -> Result<bool, Fail> {
     let setup = Setup::new(4, Some(4), 1, 0)?;
     let gates = vec![in alloc; Noting(shown)]?;
-    Ok(K::ends(alloc, &setup, gates)?)
-}
-
-/// Whether it goes so at these ends.
-fn is_shown_at_new_ends<K: Ports>(alloc: Global, shown: &Shown) -> Result<bool, Fail> {
-    Ok(goes_through_these(noting_ends::<K>(alloc, shown)?, shown))
+    match K::ends(alloc, &setup, gates) {
+        Ok(ends) => Ok(goes_through_these(ends, shown)),
+        Err(fault) => Err(Fail::from(fault)),
+    }
 }
 
 /// The same at these, whatever the gate: so no borrow of its own stands in this function.
@@ -100,9 +99,8 @@ fn is_shown<K: Ports>(alloc: Global) -> Result<bool, Fail> {
 
 #[test]
 fn a_gate_is_shown_the_job_and_the_files(rt: HostRuntime) -> Result<(), Fail> {
-    let lanes = is_shown::<KernelLanes>(rt.alloc())?;
-    let words = is_shown::<KernelWords>(rt.alloc())?;
-    assert!(rt; lanes, "over lanes");
-    assert!(rt; words, "over words");
-    Ok(())
+    let lanes = is_shown::<KernelLanes>(rt.alloc());
+    check(&rt, lanes, "over lanes")?;
+    let words = is_shown::<KernelWords>(rt.alloc());
+    check(&rt, words, "over words")
 }

@@ -14,13 +14,24 @@ use uring_threads::{LanesFault, Open, Report};
 /// All ends over ports of this kind, with workers that nothing holds up.
 type Made<K> = Ends<K, Open>;
 
-/// Makes all ends of rings of four with two files and one worker, if need be by a second try. And whether memory for them was refused: then nothing stood.
-fn make<K: Ports>(alloc: Global) -> Result<(Made<K>, bool), Fail> {
+/// Makes all ends of rings of four with two files and one worker, if need be by a second try, and notes if memory for them was refused: then nothing stood.
+fn make<K: Ports>(alloc: Global, was_refused: &mut bool) -> Result<Made<K>, Fail> {
     let setup = Setup::new(4, Some(4), 2, 0)?;
     match try_make(alloc, &setup) {
-        Ok(made) => Ok((made, false)),
-        Err(LanesFault::NoMemory) => Ok((try_make(alloc, &setup)?, true)),
-        Err(fault) => Err(fault)?,
+        Ok(made) => Ok(made),
+        Err(LanesFault::NoMemory) => {
+            *was_refused = true;
+            make_again(alloc, &setup)
+        }
+        Err(fault) => Err(Fail::from(fault)),
+    }
+}
+
+/// The second try.
+fn make_again<K: Ports>(alloc: Global, setup: &Setup) -> Result<Made<K>, Fail> {
+    match try_make(alloc, setup) {
+        Ok(made) => Ok(made),
+        Err(fault) => Err(Fail::from(fault)),
     }
 }
 
@@ -32,10 +43,17 @@ fn try_make<K: Ports>(alloc: Global, setup: &Setup) -> Result<Made<K>, LanesFaul
     }
 }
 
-/// What settling leaves, if need be at the second try, and whether memory for it was refused.
-fn settle<K: Ports>(alloc: Global, made: Made<K>) -> Result<(Report<Open>, bool), AllocError> {
+/// What settling leaves, if need be at the second try. It notes if memory for it was refused.
+fn settle<K: Ports>(
+    alloc: Global,
+    made: Made<K>,
+    was_refused: &mut bool,
+) -> Result<Report<Open>, AllocError> {
     match made.try_settle(alloc) {
-        Ok(report) => Ok((report, false)),
-        Err(made) => Ok((made.settle(alloc)?, true)),
+        Ok(report) => Ok(report),
+        Err(made) => {
+            *was_refused = true;
+            made.settle(alloc)
+        }
     }
 }

@@ -1,6 +1,7 @@
 //! A worker that its gate holds up holds up no other worker.
 
-use super::ends::{Ends, Ports};
+use super::check;
+use super::ends::Ports;
 use super::threads::{Flags, Script};
 use super::told::{first_three, settle};
 use std::alloc::{AllocError, Global};
@@ -74,18 +75,7 @@ fn gates<'a>(
     Ok(vec![in alloc; gate(true, flags, ran_out), gate(false, flags, ran_out)]?)
 }
 
-/// New ends with two workers, of which worker 0's gate holds its jobs.
-fn held_ends<'a, K: Ports>(
-    alloc: Global,
-    flags: &'a Flags,
-    ran_out: &'a AtomicBool,
-) -> Result<Ends<K, HeldUntilTwo<'a>>, Fail> {
-    let setup = Setup::new(4, Some(4), 2, 0)?;
-    let gates = gates(alloc, flags, ran_out)?;
-    Ok(K::ends(alloc, &setup, gates)?)
-}
-
-/// Whether the trace is what a new machine answers, once these ends ran in threads of their own.
+/// Whether the trace is what a new machine answers, once new ends with two workers, of which worker 0's gate holds its jobs, ran in threads of their own.
 fn is_replayed<K: Ports + Send + 'static, R: Threads + Wait + Sync>(
     rt: &R,
     alloc: Global,
@@ -96,10 +86,16 @@ fn is_replayed<K: Ports + Send + 'static, R: Threads + Wait + Sync>(
 where
     K::App: Send + 'static,
 {
-    let mut ends = held_ends::<K>(alloc, flags, ran_out)?;
-    ends.run(rt, script, flags);
-    let (_, replayed) = settle(alloc, ends)?;
-    Ok(replayed)
+    let setup = Setup::new(4, Some(4), 2, 0)?;
+    let gates = gates(alloc, flags, ran_out)?;
+    match K::ends(alloc, &setup, gates) {
+        Ok(mut ends) => {
+            ends.run(rt, script, flags);
+            let (_, replayed) = settle(alloc, ends)?;
+            Ok(replayed)
+        }
+        Err(fault) => Err(Fail::from(fault)),
+    }
 }
 
 /// Whether worker 1's write is reaped, and then worker 0's.
@@ -129,9 +125,8 @@ where
 
 #[test]
 fn a_held_worker_holds_up_no_other(rt: HostRuntime) -> Result<(), Fail> {
-    let lanes = plays_two_writes::<KernelLanes, _>(&rt, rt.alloc())?;
-    let words = plays_two_writes::<KernelWords, _>(&rt, rt.alloc())?;
-    assert!(rt; lanes, "over lanes");
-    assert!(rt; words, "over words");
-    Ok(())
+    let lanes = plays_two_writes::<KernelLanes, _>(&rt, rt.alloc());
+    check(&rt, lanes, "over lanes")?;
+    let words = plays_two_writes::<KernelWords, _>(&rt, rt.alloc());
+    check(&rt, words, "over words")
 }

@@ -1,13 +1,13 @@
 //! What settling reports at one moment, with something on its way between any two ends.
 
-use super::ends::{Ports, new_ends};
-use super::nop;
+use super::ends::{Ends, Ports, new_ends};
 use super::replay::{has_events, replays};
 use super::rows::Put::{Nop, Write};
 use super::rows::Row::{Submit, Turn, Work};
 use super::rows::{Row, first_wrong};
 use super::told::{Told, tell};
-use std::alloc::Global;
+use super::{check, nop};
+use std::alloc::{AllocError, Global};
 use std::test::Fail;
 use uring_entry::{Cqe, Sqe};
 use uring_threads::Worked::Done;
@@ -127,22 +127,34 @@ fn is_right(alloc: Global, report: &Report<Open>) -> Result<bool, Fail> {
     Ok(told && replayed && has_trace(report) && has_files(report))
 }
 
+/// Whether settling these ends reports it.
+fn settles_right<K: Ports>(alloc: Global, ends: Ends<K, Open>) -> Result<bool, Fail> {
+    match ends.settle(alloc) {
+        Ok(report) => {
+            let right = is_right(alloc, &report);
+            drop(report);
+            right
+        }
+        Err(AllocError) => Err(Fail::from(AllocError)),
+    }
+}
+
 /// Whether the ends of two workers go half way, and then report it.
 fn is_reported<K: Ports>(alloc: Global) -> Result<bool, Fail> {
-    let mut ends = new_ends::<K>(alloc, 2, 2)?;
-    let wrong = first_wrong(&mut ends, &HALF_WAY);
-    let report = ends.settle(alloc)?;
-    let right = is_right(alloc, &report);
-    drop(report);
-    let right = right?;
-    Ok(wrong == None && right)
+    match new_ends::<K>(alloc, 2, 2) {
+        Ok(mut ends) => {
+            let wrong = first_wrong(&mut ends, &HALF_WAY);
+            let right = settles_right(alloc, ends)?;
+            Ok(wrong == None && right)
+        }
+        Err(fail) => Err(fail),
+    }
 }
 
 #[test]
 fn what_is_on_its_way_is_reported(rt: HostRuntime) -> Result<(), Fail> {
-    let lanes = is_reported::<KernelLanes>(rt.alloc())?;
-    let words = is_reported::<KernelWords>(rt.alloc())?;
-    assert!(rt; lanes, "over lanes");
-    assert!(rt; words, "over words");
-    Ok(())
+    let lanes = is_reported::<KernelLanes>(rt.alloc());
+    check(&rt, lanes, "over lanes")?;
+    let words = is_reported::<KernelWords>(rt.alloc());
+    check(&rt, words, "over words")
 }

@@ -1,5 +1,6 @@
 //! Which set-ups and gates have no ends, and why.
 
+use super::check;
 use std::alloc::Global;
 use std::test::Fail;
 use uring_entry::Setup;
@@ -19,13 +20,16 @@ fn faults(alloc: Global, setup: &Setup) -> Result<[Option<LanesFault>; 3], Fail>
     Ok([none, one, nine])
 }
 
+/// Whether a set-up has ends with one worker alone, and one that stops has none and is told so before.
+fn are_told(alloc: Global) -> Result<bool, Fail> {
+    let setup = Setup::new(2, Some(2), 1, 0)?;
+    let bad = Some(LanesFault::BadWorkers);
+    let goes_on = faults(alloc, &setup)? == [bad, None, bad];
+    let stops = faults(alloc, &setup.stopping())? == [Some(LanesFault::Stops); 3];
+    Ok(goes_on && stops)
+}
+
 #[test]
 fn stopping_is_told_before_the_workers(rt: HostRuntime) -> Result<(), Fail> {
-    let setup = Setup::new(2, Some(2), 1, 0)?;
-    let goes_on = faults(rt.alloc(), &setup)?;
-    let stops = faults(rt.alloc(), &setup.stopping())?;
-    let bad = Some(LanesFault::BadWorkers);
-    assert!(rt; goes_on == [bad, None, bad]);
-    assert!(rt; stops == [Some(LanesFault::Stops); 3]);
-    Ok(())
+    check(&rt, are_told(rt.alloc()), "why there are no ends")
 }

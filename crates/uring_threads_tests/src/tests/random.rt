@@ -1,5 +1,6 @@
 //! Random submissions, in threads and settled at random moments: each trace is what a new machine answers, and the files are that machine's.
 
+use super::check_seeds;
 use super::dice::Dice;
 use super::ends::{Ends, Ports, open_ends};
 use super::threads::{Flags, Script};
@@ -48,9 +49,13 @@ where
     K::App: Send + 'static,
 {
     let flags = Flags::new();
-    let mut ends = ends_of::<K>(alloc, seed)?;
-    ends.run(rt, script, &flags);
-    settle(alloc, ends)
+    match ends_of::<K>(alloc, seed) {
+        Ok(mut ends) => {
+            ends.run(rt, script, &flags);
+            settle(alloc, ends)
+        }
+        Err(fail) => Err(fail),
+    }
 }
 
 /// Whether they end with all done and nothing on its way, and the trace is what a new machine answers.
@@ -88,10 +93,14 @@ where
 
 #[test]
 fn threads_do_what_one_machine_does(rt: HostRuntime) -> Result<(), Fail> {
-    let lanes = first_wrong_in_threads::<KernelLanes, _>(&rt, rt.alloc())?;
-    let words = first_wrong_in_threads::<KernelWords, _>(&rt, rt.alloc())?;
-    assert_eq!(rt; [lanes, words], [None; 2], "the first wrong seeds");
-    Ok(())
+    check_seeds(
+        &rt,
+        first_wrong_in_threads::<KernelLanes, _>(&rt, rt.alloc()),
+    )?;
+    check_seeds(
+        &rt,
+        first_wrong_in_threads::<KernelWords, _>(&rt, rt.alloc()),
+    )
 }
 
 /// Submits a call. Whether there was memory for it.
@@ -133,10 +142,14 @@ fn go_some_way<K: KernelPort>(alloc: Global, dice: &mut Dice, ends: &mut Ends<K,
 /// Whether the trace is what a new machine answers, with ends that are settled half way.
 fn is_right_half_way<K: Ports>(alloc: Global, seed: u64) -> Result<bool, Fail> {
     let mut dice = Dice::new(seed);
-    let mut ends = ends_of::<K>(alloc, seed)?;
-    let goes = go_some_way(alloc, &mut dice, &mut ends);
-    let (_, replayed) = settle(alloc, ends)?;
-    Ok(goes && replayed)
+    match ends_of::<K>(alloc, seed) {
+        Ok(mut ends) => {
+            let goes = go_some_way(alloc, &mut dice, &mut ends);
+            let (_, replayed) = settle(alloc, ends)?;
+            Ok(goes && replayed)
+        }
+        Err(fail) => Err(fail),
+    }
 }
 
 /// The first seed of which it isn't.
@@ -151,8 +164,6 @@ fn first_wrong_half_way<K: Ports>(alloc: Global) -> Result<Option<u64>, Fail> {
 
 #[test]
 fn ends_settle_half_way(rt: HostRuntime) -> Result<(), Fail> {
-    let lanes = first_wrong_half_way::<KernelLanes>(rt.alloc())?;
-    let words = first_wrong_half_way::<KernelWords>(rt.alloc())?;
-    assert_eq!(rt; [lanes, words], [None; 2], "the first wrong seeds");
-    Ok(())
+    check_seeds(&rt, first_wrong_half_way::<KernelLanes>(rt.alloc()))?;
+    check_seeds(&rt, first_wrong_half_way::<KernelWords>(rt.alloc()))
 }

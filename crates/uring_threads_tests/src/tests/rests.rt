@@ -2,8 +2,8 @@
 
 ghost use Rattle.std.specs.Prelude.{◌≡◌, ◌≤◌, vec_capacity};
 
-use super::nop;
 use super::told::{Left, left_in};
+use super::{check, nop};
 use std::alloc::{AllocError, Global};
 use std::test::Fail;
 use uring_entry::{Cqe, Setup};
@@ -61,13 +61,17 @@ fn is_right(settled: &Settled) -> bool {
         && settled.1.1 == [Some(Cqe::new(2, -9, [0; 64])), None, None]
 }
 
+/// Whether each call is Ok, one is pulled, both completions have room, and the rest is right.
+fn goes_right(alloc: Global) -> Result<bool, Fail> {
+    let (goes, settled) = settled(alloc)?;
+    Ok(goes && is_right(&settled))
+}
+
 #[test]
 fn are_what_was_not_taken(rt: HostRuntime) -> Result<(), Fail> {
-    let (goes, settled) = settled(rt.alloc())?;
-    assert!(rt;
-        goes,
-        "each call is Ok, one is pulled, and both completions have room"
-    );
-    assert!(rt; is_right(&settled));
-    Ok(())
+    check(
+        &rt,
+        goes_right(rt.alloc()),
+        "each call is Ok, and what is left",
+    )
 }

@@ -5,7 +5,7 @@ mod plays;
 use super::ends::{Ends, Ports};
 use super::turn;
 use uring_entry::{Cqe, Sqe};
-use uring_threads::{Item, Open, SubmitRefusal, Worked};
+use uring_threads::{Item, Open, SubmitRefusal, Turn, Worked};
 
 /// An item of a call.
 #[derive(Clone, Copy)]
@@ -91,20 +91,40 @@ fn completion(user_data: u64) -> Cqe {
     Cqe::new(user_data, 0, [0; 64])
 }
 
+/// Whether the application reaps the completion of this no-op, or finds none.
+fn reaps<K: Ports>(ends: &mut Ends<K, Open>, wanted: Option<u64>) -> bool {
+    ends.reap() == wanted.map(completion)
+}
+
+/// Whether the dispatcher's turn is this.
+fn turns<K: Ports>(ends: &mut Ends<K, Open>, wanted: Turn) -> bool {
+    ends.turn() == Some(wanted)
+}
+
+/// Whether this is what the worker at this place does in its turn.
+fn works<K: Ports>(ends: &mut Ends<K, Open>, place: usize, wanted: Worked) -> bool {
+    ends.work(place) == Some(wanted)
+}
+
+/// Whether the worker at this place carries out a job.
+fn has_job<K: Ports>(ends: &mut Ends<K, Open>, place: usize) -> bool {
+    matches!(ends.work(place), Some(Worked::Done(_)))
+}
+
 /// Has an end do this. Whether what should came of it.
 fn goes<K: Ports>(ends: &mut Ends<K, Open>, row: Row) -> bool {
     match row {
         Row::Submit(puts) => submits(ends, puts, Ok(())),
         Row::Full(puts) => submits(ends, puts, Err(SubmitRefusal::Full)),
         Row::Close => ends.close(),
-        Row::Reap(wanted) => ends.reap() == wanted.map(completion),
+        Row::Reap(wanted) => reaps(ends, wanted),
         Row::Dropped(word) => ends.dropped() == K::shown(word),
         Row::Turn(popped, issued, finished, delivered) => {
-            ends.turn() == Some(turn(popped, issued, finished, delivered))
+            turns(ends, turn(popped, issued, finished, delivered))
         }
         Row::IsIdle(wanted) => ends.idle() == wanted,
-        Row::Work(place, wanted) => ends.work(place) == Some(wanted),
-        Row::Job(place) => matches!(ends.work(place), Some(Worked::Done(_))),
+        Row::Work(place, wanted) => works(ends, place, wanted),
+        Row::Job(place) => has_job(ends, place),
         Row::NoWorker(place) => ends.work(place).is_none(),
     }
 }

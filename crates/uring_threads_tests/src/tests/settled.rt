@@ -1,11 +1,11 @@
 //! What settling all ends reports of a call that no turn took in.
 
 use super::ends::{Ports, new_ends};
-use super::nop;
 use super::rows::Put::{Bad, Nop};
 use super::rows::Row::{Submit, Turn};
 use super::rows::{Row, first_wrong};
 use super::told::{Told, settle};
+use super::{check, nop};
 use std::alloc::Global;
 use std::test::Fail;
 use uring_threads::{Item, KernelLanes};
@@ -20,10 +20,14 @@ static HALF_WAY: [Row; 3] = [
 
 /// Whether the ends of two workers go half way, and the second call is then unsent, and nothing else on its way.
 fn is_reported<K: Ports>(alloc: Global) -> Result<bool, Fail> {
-    let mut ends = new_ends::<K>(alloc, 2, 2)?;
-    let wrong = first_wrong(&mut ends, &HALF_WAY);
-    let (told, _) = settle(alloc, ends)?;
-    Ok(wrong == None && is_right(&told))
+    match new_ends::<K>(alloc, 2, 2) {
+        Ok(mut ends) => {
+            let wrong = first_wrong(&mut ends, &HALF_WAY);
+            let (told, _) = settle(alloc, ends)?;
+            Ok(wrong == None && is_right(&told))
+        }
+        Err(fail) => Err(fail),
+    }
 }
 
 fn is_right(told: &Told) -> bool {
@@ -34,9 +38,8 @@ fn is_right(told: &Told) -> bool {
 
 #[test]
 fn the_second_call_is_unsent(rt: HostRuntime) -> Result<(), Fail> {
-    let lanes = is_reported::<KernelLanes>(rt.alloc())?;
-    let words = is_reported::<KernelWords>(rt.alloc())?;
-    assert!(rt; lanes, "over lanes");
-    assert!(rt; words, "over words");
-    Ok(())
+    let lanes = is_reported::<KernelLanes>(rt.alloc());
+    check(&rt, lanes, "over lanes")?;
+    let words = is_reported::<KernelWords>(rt.alloc());
+    check(&rt, words, "over words")
 }

@@ -2,7 +2,7 @@
 
 use super::ends::Ends;
 use super::replay::replays;
-use std::alloc::Global;
+use std::alloc::{AllocError, Global};
 use std::test::Fail;
 use uring_entry::Cqe;
 use uring_threads::{Counts, Gate, Item, KernelPort, Report, Rests};
@@ -61,9 +61,13 @@ pub fn settle<K: KernelPort, G: Gate>(
     alloc: Global,
     ends: Ends<K, G>,
 ) -> Result<(Told, bool), Fail> {
-    let report = ends.settle(alloc)?;
-    let told = tell(&report);
-    let replayed = replays(alloc, &report);
-    drop(report);
-    Ok((told, replayed?))
+    match ends.settle(alloc) {
+        Ok(report) => {
+            let told = tell(&report);
+            let replayed = replays(alloc, &report);
+            drop(report);
+            Ok((told, replayed?))
+        }
+        Err(AllocError) => Err(Fail::from(AllocError)),
+    }
 }

@@ -102,7 +102,7 @@ fn first_wrong_from(alloc: Global, start: u32, events: &[Event]) -> Result<Optio
     Ok(first_wrong(&mut ring, events))
 }
 
-static FULL_ACROSS_THE_WRAP: [Event; 16] = [
+const FULL_ACROSS_THE_WRAP: &[Event] = &[
     Index(0, IndexAnswer::Staged),
     Index(0, IndexAnswer::Staged),
     Index(0, IndexAnswer::Staged),
@@ -121,15 +121,7 @@ static FULL_ACROSS_THE_WRAP: [Event; 16] = [
     Index(0, IndexAnswer::Staged),
 ];
 
-#[test]
-fn full_across_the_wrap(rt: HostRuntime) -> Result<(), Fail> {
-    check_done(
-        &rt,
-        first_wrong_from(rt.alloc(), u32::MAX - 1, &FULL_ACROSS_THE_WRAP),
-    )
-}
-
-static EMPTY_CALLS: [Event; 6] = [
+const EMPTY_CALLS: &[Event] = &[
     Begin(9, BeginAnswer::Call(0)),
     Begin(9, BeginAnswer::InCall),
     TakeNoMore,
@@ -138,12 +130,7 @@ static EMPTY_CALLS: [Event; 6] = [
     End(EndAnswer::NoCall),
 ];
 
-#[test]
-fn empty_calls(rt: HostRuntime) -> Result<(), Fail> {
-    check_done(&rt, first_wrong_from(rt.alloc(), 0, &EMPTY_CALLS))
-}
-
-static BAD_WORD: [Event; 10] = [
+const BAD_WORD: &[Event] = &[
     Fill(0, 5, FillAnswer::Filled),
     Index(9, IndexAnswer::Staged),
     Index(0, IndexAnswer::Staged),
@@ -156,12 +143,7 @@ static BAD_WORD: [Event; 10] = [
     EndTaken(1, 1, 2),
 ];
 
-#[test]
-fn bad_word_is_dropped(rt: HostRuntime) -> Result<(), Fail> {
-    check_done(&rt, first_wrong_from(rt.alloc(), 0, &BAD_WORD))
-}
-
-static STOPPED_CALL: [Event; 21] = [
+const STOPPED_CALL: &[Event] = &[
     Stop,
     Fill(0, 1, FillAnswer::Filled),
     Fill(1, 2, FillAnswer::Filled),
@@ -185,15 +167,7 @@ static STOPPED_CALL: [Event; 21] = [
     EndTaken(1, 1, 1),
 ];
 
-#[test]
-fn stopped_call_leaves_the_rest(rt: HostRuntime) -> Result<(), Fail> {
-    check_done(
-        &rt,
-        first_wrong_from(rt.alloc(), u32::MAX - 1, &STOPPED_CALL),
-    )
-}
-
-static SLOT_NAMED_TWICE: [Event; 9] = [
+const SLOT_NAMED_TWICE: &[Event] = &[
     Fill(0, 6, FillAnswer::Filled),
     Index(0, IndexAnswer::Staged),
     Index(0, IndexAnswer::Staged),
@@ -205,12 +179,7 @@ static SLOT_NAMED_TWICE: [Event; 9] = [
     LoadHead(2),
 ];
 
-#[test]
-fn slot_named_twice(rt: HostRuntime) -> Result<(), Fail> {
-    check_done(&rt, first_wrong_from(rt.alloc(), 0, &SLOT_NAMED_TWICE))
-}
-
-static REFILLED_SLOTS: [Event; 12] = [
+const REFILLED_SLOTS: &[Event] = &[
     Fill(0, 1, FillAnswer::Filled),
     Index(0, IndexAnswer::Staged),
     Fill(0, 2, FillAnswer::Filled),
@@ -225,9 +194,23 @@ static REFILLED_SLOTS: [Event; 12] = [
     Fill(4, 1, FillAnswer::NoSlot),
 ];
 
+/// The histories: of each its name, the word at which its ring begins, and its events.
+static HISTORIES: [(&str, u32, &[Event]); 6] = [
+    ("full across the wrap", u32::MAX - 1, FULL_ACROSS_THE_WRAP),
+    ("empty calls", 0, EMPTY_CALLS),
+    ("bad word is dropped", 0, BAD_WORD),
+    ("stopped call leaves the rest", u32::MAX - 1, STOPPED_CALL),
+    ("slot named twice", 0, SLOT_NAMED_TWICE),
+    ("refilled slots", 0, REFILLED_SLOTS),
+];
+
 #[test]
-fn refilled_slots(rt: HostRuntime) -> Result<(), Fail> {
-    check_done(&rt, first_wrong_from(rt.alloc(), 0, &REFILLED_SLOTS))
+fn submissions_go_as_wanted(rt: HostRuntime) -> Result<(), Fail> {
+    for (name, start, events) in &HISTORIES {
+        let wrong = first_wrong_from(rt.alloc(), *start, events)?;
+        assert_eq!(rt; wrong, None, "{name}");
+    }
+    Ok(())
 }
 
 /// The user data of the entry that a slot holds in a round.

@@ -4,7 +4,7 @@ use super::super::ends::Ports;
 use super::super::nop;
 use super::super::told::{Told, tell};
 use super::{Made, make, settle};
-use std::alloc::Global;
+use std::alloc::{AllocError, Global};
 use std::test::Fail;
 use uring_entry::Cqe;
 use uring_threads::{Counts, Item, KernelLanes};
@@ -44,14 +44,33 @@ fn is_right(told: &Told) -> bool {
         && told.waiting == [Some(Cqe::new(2, 0, [0; 64])), None, None]
 }
 
+/// Whether these ends, once settled, report it so. It notes if memory was refused to it.
+fn settles_right<K: Ports>(
+    alloc: Global,
+    made: Made<K>,
+    was_refused: &mut bool,
+) -> Result<bool, Fail> {
+    match settle(alloc, made, was_refused) {
+        Ok(report) => {
+            let right = is_right(&tell(&report));
+            drop(report);
+            Ok(right)
+        }
+        Err(AllocError) => Err(Fail::from(AllocError)),
+    }
+}
+
 /// Whether new ends that are settled then report it so, and whether memory was refused.
 fn settle_then<K: Ports>(alloc: Global) -> Result<(bool, bool), Fail> {
-    let (mut made, refused) = make::<K>(alloc)?;
-    let refused_then = go_to_the_middle(&mut made);
-    let (report, refused_last) = settle(alloc, made)?;
-    let right = is_right(&tell(&report));
-    drop(report);
-    Ok((right, refused || refused_then || refused_last))
+    let mut was_refused = false;
+    match make::<K>(alloc, &mut was_refused) {
+        Ok(mut made) => {
+            let refused_then = go_to_the_middle(&mut made);
+            let right = settles_right(alloc, made, &mut was_refused)?;
+            Ok((right, was_refused || refused_then))
+        }
+        Err(fail) => Err(fail),
+    }
 }
 
 #[test]

@@ -201,29 +201,44 @@ fn judged(report: &Report<Open>, progress: &Progress) -> (bool, bool) {
     )
 }
 
-/// Whether a play on these ends to its end is right, and whether memory was refused.
-fn play_on(alloc: Global, mut made: Lanes) -> Result<(bool, bool), AllocError> {
-    let mut progress = Progress::new();
-    progress.go_rounds(&mut made, 40);
-    let is_idle = made.idle();
-    let (report, was_refused) = settle(alloc, made)?;
-    let (right, is_refused) = judged(&report, &progress);
-    drop(report);
-    Ok((is_idle && right, was_refused || is_refused))
+/// Whether settling these ends behind a play that went so is right. It notes if memory was refused.
+fn settle_behind(
+    alloc: Global,
+    made: Lanes,
+    progress: &Progress,
+    was_refused: &mut bool,
+) -> Result<bool, Fail> {
+    match settle(alloc, made, was_refused) {
+        Ok(report) => {
+            let (right, is_refused) = judged(&report, progress);
+            drop(report);
+            *was_refused |= is_refused;
+            Ok(right)
+        }
+        Err(AllocError) => Err(Fail::from(AllocError)),
+    }
 }
 
-/// The same on new ends.
-fn play(alloc: Global) -> Result<(bool, bool), Fail> {
-    let (made, was_refused) = make(alloc)?;
-    let (right, is_refused) = play_on(alloc, made)?;
-    Ok((right, was_refused || is_refused))
+/// Whether a play on new ends to its end is right. It notes if memory was refused to it.
+fn play(alloc: Global, was_refused: &mut bool) -> Result<bool, Fail> {
+    match make(alloc, was_refused) {
+        Ok(mut made) => {
+            let mut progress = Progress::new();
+            progress.go_rounds(&mut made, 40);
+            let is_idle = made.idle();
+            let right = settle_behind(alloc, made, &progress, was_refused)?;
+            Ok(is_idle && right)
+        }
+        Err(fail) => Err(fail),
+    }
 }
 
 #[test]
 fn a_play_goes_on_behind_a_refusal(rt: HostRuntime) -> Result<(), Fail> {
-    let (right, is_refused) = play(rt.alloc())?;
+    let mut was_refused = false;
+    let right = play(rt.alloc(), &mut was_refused)?;
     assert!(rt; right);
-    if is_refused {
+    if was_refused {
         println!(rt; "refused")?;
     }
     Ok(())

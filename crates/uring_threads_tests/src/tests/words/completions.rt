@@ -1,6 +1,7 @@
 //! Completions over shared words: at every wrap, from thread to thread, and settled.
 ghost use Rattle.std.specs.Prelude.{◌≡◌};
 
+use super::super::check;
 use super::super::told::{Left, left_in};
 use std::alloc::{AllocError, Global};
 use std::sync::Wait;
@@ -133,11 +134,14 @@ fn look_and_settle(alloc: Global) -> Result<(Seen, Left), Fail> {
     }
 }
 
+/// Whether that is seen, and only what was not got is undelivered.
+fn is_undelivered(alloc: Global) -> Result<bool, Fail> {
+    let (seen, (unsent, undelivered)) = look_and_settle(alloc)?;
+    let is_left = unsent == [None; 3] && undelivered == [Some(completion(2)), None, None];
+    Ok(seen.is_right() && is_left)
+}
+
 #[test]
 fn what_was_not_got_is_undelivered(rt: HostRuntime) -> Result<(), Fail> {
-    let (seen, (unsent, undelivered)) = look_and_settle(rt.alloc())?;
-    assert!(rt; seen.is_right());
-    assert!(rt; unsent == [None; 3]);
-    assert!(rt; undelivered == [Some(completion(2)), None, None]);
-    Ok(())
+    check(&rt, is_undelivered(rt.alloc()), "what is seen and left")
 }

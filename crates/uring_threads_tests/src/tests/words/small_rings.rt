@@ -1,8 +1,8 @@
 //! A ring of four that is settled.
 ghost use Rattle.std.specs.Prelude.{◌≡◌, ◌≤◌, vec_capacity};
 
-use super::super::nop;
 use super::super::told::{Left, left_in};
+use super::super::{check, nop};
 use std::alloc::{AllocError, Global};
 use std::test::Fail;
 use uring_entry::Setup;
@@ -41,11 +41,18 @@ fn settled(alloc: Global) -> Result<(bool, Left), Fail> {
     }
 }
 
+/// Whether it goes so, and the second call is unsent.
+fn is_unsent(alloc: Global) -> Result<bool, Fail> {
+    let (goes, (unsent, undelivered)) = settled(alloc)?;
+    let wanted = [Some(Item::Bad(9)), Some(nop(2)), None];
+    Ok(goes && unsent == wanted && undelivered == [None; 3])
+}
+
 #[test]
 fn what_was_not_pulled_is_unsent(rt: HostRuntime) -> Result<(), Fail> {
-    let (goes, (unsent, undelivered)) = settled(rt.alloc())?;
-    assert!(rt; goes, "both calls are Ok, and the first is pulled");
-    assert!(rt; unsent == [Some(Item::Bad(9)), Some(nop(2)), None]);
-    assert!(rt; undelivered == [None; 3]);
-    Ok(())
+    check(
+        &rt,
+        is_unsent(rt.alloc()),
+        "both calls are Ok, and the second is unsent",
+    )
 }
