@@ -12,36 +12,44 @@
 #include <sys/socket.h>
 #include <sys/wait.h>
 
-/* Polls of a pipe that nobody writes to, and their user data from this on. */
-enum { CROWD = 40, OTHERS = 1000 };
+/* Polls of a pipe that nobody writes to, and their user data from this on: so many more at a time, and so many so far. */
+enum { CROWD = 40, OTHERS = 1000, MOST = 2000 };
 
 static int quiet[2];
+static unsigned crowd;
 
 /* All that can go on has, and what waits was waited for. */
-static void rest(struct ring *ring)
+static void settle(struct ring *ring)
 {
     check(enter_for(ring, 1, 1000) == -ETIME);
+}
+
+/* The same beside a crowd that has just come, so that whatever waits is one of many. */
+static void rest(struct ring *ring)
+{
+    for (unsigned i = 0; i < CROWD; i++)
+        put_plain(ring, IORING_OP_POLL_ADD, OTHERS + crowd++, quiet[0])->poll32_events = POLLIN;
+    check(crowd <= MOST && enter(ring, CROWD, 0, 0) == CROWD);
+    settle(ring);
 }
 
 static void make_crowded(struct ring *ring, unsigned entries)
 {
     check(pipe(quiet) == 0);
     make_ring(ring, entries, 0, 0);
-    for (unsigned i = 0; i < CROWD; i++)
-        put_plain(ring, IORING_OP_POLL_ADD, OTHERS + i, quiet[0])->poll32_events = POLLIN;
-    check(enter(ring, CROWD, 0, 0) == CROWD);
+    crowd = 0;
     rest(ring);
 }
 
 /* The crowd waits still: once their pipe is written to each of them ends. */
 static void leave_crowded(struct ring *ring)
 {
-    bool has_ended[CROWD] = {false};
-    rest(ring);
+    bool has_ended[MOST] = {false};
+    settle(ring);
     check(write(quiet[1], "x", 1) == 1);
-    for (unsigned i = 0; i < CROWD; i++) {
+    for (unsigned i = 0; i < crowd; i++) {
         struct seen found = next_of(ring);
-        check(found.user_data >= OTHERS && found.user_data < OTHERS + CROWD && found.res == POLLIN && !has_ended[found.user_data - OTHERS]);
+        check(found.user_data >= OTHERS && found.user_data < OTHERS + crowd && found.res == POLLIN && !has_ended[found.user_data - OTHERS]);
         has_ended[found.user_data - OTHERS] = true;
     }
     check(close(quiet[0]) == 0 && close(quiet[1]) == 0);
@@ -171,12 +179,12 @@ static void test_all_cancelled(void)
     make_crowded(&ring, 64);
     put_cancel(&ring, 0, 0, IORING_ASYNC_CANCEL_ANY | IORING_ASYNC_CANCEL_ALL);
     check(enter(&ring, 1, 0, 0) == 1);
-    for (unsigned i = 0; i <= CROWD; i++) {
+    for (unsigned i = 0; i <= crowd; i++) {
         struct seen found = next_of(&ring);
-        check(found.res == (found.user_data >= OTHERS ? -ECANCELED : CROWD));
+        check(found.res == (found.user_data >= OTHERS ? -ECANCELED : (int32_t)crowd));
         cancelled += found.user_data >= OTHERS;
     }
-    check(cancelled == CROWD);
+    check(cancelled == crowd);
     close(quiet[0]), close(quiet[1]);
     close_ring(&ring);
 }
@@ -350,7 +358,7 @@ static void test_some(void)
     check(enter(&ring, PIPES, 0, 0) == PIPES);
     for (unsigned round = 0; round < ROUNDS; round++) {
         unsigned count = 0;
-        rest(&ring);
+        settle(&ring);
         for (unsigned i = 0; i < round + 1; i++) {
             roll = roll * 1664525 + 1013904223;
             unsigned at = (roll >> 8) % PIPES;
@@ -368,7 +376,7 @@ static void test_some(void)
         }
         check(enter(&ring, count, 0, 0) == (long)count);
     }
-    rest(&ring);
+    settle(&ring);
     for (unsigned i = 0; i < PIPES; i++)
         close(ends[i][0]), close(ends[i][1]);
     close_ring(&ring);
