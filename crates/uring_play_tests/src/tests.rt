@@ -1,6 +1,5 @@
 //! Tests of plays: over lanes and over shared words, their text, and growth.
 
-mod fakes;
 mod growth;
 mod playing;
 mod ports;

@@ -84,9 +84,11 @@ fn wanted_at(event: &(Step, Answer)) -> [Wanted; 2] {
 
 /// Whether of each event another answer is told at its place.
 fn are_told(alloc: Global) -> Result<bool, Fail> {
-    for (place, event) in recorded().iter().enumerate() {
-        let wanted = wanted_at(event).map(|wanted| Some((place, wanted)));
-        if told(alloc, place, Answer::Spent)? != wanted {
+    let events = recorded();
+    for (place, event) in events.iter().enumerate() {
+        let wanted = wanted_at(event);
+        let told = [Some((place, wanted[0])), Some((place, wanted[1]))];
+        if !is_told(alloc, place, Answer::Spent, told)? {
             return Ok(false);
         }
     }

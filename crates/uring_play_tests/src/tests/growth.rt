@@ -33,6 +33,15 @@ impl Write for FixedWriter {
     }
 }
 
+/// A write that lengthens its file, with a link to a no-op, and a read of that file by the same worker.
+const INPUT: &str = "write 1 L 0 2 6162\nnop 2 -\n\nread 3 - 0 0 4\n";
+
+/// What is written with ample memory.
+const AMPLE: &str = "cqe 1 2 -\ncqe 2 0 -\ncqe 3 4 00006162\ntaken 3 dropped 0\n";
+
+/// What is written where the write is refused memory: it dooms the no-op, and leaves its file empty.
+const WRITE_REFUSED: &str = "cqe 1 -12 -\ncqe 2 -125 -\ncqe 3 0 -\ntaken 3 dropped 0\n";
+
 /// What came of a play.
 #[derive(Clone, Copy, PartialEq, Eq)]
 enum Ending {
@@ -41,63 +50,59 @@ enum Ending {
     Wrong,
 }
 
-/// A play: the size of its rings and how many workers it has, what is submitted, what is written with ample memory, and what where an operation is refused memory, if one may be.
-struct Play {
-    size: u32,
-    workers: u32,
-    input: &'static str,
-    ample: &'static str,
-    refused: Option<&'static str>,
-}
-
-/// A write that lengthens its file, with a link to a no-op, and a read of that file by the same worker. If the write is refused memory it dooms the no-op, and leaves its file empty.
-static WRITE: Play = Play {
-    size: 4,
-    workers: 2,
-    input: "write 1 L 0 2 6162\nnop 2 -\n\nread 3 - 0 0 4\n",
-    ample: "cqe 1 2 -\ncqe 2 0 -\ncqe 3 4 00006162\ntaken 3 dropped 0\n",
-    refused: Some("cqe 1 -12 -\ncqe 2 -125 -\ncqe 3 0 -\ntaken 3 dropped 0\n"),
-};
-
 /// More calls than a ring of two has places for, so that the application waits for room.
-static CALLS: Play = Play {
-    size: 2,
-    workers: 1,
-    input: "nop 1 -\n\nnop 2 -\n\nnop 3 -\n\nnop 4 -\n\nnop 5 -\n\nnop 6 -\n",
-    ample: "cqe 1 0 -\ncqe 2 0 -\ncqe 3 0 -\ncqe 4 0 -\ncqe 5 0 -\ncqe 6 0 -\ntaken 6 dropped 0\n",
-    refused: None,
-};
+const CALLS: &str = "nop 1 -\n\nnop 2 -\n\nnop 3 -\n\nnop 4 -\n\nnop 5 -\n\nnop 6 -\n";
 
-impl Play {
-    /// What came of it, if it ended so and wrote this.
-    fn judge(&self, end: Result<(), PlayFault>, written: &[u8]) -> Ending {
-        match end {
-            Ok(()) if written == self.ample.as_bytes() => Ending::Ample,
-            Ok(()) if Some(written) == self.refused.map(str::as_bytes) => Ending::Refused,
-            Err(PlayFault::Memory) if written.is_empty() => Ending::Refused,
-            _ => Ending::Wrong,
-        }
-    }
-}
+/// What is written of them.
+const CALLS_AMPLE: &str =
+    "cqe 1 0 -\ncqe 2 0 -\ncqe 3 0 -\ncqe 4 0 -\ncqe 5 0 -\ncqe 6 0 -\ntaken 6 dropped 0\n";
 
-/// What comes of a play over these ports.
-fn played<R: Threads + Wait + Copy + Send + 'static>(
+/// What comes of a play of these calls over a ring of two: all of it is written, or it ends for want of memory.
+fn calls_played<R: Threads + Wait + Copy + Send + 'static>(
     ports: Ports,
     rt: R,
     alloc: Global,
-    play: &Play,
 ) -> Ending {
-    let Ok(setup) = Setup::new(play.size, Some(play.size), 2, 0) else {
+    let Ok(setup) = Setup::new(2, Some(2), 1, 0) else {
         return Ending::Wrong;
     };
     let mut writer = FixedWriter {
         bytes: [0; 128],
         len: 0,
     };
-    let mut reader = play.input.as_bytes();
-    let workers = play.workers.clamp(1, 8);
-    let end = play_over(ports, rt, alloc, &mut reader, &mut writer, &setup, workers);
-    play.judge(end, &writer.bytes[..min(writer.len, 128)])
+    let mut reader = CALLS.as_bytes();
+    let end = play_over(ports, rt, alloc, &mut reader, &mut writer, &setup, 1);
+    let written = &writer.bytes[..min(writer.len, 128)];
+    match end {
+        Ok(()) if written == CALLS_AMPLE.as_bytes() => Ending::Ample,
+        Err(PlayFault::Memory) if written.is_empty() => Ending::Refused,
+        _ => Ending::Wrong,
+    }
+}
+
+/// What comes of a play over these ports.
+fn played<R: Threads + Wait + Copy + Send + 'static>(ports: Ports, rt: R, alloc: Global) -> Ending {
+    let Ok(setup) = Setup::new(4, Some(4), 2, 0) else {
+        return Ending::Wrong;
+    };
+    let mut writer = FixedWriter {
+        bytes: [0; 128],
+        len: 0,
+    };
+    let mut reader = INPUT.as_bytes();
+    let end = play_over(ports, rt, alloc, &mut reader, &mut writer, &setup, 2);
+    let written = &writer.bytes[..min(writer.len, 128)];
+    judged(end, written)
+}
+
+/// What came of a play that ended so and wrote this.
+fn judged(end: Result<(), PlayFault>, written: &[u8]) -> Ending {
+    match end {
+        Ok(()) if written == AMPLE.as_bytes() => Ending::Ample,
+        Ok(()) if written == WRITE_REFUSED.as_bytes() => Ending::Refused,
+        Err(PlayFault::Memory) if written.is_empty() => Ending::Refused,
+        _ => Ending::Wrong,
+    }
 }
 
 /// Tells where a growth was refused.
@@ -110,28 +115,28 @@ fn tell(rt: HostRuntime, ending: Ending) -> Result<(), Fail> {
 
 #[test]
 fn a_refused_growth_ends_a_play_or_is_answered(rt: HostRuntime) -> Result<(), Fail> {
-    let ending = played(Ports::Lanes, rt, rt.alloc(), &WRITE);
+    let ending = played(Ports::Lanes, rt, rt.alloc());
     assert!(rt; ending != Ending::Wrong);
     tell(rt, ending)
 }
 
 #[test]
 fn a_refused_growth_ends_a_shared_play_or_is_answered(rt: HostRuntime) -> Result<(), Fail> {
-    let ending = played(Ports::Words, rt, rt.alloc(), &WRITE);
+    let ending = played(Ports::Words, rt, rt.alloc());
     assert!(rt; ending != Ending::Wrong);
     tell(rt, ending)
 }
 
 #[test]
 fn a_refused_growth_ends_a_play_of_many_calls(rt: HostRuntime) -> Result<(), Fail> {
-    let lanes = played(Ports::Lanes, rt, rt.alloc(), &CALLS);
+    let lanes = calls_played(Ports::Lanes, rt, rt.alloc());
     assert!(rt; lanes != Ending::Wrong);
     tell(rt, lanes)
 }
 
 #[test]
 fn a_refused_growth_ends_a_shared_play_of_many_calls(rt: HostRuntime) -> Result<(), Fail> {
-    let words = played(Ports::Words, rt, rt.alloc(), &CALLS);
+    let words = calls_played(Ports::Words, rt, rt.alloc());
     assert!(rt; words != Ending::Wrong);
     tell(rt, words)
 }

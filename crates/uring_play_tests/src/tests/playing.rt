@@ -1,60 +1,97 @@
 //! Worked rows of plays, in threads, with 1, 2 and 8 workers, over lanes and over shared words.
 
-use super::fakes::{Case, Manner, goes, plain};
+ghost use Rattle.std.specs.Prelude.{◌<◌, ◌≤◌};
+
+use super::ports::{Ports, play_over};
 use std::alloc::{AllocError, Global};
+use std::io;
+use std::io::{ErrorKind, Read, Write};
 use std::sync::Wait;
 use std::test::Fail;
 use std::thread::Threads;
-use uring_play::PlayFault;
+use uring_play::{PlayFault, Setup};
 
-/// Whether a play ends and writes as it should, with 1, 2 and 8 workers.
-fn goes_with_all<R: Threads + Wait + Copy + Send + 'static>(
+/// Whether a play of this input over a ring of four ends so, and writes this.
+fn ends_with<R: Threads + Wait + Copy + Send + 'static>(
+    ports: Ports,
     rt: R,
     alloc: Global,
-    case: &Case<'_>,
-) -> bool {
-    goes(rt, alloc, 1, case) && goes(rt, alloc, 2, case) && goes(rt, alloc, 8, case)
+    input: &[u8],
+    workers: u32,
+    wanted: (Result<(), PlayFault>, &[u8]),
+) -> bool
+    requires { (0 < workers) × (workers ≤ 8) }
+{
+    let Ok(setup) = Setup::new(4, Some(4), 2, 0) else {
+        return false;
+    };
+    let mut rest = input;
+    let mut output = Vec::new(alloc);
+    let end = play_over(ports, rt, alloc, &mut rest, &mut output, &setup, workers);
+    (end, output.as_slice()) == wanted
 }
 
-/// An input, how its play ends, and what it writes.
-type Row = (&'static str, Result<(), PlayFault>, &'static str);
+/// Whether a play of this input over these ports ends so and writes this, with 1, 2 and 8 workers.
+fn ends_over<R: Threads + Wait + Copy + Send + 'static>(
+    ports: Ports,
+    rt: R,
+    alloc: Global,
+    input: &[u8],
+    wanted: (Result<(), PlayFault>, &[u8]),
+) -> bool {
+    ends_with(ports, rt, alloc, input, 1, wanted)
+        && ends_with(ports, rt, alloc, input, 2, wanted)
+        && ends_with(ports, rt, alloc, input, 8, wanted)
+}
 
-/// A hard chain of a write and a read; a bad word and a skipped success; no input; and faulty lines, which are refused.
-static ROWS: [Row; 6] = [
-    (
-        "write 1 H 0 0 68656c6c6f\nread 2 - 0 0 5\nnop 3 -\n\n",
-        Ok(()),
-        "cqe 1 5 -\ncqe 2 5 68656c6c6f\ncqe 3 0 -\ntaken 3 dropped 0\n",
-    ),
-    (
-        "bad 9\nnop 5 S\n\nread 6 - 0 0 1\n",
-        Ok(()),
-        "cqe 6 0 -\ntaken 2 dropped 1\n",
-    ),
-    ("", Ok(()), "taken 0 dropped 0\n"),
-    ("nop 1 -\nnop 1\n", Err(PlayFault::Line(2)), ""),
-    ("bad 3\n", Err(PlayFault::Line(1)), ""),
-    (
-        "nop 1 -\nnop 1 -\nnop 1 -\nnop 1 -\nnop 1 -\n",
-        Err(PlayFault::Long(5)),
-        "",
-    ),
-];
+/// Whether a play of this input writes this with 1, 2 and 8 workers, over lanes and over words.
+fn plays<R: Threads + Wait + Copy + Send + 'static>(
+    rt: R,
+    alloc: Global,
+    input: &[u8],
+    wanted: &[u8],
+) -> bool {
+    ends_over(Ports::Lanes, rt, alloc, input, (Ok(()), wanted))
+        && ends_over(Ports::Words, rt, alloc, input, (Ok(()), wanted))
+}
 
-/// The first row whose play goes otherwise.
-fn first_wrong<R: Threads + Wait + Copy + Send + 'static>(rt: R, alloc: Global) -> Option<usize> {
-    for (place, (input, end, output)) in ROWS.iter().enumerate() {
-        let case = plain(input.as_bytes(), *end, output.as_bytes());
-        if !goes_with_all(rt, alloc, &case) {
-            return Some(place);
-        }
-    }
-    None
+/// Whether a play of this input ends with this fault and writes nothing, with 1, 2 and 8 workers, over lanes and over words.
+fn is_refused<R: Threads + Wait + Copy + Send + 'static>(
+    rt: R,
+    alloc: Global,
+    input: &[u8],
+    fault: PlayFault,
+) -> bool {
+    ends_over(Ports::Lanes, rt, alloc, input, (Err(fault), b""))
+        && ends_over(Ports::Words, rt, alloc, input, (Err(fault), b""))
 }
 
 #[test]
-fn rows_go_as_they_should(rt: HostRuntime) {
-    assert_eq!(rt; first_wrong(rt, rt.alloc()), None);
+fn hard_chain_of_write_and_read(rt: HostRuntime) {
+    let input = b"write 1 H 0 0 68656c6c6f\nread 2 - 0 0 5\nnop 3 -\n\n";
+    let wanted = b"cqe 1 5 -\ncqe 2 5 68656c6c6f\ncqe 3 0 -\ntaken 3 dropped 0\n";
+    assert!(rt; plays(rt, rt.alloc(), input, wanted));
+}
+
+#[test]
+fn bad_word_and_skipped_success(rt: HostRuntime) {
+    let input = b"bad 9\nnop 5 S\n\nread 6 - 0 0 1\n";
+    let wanted = b"cqe 6 0 -\ntaken 2 dropped 1\n";
+    assert!(rt; plays(rt, rt.alloc(), input, wanted));
+}
+
+#[test]
+fn no_input(rt: HostRuntime) {
+    assert!(rt; plays(rt, rt.alloc(), b"", b"taken 0 dropped 0\n"));
+}
+
+#[test]
+fn faulty_lines_are_refused(rt: HostRuntime) {
+    let alloc = rt.alloc();
+    assert!(rt; is_refused(rt, alloc, b"nop 1 -\nnop 1\n", PlayFault::Line(2)));
+    assert!(rt; is_refused(rt, alloc, b"bad 3\n", PlayFault::Line(1)));
+    let five = b"nop 1 -\nnop 1 -\nnop 1 -\nnop 1 -\nnop 1 -\n";
+    assert!(rt; is_refused(rt, alloc, five, PlayFault::Long(5)));
 }
 
 /// Appends a part so many times.
@@ -95,11 +132,7 @@ fn many_go_through<R: Threads + Wait + Copy + Send + 'static>(
 ) -> Result<bool, AllocError> {
     let input = many_calls(alloc)?;
     let wanted = many_completions(alloc)?;
-    Ok(goes_with_all(
-        rt,
-        alloc,
-        &plain(input.as_bytes(), Ok(()), wanted.as_bytes()),
-    ))
+    Ok(plays(rt, alloc, input.as_bytes(), wanted.as_bytes()))
 }
 
 #[test]
@@ -108,28 +141,58 @@ fn many_calls_go_through(rt: HostRuntime) -> Result<(), Fail> {
     Ok(())
 }
 
-/// A play whose writer takes so many bytes one by one, and then fails: these are the beginning of what is to be written.
-fn short(left: usize) -> Case<'static> {
-    let wanted = b"cqe 1 0 -\ntaken 1 dropped 0\n".as_slice();
-    let beginning = wanted.get(..left).unwrap_or_default();
-    Case {
-        room: left,
-        writes: Manner {
-            at_once: 1,
-            interrupted_at: None,
-            fails: true,
-        },
-        ..plain(b"nop 1 -\n", Err(PlayFault::Write), beginning)
+/// A writer that takes so many bytes, and then fails.
+#[derive(Drop)]
+struct ShortWriter {
+    written: Vec<u8>,
+    left: usize,
+}
+
+impl Write for ShortWriter {
+    fn write(&mut self, buf: &[u8]) -> io::Result<usize> {
+        if self.left == 0 || buf.is_empty() {
+            return Err(io::Error::from(ErrorKind::Other));
+        }
+        self.written.push(buf[0])?;
+        self.left -= 1;
+        Ok(1)
+    }
+
+    fn flush(&mut self) -> io::Result<()> {
+        Ok(())
     }
 }
 
-/// The least number of bytes behind which a failing writer doesn't make a play fail so.
-fn first_unfaulted<R: Threads + Wait + Copy + Send + 'static>(
+/// Whether a play over these ports gives a write fault, if its writer takes so many bytes, which are the beginning of this.
+fn fails_to_write<R: Threads + Wait + Copy + Send + 'static>(
+    ports: Ports,
+    rt: R,
+    alloc: Global,
+    left: usize,
+    wanted: &[u8],
+) -> bool {
+    let Ok(setup) = Setup::new(4, Some(4), 2, 0) else {
+        return false;
+    };
+    let mut rest = b"nop 1 -\n".as_slice();
+    let mut writer = ShortWriter {
+        written: Vec::new(alloc),
+        left,
+    };
+    let end = play_over(ports, rt, alloc, &mut rest, &mut writer, &setup, 2);
+    let beginning = wanted.get(..left).unwrap_or_default();
+    end == Err(PlayFault::Write) && writer.written.as_slice() == beginning
+}
+
+/// The least number of bytes behind which a failing writer doesn't make this play over these ports fail so.
+fn first_wrong<R: Threads + Wait + Copy + Send + 'static>(
+    ports: Ports,
     rt: R,
     alloc: Global,
 ) -> Option<usize> {
+    let wanted = b"cqe 1 0 -\ntaken 1 dropped 0\n".as_slice();
     for left in 0..28usize {
-        if !goes(rt, alloc, 2, &short(left)) {
+        if !fails_to_write(ports, rt, alloc, left, wanted) {
             return Some(left);
         }
     }
@@ -138,5 +201,6 @@ fn first_unfaulted<R: Threads + Wait + Copy + Send + 'static>(
 
 #[test]
 fn a_failing_write_leaves_the_beginning(rt: HostRuntime) {
-    assert_eq!(rt; first_unfaulted(rt, rt.alloc()), None);
+    assert_eq!(rt; first_wrong(Ports::Lanes, rt, rt.alloc()), None);
+    assert_eq!(rt; first_wrong(Ports::Words, rt, rt.alloc()), None);
 }

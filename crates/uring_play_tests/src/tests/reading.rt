@@ -1,8 +1,9 @@
 //! Submissions as lines, and the calls that they spell.
 
-use super::fakes::{Manner, Source};
 use std::alloc::Global;
-use std::io::Read;
+use std::cmp::min;
+use std::io;
+use std::io::{ErrorKind, Read};
 use uring_entry::Sqe;
 use uring_play::{Item, PlayFault, Setup, read_calls};
 
@@ -103,17 +104,28 @@ fn the_first_faulty_line_decides(rt: HostRuntime) {
     assert!(rt; is_refused(alloc, &[b'0'; 301], PlayFault::Line(1)));
 }
 
+/// A reader of some bytes, a few at a time, that fails behind them.
+#[derive(Drop)]
+struct FailingReader<'a> {
+    rest: &'a [u8],
+}
+
+impl Read for FailingReader<'_> {
+    fn read(&mut self, buf: &mut [u8]) -> io::Result<usize> {
+        if self.rest.is_empty() {
+            return Err(io::Error::from(ErrorKind::Other));
+        }
+        let count = min(min(self.rest.len(), buf.len()), 3);
+        buf[..count].copy_from_slice(&self.rest[..count]);
+        self.rest = &self.rest[count..];
+        Ok(count)
+    }
+}
+
 #[test]
 fn a_failing_read_comes_before_a_faulty_line(rt: HostRuntime) {
-    let mut reader = Source {
-        letters: 0,
+    let mut reader = FailingReader {
         rest: b"nop 1 -\nnop\n",
-        calls: 0,
-        manner: Manner {
-            at_once: 3,
-            interrupted_at: None,
-            fails: true,
-        },
     };
     assert!(rt; fault_of(rt.alloc(), &mut reader) == Some(PlayFault::Read));
 }
