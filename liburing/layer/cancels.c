@@ -20,8 +20,8 @@
 /* One that runs is looked at again. */
 static void look_again_at(struct ring *ring, struct request *request)
 {
-    wulgach_waiter_meets_cancel(&request->waiter);
     rouse(ring, request);
+    wulgach_waiter_meets_cancel(&request->waiter);
     wulgach_lookout_touches(&ring->lookout, place_of(&ring->running, request->number));
 }
 

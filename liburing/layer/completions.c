@@ -96,11 +96,13 @@ void show(struct ring *ring)
 {
     struct wulgach_shown *at = &ring->completions.at;
     ring->completions.is_behind = false;
-    if (wulgach_shown_overflows(at) && store_shown(ring))
-        tell_eventfd(ring);
+    bool is_told = wulgach_shown_overflows(at) && store_shown(ring);
     if (wulgach_shown_overflows(at) && !(load_word(&ring->memory.sq->flags) & IORING_SQ_CQ_OVERFLOW))
         note_rule(COMPLETION_OVERFLOWS);
     show_flags(ring);
+    /* (whoever is woken by it sees the flags) */
+    if (is_told)
+        tell_eventfd(ring);
 }
 
 void show_ends(struct ring *ring)

@@ -174,9 +174,11 @@ void let_lie(struct ring *ring)
 
 /* ---- coming back ---- */
 
+/* To the lookout it starts: so what was known of it, as that it waits, isn't any more. */
 static void bring_back(struct ring *ring, struct request *request)
 {
     request->is_dormant = false;
+    wulgach_waiter_begin(&request->waiter);
     ring->dormant.count--;
     wulgach_lookout_starts(&ring->lookout, insert_request(&ring->running, request));
     note_patient(ring, request);

@@ -47,6 +47,8 @@ void end_of(struct ring *ring, struct request *request, int32_t res, int32_t tol
     note_counts(ring);
     if (request->file)
         unwatch(ring, request->file->fd);
+    if (request->epoll >= 0)
+        unwatch(ring, request->epoll);
     if (request->standing.is_stream)
         forget_descriptor(ring, request);
     look_behind(ring, request);

@@ -211,8 +211,8 @@ static bool has_something(const struct request *request)
 static void tell(struct ring *ring, struct request *request, bool is_there)
 {
     struct wulgach_pipe_poll seen = seen_of(request);
-    wulgach_waiter_hears(&request->waiter, &ring->lookout, &seen, is_there);
     rouse(ring, request);
+    wulgach_waiter_hears(&request->waiter, &ring->lookout, &seen, is_there);
 }
 
 /* Tells the polls that wait by a watch: the first says whether what was written is there still. Returns whether one has heard. */
