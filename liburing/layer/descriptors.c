@@ -5,6 +5,7 @@
 #define _GNU_SOURCE
 #include "descriptors.h"
 #include "duties.h"
+#include "extras.h"
 #include "policy.h"
 #include "process.h"
 #include "readiness.h"
@@ -199,13 +200,13 @@ struct ring *lock_ring(int fd)
 }
 
 /* A message that comes while the lock is held is posted by who holds it; one that comes between its last look and its
- * unlocking, by who looks again. What has to wait for a drain is posted behind that. */
+ * unlocking, by who looks again, if it can be posted. What has to wait for a drain is posted behind that. */
 __attribute__((noinline)) static void visit_with_messages(struct ring *ring)
 {
     bool is_left = false;
     while (!is_left && has_messages(ring) && pthread_mutex_trylock(&ring->lock) == 0) {
         post_messages(ring);
-        is_left = has_messages(ring);
+        is_left = has_messages(ring) && !can_post_extra(ring);
         do_duties_at_rest(ring);
         wake_sleepers(ring);
         pthread_mutex_unlock(&ring->lock);

@@ -6,6 +6,7 @@
 #include "enrolling.h"
 #include "copying.h"
 #include "descriptors.h"
+#include "process.h"
 #include "wulgach_register.h"
 
 #include <errno.h>
@@ -17,8 +18,9 @@
 
 enum { MOST = 16, HIGH_NUMBER = 512 };
 
-/* The library's words of a thread that has rows. */
+/* The library's words of a thread that has rows, and the process in which it has them. */
 static __thread uint64_t *table;
+static __thread pid_t owner;
 static pthread_key_t key;
 static pthread_once_t once = PTHREAD_ONCE_INIT;
 
@@ -36,13 +38,29 @@ static void make_key(void)
     pthread_key_create(&key, close_table);
 }
 
+/* A child has none of its parent's rows, but copies of their descriptors. */
+static void leave_parents_table(void)
+{
+    uint64_t fd;
+    if (!table || owner == this_process())
+        return;
+    for (uint32_t i = 0; i < MOST; i++)
+        if (wulgach_enrolled_named(table, MOST, i, &fd) == 0)
+            close((int)fd);
+    free(table);
+    table = NULL;
+    pthread_setspecific(key, NULL);
+}
+
 static int make_table(void)
 {
     pthread_once(&once, make_key);
+    leave_parents_table();
     if (!table) {
         table = calloc(MOST, sizeof *table);
         if (table)
             wulgach_enrolled_begin(table, MOST);
+        owner = this_process();
         pthread_setspecific(key, table);
     }
     return table ? 0 : wulgach_missing_fault(WULGACH_NO_MEMORY_OWN);
@@ -128,6 +146,7 @@ int enrolled_fd(uint32_t number)
 {
     static const uint64_t none[MOST];
     uint64_t fd;
+    leave_parents_table();
     int result = wulgach_enrolled_named(table ? table : none, MOST, number, &fd);
     return result < 0 ? result : (int)fd;
 }

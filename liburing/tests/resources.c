@@ -10,6 +10,7 @@
 #include <sys/eventfd.h>
 #include <sys/socket.h>
 #include <sys/uio.h>
+#include <sys/wait.h>
 
 static void test_buffers(void)
 {
@@ -320,6 +321,11 @@ static void test_rings_by_number(void)
     check(register_at(other.fd, IORING_REGISTER_RING_FDS, &row, 1) == 1);
     unsigned number = row.offset;
     check(number < 16 && register_at(other.fd, IORING_REGISTER_RING_FDS, &row, 1) == -EBUSY);
+    int status;
+    pid_t child = fork();
+    if (child == 0)
+        _exit(enter_by_number(number, 0) == -EINVAL || enter_by_number(number, 0) == -EBADF ? 0 : 1);
+    check(waitpid(child, &status, 0) == child && status == 0);
     close(ring.fd);
     put(&ring, IORING_OP_NOP, 7, 0);
     check(enter_by_number(number, 1) == 1 && reap(&ring).user_data == 7);
