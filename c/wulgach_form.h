@@ -51,6 +51,12 @@ enum wulgach_form {
  * What the entry points to isn't looked at. */
 uint32_t wulgach_form_of(const struct wulgach_submission *entry, int32_t refusal, bool is_allowed, int32_t *fault);
 
+/* Returns what an entry is that no cancel of the core's is, once what it points to is copied with this fault, or 0: one with a fault is refused. */
+uint32_t wulgach_form_copied(int32_t fault);
+
+/* Writes what an entry says of its chain: IOSQE_IO_LINK or IO_HARDLINK links the next, and IORING_OP_LINK_TIMEOUT limits the one before. */
+void wulgach_link_of(const struct wulgach_submission *entry, struct wulgach_link *link);
+
 /* Whether an operation is served. */
 bool wulgach_is_served(uint8_t code);
 

@@ -106,7 +106,18 @@ static void look_at_order(void)
     demand(wulgach_form_of(&plain, 0, false, &fault) == WULGACH_FORM_REFUSED && fault == -13, "restrictions");
     demand(wulgach_form_of(&plain, 0, true, &fault) == WULGACH_FORM_REFUSED && fault == -22, "a personality");
     demand(FORM(.opcode = 22, .flags = 32) == 0 && FORM(.opcode = 27, .flags = 32) == 0, "one that may select");
+    demand(wulgach_form_copied(0) == WULGACH_FORM_TOKEN && wulgach_form_copied(-14) == WULGACH_FORM_REFUSED, "what can't be copied");
     demand(wulgach_is_served(0) && !wulgach_is_served(46) && !wulgach_is_served(200), "what a probe tells");
+}
+
+static void look_at_links(void)
+{
+    static const struct { uint8_t opcode, flags; bool links, is_linked_timeout; } rows[] = {{0, 0, false, false}, {0, 4, true, false}, {15, 8, true, true}, {15, 2, false, true}, {11, 51, false, false}};
+    for (size_t i = 0; i < sizeof rows / sizeof *rows; i++) {
+        struct wulgach_link link;
+        wulgach_link_of(&(struct wulgach_submission){.opcode = rows[i].opcode, .flags = rows[i].flags}, &link);
+        demand(link.links == rows[i].links && link.is_linked_timeout == rows[i].is_linked_timeout, "what an entry says of its chain");
+    }
 }
 
 static void go_on(void)
@@ -198,6 +209,7 @@ int main(void)
     look_at_slots();
     look_at_buffers();
     look_at_order();
+    look_at_links();
     go_on();
     send();
     tell();

@@ -112,7 +112,7 @@ static int32_t copy_pieces(struct request *request, const struct request *before
     struct wulgach_piece piece;
     int32_t next;
     if (before && request->entry.opcode == IORING_OP_LINK_TIMEOUT)      /* it matters to no other */
-        copied.before = link_of(&before->entry);
+        copied.before = before->link;
     while ((next = wulgach_next_piece(submission_of(&request->entry), &copied, &piece)) > 0) {
         copied.fault = copy_piece(request, &piece);
         copied.vectors = request->vector_count;
@@ -134,7 +134,7 @@ int copy_behind(struct request *request, const struct request *before)
         request->wanted = request->length;
     request->fault = next;
     if (next < 0) {
-        request->mapping = REFUSED;
+        request->mapping = (enum mapping)wulgach_form_copied(next);
         request->needs = (struct wulgach_needs){0};
     }
     return 0;

@@ -41,11 +41,6 @@ enum mapping form_of(const struct io_uring_sqe *entry, int32_t refusal, bool is_
     return (enum mapping)wulgach_form_of(submission_of(entry), refusal, is_allowed, fault);
 }
 
-struct wulgach_link link_of(const struct io_uring_sqe *entry)
-{
-    return (struct wulgach_link){.links = entry->flags & (IOSQE_IO_LINK | IOSQE_IO_HARDLINK), .is_linked_timeout = entry->opcode == IORING_OP_LINK_TIMEOUT};
-}
-
 __attribute__((noinline)) static bool make_room(struct requests *requests, size_t more)
 {
     size_t need = requests->count + more, gone = (size_t)(requests->rows - requests->at);

@@ -20,7 +20,8 @@ struct request {
         struct wulgach_member member;   /* and as a member of its chain */
     };
     struct wulgach_course course;   /* what has become of it: it has started, was cancelled, was carried out, has ended */
-    struct io_uring_sqe entry;      /* as the application wrote it */
+    struct io_uring_sqe entry;      /* as the application wrote it, */
+    struct wulgach_link link;       /* and what that says of its chain */
     enum mapping mapping;           /* what the core was told of it */
     int32_t fault;                  /* of a refused entry: what it ends with */
     struct wulgach_waiter waiter;   /* of one that runs: what is known of whether it waits; as zeros, until something has happened to it */
@@ -111,9 +112,6 @@ enum mapping form_of(const struct io_uring_sqe *entry, int32_t refusal, bool is_
 
 /* An entry as the library has it. */
 const struct wulgach_submission *submission_of(const struct io_uring_sqe *entry);
-
-/* What an entry says of its chain. */
-struct wulgach_link link_of(const struct io_uring_sqe *entry);
 
 /* Takes a request out, and keeps its memory. */
 void end_request(struct requests *requests, struct request *request);

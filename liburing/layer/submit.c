@@ -28,6 +28,7 @@ static struct request *read_entry(struct ring *ring, uint32_t slot)
     request->entry = *entry_at(&ring->memory, slot);
     request->token = request->entry.user_data;
     request->call = ring->call_number;
+    wulgach_link_of(submission_of(&request->entry), &request->link);
     request->mapping = form_of(&request->entry, strict_fault(ring, &request->entry), allows_entry(ring, &request->entry), &request->fault);
     const struct request *before = ring->staged.count > 0 ? ring->staged.rows[ring->staged.count - 1] : NULL;
     if (request->fault < 0 || copy_behind(request, before) == 0)
@@ -58,7 +59,7 @@ static struct wulgach_item item_of(const struct request *request)
     return (struct wulgach_item){
         .is_entry = request,
         .is_faulty = request && request->mapping == REFUSED,
-        .links = request && request->entry.flags & (IOSQE_IO_LINK | IOSQE_IO_HARDLINK),
+        .links = request && request->link.links,
     };
 }
 
@@ -89,11 +90,10 @@ static void accept_one(struct ring *ring, struct request *request, const struct 
 {
     if (!request)
         return;
-    struct wulgach_link link = link_of(&request->entry);
     if (before)
-        wulgach_member_next(&request->member, &before->member, ring->accepted++, &link);
+        wulgach_member_next(&request->member, &before->member, ring->accepted++, &request->link);
     else
-        wulgach_member_first(&request->member, ring->accepted++, &link);
+        wulgach_member_first(&request->member, ring->accepted++, &request->link);
     wulgach_course_begin(&request->course);
     add_request(&ring->requests, request);
     put_into_directory(ring, request);

@@ -76,7 +76,7 @@ fn last_fault(entry: &Submission, vectors: u32, before: Option<Entry>) -> i32
 }
 
 /// What an entry says of its chain.
-fn link_of(entry: &Submission) -> Entry
+pub fn link_of(entry: &Submission) -> Entry
     ensures { result ≡ spec.link_of entry.now }
 {
     Entry {

@@ -148,7 +148,7 @@ pub fn form_of(entry: &Submission, refusal: i32, is_allowed: bool) -> Form
 }
 
 /// What an entry is with this fault, or without one.
-fn form_by(fault: i32, is_cancel: bool) -> Form
+pub fn form_by(fault: i32, is_cancel: bool) -> Form
     ensures { result ≡ spec.form_by fault is_cancel }
 {
     if fault < 0 {
