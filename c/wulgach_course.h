@@ -117,7 +117,8 @@ struct wulgach_carried {
 /* Whether a result is a success to the links behind the request of an entry that was carried out so, and to WULGACH_CQE_SKIP_SUCCESS: it
  * moved all of its length, if it is to, and nothing that it has received was cut. By Linux's rules so is a failure of FSYNC,
  * SYNC_FILE_RANGE, FALLOCATE, MADVISE, STATX, RENAMEAT, UNLINKAT, MKDIRAT, SYMLINKAT, LINKAT, SHUTDOWN and those of extended attributes,
- * once it was carried out, but for -88 (ENOTSOCK) of a SHUTDOWN. */
+ * once it was carried out, but for -88 (ENOTSOCK) of a SHUTDOWN. -62 (ETIME) is one of a timeout with IORING_TIMEOUT_ETIME_SUCCESS; and of
+ * a linked one any result is, unless a cancel has found it. */
 bool wulgach_has_succeeded(const struct wulgach_submission *entry, const struct wulgach_carried *carried, bool linux_rules, int32_t res);
 
 /* What a completion of a request tells of. */
@@ -132,21 +133,6 @@ enum wulgach_part {
 /* The flags of a completion, where those of a provided buffer that was taken are `of_buffer`, or 0: IORING_CQE_F_MORE where another of the
  * same request follows, and IORING_CQE_F_NOTIF. */
 uint32_t wulgach_completion_flags(uint32_t part, uint32_t of_buffer);
-
-/* What success is of an operation. */
-struct wulgach_success {
-    uint64_t length;        /* how much a transfer is asked to move; */
-    bool is_whole;          /* it is a success only if it moves all of that, */
-    bool is_cut;            /* and nothing that it has received was cut */
-    bool takes_time;        /* a timeout with IORING_TIMEOUT_ETIME_SUCCESS */
-    bool is_linked_timeout;
-    bool is_cancelled;      /* a cancel has found it */
-    bool forgives;          /* its failure isn't marked as one: it breaks no link, and is skipped as a success is, */
-    bool wants_socket;      /* but for -88 (ENOTSOCK) */
-};
-
-/* Whether a result is a success to the links behind the request, and to WULGACH_CQE_SKIP_SUCCESS. A chain goes on behind a linked timeout, unless that was cancelled. */
-bool wulgach_is_success(const struct wulgach_success *asked, int32_t res);
 
 /* A request that the core has ended by itself. */
 struct wulgach_ended_early {

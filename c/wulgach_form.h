@@ -233,9 +233,6 @@ uint8_t wulgach_flags_before(uint8_t flags, const struct wulgach_submission *nex
  * message, and writes its operation: by Linux's rules an unknown one, which is refused, and waits for no drain; else a no-op. */
 uint32_t wulgach_extra_of(bool linux_rules, uint8_t *code);
 
-/* Whether the flags of an entry are those of a drain. */
-bool wulgach_is_drain(uint8_t flags);
-
 #ifdef __cplusplus
 }
 #endif

@@ -78,10 +78,8 @@ struct wulgach_pipe_poll {
 /* Whether a request is to be told of writes to its pipe: it is a poll for what that has to be read. */
 bool wulgach_awaits_writes(const struct wulgach_pipe_poll *poll);
 
-/* Whether it awaits the writes of this number; and whether it is told of one, where its pipe has something to be read or nothing: of what is
- * gone. */
+/* Whether it awaits the writes of this number. */
 bool wulgach_awaits_write(const struct wulgach_pipe_poll *poll, uint32_t watch);
-bool wulgach_is_told_of_write(const struct wulgach_pipe_poll *poll, uint32_t watch, bool is_there);
 
 /* ---- what is known of a request that runs ---- */
 

@@ -81,9 +81,6 @@ struct wulgach_woken {
 /* The nanoseconds of a time in seconds and nanoseconds: 0 if it is negative. */
 uint64_t wulgach_time_of(int64_t seconds, int64_t nanoseconds);
 
-/* So much later than a time. */
-uint64_t wulgach_time_later(uint64_t time, uint64_t more);
-
 /* How much is left until a time of a clock that says `now`: 0 if it is over. */
 uint64_t wulgach_time_left(uint64_t time, uint64_t now);
 
@@ -119,9 +116,6 @@ int32_t wulgach_times_outcome(const struct wulgach_times *times, const struct wu
 
 /* Whether a timeout of this number runs. */
 bool wulgach_times_runs(const struct wulgach_times *times, const struct wulgach_timeout *rows, size_t room, uint64_t number);
-
-/* So many completions were posted. */
-void wulgach_times_post(struct wulgach_times *times, uint64_t count);
 
 /* A request has ended, by this course of wulgach_course.h, and its completion was posted or skipped. It counts as one that was posted,
  * unless it is that of a timeout which its time or its count has ended; one of a timeout that was removed or cancelled counts. */

@@ -289,10 +289,6 @@ struct wulgach_poll_start {
  * nothing that its descriptor has. */
 void wulgach_poll_starts(uint16_t events, bool goes_on, int32_t res, struct wulgach_poll_start *start);
 
-/* What a poll for these events ends with whose descriptor can't be polled, as a file's, also if it goes on: those of POLLIN, POLLOUT, POLLRDNORM
- * and POLLWRNORM that it is for, which poll(2) finds at once, or -22 (EINVAL) if it is for none. */
-int32_t wulgach_unpolled_result(uint16_t events);
-
 #ifdef __cplusplus
 }
 #endif

@@ -105,21 +105,18 @@ static void show_ends(void)
 
 static void judge_results(void)
 {
-    struct wulgach_success plain = {.is_whole = false}, whole = {.length = 512, .is_whole = true}, cut = {.length = 512, .is_whole = true, .is_cut = true};
-    struct wulgach_success time = {.takes_time = true}, linked = {.is_linked_timeout = true}, gone = {.is_linked_timeout = true, .is_cancelled = true};
-    demand(wulgach_is_success(&plain, 3) && !wulgach_is_success(&plain, -5) && !wulgach_is_success(&plain, -62), "a plain one");
-    demand(wulgach_is_success(&whole, 512) && !wulgach_is_success(&whole, 511) && !wulgach_is_success(&cut, 512), "a transfer");
-    demand(wulgach_is_success(&time, -62) && !wulgach_is_success(&time, -125), "a timeout");
-    demand(wulgach_is_success(&linked, -62) && !wulgach_is_success(&gone, -125), "a linked timeout");
     struct wulgach_submission read = {.opcode = 22}, splice = {.opcode = 30, .len = 9}, receive = {.opcode = 10, .op_flags = 256};
     struct wulgach_carried carried = {.length = 5, .has_message = true}, short_message = {.length = 5, .has_message = true, .message_flags = 32};
     demand(wulgach_has_succeeded(&read, &carried, true, 5) && !wulgach_has_succeeded(&read, &carried, true, 4), "a read");
     demand(wulgach_has_succeeded(&splice, &carried, true, 9) && !wulgach_has_succeeded(&splice, &carried, true, 5), "a splice");
     demand(wulgach_has_succeeded(&receive, &carried, true, 5) && !wulgach_has_succeeded(&receive, &carried, true, 4) && !wulgach_has_succeeded(&receive, &short_message, true, 5), "a message");
+    struct wulgach_submission timeout = {.opcode = 11, .op_flags = 64}, plain_timeout = {.opcode = 11}, linked = {.opcode = 15};
     struct wulgach_submission fsync = {.opcode = 3}, shutdown = {.opcode = 34}, advice = {.opcode = 24};
     struct wulgach_carried plainly = {0}, missing = {.is_missing = true}, cancelled = {.is_cancelled = true};
     demand(wulgach_has_succeeded(&fsync, &plainly, true, -22) && !wulgach_has_succeeded(&fsync, &plainly, false, -22), "a failure that Linux doesn't mark");
     demand(!wulgach_has_succeeded(&fsync, &missing, true, -9) && !wulgach_has_succeeded(&fsync, &cancelled, true, -125), "one that wasn't carried out");
+    demand(wulgach_has_succeeded(&timeout, &plainly, true, -62) && !wulgach_has_succeeded(&timeout, &plainly, true, -125) && !wulgach_has_succeeded(&plain_timeout, &plainly, true, -62), "a timeout");
+    demand(wulgach_has_succeeded(&linked, &plainly, true, -62) && !wulgach_has_succeeded(&linked, &cancelled, true, -125), "a linked timeout");
     demand(wulgach_has_succeeded(&shutdown, &plainly, true, -107) && !wulgach_has_succeeded(&shutdown, &plainly, true, -88) && !wulgach_has_succeeded(&advice, &plainly, true, -22), "a socket, and an advice");
     demand(wulgach_completion_flags(WULGACH_PART_EVENT, 1) == 3 && wulgach_completion_flags(WULGACH_PART_SENT, 0) == 2 && wulgach_completion_flags(WULGACH_PART_NOTICE, 0) == 8, "more follow, or memory is free");
     demand(wulgach_completion_flags(WULGACH_PART_OWN, 1) == 1 && wulgach_completion_flags(WULGACH_PART_CANCELLED, 1) == 0, "an end");

@@ -204,7 +204,6 @@ static void hear_pipes(void)
     unwatched.watch = 0;
     demand(wulgach_awaits_writes(&poll) && !wulgach_awaits_writes(&other) && !wulgach_awaits_writes(&cancelled) && !wulgach_awaits_writes(&writing), "who awaits writes");
     demand(wulgach_awaits_write(&poll, 3) && !wulgach_awaits_write(&poll, 4) && !wulgach_awaits_write(&unwatched, 0), "the write of its pipe");
-    demand(wulgach_is_told_of_write(&poll, 3, false) && !wulgach_is_told_of_write(&poll, 3, true) && !wulgach_is_told_of_write(&poll, 4, false), "what is gone is told");
 }
 
 static uint32_t waited(struct wulgach_waited waited)

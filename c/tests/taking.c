@@ -145,7 +145,7 @@ static void copy_pieces(void)
     wulgach_core_entry_of(&cancel, WULGACH_FORM_TOKEN, &made);
     demand(made.code == 0 && made.flags == 94 && made.user_data == 5 && made.target == 0, "a token");
     wulgach_core_entry_of(&cancel, WULGACH_FORM_REFUSED, &made);
-    demand(made.code == 255 && made.len == 0 && made.flags == 94 && wulgach_is_drain(2) && !wulgach_is_drain(253), "an entry with a fault of its flags");
+    demand(made.code == 255 && made.len == 0 && made.flags == 94, "an entry with a fault of its flags");
     cancel.flags = 94;
     wulgach_core_entry_of(&cancel, WULGACH_FORM_REFUSED, &made);
     demand(made.code == 22 && made.len == 65 && made.flags == 94, "an entry with another");

@@ -198,7 +198,6 @@ static void poll_one(void)
     demand(start.fault == 0 && !start.goes_on, "one of what can't be polled");
     wulgach_poll_starts(0x203a, false, -EPERM, &start);
     demand(start.fault == -EINVAL && !start.goes_on, "and that has nothing of what it is for");
-    demand(wulgach_unpolled_result(0x203b) == 1 && wulgach_unpolled_result(0xffff) == 0x145 && wulgach_unpolled_result(0x203a) == -22, "what can't be polled");
 }
 
 int main(void)

@@ -17,8 +17,8 @@ ghost use Rattle.uring_crossing.specs.CourseForm.{fact_of, word_of_act, res_of_a
 use uring_crossing::completion_words::CompletionWords;
 use uring_crossing::course_words::{act_res, act_word, fact, last, part};
 use uring_enter::{
-    Carried, Course, EndedEarly, Entry, Fact, Member, Posted, Shown, Submission, Success,
-    completion_flags, has_succeeded, is_success, looks_for_next, looks_for_running, shown_of,
+    Carried, Course, EndedEarly, Entry, Fact, Member, Posted, Shown, Submission,
+    completion_flags, has_succeeded, looks_for_next, looks_for_running, shown_of,
 };
 
 /// A request that was accepted just now.
@@ -157,14 +157,6 @@ pub extern "C" fn wulgach_completion_flags(of: u32, of_buffer: u32) -> u32
     ensures { result ≡ shots.completion_flags (part_of of) of_buffer }
 {
     completion_flags(part(of), of_buffer)
-}
-
-/// Whether a result is a success to the links behind the request, and to who posts.
-#[unsafe(no_mangle)]
-pub extern "C" fn wulgach_is_success(asked: &Success, res: i32) -> bool
-    ensures { result ≡ is_success asked.now res }
-{
-    is_success(*asked, res)
 }
 
 /// Whether a cancel that the core has ended so has found a request that runs.

@@ -8,7 +8,7 @@ ghost use Rattle.uring_c.specs.RingForm.{form_of_word};
 
 use crate::form_exports::form_word;
 use uring_enter::{
-    CoreEntry, Form, Layout, Member, Submission, core_entry_of, extra_of, flags_before, is_drain,
+    CoreEntry, Form, Layout, Member, Submission, core_entry_of, extra_of, flags_before,
     is_one_chain, layout_of, no_op_result, slot_of,
 };
 
@@ -26,14 +26,6 @@ pub extern "C" fn wulgach_is_one_chain(one: &Member, other: &Member) -> bool
     ensures { result ≡ spec.is_one_chain one.now other.now }
 {
     is_one_chain(one, other)
-}
-
-/// Whether the flags of an entry are those of a drain.
-#[unsafe(no_mangle)]
-pub extern "C" fn wulgach_is_drain(flags: u8) -> bool
-    ensures { result ≡ spec.is_drain flags }
-{
-    is_drain(flags)
 }
 
 /// Writes what the core is given of an entry that is this to it.

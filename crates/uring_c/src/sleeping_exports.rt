@@ -22,14 +22,6 @@ pub extern "C" fn wulgach_awaits_write(poll: &PipePoll, watch: u32) -> bool
     poll.is_of_write(watch)
 }
 
-/// Whether it is told of a write by this number, where its pipe has something to be read or nothing.
-#[unsafe(no_mangle)]
-pub extern "C" fn wulgach_is_told_of_write(poll: &PipePoll, watch: u32, is_there: bool) -> bool
-    ensures { result ≡ polls.is_told poll.now watch is_there }
-{
-    poll.is_told(watch, is_there)
-}
-
 /// Returns whether a sleep begins whose arguments have this fault, or 0, and before which a poll was told, or none.
 #[unsafe(no_mangle)]
 pub extern "C" fn wulgach_sleep_begins(fault: i32, is_told: bool) -> u32

@@ -5,7 +5,7 @@ ghost use Rattle.uring_enter.specs.Courses.{KeepsCourse, counts};
 ghost use Rattle.uring_enter.specs.declared.wait.Wait.{Wait};
 ghost use Rattle.uring_enter.specs.declared.wait.Woken.{Woken};
 ghost use Rattle.uring_enter.specs.Timeouts.{Event, Started, Posted, Changed, Stopped, Clock, Slept, Passed, Ended};
-ghost use Rattle.uring_enter.specs.Timeouts.{later, nanoseconds_of, running, outcome, is_over, cancelled_by, fires, linked_outcome};
+ghost use Rattle.uring_enter.specs.Timeouts.{nanoseconds_of, running, outcome, is_over, cancelled_by, fires, linked_outcome};
 ghost use Rattle.uring_enter.specs.Timeouts.{posted, NoneIsOver, IsNext, IsReachedOf, AreApart, HasNone, IsRow, EndsNone, EndsWith};
 ghost use Rattle.uring_enter.specs.Kept.{KeepsTime};
 ghost use Rattle.uring_enter.specs.Waits.{deadline, IsWait, IsWoken, IsPassing};
@@ -17,7 +17,7 @@ use uring_crossing::time_words::{
     LimitWords, WaitWords, WokenWords, clock_word, limit_words, wait_words, woken_words,
 };
 use uring_enter::{
-    Course, Start, Submission, Timeout, Times, WakeSources, clock_of, count_of, lasts, later,
+    Course, Start, Submission, Timeout, Times, WakeSources, clock_of, count_of, lasts,
     left_until, linked_outcome, nanoseconds_of,
 };
 
@@ -27,14 +27,6 @@ pub extern "C" fn wulgach_time_of(seconds: i64, nanoseconds: i64) -> u64
     ensures { result ≡ nanoseconds_of seconds nanoseconds }
 {
     nanoseconds_of(seconds, nanoseconds)
-}
-
-/// So much later than a time.
-#[unsafe(no_mangle)]
-pub extern "C" fn wulgach_time_later(time: u64, more: u64) -> u64
-    ensures { result ≡ later time more }
-{
-    later(time, more)
 }
 
 /// How much is left until a time of a clock that says `now`.
@@ -158,15 +150,6 @@ pub extern "C" fn wulgach_times_runs(times: &Times, rows: &[Timeout], number: u6
         → HasNone number (running log) }
 {
     times.runs(rows, number)
-}
-
-/// So many completions were posted.
-#[unsafe(no_mangle)]
-pub extern "C" fn wulgach_times_post(times: &mut Times, count: u64)
-    ensures { (log : List Event) (rows : List Timeout) → KeepsTime log times.old rows
-        → KeepsTime (Posted count ∷ log) times.new rows }
-{
-    times.post(count);
 }
 
 /// A request has ended, by this course, and its completion was posted or skipped. It counts, unless it is that of a timeout which its time or its count has ended.

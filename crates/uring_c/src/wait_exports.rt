@@ -14,7 +14,7 @@ use uring_crossing::wait_words::{
 use uring_enter::{
     Call, Known, Nature, Needs, Patience, PollStart, Submission, Transfer, Trial, asks_instance,
     instance_events, is_impatient, needs_of, next_finding, next_step, next_turn, no_buffer_fault,
-    poll_result, poll_start, start_fault, unpolled_result,
+    poll_result, poll_start, start_fault,
 };
 
 /// Writes what the operation of an entry needs.
@@ -114,14 +114,6 @@ pub extern "C" fn wulgach_poll_starts(events: u16, goes_on: bool, res: i32, star
     ensures { start.new ≡ instances.poll_start events goes_on res }
 {
     *start = poll_start(events, goes_on, res);
-}
-
-/// What a poll for these events ends with whose descriptor can't be polled, also if it goes on.
-#[unsafe(no_mangle)]
-pub extern "C" fn wulgach_unpolled_result(events: u16) -> i32
-    ensures { result ≡ called.unpolled_result events }
-{
-    unpolled_result(events)
 }
 
 /// With what the request of an entry ends that finds no buffer, provided or registered, where its descriptor is this.
