@@ -110,7 +110,7 @@ static void judge_results(void)
     demand(wulgach_has_succeeded(&read, &carried, true, 5) && !wulgach_has_succeeded(&read, &carried, true, 4), "a read");
     demand(wulgach_has_succeeded(&splice, &carried, true, 9) && !wulgach_has_succeeded(&splice, &carried, true, 5), "a splice");
     demand(wulgach_has_succeeded(&receive, &carried, true, 5) && !wulgach_has_succeeded(&receive, &carried, true, 4) && !wulgach_has_succeeded(&receive, &short_message, true, 5), "a message");
-    struct wulgach_submission timeout = {.opcode = 11, .op_flags = 64}, plain_timeout = {.opcode = 11}, linked = {.opcode = 15};
+    struct wulgach_submission timeout = {.opcode = 11, .op_flags = 32}, plain_timeout = {.opcode = 11}, linked = {.opcode = 15};
     struct wulgach_submission fsync = {.opcode = 3}, shutdown = {.opcode = 34}, advice = {.opcode = 24};
     struct wulgach_carried plainly = {0}, missing = {.is_missing = true}, cancelled = {.is_cancelled = true};
     demand(wulgach_has_succeeded(&fsync, &plainly, true, -22) && !wulgach_has_succeeded(&fsync, &plainly, false, -22), "a failure that Linux doesn't mark");
