@@ -57,19 +57,21 @@ static bool is_reached_by(const struct ring *ring, int fd)
     return fstat(fd, &status) == 0 && status.st_dev == ring->device && status.st_ino == ring->inode;
 }
 
-/* Whether a ring is open in this process, under its first descriptor or another. */
-static bool is_open(const struct ring *ring)
+/* A descriptor that is open on a ring in this process: its first one, or another; negative: there is none. Where that can't be found out, the
+ * first. */
+static int find_descriptor(const struct ring *ring)
 {
     if (is_reached_by(ring, ring->fd))
-        return true;
+        return ring->fd;
     DIR *folder = opendir("/proc/self/fd");
     if (!folder)
-        return true;
-    bool is_found = false;
-    for (struct dirent *entry; !is_found && (entry = readdir(folder));)
-        is_found = is_reached_by(ring, atoi(entry->d_name));
+        return ring->fd;
+    int found = -1;
+    for (struct dirent *entry; found < 0 && (entry = readdir(folder));)
+        if (is_reached_by(ring, atoi(entry->d_name)))
+            found = atoi(entry->d_name);
     closedir(folder);
-    return is_found;
+    return found;
 }
 
 /* Whether a ring is to be freed now. A call begins under the list's lock. It ends without: behind that it doesn't touch the ring. */
@@ -79,7 +81,7 @@ static bool is_gone(const struct ring *ring)
     uint32_t calls = __atomic_load_n(&ring->calls, __ATOMIC_ACQUIRE);
     uint32_t fate = wulgach_ring_fate(is_of_process, calls, false, false);
     if (fate == WULGACH_RING_ASKS)
-        fate = wulgach_ring_fate(is_of_process, calls, true, is_open(ring));
+        fate = wulgach_ring_fate(is_of_process, calls, true, find_descriptor(ring) >= 0);
     return fate == WULGACH_RING_GOES;
 }
 
@@ -194,17 +196,26 @@ void release_ring(struct ring *ring)
 struct ring *lock_ring(int fd)
 {
     struct ring *ring = hold_ring(fd);
-    if (ring)
-        pthread_mutex_lock(&ring->lock);
+    if (!ring)
+        return NULL;
+    pthread_mutex_lock(&ring->lock);
+    ring->called_fd = fd;
     return ring;
+}
+
+void call_by(struct ring *ring, int fd)
+{
+    if (ring->ready_fd >= 0)
+        ring->called_fd = is_reached_by(ring, fd) ? fd : find_descriptor(ring);
 }
 
 /* A message that comes while the lock is held is posted by who holds it; one that comes between its last look and its
  * unlocking, by who looks again, if it can be posted. What has to wait for a drain is posted behind that. */
-__attribute__((noinline)) static void visit_with_messages(struct ring *ring)
+__attribute__((noinline)) static void visit_with_messages(struct ring *ring, int fd)
 {
     bool is_left = false;
     while (!is_left && has_messages(ring) && pthread_mutex_trylock(&ring->lock) == 0) {
+        call_by(ring, fd);
         post_messages(ring);
         is_left = has_messages(ring) && !can_post_extra(ring);
         do_duties_at_rest(ring);
@@ -213,17 +224,18 @@ __attribute__((noinline)) static void visit_with_messages(struct ring *ring)
     }
 }
 
-void visit_ring(struct ring *ring)
+void visit_ring(struct ring *ring, int fd)
 {
     if (has_messages(ring))
-        visit_with_messages(ring);
+        visit_with_messages(ring, fd);
 }
 
 void unlock_ring(struct ring *ring)
 {
+    int fd = ring->called_fd;
     wake_sleepers(ring);
     pthread_mutex_unlock(&ring->lock);
-    visit_ring(ring);
+    visit_ring(ring, fd);
     release_ring(ring);
 }
 

@@ -250,7 +250,6 @@ int enter(int fd, uint32_t to_submit, uint32_t min_complete, uint32_t flags, con
     struct ring *ring = lock_ring(fd);
     if (!ring)
         return wulgach_no_ring_fault(fcntl(fd, F_GETFD) >= 0);
-    ring->called_fd = fd;
     sigset_t own, given;
     struct waiting waiting = {
         .to_submit = to_submit,

@@ -7,28 +7,17 @@
  */
 #define _GNU_SOURCE
 #include "readiness.h"
+#include "numbers.h"
 #include "operations.h"
 #include "progress.h"
 #include "waiting.h"
 
 #include <errno.h>
-#include <fcntl.h>
 #include <stdlib.h>
 #include <string.h>
 #include <sys/epoll.h>
 #include <sys/eventfd.h>
 #include <unistd.h>
-
-/* An eventfd under a high number: a program that closes a low one twice doesn't close this. */
-static int make_high_eventfd(void)
-{
-    int low = eventfd(0, EFD_CLOEXEC | EFD_NONBLOCK);
-    int high = low < 0 ? -1 : fcntl(low, F_DUPFD_CLOEXEC, 512);
-    if (high < 0)
-        return low;
-    close(low);
-    return high;
-}
 
 int make_polled(struct ring *ring)
 {
@@ -36,7 +25,7 @@ int make_polled(struct ring *ring)
     int fd = epoll_create1(EPOLL_CLOEXEC);
     if (fd < 0)
         return -errno;
-    ring->ready_fd = make_high_eventfd();
+    ring->ready_fd = moved_high(eventfd(0, EFD_CLOEXEC | EFD_NONBLOCK));
     if (ring->ready_fd >= 0 && epoll_ctl(fd, EPOLL_CTL_ADD, ring->ready_fd, &event) == 0)
         return fd;
     int error = errno;

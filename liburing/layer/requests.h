@@ -115,8 +115,8 @@ const struct wulgach_submission *submission_of(const struct io_uring_sqe *entry)
 /* What an entry says of its chain. */
 struct wulgach_link link_of(const struct io_uring_sqe *entry);
 
-/* Takes a request out, and keeps its memory. */
-void end_request(struct requests *requests, struct request *request);
+/* Takes a request out, and keeps its memory. Returns whether a file was closed that it had. */
+bool end_request(struct requests *requests, struct request *request);
 
 /* Frees a request, or nothing. */
 void free_request(struct request *request);

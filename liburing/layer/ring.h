@@ -38,7 +38,7 @@ struct ring {
     ino_t inode;
     pid_t process;                      /* who made it: a forked child has the memory, and not the core */
     int fd;                             /* the first descriptor: it may be closed, or another file's by now */
-    int called_fd;                      /* the one of the last call */
+    int called_fd;                      /* the one of the call that has its lock, or of the last one */
     int ready_fd;                       /* an eventfd, if the descriptor polls; or negative: the descriptor is memory */
     bool is_readable;                   /* the eventfd is set */
     struct watched *watched;            /* the streams that the descriptor polls for */

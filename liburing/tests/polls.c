@@ -375,6 +375,48 @@ static void test_heard_by_another(void)
     close_ring(&ring);
 }
 
+/* A number that was a ring's descriptor is another epoll instance's by now. */
+static void take_number(int fd)
+{
+    check(close(fd) == 0 && epoll_create1(EPOLL_CLOEXEC) == fd);
+}
+
+/* A ring is called by one of two descriptors while that is closed, or was called last by it: nobody waits for a pipe any more, so the other isn't readable
+ * once it is written to. */
+static void test_two_descriptors(void)
+{
+    struct io_uring_sync_cancel_reg any = {.flags = IORING_ASYNC_CANCEL_ANY, .timeout = {-1, -1}};
+    for (int is_asleep = 0; is_asleep < 2; is_asleep++) {
+        struct ring ring, other;
+        pthread_t thread;
+        char byte;
+        int ends[2];
+        check(pipe(ends) == 0 && sem_init(&begins, 0, 0) == 0 && sem_init(&may_begin, 0, 0) == 0);
+        make_ring(&ring, 4, 0, 0);
+        other = ring;
+        other.fd = dup(ring.fd);
+        put_transfer(&ring, IORING_OP_READ, 0, 0, ends[0], &byte, 1, 0);
+        check(enter(&other, 1, 0, 0) == 1 && enter_for(&other, 1, 1000) == -ETIME && !is_readable(&ring, 0));
+        if (is_asleep) {
+            is_held = true;
+            check(pthread_create(&thread, NULL, wait_for_one, &other) == 0);
+            check(sem_wait(&begins) == 0);
+            take_number(other.fd);
+            check(write(ends[1], "x", 1) == 1 && sem_post(&may_begin) == 0);
+            check(pthread_join(thread, NULL) == 0);
+        } else {
+            take_number(other.fd);
+            check(register_at(ring.fd, IORING_REGISTER_SYNC_CANCEL, &any, 1) == 1);
+        }
+        check(is_readable(&ring, 0) && reap_by_peeks(&ring) == 1);
+        check(write(ends[1], "x", 1) == 1 && !is_readable(&ring, 20));
+        close(other.fd);
+        close(ends[0]);
+        close(ends[1]);
+        close_ring(&ring);
+    }
+}
+
 static void *submit_later(void *ring)
 {
     usleep(20000);
@@ -419,7 +461,7 @@ int main(void)
     static const struct {
         const char *name;
         void (*run)(void);
-    } tests[] = {{"refused", test_refused}, {"poll", test_poll}, {"overflow", test_overflow}, {"epoll", test_epoll}, {"pipe", test_pipe}, {"cancelled at once", test_cancelled_at_once}, {"renewed", test_renewed}, {"come and gone", test_come_and_gone}, {"gone behind a look", test_gone_behind_a_look}, {"heard by another", test_heard_by_another}, {"threads", test_threads}, {"file limit", test_file_limit}};
+    } tests[] = {{"refused", test_refused}, {"poll", test_poll}, {"overflow", test_overflow}, {"epoll", test_epoll}, {"pipe", test_pipe}, {"cancelled at once", test_cancelled_at_once}, {"renewed", test_renewed}, {"come and gone", test_come_and_gone}, {"gone behind a look", test_gone_behind_a_look}, {"heard by another", test_heard_by_another}, {"two descriptors", test_two_descriptors}, {"threads", test_threads}, {"file limit", test_file_limit}};
     alarm((unsigned)(PATIENCE * patience()));
     for (size_t i = 0; i < sizeof tests / sizeof *tests; i++) {
         test = tests[i].name;
