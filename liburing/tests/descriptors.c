@@ -9,6 +9,7 @@
 #include <poll.h>
 #include <pthread.h>
 #include <sys/resource.h>
+#include <sys/socket.h>
 
 static void put_poll(struct ring *ring, uint64_t user_data, int fd, uint32_t events, uint32_t how)
 {
@@ -207,6 +208,36 @@ static void test_last_end(void)
     }
 }
 
+/* A poll that goes on keeps its file open: it is told of what comes behind the close of the program's own descriptor. */
+static void test_kept_by_a_poll(void)
+{
+    struct ring ring;
+    int ends[2];
+    make_ring(&ring, 8, 0, 0);
+    for (int is_socket = 0; is_socket < 2; is_socket++) {
+        check((is_socket ? socketpair(AF_UNIX, SOCK_STREAM, 0, ends) : pipe(ends)) == 0);
+        put_poll(&ring, 1, ends[0], POLLIN, IORING_POLL_ADD_MULTI);
+        check(enter(&ring, 1, 0, 0) == 1);
+        settle(&ring);
+        check(close(ends[0]) == 0);
+        settle(&ring);
+        for (int round = 0; round < 2; round++) {
+            check(write(ends[1], "x", 1) == 1);
+            struct seen found = next_of(&ring);
+            check(found.user_data == 1 && found.res == POLLIN && found.flags == IORING_CQE_F_MORE);
+            settle(&ring);
+        }
+        put(&ring, IORING_OP_POLL_REMOVE, 2, 0)->addr = 1;
+        check(enter(&ring, 1, 0, 0) == 1);
+        for (int i = 0; i < 2; i++) {
+            struct seen found = next_of(&ring);
+            check(found.res == (found.user_data == 1 ? -ECANCELED : 0));
+        }
+        close(ends[1]);
+    }
+    close_ring(&ring);
+}
+
 int main(int count, char **words)
 {
     static const struct named tests[] = {
@@ -215,6 +246,7 @@ int main(int count, char **words)
         {"closed twice asleep", test_closed_twice_asleep},
         {"dropped writes", test_dropped_writes},
         {"last end", test_last_end},
+        {"kept by a poll", test_kept_by_a_poll},
     };
     alarm((unsigned)(PATIENCE * patience()));
     return run_tests(tests, sizeof tests / sizeof *tests, count > 1 ? words[1] : NULL);
