@@ -23,19 +23,25 @@ static struct ring **by_number;     /* the ring that was last found under each d
 static size_t by_number_room;
 static uint32_t ring_count;
 static pthread_mutex_t rings_lock = PTHREAD_MUTEX_INITIALIZER;
+static sigset_t forker;             /* the signals that the thread has blocked else which forks now, with that lock */
 
 /* A child has its parent's locks as they were at the fork: so none is held then by another thread. The lock of a ring
  * may be, but a child doesn't take those. */
 static void lock_for_fork(void)
 {
+    sigset_t own;
+    block_signals(&own);
     pthread_mutex_lock(&rings_lock);
     lock_choices();
+    forker = own;
 }
 
 static void unlock_after_fork(void)
 {
+    sigset_t own = forker;
     unlock_choices();
     pthread_mutex_unlock(&rings_lock);
+    allow_signals(&own);
 }
 
 __attribute__((constructor)) static void watch_forks(void)
@@ -169,12 +175,15 @@ static struct ring *find_ring(int fd)
 
 int close_descriptor(int fd)
 {
+    sigset_t own;
+    block_signals(&own);
     pthread_mutex_lock(&rings_lock);
     struct ring *ring = find_ring(fd);
     int result = close(fd) < 0 ? -errno : 0;
     if (ring && is_gone(ring))
         drop_ring(ring);
     pthread_mutex_unlock(&rings_lock);
+    allow_signals(&own);
     return result;
 }
 
