@@ -6,6 +6,7 @@
 #include "descriptors.h"
 #include "duties.h"
 #include "extras.h"
+#include "numbers.h"
 #include "policy.h"
 #include "process.h"
 #include "readiness.h"
@@ -44,9 +45,15 @@ static void unlock_after_fork(void)
     allow_signals(&own);
 }
 
+static void begin_child(void)
+{
+    close_parents();
+    unlock_after_fork();
+}
+
 __attribute__((constructor)) static void watch_forks(void)
 {
-    pthread_atfork(lock_for_fork, unlock_after_fork, unlock_after_fork);
+    pthread_atfork(lock_for_fork, unlock_after_fork, begin_child);
 }
 
 static bool is_own(const struct ring *ring)

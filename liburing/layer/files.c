@@ -68,6 +68,7 @@ bool release_file(struct file *file)
     } while (!exchange(file, &count, &uses));
     if (ending == WULGACH_STAYS)
         return false;
+    note_kept(file->fd, false);
     close(file->fd);
     if (ending == WULGACH_TELLS)
         put_message(file->told, file->tag);
@@ -110,6 +111,7 @@ static int make_file_with(struct file **made, int fd, struct inbox *told, struct
         return wulgach_missing_fault(WULGACH_NO_MEMORY_OWN);
     }
     **made = (struct file){.fd = copy, .told = told, .tag = tag};
+    note_kept(copy, true);
     wulgach_uses_begin(&(*made)->uses, tag != NULL);
     return 0;
 }
