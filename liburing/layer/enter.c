@@ -16,6 +16,7 @@
 #include "progress.h"
 #include "restrictions.h"
 #include "ring.h"
+#include "streams.h"
 #include "submit.h"
 #include "trace.h"
 #include "waiting.h"
@@ -145,6 +146,7 @@ static enum wulgach_reply_kind sleep_on(struct ring *ring, struct waiting *waiti
 {
     int error, fault = waiting->fault < 0 ? waiting->fault : read_mask(waiting);
     assign_before(ring, UINT64_MAX);
+    hold_files(ring);
     switch (wulgach_sleep_begins(fault, fault == 0 && watch_pipes(ring))) {
     case WULGACH_SLEEP_FAILS:
         reply->number = (uint32_t)-fault;

@@ -238,6 +238,47 @@ static void test_kept_by_a_poll(void)
     close_ring(&ring);
 }
 
+/* What a pipe's descriptor is by the time something is written to the other end. */
+enum instead { CLOSED, ANOTHER, FULL_ONE, INSTEADS };
+
+static int read_from[2], opened[2];
+
+static void *close_later(void *of)
+{
+    enum instead instead = *(const enum instead *)of;
+    usleep(20000);
+    check(close(read_from[0]) == 0);
+    if (instead != CLOSED)
+        check(pipe(opened) == 0 && opened[0] == read_from[0]);
+    if (instead == FULL_ONE)
+        check(write(opened[1], "full", 4) == 4);
+    usleep(10000);
+    check(write(read_from[1], "own", 3) == 3);
+    return NULL;
+}
+
+/* A call that has submitted a read sleeps, and another thread closes its descriptor: it reads what it was submitted for. */
+static void test_closed_in_a_sleep(void)
+{
+    for (enum instead instead = 0; instead < INSTEADS; instead++) {
+        struct ring ring;
+        pthread_t thread;
+        char text[4];
+        check(pipe(read_from) == 0);
+        make_ring(&ring, 4, 0, 0);
+        put_transfer(&ring, IORING_OP_READ, 1, 0, read_from[0], text, 4, 0);
+        check(pthread_create(&thread, NULL, close_later, &instead) == 0);
+        check(enter(&ring, 1, 1, IORING_ENTER_GETEVENTS) == 1);
+        struct seen found = next_of(&ring);
+        check(found.user_data == 1 && found.res == 3 && memcmp(text, "own", 3) == 0);
+        check(pthread_join(thread, NULL) == 0);
+        close(read_from[1]);
+        if (instead != CLOSED)
+            close(opened[0]), close(opened[1]);
+        close_ring(&ring);
+    }
+}
+
 int main(int count, char **words)
 {
     static const struct named tests[] = {
@@ -247,6 +288,7 @@ int main(int count, char **words)
         {"dropped writes", test_dropped_writes},
         {"last end", test_last_end},
         {"kept by a poll", test_kept_by_a_poll},
+        {"closed in a sleep", test_closed_in_a_sleep},
     };
     alarm((unsigned)(PATIENCE * patience()));
     return run_tests(tests, sizeof tests / sizeof *tests, count > 1 ? words[1] : NULL);
