@@ -17,6 +17,7 @@
 #include <string.h>
 #include <sys/epoll.h>
 #include <sys/eventfd.h>
+#include <sys/single_threaded.h>
 #include <unistd.h>
 
 int make_polled(struct ring *ring)
@@ -153,6 +154,15 @@ static void watch_streams(struct ring *ring, int fd)
     ring->watched_count = count;
 }
 
+/* Whether completions were posted since the descriptor was told last. Another thread may have an epoll instance tell of it by edges: then it is told of
+ * them, though it is readable already. This thread has had an edge as the call asked whether the descriptor is the ring's. */
+static bool has_news(struct ring *ring)
+{
+    uint32_t posted = ring->completions.at.head + (uint32_t)ring->completions.at.posted, before = ring->told_posted;
+    ring->told_posted = posted;
+    return posted != before && !__libc_single_threaded;
+}
+
 void show_readiness(struct ring *ring)
 {
     uint64_t one = 1;
@@ -160,7 +170,8 @@ void show_readiness(struct ring *ring)
     /* Whether a call may bring something matters only if no completion waits. */
     uint32_t head = load_word(&ring->memory.cq->head);
     bool is_readable = wulgach_shown_is_readable(&ring->completions.at, head, false) || wulgach_shown_is_readable(&ring->completions.at, head, can_go_on(ring) || can_pass_time(ring));
-    if (is_readable == ring->is_readable)
+    bool is_news = has_news(ring) && is_readable;
+    if (is_readable == ring->is_readable && !is_news)
         return;
     ring->is_readable = is_readable;
     ssize_t done = is_readable ? write(ring->ready_fd, &one, sizeof one) : read(ring->ready_fd, &one, sizeof one);
