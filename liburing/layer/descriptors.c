@@ -6,6 +6,7 @@
 #include "descriptors.h"
 #include "duties.h"
 #include "extras.h"
+#include "numbers.h"
 #include "policy.h"
 #include "process.h"
 #include "readiness.h"
@@ -23,24 +24,36 @@ static struct ring **by_number;     /* the ring that was last found under each d
 static size_t by_number_room;
 static uint32_t ring_count;
 static pthread_mutex_t rings_lock = PTHREAD_MUTEX_INITIALIZER;
+static sigset_t forker;             /* the signals that the thread has blocked else which forks now, with that lock */
 
 /* A child has its parent's locks as they were at the fork: so none is held then by another thread. The lock of a ring
  * may be, but a child doesn't take those. */
 static void lock_for_fork(void)
 {
+    sigset_t own;
+    block_signals(&own);
     pthread_mutex_lock(&rings_lock);
     lock_choices();
+    forker = own;
 }
 
 static void unlock_after_fork(void)
 {
+    sigset_t own = forker;
     unlock_choices();
     pthread_mutex_unlock(&rings_lock);
+    allow_signals(&own);
+}
+
+static void begin_child(void)
+{
+    close_parents();
+    unlock_after_fork();
 }
 
 __attribute__((constructor)) static void watch_forks(void)
 {
-    pthread_atfork(lock_for_fork, unlock_after_fork, unlock_after_fork);
+    pthread_atfork(lock_for_fork, unlock_after_fork, begin_child);
 }
 
 static bool is_own(const struct ring *ring)
@@ -57,19 +70,21 @@ static bool is_reached_by(const struct ring *ring, int fd)
     return fstat(fd, &status) == 0 && status.st_dev == ring->device && status.st_ino == ring->inode;
 }
 
-/* Whether a ring is open in this process, under its first descriptor or another. */
-static bool is_open(const struct ring *ring)
+/* A descriptor that is open on a ring in this process: its first one, or another; negative: there is none. Where that can't be found out, the
+ * first. */
+static int find_descriptor(const struct ring *ring)
 {
     if (is_reached_by(ring, ring->fd))
-        return true;
+        return ring->fd;
     DIR *folder = opendir("/proc/self/fd");
     if (!folder)
-        return true;
-    bool is_found = false;
-    for (struct dirent *entry; !is_found && (entry = readdir(folder));)
-        is_found = is_reached_by(ring, atoi(entry->d_name));
+        return ring->fd;
+    int found = -1;
+    for (struct dirent *entry; found < 0 && (entry = readdir(folder));)
+        if (is_reached_by(ring, atoi(entry->d_name)))
+            found = atoi(entry->d_name);
     closedir(folder);
-    return is_found;
+    return found;
 }
 
 /* Whether a ring is to be freed now. A call begins under the list's lock. It ends without: behind that it doesn't touch the ring. */
@@ -79,7 +94,7 @@ static bool is_gone(const struct ring *ring)
     uint32_t calls = __atomic_load_n(&ring->calls, __ATOMIC_ACQUIRE);
     uint32_t fate = wulgach_ring_fate(is_of_process, calls, false, false);
     if (fate == WULGACH_RING_ASKS)
-        fate = wulgach_ring_fate(is_of_process, calls, true, is_open(ring));
+        fate = wulgach_ring_fate(is_of_process, calls, true, find_descriptor(ring) >= 0);
     return fate == WULGACH_RING_GOES;
 }
 
@@ -167,12 +182,15 @@ static struct ring *find_ring(int fd)
 
 int close_descriptor(int fd)
 {
+    sigset_t own;
+    block_signals(&own);
     pthread_mutex_lock(&rings_lock);
     struct ring *ring = find_ring(fd);
     int result = close(fd) < 0 ? -errno : 0;
     if (ring && is_gone(ring))
         drop_ring(ring);
     pthread_mutex_unlock(&rings_lock);
+    allow_signals(&own);
     return result;
 }
 
@@ -194,17 +212,26 @@ void release_ring(struct ring *ring)
 struct ring *lock_ring(int fd)
 {
     struct ring *ring = hold_ring(fd);
-    if (ring)
-        pthread_mutex_lock(&ring->lock);
+    if (!ring)
+        return NULL;
+    pthread_mutex_lock(&ring->lock);
+    ring->called_fd = fd;
     return ring;
+}
+
+void call_by(struct ring *ring, int fd)
+{
+    if (ring->ready_fd >= 0)
+        ring->called_fd = is_reached_by(ring, fd) ? fd : find_descriptor(ring);
 }
 
 /* A message that comes while the lock is held is posted by who holds it; one that comes between its last look and its
  * unlocking, by who looks again, if it can be posted. What has to wait for a drain is posted behind that. */
-__attribute__((noinline)) static void visit_with_messages(struct ring *ring)
+__attribute__((noinline)) static void visit_with_messages(struct ring *ring, int fd)
 {
     bool is_left = false;
     while (!is_left && has_messages(ring) && pthread_mutex_trylock(&ring->lock) == 0) {
+        call_by(ring, fd);
         post_messages(ring);
         is_left = has_messages(ring) && !can_post_extra(ring);
         do_duties_at_rest(ring);
@@ -213,17 +240,18 @@ __attribute__((noinline)) static void visit_with_messages(struct ring *ring)
     }
 }
 
-void visit_ring(struct ring *ring)
+void visit_ring(struct ring *ring, int fd)
 {
     if (has_messages(ring))
-        visit_with_messages(ring);
+        visit_with_messages(ring, fd);
 }
 
 void unlock_ring(struct ring *ring)
 {
+    int fd = ring->called_fd;
     wake_sleepers(ring);
     pthread_mutex_unlock(&ring->lock);
-    visit_ring(ring);
+    visit_ring(ring, fd);
     release_ring(ring);
 }
 

@@ -17,8 +17,11 @@ void unlock_ring(struct ring *ring);
 struct ring *hold_ring(int fd);
 void release_ring(struct ring *ring);
 
-/* Posts the messages that wait for a ring, unless another thread has it: that one does. */
-void visit_ring(struct ring *ring);
+/* The lock of a ring is held again in a call by this descriptor, which another thread may have closed: then another that is open stands for it. */
+void call_by(struct ring *ring, int fd);
+
+/* Posts the messages that wait for a ring with this descriptor, unless another thread has it: that one does. */
+void visit_ring(struct ring *ring, int fd);
 
 /* Whether a descriptor is a ring's. */
 bool is_ring(int fd);

@@ -10,6 +10,7 @@
 #define _GNU_SOURCE
 #include "dormant.h"
 #include "files.h"
+#include "numbers.h"
 #include "operations.h"
 #include "pipes.h"
 #include "ring.h"
@@ -17,7 +18,6 @@
 #include "ways.h"
 
 #include <errno.h>
-#include <fcntl.h>
 #include <sys/epoll.h>
 #include <unistd.h>
 
@@ -27,8 +27,8 @@
 #define MOST_LOOKED_AT 32
 #endif
 
-/* A program that closes a low number twice doesn't close the instance; and of so many descriptors that tells at once. */
-enum { HIGH_NUMBER = 512, MOST_TOLD = 64 };
+/* Of so many descriptors the instance tells at once. */
+enum { MOST_TOLD = 64 };
 
 void make_dormant(struct dormant *dormant)
 {
@@ -39,17 +39,6 @@ void free_dormant(struct dormant *dormant)
 {
     if (dormant->instance >= 0)
         close(dormant->instance);
-}
-
-/* An instance under a high number. */
-static int make_instance(void)
-{
-    int low = epoll_create1(EPOLL_CLOEXEC);
-    int high = low < 0 ? -1 : fcntl(low, F_DUPFD_CLOEXEC, HIGH_NUMBER);
-    if (high < 0)
-        return low;
-    close(low);
-    return high;
 }
 
 /* A ring's descriptor that polls has the instance before that has anything: so a request that waits for the ring itself isn't taken. */
@@ -64,7 +53,7 @@ static bool has_instance(struct ring *ring)
     struct dormant *dormant = &ring->dormant;
     if (dormant->instance >= 0 || dormant->is_refused)
         return !dormant->is_refused;
-    int instance = make_instance();
+    int instance = moved_high(epoll_create1(EPOLL_CLOEXEC));
     dormant->is_refused = instance < 0 || !is_polled_for(ring, instance);
     if (!dormant->is_refused)
         dormant->instance = instance;

@@ -3,6 +3,7 @@
  */
 #include "ends.h"
 #include "cancels.h"
+#include "files.h"
 #include "issuable.h"
 #include "outlook.h"
 #include "readiness.h"
@@ -35,6 +36,21 @@ __attribute__((noinline)) static void forget_descriptor(struct ring *ring, struc
     leave_pipe(ring, request);
 }
 
+/* Whether a request has a file which is open without it. */
+static bool is_open_elsewhere(const struct file *file, bool is_registered, int fd)
+{
+    return !file || (!is_registered && is_file_of(file, fd));
+}
+
+/* Whether its end may close the last descriptor of a file while others wait, as that of a pipe's other end. */
+static bool may_close_last(const struct ring *ring, const struct request *request)
+{
+    const struct io_uring_sqe *entry = &request->entry;
+    if ((!request->file && !request->second_file) || ring->running.count + ring->dormant.count == 0)
+        return false;
+    return !is_open_elsewhere(request->file, request->needs.is_registered, entry->fd) || !is_open_elsewhere(request->second_file, request->needs.is_second_registered, entry->splice_fd_in);
+}
+
 void end_of(struct ring *ring, struct request *request, int32_t res, int32_t told)
 {
     trace_result(ring, request, res);
@@ -56,7 +72,9 @@ void end_of(struct ring *ring, struct request *request, int32_t res, int32_t tol
     if (request->is_draining)
         wulgach_drains_end(&ring->drains, true);
     take_from_directory(ring, request);
-    end_request(&ring->requests, request);
+    bool may_be_last = may_close_last(ring, request);
+    if (end_request(&ring->requests, request) && may_be_last)
+        wulgach_lookout_moves(&ring->lookout);
     ring->completions.is_behind = true;
 }
 

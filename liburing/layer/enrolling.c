@@ -6,17 +6,17 @@
 #include "enrolling.h"
 #include "copying.h"
 #include "descriptors.h"
+#include "numbers.h"
 #include "process.h"
 #include "wulgach_register.h"
 
-#include <errno.h>
 #include <fcntl.h>
 #include <linux/io_uring.h>
 #include <pthread.h>
 #include <stdlib.h>
 #include <unistd.h>
 
-enum { MOST = 16, HIGH_NUMBER = 512 };
+enum { MOST = 16 };
 
 /* The library's words of a thread that has rows, and the process in which it has them. */
 static __thread uint64_t *table;
@@ -69,11 +69,9 @@ static int make_table(void)
 /* Puts a ring into the row that it gets. */
 static int enroll(int fd, uint32_t row)
 {
-    int copy = fcntl(fd, F_DUPFD_CLOEXEC, HIGH_NUMBER);
+    int copy = own_copy_of(fd);
     if (copy < 0)
-        copy = fcntl(fd, F_DUPFD_CLOEXEC, 0);
-    if (copy < 0)
-        return -errno;
+        return copy;
     wulgach_enroll(table, MOST, row, (uint32_t)copy);
     return 0;
 }

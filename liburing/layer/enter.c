@@ -16,6 +16,7 @@
 #include "progress.h"
 #include "restrictions.h"
 #include "ring.h"
+#include "streams.h"
 #include "submit.h"
 #include "trace.h"
 #include "waiting.h"
@@ -145,6 +146,7 @@ static enum wulgach_reply_kind sleep_on(struct ring *ring, struct waiting *waiti
 {
     int error, fault = waiting->fault < 0 ? waiting->fault : read_mask(waiting);
     assign_before(ring, UINT64_MAX);
+    hold_files(ring);
     switch (wulgach_sleep_begins(fault, fault == 0 && watch_pipes(ring))) {
     case WULGACH_SLEEP_FAILS:
         reply->number = (uint32_t)-fault;
@@ -232,12 +234,14 @@ static int enter_ring(struct ring *ring, uint32_t flags, struct waiting *waiting
     return result;
 }
 
-/* Operations are carried out in the call, where the kernel's would be out of a signal's reach. */
-static void block_signals(sigset_t *before)
+static int enter_by(int fd, uint32_t flags, struct waiting *waiting)
 {
-    sigset_t all;
-    sigfillset(&all);
-    pthread_sigmask(SIG_BLOCK, &all, before);
+    struct ring *ring = lock_ring(fd);
+    if (!ring)
+        return wulgach_no_ring_fault(fcntl(fd, F_GETFD) >= 0);
+    int result = enter_ring(ring, flags, waiting);
+    unlock_ring(ring);
+    return result;
 }
 
 int enter(int fd, uint32_t to_submit, uint32_t min_complete, uint32_t flags, const void *argument, size_t size, const sigset_t *signals)
@@ -247,10 +251,6 @@ int enter(int fd, uint32_t to_submit, uint32_t min_complete, uint32_t flags, con
         return naming;
     if (naming == WULGACH_NAMED_BY_NUMBER && (fd = enrolled_fd((uint32_t)fd)) < 0)
         return fd;
-    struct ring *ring = lock_ring(fd);
-    if (!ring)
-        return wulgach_no_ring_fault(fcntl(fd, F_GETFD) >= 0);
-    ring->called_fd = fd;
     sigset_t own, given;
     struct waiting waiting = {
         .to_submit = to_submit,
@@ -261,10 +261,10 @@ int enter(int fd, uint32_t to_submit, uint32_t min_complete, uint32_t flags, con
         .given = &given,
         .flags = flags,
     };
+    /* Operations are carried out in the call, where the kernel's would be out of a signal's reach. */
     if (!signals)
         block_signals(&own);
-    int result = enter_ring(ring, flags, &waiting);
-    unlock_ring(ring);
+    int result = enter_by(fd, flags, &waiting);
     if (!signals)
         pthread_sigmask(SIG_SETMASK, &own, NULL);
     return result;

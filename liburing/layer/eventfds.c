@@ -4,14 +4,12 @@
 #define _GNU_SOURCE
 #include "eventfds.h"
 #include "copying.h"
+#include "numbers.h"
 #include "ring.h"
 
-#include <errno.h>
 #include <fcntl.h>
 #include <string.h>
 #include <unistd.h>
-
-enum { HIGH_NUMBER = 512 };
 
 /* The kernel says of what a descriptor is open on. */
 static bool is_eventfd(int fd)
@@ -31,11 +29,9 @@ int register_eventfd(struct ring *ring, uint64_t at, bool is_async)
     int result = wulgach_eventfd_registering_fault(&ring->telling, is_read, is_open, is_open && is_eventfd(fd));
     if (result < 0)
         return result;
-    int copy = fcntl(fd, F_DUPFD_CLOEXEC, HIGH_NUMBER);
+    int copy = own_copy_of(fd);
     if (copy < 0)
-        copy = fcntl(fd, F_DUPFD_CLOEXEC, 0);
-    if (copy < 0)
-        return -errno;
+        return copy;
     ring->eventfd = copy;
     wulgach_eventfd_register(&ring->telling, is_async);
     return 0;

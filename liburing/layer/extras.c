@@ -182,7 +182,7 @@ int32_t send_message(struct ring *ring, const struct io_uring_sqe *entry)
     if (visit == WULGACH_POSTS_OWN)
         post_messages(ring);
     else if (visit == WULGACH_VISITS_OTHER)
-        visit_ring(target);
+        visit_ring(target, entry->fd);
     if (target)
         release_ring(target);
     return result;

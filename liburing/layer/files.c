@@ -11,15 +11,23 @@
 #include "files.h"
 #include "copying.h"
 #include "descriptors.h"
+#include "numbers.h"
+#include "process.h"
 #include "ring.h"
 
-#include <errno.h>
 #include <fcntl.h>
+#include <linux/kcmp.h>
 #include <stdlib.h>
 #include <sys/resource.h>
+#include <sys/syscall.h>
 #include <unistd.h>
 
-enum { HIGH_NUMBER = 512, NO_FILE = -1 };
+/* Linux 6.10 says by it whether two descriptors are of one file, and others by a slower call. */
+#ifndef F_DUPFD_QUERY
+#define F_DUPFD_QUERY 1027
+#endif
+
+enum { NO_FILE = -1 };
 
 void make_files(struct files *files)
 {
@@ -48,10 +56,10 @@ static void take_file(struct file *file)
     } while (!exchange(file, &count, &uses));
 }
 
-void release_file(struct file *file)
+bool release_file(struct file *file)
 {
     if (!file)
-        return;
+        return false;
     uint32_t count = __atomic_load_n(&file->uses.count, __ATOMIC_ACQUIRE), ending;
     struct wulgach_uses uses;
     do {
@@ -59,13 +67,24 @@ void release_file(struct file *file)
         ending = wulgach_uses_release(&uses);
     } while (!exchange(file, &count, &uses));
     if (ending == WULGACH_STAYS)
-        return;
+        return false;
+    note_kept(file->fd, false);
     close(file->fd);
     if (ending == WULGACH_TELLS)
         put_message(file->told, file->tag);
     else
         free(file->tag);
     free(file);
+    return true;
+}
+
+bool is_file_of(const struct file *file, int fd)
+{
+    pid_t process = this_process();
+    int result = fcntl(file->fd, F_DUPFD_QUERY, fd);
+    if (result < 0)
+        result = syscall(SYS_kcmp, process, process, KCMP_FILE, file->fd, fd) == 0;
+    return result == 1;
 }
 
 struct file *use_file(struct ring *ring, uint32_t index)
@@ -77,14 +96,6 @@ struct file *use_file(struct ring *ring, uint32_t index)
         take_file(file);
     pthread_mutex_unlock(&files->lock);
     return file;
-}
-
-static int high_copy_of(int fd)
-{
-    int copy = fcntl(fd, F_DUPFD_CLOEXEC, HIGH_NUMBER);
-    if (copy < 0 && errno == EINVAL)
-        copy = fcntl(fd, F_DUPFD_CLOEXEC, 0);
-    return copy < 0 ? -errno : copy;
 }
 
 /* A registered file of a descriptor that stays the application's, with a tag, which its ring is told once it is gone, or NULL. */
@@ -100,6 +111,7 @@ static int make_file_with(struct file **made, int fd, struct inbox *told, struct
         return wulgach_missing_fault(WULGACH_NO_MEMORY_OWN);
     }
     **made = (struct file){.fd = copy, .told = told, .tag = tag};
+    note_kept(copy, true);
     wulgach_uses_begin(&(*made)->uses, tag != NULL);
     return 0;
 }

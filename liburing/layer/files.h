@@ -55,7 +55,10 @@ struct file *use_file(struct ring *ring, uint32_t index);
 /* A file of a descriptor that stays the application's; NULL if there is none to be had. */
 struct file *hold_file(int fd);
 
-/* One use less. Nothing, of NULL. */
-void release_file(struct file *file);
+/* One use less. Nothing, of NULL. Returns whether it was the last, and the file's descriptor is closed. */
+bool release_file(struct file *file);
+
+/* Whether a request's file is that of a descriptor of the application's too, which keeps it open. False where the kernel doesn't say. */
+bool is_file_of(const struct file *file, int fd);
 
 #endif

@@ -4,10 +4,10 @@
  */
 #define _GNU_SOURCE
 #include "pipes.h"
+#include "numbers.h"
 #include "polls.h"
 #include "ring.h"
 
-#include <fcntl.h>
 #include <poll.h>
 #include <stdio.h>
 #include <stdlib.h>
@@ -15,9 +15,6 @@
 #include <sys/inotify.h>
 #include <sys/stat.h>
 #include <unistd.h>
-
-/* A program that closes a low number twice doesn't close this. */
-enum { HIGH_NUMBER = 512 };
 
 void make_pipes(struct pipes *pipes)
 {
@@ -64,16 +61,6 @@ static bool is_watching_by(const struct request *request, int watch)
     return wulgach_awaits_write(&seen, (uint32_t)watch);
 }
 
-static int make_inotify(void)
-{
-    int low = inotify_init1(IN_CLOEXEC | IN_NONBLOCK);
-    int high = low < 0 ? -1 : fcntl(low, F_DUPFD_CLOEXEC, HIGH_NUMBER);
-    if (high < 0)
-        return low;
-    close(low);
-    return high;
-}
-
 /* Makes room for one more watch; false if memory was refused. */
 static bool reserve_watch(struct pipes *pipes)
 {
@@ -97,7 +84,7 @@ static int watch_of(struct pipes *pipes, int fd)
 {
     char path[32];
     if (pipes->inotify < 0)
-        pipes->inotify = make_inotify();
+        pipes->inotify = moved_high(inotify_init1(IN_CLOEXEC | IN_NONBLOCK));
     if (!reserve_watch(pipes))
         return 0;
     snprintf(path, sizeof path, "/proc/self/fd/%d", fd);
@@ -244,15 +231,26 @@ static bool tell_of_writes(struct ring *ring)
     return is_heard;
 }
 
-/* Notes what an event says. Returns whether a pipe was written to that is watched. */
-static bool note_write(struct pipes *pipes, const struct inotify_event *event)
+static void note_write(struct pipes *pipes, struct watch *watch)
 {
-    struct watch *watch = watch_by(pipes, event->wd);
-    if (!(event->mask & IN_MODIFY) || !watch)
-        return false;
     if (!watch->is_written)
         pipes->written[pipes->written_count++] = watch->number;
     watch->is_written = true;
+}
+
+/* Notes what an event says: where there was no room for one, each pipe may have been written to. Returns whether one was that is
+ * watched. */
+static bool note_event(struct pipes *pipes, const struct inotify_event *event)
+{
+    if (event->mask & IN_Q_OVERFLOW) {
+        for (size_t i = 0; i < pipes->count; i++)
+            note_write(pipes, &pipes->watches[i]);
+        return pipes->count > 0;
+    }
+    struct watch *watch = watch_by(pipes, event->wd);
+    if (!(event->mask & IN_MODIFY) || !watch)
+        return false;
+    note_write(pipes, watch);
     return true;
 }
 
@@ -265,7 +263,7 @@ static bool read_writes(struct ring *ring, bool is_dropping)
     while ((length = read(ring->pipes.inotify, events, sizeof events)) > 0) {
         for (ssize_t at = 0; at < length;) {
             const struct inotify_event *event = (const void *)(events + at);
-            is_any |= !is_dropping && note_write(&ring->pipes, event);
+            is_any |= !is_dropping && note_event(&ring->pipes, event);
             at += (ssize_t)(sizeof *event + event->len);
         }
     }

@@ -3,6 +3,7 @@
  */
 #define _GNU_SOURCE
 #include "polls.h"
+#include "numbers.h"
 #include "operations.h"
 #include "pipes.h"
 #include "ring.h"
@@ -33,7 +34,7 @@ static int start_by_instance(struct request *request)
 {
     struct epoll_event event = {.events = wulgach_instance_events(events_of(request))};
     struct wulgach_poll_start start;
-    request->epoll = epoll_create1(EPOLL_CLOEXEC);
+    request->epoll = moved_high(epoll_create1(EPOLL_CLOEXEC));
     if (request->epoll < 0)
         return -errno;
     int32_t res = epoll_ctl(request->epoll, EPOLL_CTL_ADD, request->fd, &event) < 0 ? -errno : 0;

@@ -1,4 +1,4 @@
-/* Which process and which thread this is.
+/* Which process and which thread this is, and its signals.
  *
  * The kernel empties a page of the layer's in each child, however that was forked: so a number that stands in it is still
  * this process's, and needn't be asked for at each call.
@@ -49,4 +49,16 @@ pid_t this_thread(void)
         own.thread = gettid();
     }
     return own.thread;
+}
+
+void block_signals(sigset_t *before)
+{
+    sigset_t all;
+    sigfillset(&all);
+    pthread_sigmask(SIG_BLOCK, &all, before);
+}
+
+void allow_signals(const sigset_t *before)
+{
+    pthread_sigmask(SIG_SETMASK, before, NULL);
 }

@@ -1,7 +1,8 @@
-/* Which process this is. */
+/* Which process and thread this is, and its signals. */
 #ifndef PROCESS_H
 #define PROCESS_H
 
+#include <signal.h>
 #include <sys/types.h>
 
 /* The number of this process, without a system call. In a child of vfork(), which has its parent's memory, its parent's. */
@@ -9,5 +10,9 @@ pid_t this_process(void);
 
 /* The number of this thread, asked for once. In a child of vfork(), its parent's. */
 pid_t this_thread(void);
+
+/* Blocks all signals, and lets those come again that came before. While a lock of the layer's is held none may: whoever handles one may call too. */
+void block_signals(sigset_t *before);
+void allow_signals(const sigset_t *before);
 
 #endif

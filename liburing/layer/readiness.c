@@ -7,28 +7,18 @@
  */
 #define _GNU_SOURCE
 #include "readiness.h"
+#include "numbers.h"
 #include "operations.h"
 #include "progress.h"
 #include "waiting.h"
 
 #include <errno.h>
-#include <fcntl.h>
 #include <stdlib.h>
 #include <string.h>
 #include <sys/epoll.h>
 #include <sys/eventfd.h>
+#include <sys/single_threaded.h>
 #include <unistd.h>
-
-/* An eventfd under a high number: a program that closes a low one twice doesn't close this. */
-static int make_high_eventfd(void)
-{
-    int low = eventfd(0, EFD_CLOEXEC | EFD_NONBLOCK);
-    int high = low < 0 ? -1 : fcntl(low, F_DUPFD_CLOEXEC, 512);
-    if (high < 0)
-        return low;
-    close(low);
-    return high;
-}
 
 int make_polled(struct ring *ring)
 {
@@ -36,7 +26,7 @@ int make_polled(struct ring *ring)
     int fd = epoll_create1(EPOLL_CLOEXEC);
     if (fd < 0)
         return -errno;
-    ring->ready_fd = make_high_eventfd();
+    ring->ready_fd = moved_high(eventfd(0, EFD_CLOEXEC | EFD_NONBLOCK));
     if (ring->ready_fd >= 0 && epoll_ctl(fd, EPOLL_CTL_ADD, ring->ready_fd, &event) == 0)
         return fd;
     int error = errno;
@@ -164,6 +154,15 @@ static void watch_streams(struct ring *ring, int fd)
     ring->watched_count = count;
 }
 
+/* Whether completions were posted since the descriptor was told last. Another thread may have an epoll instance tell of it by edges: then it is told of
+ * them, though it is readable already. This thread has had an edge as the call asked whether the descriptor is the ring's. */
+static bool has_news(struct ring *ring)
+{
+    uint32_t posted = ring->completions.at.head + (uint32_t)ring->completions.at.posted, before = ring->told_posted;
+    ring->told_posted = posted;
+    return posted != before && !__libc_single_threaded;
+}
+
 void show_readiness(struct ring *ring)
 {
     uint64_t one = 1;
@@ -171,7 +170,8 @@ void show_readiness(struct ring *ring)
     /* Whether a call may bring something matters only if no completion waits. */
     uint32_t head = load_word(&ring->memory.cq->head);
     bool is_readable = wulgach_shown_is_readable(&ring->completions.at, head, false) || wulgach_shown_is_readable(&ring->completions.at, head, can_go_on(ring) || can_pass_time(ring));
-    if (is_readable == ring->is_readable)
+    bool is_news = has_news(ring) && is_readable;
+    if (is_readable == ring->is_readable && !is_news)
         return;
     ring->is_readable = is_readable;
     ssize_t done = is_readable ? write(ring->ready_fd, &one, sizeof one) : read(ring->ready_fd, &one, sizeof one);

@@ -150,7 +150,7 @@ static int make_call(struct ring *ring, uint32_t code, uint64_t at, uint32_t cou
     }
 }
 
-int register_at(int fd, uint32_t code, void *argument, uint32_t count)
+static int register_by(int fd, uint32_t code, void *argument, uint32_t count)
 {
     struct wulgach_caller caller = {.fd = fd, .is_open = fcntl(fd, F_GETFD) >= 0};
     struct ring *ring = caller.is_open ? lock_ring(fd) : NULL;
@@ -167,5 +167,14 @@ int register_at(int fd, uint32_t code, void *argument, uint32_t count)
         result = make_call(ring, code, (uintptr_t)argument, count);
     if (ring)
         unlock_ring(ring);
+    return result;
+}
+
+int register_at(int fd, uint32_t code, void *argument, uint32_t count)
+{
+    sigset_t own;
+    block_signals(&own);
+    int result = register_by(fd, code, argument, count);
+    allow_signals(&own);
     return result;
 }

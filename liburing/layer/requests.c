@@ -142,7 +142,8 @@ void drop_requests(struct requests *requests, size_t count)
     }
 }
 
-static void free_parts(const struct request *request)
+/* Returns whether a file was closed. */
+static bool free_parts(const struct request *request)
 {
     if (request->vectors != &request->one)
         free(request->vectors);
@@ -153,9 +154,10 @@ static void free_parts(const struct request *request)
     free(request->time);
     if (request->epoll >= 0)
         close(request->epoll);
-    release_file(request->file);
-    release_file(request->second_file);
+    bool is_closed = release_file(request->file);
+    is_closed |= release_file(request->second_file);
     release_buffer(request->buffer);
+    return is_closed;
 }
 
 /* The rows on the side that has fewer are moved: behind a few that wait, a long chain ends from its beginning on. */
@@ -181,12 +183,13 @@ size_t take_request(struct requests *requests, const struct request *request)
     return 0;
 }
 
-void end_request(struct requests *requests, struct request *request)
+bool end_request(struct requests *requests, struct request *request)
 {
     take_request(requests, request);
-    free_parts(request);
+    bool is_closed = free_parts(request);
     request->next = requests->kept;
     requests->kept = request;
+    return is_closed;
 }
 
 void free_request(struct request *request)

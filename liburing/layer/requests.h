@@ -113,8 +113,8 @@ enum mapping form_of(const struct io_uring_sqe *entry, int32_t refusal, bool is_
 /* An entry as the library has it. */
 const struct wulgach_submission *submission_of(const struct io_uring_sqe *entry);
 
-/* Takes a request out, and keeps its memory. */
-void end_request(struct requests *requests, struct request *request);
+/* Takes a request out, and keeps its memory. Returns whether a file was closed that it had. */
+bool end_request(struct requests *requests, struct request *request);
 
 /* Frees a request, or nothing. */
 void free_request(struct request *request);

@@ -38,9 +38,10 @@ struct ring {
     ino_t inode;
     pid_t process;                      /* who made it: a forked child has the memory, and not the core */
     int fd;                             /* the first descriptor: it may be closed, or another file's by now */
-    int called_fd;                      /* the one of the last call */
+    int called_fd;                      /* the one of the call that has its lock, or of the last one */
     int ready_fd;                       /* an eventfd, if the descriptor polls; or negative: the descriptor is memory */
-    bool is_readable;                   /* the eventfd is set */
+    bool is_readable;                   /* the eventfd is set, */
+    uint32_t told_posted;               /* last when so many completions were posted, in a count that wraps */
     struct watched *watched;            /* the streams that the descriptor polls for */
     size_t watched_count;
     uint32_t index;                     /* its number among the process's rings, from 0 */

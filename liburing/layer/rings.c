@@ -162,14 +162,12 @@ static int do_stage(struct making *making, uint32_t stage)
     }
 }
 
-int setup(uint32_t entries, struct io_uring_params *params, bool is_polled)
+/* Makes a ring, and returns its descriptor, or the negative of an error number. */
+static int set_up(uint32_t entries, struct io_uring_params *params, bool is_polled)
 {
     struct making making = {.entries = entries, .is_polled = is_polled, .at = (uintptr_t)params};
     uint32_t stage = WULGACH_SET_UP_BEGINS;
     int result = 0;
-    serve_at_set_up();
-    read_policy();
-    read_injection();
     while ((stage = wulgach_set_up_next(stage, result)) <= WULGACH_SET_UP_TELLS)
         result = do_stage(&making, stage);
     if (stage == WULGACH_SET_UP_DROPS) {
@@ -183,12 +181,27 @@ int setup(uint32_t entries, struct io_uring_params *params, bool is_polled)
     return fd;
 }
 
+int setup(uint32_t entries, struct io_uring_params *params, bool is_polled)
+{
+    sigset_t own;
+    serve_at_set_up();
+    read_policy();
+    read_injection();
+    block_signals(&own);
+    int result = set_up(entries, params, is_polled);
+    allow_signals(&own);
+    return result;
+}
+
 void *map_file(void *at, size_t size, int protection, int flags, int fd, int64_t offset)
 {
+    sigset_t own;
+    block_signals(&own);
     struct ring *ring = lock_ring(fd);
     bool is_polled = ring && ring->ready_fd >= 0;
     void *mapped = is_polled ? map_again(&ring->memory, size, (uint64_t)offset) : map_passing(at, size, protection, flags, fd, offset);
     if (ring)
         unlock_ring(ring);
+    allow_signals(&own);
     return mapped;
 }

@@ -7,6 +7,7 @@
 #include "clock.h"
 #include "descriptors.h"
 #include "ends.h"
+#include "numbers.h"
 #include "operations.h"
 
 #include <errno.h>
@@ -32,6 +33,27 @@ static void add_slept(struct ring *ring, uint64_t start)
         wulgach_times_sleep(&ring->times, start, real_time());
 }
 
+static int by_descriptor(const void *one, const void *other)
+{
+    const struct pollfd *first = one, *second = other;
+    return (first->fd > second->fd) - (first->fd < second->fd);
+}
+
+/* Joins what is asked of one descriptor: the kernel takes no more entries than a process may have descriptors. */
+static nfds_t join_streams(struct pollfd *streams, nfds_t count)
+{
+    nfds_t kept = 0;
+    if (count > 1)
+        qsort(streams, count, sizeof *streams, by_descriptor);
+    for (nfds_t i = 0; i < count; i++)
+        if (kept > 0 && streams[kept - 1].fd == streams[i].fd)
+            streams[kept - 1].events |= streams[i].events;
+        else
+            streams[kept++] = streams[i];
+    return kept;
+}
+
+/* Lists the descriptors of the running requests that wait for streams, each once. */
 static nfds_t list_streams(const struct ring *ring, struct pollfd *streams)
 {
     nfds_t count = 0;
@@ -40,6 +62,7 @@ static nfds_t list_streams(const struct ring *ring, struct pollfd *streams)
         if (wulgach_polls(&request->standing))
             streams[count++] = poll_of(request);
     }
+    count = join_streams(streams, count);
     if (ring->dormant.count > 0)
         streams[count++] = (struct pollfd){.fd = ring->dormant.instance, .events = POLLIN};
     return count;
@@ -59,13 +82,15 @@ static void leave(struct ring *ring, const struct sleeper *sleeper)
 static int poll_unlocked(struct ring *ring, struct pollfd *polled, nfds_t count, const struct wulgach_limit *limit, const sigset_t *signals)
 {
     struct timespec time = {(time_t)(limit->at / 1000000000), (long)(limit->at % 1000000000)};
+    int fd = ring->called_fd;
     pthread_mutex_unlock(&ring->lock);
     /* A message that came before that is posted, and wakes this thread. */
-    visit_ring(ring);
+    visit_ring(ring, fd);
     int result = ppoll(polled, count, limit->is_set ? &time : NULL, signals);
     if (result < 0)
         result = -errno;
     pthread_mutex_lock(&ring->lock);
+    call_by(ring, fd);
     return result;
 }
 
@@ -75,7 +100,7 @@ int sleep_until(struct ring *ring, const struct wulgach_limit *until, const sigs
     if (!polled)
         return wulgach_missing_fault(WULGACH_NO_MEMORY_OWN);
     wake_sleepers(ring);
-    struct sleeper self = {.wake = eventfd(0, EFD_CLOEXEC | EFD_NONBLOCK), .next = ring->sleepers};
+    struct sleeper self = {.wake = moved_high(eventfd(0, EFD_CLOEXEC | EFD_NONBLOCK)), .next = ring->sleepers};
     ring->sleepers = &self;
     nfds_t count = list_streams(ring, polled);
     polled[count++] = (struct pollfd){.fd = self.wake, .events = POLLIN};

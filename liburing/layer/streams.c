@@ -65,9 +65,10 @@ bool is_found_ready(struct ring *ring, struct request *request)
     return sighting == WULGACH_SIGHTING_READY;
 }
 
+/* (an epoll instance keeps no file open) */
 void hold_file_of(struct request *request)
 {
-    if (!wulgach_keeps_open(&request->standing, request->file, request->epoll >= 0))
+    if (!wulgach_keeps_open(&request->standing, request->file, false))
         return;
     request->file = hold_file(request->fd);
     if (request->file)

@@ -3,6 +3,7 @@
  */
 #define _GNU_SOURCE
 #include "trace.h"
+#include "numbers.h"
 #include "operations.h"
 #include "ring.h"
 
@@ -13,15 +14,10 @@
 #include <string.h>
 #include <unistd.h>
 
-/* A file for writing, under a high descriptor: a program that closes a low one twice doesn't close this. */
-static int open_high(const char *path)
+/* A file for writing. */
+static int open_written(const char *path)
 {
-    int low = open(path, O_WRONLY | O_CREAT | O_TRUNC | O_APPEND | O_CLOEXEC, 0666);
-    int high = low < 0 ? -1 : fcntl(low, F_DUPFD_CLOEXEC, 512);
-    if (high < 0)
-        return low;
-    close(low);
-    return high;
+    return moved_high(open(path, O_WRONLY | O_CREAT | O_TRUNC | O_APPEND | O_CLOEXEC, 0666));
 }
 
 /* Hands the line to the file, and begins another. A trace that can't be written ends with the line before. */
@@ -46,7 +42,7 @@ static void open_trace(struct ring *ring)
         return;
     char path[4096];
     snprintf(path, sizeof path, "%s.%d.%" PRIu32, prefix, (int)ring->process, ring->index);
-    ring->trace_file = open_high(path);
+    ring->trace_file = open_written(path);
     if (ring->trace_file >= 0)
         ring->trace = open_memstream(&ring->line, &ring->line_length);
     if (!ring->trace) {

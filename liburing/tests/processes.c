@@ -5,6 +5,7 @@
 #include "engines.h"
 
 #include <linux/time_types.h>
+#include <poll.h>
 #include <pthread.h>
 #include <sys/stat.h>
 #include <sys/wait.h>
@@ -64,6 +65,41 @@ static void test_forks(void)
     }
     __atomic_store_n(&stop, true, __ATOMIC_RELEASE);
     check(pthread_join(thread, NULL) == 0);
+}
+
+/* What a ring and a request of the parent's keep open, a child doesn't, once it has closed what it knows of. */
+static void test_kept_files(void)
+{
+    for (int is_registered = 0; is_registered < 2; is_registered++) {
+        struct ring ring;
+        int ends[2], go[2], status;
+        char byte;
+        check(pipe(ends) == 0 && pipe(go) == 0);
+        make_ring(&ring, 4, 0, 0);
+        if (is_registered)
+            check(register_at(ring.fd, IORING_REGISTER_FILES, &ends[1], 1) == 0);
+        struct io_uring_sqe *entry = put_plain(&ring, IORING_OP_POLL_ADD, 0, is_registered ? 0 : ends[1]);
+        entry->flags = is_registered ? IOSQE_FIXED_FILE : 0;
+        check(enter(&ring, 1, 0, 0) == 1 && enter_for(&ring, 1, 1000) == -ETIME);
+        pid_t child = fork();
+        if (child == 0) {
+            close(ends[0]), close(ends[1]), close(go[1]), close(ring.fd);
+            _exit(read(go[0], &byte, 1) == 0 ? 0 : 1);
+        }
+        close(ends[1]);
+        if (is_registered)
+            check(register_at(ring.fd, IORING_UNREGISTER_FILES, NULL, 0) == 0);
+        int32_t results[2];
+        put(&ring, IORING_OP_ASYNC_CANCEL, 1, 0);
+        check(enter(&ring, 1, 0, 0) == 1);
+        reap_all(&ring, 2, results);
+        check(results[0] == -ECANCELED && results[1] == 0);
+        struct pollfd at = {.fd = ends[0], .events = POLLIN};
+        check(poll(&at, 1, 2000 * patience()) == 1 && read(ends[0], &byte, 1) == 0);
+        close(go[0]), close(go[1]), close(ends[0]);
+        check(waitpid(child, &status, 0) == child && status == 0);
+        close_ring(&ring);
+    }
 }
 
 static unsigned long questions;
@@ -141,6 +177,7 @@ int main(int count, char **words)
     static const struct named tests[] = {
         {"two rings", test_two_rings},
         {"forks", test_forks},
+        {"kept files", test_kept_files},
         {"many rings", test_many_rings},
         {"bad addresses", test_bad_addresses},
     };
