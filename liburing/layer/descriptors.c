@@ -207,7 +207,7 @@ __attribute__((noinline)) static void visit_with_messages(struct ring *ring)
     while (!is_left && has_messages(ring) && pthread_mutex_trylock(&ring->lock) == 0) {
         post_messages(ring);
         is_left = has_messages(ring) && !can_post_extra(ring);
-        do_duties_at_rest(ring);
+        do_duties_behind_posting(ring);
         wake_sleepers(ring);
         pthread_mutex_unlock(&ring->lock);
     }
