@@ -120,24 +120,52 @@ bool wulgach_looks_in_vain(bool gets, uint32_t min_complete, uint32_t ready);
 enum wulgach_duty {
     WULGACH_LOOKS_AFRESH = 0,       /* all that runs is looked at afresh, and what was written to pipes is heard */
     WULGACH_PASSES_TIME = 1,        /* the timeouts end whose time is over */
-    WULGACH_HOLDS_FILES = 2,        /* the files of what runs are kept open */
-    WULGACH_WATCHES_PIPES = 3,      /* writes to the pipes are watched that polls wait for */
-    WULGACH_SHOWS_ENDS = 4,         /* what has ended is shown */
-    WULGACH_TELLS_READINESS = 5,    /* the ring's descriptor tells whether it is readable */
-    WULGACH_HEARS_APPLICATION = 6,  /* what the application has reaped is heard */
-    WULGACH_SHOWS_FLAGS = 7         /* the word of flags says whether a call may bring something */
+    WULGACH_FINDS_FILES = 2,        /* those find their files whose turn to do so hasn't come */
+    WULGACH_HOLDS_FILES = 3,        /* the files of what runs are kept open */
+    WULGACH_WATCHES_PIPES = 4,      /* writes to the pipes are watched that polls wait for */
+    WULGACH_LETS_LIE = 5,           /* of many that wait for descriptors those become dormant that wait for nothing else */
+    WULGACH_SHOWS_ENDS = 6,         /* what has ended is shown */
+    WULGACH_TELLS_READINESS = 7,    /* the ring's descriptor tells whether it is readable */
+    WULGACH_HEARS_APPLICATION = 8,  /* what the application has reaped is heard */
+    WULGACH_SHOWS_FLAGS = 9         /* the word of flags says whether a call may bring something */
 };
 
 /* What a call does as it begins, or has slept: it looks afresh; and where time is real, time passes as it begins. */
 uint32_t wulgach_duties_at_begin(bool is_time_real, bool has_slept);
 
-/* What it does as it falls asleep, or another ring's message was posted: what has ended and isn't shown is, and a descriptor that polls tells
- * of it. */
-uint32_t wulgach_duties_at_rest(bool has_ends, bool is_polled);
+/* A ring as a call on it falls asleep or returns. */
+struct wulgach_resting {
+    uint64_t waiting;           /* how many of the requests that run wait for descriptors, */
+    uint64_t looked_at;         /* and how many of these are looked at in passing */
+    bool has_due;               /* some are to find their files in their turn, which hasn't come */
+    bool runs;                  /* some run */
+    bool has_watches;           /* pipes are watched */
+    bool has_ends;              /* something has ended which isn't shown */
+    bool is_polled;             /* the ring's descriptor polls */
+};
 
-/* What it does as it returns: where requests run, their files are kept; where some run, or pipes are watched, pipes are; then as
+/* What it does before it is decided whether it sleeps: files are found, those of what runs are kept, and where requests run, or pipes are watched,
+ * pipes are, unless it is to fail with a fault. */
+uint32_t wulgach_duties_before_sleep(const struct wulgach_resting *resting, bool has_fault);
+
+/* What it does as it falls asleep: where more wait than are looked at in passing, requests become dormant; what has ended is shown, and a descriptor
+ * that polls tells of it. */
+uint32_t wulgach_duties_at_rest(const struct wulgach_resting *resting);
+
+/* What it does as it returns: files are found; where requests run, their files are kept; where some run, or pipes are watched, pipes are; then as
  * above; and the flags are shown at last. */
-uint32_t wulgach_duties_at_return(bool runs, bool has_watches, bool has_ends, bool is_polled);
+uint32_t wulgach_duties_at_return(const struct wulgach_resting *resting);
+
+/* What the call of io_uring_register(2) of this number does as it begins, and as it returns. One that may post completions, since it ends requests
+ * or takes files or buffers out of their table, does what any call does, and hears the application as it begins; another does nothing. */
+uint32_t wulgach_duties_at_register_begin(uint32_t code, bool is_time_real);
+uint32_t wulgach_duties_at_register_return(uint32_t code, const struct wulgach_resting *resting);
+
+/* What is done before a completion is posted that no operation has just ended with, as an event, a message, a tag or the end of a request that was
+ * cancelled: the application is heard. And what is done behind those that were posted outside a call: what has ended and isn't shown is, and a
+ * descriptor that polls tells of it. */
+uint32_t wulgach_duties_before_posting(void);
+uint32_t wulgach_duties_behind_posting(bool has_ends, bool is_polled);
 
 /* What it does before the operation of this code is carried out: what has ended and isn't shown is, but before a no-op, and the application is
  * heard. */

@@ -197,23 +197,75 @@ static void reach_rings(void)
 
 #define BIT(duty) (1u << (duty))
 
+enum {
+    FIRST = BIT(WULGACH_LOOKS_AFRESH),
+    TIME = BIT(WULGACH_PASSES_TIME),
+    FOUND = BIT(WULGACH_FINDS_FILES),
+    FILES = BIT(WULGACH_HOLDS_FILES),
+    PIPES = BIT(WULGACH_WATCHES_PIPES),
+    DORMANT = BIT(WULGACH_LETS_LIE),
+    ENDS = BIT(WULGACH_SHOWS_ENDS),
+    READINESS = BIT(WULGACH_TELLS_READINESS),
+    APPLICATION = BIT(WULGACH_HEARS_APPLICATION),
+    LAST = BIT(WULGACH_SHOWS_FLAGS)
+};
+
+/* A ring on which nothing is to be done, and one with all that there may be. */
+static const struct wulgach_resting quiet = {.waiting = 32, .looked_at = 32};
+static const struct wulgach_resting busy = {.waiting = 33, .looked_at = 32, .has_due = true, .runs = true, .has_watches = true, .has_ends = true, .is_polled = true};
+
 static void do_duties(void)
 {
     running = "duties";
-    const uint32_t first = BIT(WULGACH_LOOKS_AFRESH), time = BIT(WULGACH_PASSES_TIME), files = BIT(WULGACH_HOLDS_FILES), pipes = BIT(WULGACH_WATCHES_PIPES), ends = BIT(WULGACH_SHOWS_ENDS), readiness = BIT(WULGACH_TELLS_READINESS), application = BIT(WULGACH_HEARS_APPLICATION), last = BIT(WULGACH_SHOWS_FLAGS);
-    check(wulgach_duties_at_begin(false, false) == first && wulgach_duties_at_begin(true, false) == (first | time) && wulgach_duties_at_begin(true, true) == first, "as it begins");
-    check(wulgach_duties_at_rest(false, false) == 0 && wulgach_duties_at_rest(true, false) == ends && wulgach_duties_at_rest(false, true) == readiness, "as it rests");
-    check(wulgach_duties_at_return(false, false, false, false) == last && wulgach_duties_at_return(true, false, false, false) == (files | pipes | last), "as it returns");
-    check(wulgach_duties_at_return(false, true, true, true) == (pipes | ends | readiness | last), "with all but requests");
-    check(wulgach_duties_before(0, true) == application && wulgach_duties_before(22, true) == (ends | application) && wulgach_duties_before(22, false) == application, "before an operation");
-    check(first < time && files < pipes && pipes < ends && ends < readiness && ends < application && readiness < last, "their order");
+    check(wulgach_duties_at_begin(false, false) == FIRST && wulgach_duties_at_begin(true, false) == (FIRST | TIME) && wulgach_duties_at_begin(true, true) == FIRST, "as it begins");
+    check(wulgach_duties_before_sleep(&quiet, false) == 0 && wulgach_duties_before_sleep(&busy, false) == (FOUND | FILES | PIPES) && wulgach_duties_before_sleep(&busy, true) == (FOUND | FILES), "before it sleeps");
+    check(wulgach_duties_at_rest(&quiet) == 0 && wulgach_duties_at_rest(&busy) == (DORMANT | ENDS | READINESS), "as it rests");
+    check(wulgach_duties_at_return(&quiet) == LAST && wulgach_duties_at_return(&busy) == (FOUND | FILES | PIPES | DORMANT | ENDS | READINESS | LAST), "as it returns");
+    check(wulgach_duties_before(0, true) == APPLICATION && wulgach_duties_before(22, true) == (ENDS | APPLICATION) && wulgach_duties_before(22, false) == APPLICATION, "before an operation");
+    check(wulgach_duties_before_posting() == APPLICATION && wulgach_duties_behind_posting(false, false) == 0 && wulgach_duties_behind_posting(true, true) == (ENDS | READINESS), "where completions are posted");
+    check(FIRST < TIME && FOUND < FILES && FILES < PIPES && PIPES < DORMANT && DORMANT < ENDS && ENDS < READINESS && ENDS < APPLICATION && READINESS < LAST, "their order");
     check(wulgach_polls_writes(1) && !wulgach_polls_writes(0), "a sleep beside pipes");
+}
+
+static void do_some_duties(void)
+{
+    static const struct {
+        struct wulgach_resting resting;
+        uint32_t sleep, rest, end;
+    } rows[] = {
+        {{.waiting = 1}, 0, DORMANT, DORMANT},
+        {{.has_due = true}, FOUND, 0, FOUND},
+        {{.runs = true}, FILES | PIPES, 0, FILES | PIPES},
+        {{.has_watches = true}, PIPES, 0, PIPES},
+        {{.has_ends = true}, 0, ENDS, ENDS},
+        {{.is_polled = true}, 0, READINESS, READINESS},
+    };
+    running = "some duties";
+    for (size_t i = 0; i < sizeof rows / sizeof *rows; i++) {
+        check(wulgach_duties_before_sleep(&rows[i].resting, false) == rows[i].sleep, "before it sleeps");
+        check(wulgach_duties_at_rest(&rows[i].resting) == rows[i].rest, "as it rests");
+        check(wulgach_duties_at_return(&rows[i].resting) == (rows[i].end | LAST), "as it returns");
+    }
+}
+
+/* Of io_uring_register(2): UNREGISTER_BUFFERS, UNREGISTER_FILES, FILES_UPDATE, FILES_UPDATE2, BUFFERS_UPDATE and SYNC_CANCEL may post. */
+static void do_duties_of_registering(void)
+{
+    static const uint32_t posting = BIT(1) | BIT(3) | BIT(6) | BIT(14) | BIT(16) | BIT(24);
+    running = "duties of io_uring_register(2)";
+    for (uint32_t code = 0; code < 40; code++) {
+        bool posts = code < 32 && posting & BIT(code);
+        check(wulgach_duties_at_register_begin(code, false) == (posts ? FIRST | APPLICATION : 0) && wulgach_duties_at_register_begin(code, true) == (posts ? FIRST | TIME | APPLICATION : 0), "as it begins");
+        check(wulgach_duties_at_register_return(code, &busy) == (posts ? FOUND | FILES | PIPES | DORMANT | ENDS | READINESS | LAST : 0) && wulgach_duties_at_register_return(code, &quiet) == (posts ? LAST : 0), "as it returns");
+    }
 }
 
 int main(void)
 {
     read_arguments();
     do_duties();
+    do_some_duties();
+    do_duties_of_registering();
     take_in_rounds();
     go_by_policies();
     reach_rings();

@@ -234,7 +234,7 @@ __attribute__((noinline)) static void visit_with_messages(struct ring *ring, int
         call_by(ring, fd);
         post_messages(ring);
         is_left = has_messages(ring) && !can_post_extra(ring);
-        do_duties_at_rest(ring);
+        do_duties_behind_posting(ring);
         wake_sleepers(ring);
         pthread_mutex_unlock(&ring->lock);
     }

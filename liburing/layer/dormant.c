@@ -21,12 +21,6 @@
 #include <sys/epoll.h>
 #include <unistd.h>
 
-/* So many of those that wait are looked at in any case: that costs less than to have the instance tell of them. (Tests under the sanitizers have
- * it tell of all.) */
-#ifndef MOST_LOOKED_AT
-#define MOST_LOOKED_AT 32
-#endif
-
 /* Of so many descriptors the instance tells at once. */
 enum { MOST_TOLD = 64 };
 
@@ -133,18 +127,17 @@ static bool has_room(struct ring *ring)
     return reserve_requests(&ring->running, whole) && reserve_requests(&ring->patient, whole);
 }
 
-/* Whether many wait for descriptors: timeouts don't. */
-static bool has_many(const struct ring *ring)
+uint64_t count_waiting(const struct ring *ring)
 {
-    size_t count = 0;
+    uint64_t count = 0;
     for (size_t i = 0; i < ring->running.count; i++)
         count += ring->running.rows[i]->standing.is_stream;
-    return count > MOST_LOOKED_AT;
+    return count;
 }
 
-__attribute__((noinline)) static void let_many_lie(struct ring *ring)
+void let_lie(struct ring *ring)
 {
-    if (!has_many(ring) || !has_room(ring))
+    if (!has_room(ring))
         return;
     for (size_t i = 0; i < ring->running.count;) {
         struct request *request = ring->running.rows[i];
@@ -153,12 +146,6 @@ __attribute__((noinline)) static void let_many_lie(struct ring *ring)
         else
             i++;
     }
-}
-
-void let_lie(struct ring *ring)
-{
-    if (ring->running.count > MOST_LOOKED_AT)
-        let_many_lie(ring);
 }
 
 /* ---- coming back ---- */

@@ -19,11 +19,19 @@ struct dormant {
     struct wulgach_waiter asked;    /* the moment in which the instance was asked last */
 };
 
+/* So many of those that wait are looked at in any case: that costs less than to have the instance tell of them. (Tests under the sanitizers have
+ * it tell of all.) */
+#ifndef MOST_LOOKED_AT
+#define MOST_LOOKED_AT 32
+#endif
+
 void make_dormant(struct dormant *dormant);
 void free_dormant(struct dormant *dormant);
 
-/* A call returns, or sleeps: where many requests wait, those become dormant that were looked at in this moment and wait for nothing but their
- * descriptors. They keep their files from then on. */
+/* How many of those that run wait for their descriptors: timeouts don't. */
+uint64_t count_waiting(const struct ring *ring);
+
+/* Those become dormant that were looked at in this moment and wait for nothing but their descriptors. They keep their files from then on. */
 void let_lie(struct ring *ring);
 
 /* Rouses those whose descriptors are ready, if that wasn't asked in this moment: they run among the others again. */

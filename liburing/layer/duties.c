@@ -2,6 +2,7 @@
 #define _GNU_SOURCE
 #include "duties.h"
 #include "clock.h"
+#include "operations.h"
 #include "readiness.h"
 #include "streams.h"
 #include "waiting.h"
@@ -16,11 +17,16 @@ static void do_duty(struct ring *ring, enum wulgach_duty duty)
     case WULGACH_PASSES_TIME:
         pass_real_time(ring);
         return;
+    case WULGACH_FINDS_FILES:
+        assign_before(ring, UINT64_MAX);
+        return;
     case WULGACH_HOLDS_FILES:
         hold_files(ring);
         return;
     case WULGACH_WATCHES_PIPES:
-        watch_pipes(ring);
+        ring->pipes.has_told |= watch_pipes(ring);
+        return;
+    case WULGACH_LETS_LIE:
         let_lie(ring);
         return;
     case WULGACH_SHOWS_ENDS:
@@ -46,19 +52,63 @@ static void do_all(struct ring *ring, uint32_t duties)
         do_duty(ring, (enum wulgach_duty)__builtin_ctz(duties));
 }
 
+static struct wulgach_resting resting(const struct ring *ring)
+{
+    return (struct wulgach_resting){
+        .waiting = count_waiting(ring),
+        .looked_at = MOST_LOOKED_AT,
+        .has_due = ring->due_from < ring->due_end,
+        .runs = ring->running.count > 0,
+        .has_watches = ring->pipes.count > 0,
+        .has_ends = ring->completions.is_behind,
+        .is_polled = ring->ready_fd >= 0,
+    };
+}
+
 void do_duties_at_begin(struct ring *ring, bool has_slept)
 {
     do_all(ring, wulgach_duties_at_begin(is_time_real(), has_slept));
 }
 
+bool do_duties_before_sleep(struct ring *ring, bool has_fault)
+{
+    struct wulgach_resting at = resting(ring);
+    ring->pipes.has_told = false;
+    do_all(ring, wulgach_duties_before_sleep(&at, has_fault));
+    return ring->pipes.has_told;
+}
+
 void do_duties_at_rest(struct ring *ring)
 {
-    do_all(ring, wulgach_duties_at_rest(ring->completions.is_behind, ring->ready_fd >= 0));
+    struct wulgach_resting at = resting(ring);
+    do_all(ring, wulgach_duties_at_rest(&at));
 }
 
 void do_duties_at_return(struct ring *ring)
 {
-    do_all(ring, wulgach_duties_at_return(ring->running.count > 0, ring->pipes.count > 0, ring->completions.is_behind, ring->ready_fd >= 0));
+    struct wulgach_resting at = resting(ring);
+    do_all(ring, wulgach_duties_at_return(&at));
+}
+
+void do_duties_at_register_begin(struct ring *ring, uint32_t code)
+{
+    do_all(ring, wulgach_duties_at_register_begin(code, is_time_real()));
+}
+
+void do_duties_at_register_return(struct ring *ring, uint32_t code)
+{
+    struct wulgach_resting at = resting(ring);
+    do_all(ring, wulgach_duties_at_register_return(code, &at));
+}
+
+void do_duties_before_posting(struct ring *ring)
+{
+    do_all(ring, wulgach_duties_before_posting());
+}
+
+void do_duties_behind_posting(struct ring *ring)
+{
+    do_all(ring, wulgach_duties_behind_posting(ring->completions.is_behind, ring->ready_fd >= 0));
 }
 
 void do_duties_before(struct ring *ring, const struct request *request)

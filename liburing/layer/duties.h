@@ -4,11 +4,22 @@
 
 #include "ring.h"
 
-/* As a call begins, or has slept; as it falls asleep, or another ring's message was posted; as it returns; and before the operation of a
- * request is carried out. */
+/* As a call begins, or has slept; before it sleeps, unless it is to fail, where it is told whether a poll was told of a write; as it falls asleep;
+ * and as it returns. */
 void do_duties_at_begin(struct ring *ring, bool has_slept);
+bool do_duties_before_sleep(struct ring *ring, bool has_fault);
 void do_duties_at_rest(struct ring *ring);
 void do_duties_at_return(struct ring *ring);
+
+/* As a call of io_uring_register(2) begins, and returns. */
+void do_duties_at_register_begin(struct ring *ring, uint32_t code);
+void do_duties_at_register_return(struct ring *ring, uint32_t code);
+
+/* Before a completion is posted that no operation has just ended with, and behind those that were posted outside a call. */
+void do_duties_before_posting(struct ring *ring);
+void do_duties_behind_posting(struct ring *ring);
+
+/* Before the operation of a request is carried out. */
 void do_duties_before(struct ring *ring, const struct request *request);
 
 #endif

@@ -8,15 +8,12 @@
 #include "duties.h"
 #include "enrolling.h"
 #include "fault.h"
-#include "operations.h"
 #include "outlook.h"
-#include "pipes.h"
 #include "policy.h"
 #include "process.h"
 #include "progress.h"
 #include "restrictions.h"
 #include "ring.h"
-#include "streams.h"
 #include "submit.h"
 #include "trace.h"
 #include "waiting.h"
@@ -145,9 +142,7 @@ static enum wulgach_reply_kind go_on_fully(struct ring *ring)
 static enum wulgach_reply_kind sleep_on(struct ring *ring, struct waiting *waiting, struct wulgach_reply *reply)
 {
     int error, fault = waiting->fault < 0 ? waiting->fault : read_mask(waiting);
-    assign_before(ring, UINT64_MAX);
-    hold_files(ring);
-    switch (wulgach_sleep_begins(fault, fault == 0 && watch_pipes(ring))) {
+    switch (wulgach_sleep_begins(fault, do_duties_before_sleep(ring, fault < 0))) {
     case WULGACH_SLEEP_FAILS:
         reply->number = (uint32_t)-fault;
         return WULGACH_FAILED;
@@ -156,7 +151,6 @@ static enum wulgach_reply_kind sleep_on(struct ring *ring, struct waiting *waiti
     default:
         break;
     }
-    let_lie(ring);
     do_duties_at_rest(ring);
     enum wulgach_reply_kind kind = wait_for_any(ring, &waiting->limit, waiting->signals, &error);
     do_duties_at_begin(ring, true);
@@ -229,7 +223,6 @@ static int enter_ring(struct ring *ring, uint32_t flags, struct waiting *waiting
         return result;
     do_duties_at_begin(ring, false);
     result = carry_call_out(ring, waiting, flags);
-    assign_before(ring, UINT64_MAX);
     do_duties_at_return(ring);
     return result;
 }

@@ -5,6 +5,7 @@
  */
 #include "extras.h"
 #include "descriptors.h"
+#include "duties.h"
 #include "ends.h"
 #include "fault.h"
 #include "ring.h"
@@ -44,6 +45,7 @@ static int32_t end_own(struct ring *ring, struct request *request, int32_t res)
 static void post(struct ring *ring, uint64_t call, bool is_message, uint64_t user_data, int32_t res, uint32_t flags)
 {
     struct wulgach_entry entry;
+    do_duties_before_posting(ring);
     struct request *request = make_request(&ring->requests);
     demand(request != NULL, "out of memory");
     request->entry.user_data = request->token = user_data;

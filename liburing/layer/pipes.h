@@ -24,6 +24,7 @@ struct pipes {
     size_t idle;            /* so many have no poll any more */
     int *written;           /* the numbers of those that were written to, of which there is room for as many, */
     size_t written_count;   /* and how many these are */
+    bool has_told;          /* a poll was told of a write when they were last watched, since a call was about to sleep */
 };
 
 void make_pipes(struct pipes *pipes);

@@ -110,6 +110,7 @@ static void finish_running(struct ring *ring, struct request *request)
         if (!try_operation(ring, request, &res))
             return;
     } else {
+        do_duties_before_posting(ring);
         /* (one that goes on has those of its last event) */
         request->flags = wulgach_completion_flags(WULGACH_PART_CANCELLED, request->flags);
     }

@@ -96,7 +96,6 @@ static int cancel_at_once(struct ring *ring, uint32_t code, uint64_t at)
     /* (what it has found ends as it goes on: so its time limit is never over before) */
     result = act_on_others(ring, &cancel);
     end_cancelled(ring);
-    do_duties_at_return(ring);
     return result;
 }
 
@@ -163,8 +162,11 @@ static int register_by(int fd, uint32_t code, void *argument, uint32_t count)
     int result = wulgach_calling_fault(code, &caller);
     if (result == 0)
         result = wulgach_argument_fault(code, argument, count);
-    if (result == 0)
+    if (result == 0) {
+        do_duties_at_register_begin(ring, code);
         result = make_call(ring, code, (uintptr_t)argument, count);
+        do_duties_at_register_return(ring, code);
+    }
     if (ring)
         unlock_ring(ring);
     return result;

@@ -16,12 +16,16 @@ static int64_t now(void)
     return (int64_t)time.tv_sec * 1000000000 + time.tv_nsec;
 }
 
+static bool is_real(void)
+{
+    const char *word = getenv("WULGACH_TIME");
+    return word && strcmp(word, "real") == 0;
+}
+
 /* Whether as long has passed as is said, where time is real. */
 static bool has_lasted(int64_t start, int64_t time)
 {
-    const char *word = getenv("WULGACH_TIME");
-    bool is_real = word && strcmp(word, "real") == 0;
-    return is_real ? now() - start >= time : true;
+    return is_real() ? now() - start >= time : true;
 }
 
 static void test_timeout(void)
@@ -75,8 +79,24 @@ static void test_linked(void)
     close_ring(&ring);
 }
 
+/* A timeout that is over by then isn't cancelled by a call of io_uring_register(2). */
+static void test_cancelled_late(void)
+{
+    struct ring ring;
+    struct __kernel_timespec time = {.tv_nsec = 20 * MILLISECOND};
+    struct io_uring_sync_cancel_reg cancel = {.addr = 3, .timeout = {-1, -1}};
+    make_ring(&ring, 8, 0, 0);
+    put_transfer(&ring, IORING_OP_TIMEOUT, 3, 0, -1, &time, 1, 0);
+    check(enter(&ring, 1, 0, IORING_ENTER_GETEVENTS) == 1);
+    usleep(40000);
+    long found = register_at(ring.fd, IORING_REGISTER_SYNC_CANCEL, &cancel, 1);
+    check(found == -ENOENT || (found == 0 && !is_real()));
+    check(wait_for_one(&ring) == (found == 0 ? -ECANCELED : -ETIME));
+    close_ring(&ring);
+}
+
 int main(int count, char **words)
 {
-    static const struct named tests[] = {{"timeout", test_timeout}, {"limit", test_limit}, {"linked", test_linked}};
+    static const struct named tests[] = {{"timeout", test_timeout}, {"limit", test_limit}, {"linked", test_linked}, {"cancelled late", test_cancelled_late}};
     return run_tests(tests, sizeof tests / sizeof *tests, count > 1 ? words[1] : NULL);
 }

@@ -1,11 +1,15 @@
 //! What a call does besides what it is asked for, for C: functions of `c/wulgach_enter.h`.
 ghost use Rattle.std.specs.Prelude.{◌≡◌, if◌then◌else◌};
 ghost use Rattle.uring_enter.specs.Duties as spec;
+ghost use Rattle.uring_register.specs.Calling.{may_post as posts};
 ghost use Rattle.uring_c.specs.DutyForm.{word_of_duties};
 
 use uring_enter::{
-    Duties, duties_at_begin, duties_at_rest, duties_at_return, duties_before, polls_writes,
+    Duties, Resting, duties_at_begin, duties_at_register_begin, duties_at_register_return,
+    duties_at_rest, duties_at_return, duties_before, duties_before_posting, duties_before_sleep,
+    duties_behind_posting, polls_writes,
 };
+use uring_register::may_post;
 
 /// What a call does as it begins, or has slept, as a set of duties.
 #[unsafe(no_mangle)]
@@ -15,28 +19,63 @@ pub extern "C" fn wulgach_duties_at_begin(is_time_real: bool, has_slept: bool) -
     duties_word(duties_at_begin(is_time_real, has_slept))
 }
 
-/// What it does as it falls asleep, or another ring's message was posted.
+/// What it does before it is decided whether it sleeps, where it is to fail with a fault or not.
 #[unsafe(no_mangle)]
-pub extern "C" fn wulgach_duties_at_rest(has_ends: bool, is_polled: bool) -> u32
-    ensures { result ≡ word_of_duties (spec.at_rest has_ends is_polled) }
+pub extern "C" fn wulgach_duties_before_sleep(resting: &Resting, has_fault: bool) -> u32
+    ensures { result ≡ word_of_duties (spec.before_sleep resting.now has_fault) }
 {
-    duties_word(duties_at_rest(has_ends, is_polled))
+    duties_word(duties_before_sleep(resting, has_fault))
+}
+
+/// What it does as it falls asleep.
+#[unsafe(no_mangle)]
+pub extern "C" fn wulgach_duties_at_rest(resting: &Resting) -> u32
+    ensures { result ≡ word_of_duties (spec.at_rest resting.now) }
+{
+    duties_word(duties_at_rest(resting))
 }
 
 /// What it does as it returns.
 #[unsafe(no_mangle)]
-pub extern "C" fn wulgach_duties_at_return(
-    runs: bool,
-    has_watches: bool,
-    has_ends: bool,
-    is_polled: bool,
-) -> u32
-    ensures { result ≡ word_of_duties (spec.at_return runs has_watches has_ends is_polled) }
+pub extern "C" fn wulgach_duties_at_return(resting: &Resting) -> u32
+    ensures { result ≡ word_of_duties (spec.at_return resting.now) }
 {
-    duties_word(duties_at_return(runs, has_watches, has_ends, is_polled))
+    duties_word(duties_at_return(resting))
 }
 
-/// What it does before the operation of this code is carried out.
+/// What the call of io_uring_register(2) of a number does as it begins.
+#[unsafe(no_mangle)]
+pub extern "C" fn wulgach_duties_at_register_begin(code: u32, is_time_real: bool) -> u32
+    ensures { result ≡ word_of_duties (spec.at_register_begin (posts code) is_time_real) }
+{
+    duties_word(duties_at_register_begin(may_post(code), is_time_real))
+}
+
+/// What it does as it returns.
+#[unsafe(no_mangle)]
+pub extern "C" fn wulgach_duties_at_register_return(code: u32, resting: &Resting) -> u32
+    ensures { result ≡ word_of_duties (spec.at_register_return (posts code) resting.now) }
+{
+    duties_word(duties_at_register_return(may_post(code), resting))
+}
+
+/// What is done before a completion is posted that no operation has just ended with.
+#[unsafe(no_mangle)]
+pub extern "C" fn wulgach_duties_before_posting() -> u32
+    ensures { result ≡ word_of_duties spec.before_posting }
+{
+    duties_word(duties_before_posting())
+}
+
+/// What is done behind completions that were posted outside a call.
+#[unsafe(no_mangle)]
+pub extern "C" fn wulgach_duties_behind_posting(has_ends: bool, is_polled: bool) -> u32
+    ensures { result ≡ word_of_duties (spec.behind_posting has_ends is_polled) }
+{
+    duties_word(duties_behind_posting(has_ends, is_polled))
+}
+
+/// What a call does before the operation of this code is carried out.
 #[unsafe(no_mangle)]
 pub extern "C" fn wulgach_duties_before(code: u8, has_ends: bool) -> u32
     ensures { result ≡ word_of_duties (spec.before code has_ends) }
@@ -49,12 +88,14 @@ fn duties_word(duties: Duties) -> u32
 {
     bit(1, duties.looks_afresh)
         | bit(2, duties.passes_time)
-        | bit(4, duties.holds_files)
-        | bit(8, duties.watches_pipes)
-        | bit(16, duties.shows_ends)
-        | bit(32, duties.tells_readiness)
-        | bit(64, duties.hears_application)
-        | bit(128, duties.shows_flags)
+        | bit(4, duties.finds_files)
+        | bit(8, duties.holds_files)
+        | bit(16, duties.watches_pipes)
+        | bit(32, duties.lets_lie)
+        | bit(64, duties.shows_ends)
+        | bit(128, duties.tells_readiness)
+        | bit(256, duties.hears_application)
+        | bit(512, duties.shows_flags)
 }
 
 fn bit(weight: u32, is_due: bool) -> u32

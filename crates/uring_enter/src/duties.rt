@@ -2,7 +2,7 @@
 
 ghost use Rattle.std.specs.Prelude.{◌≡◌};
 ghost use Rattle.uring_enter.specs.Duties as spec;
-ghost use Rattle.uring_enter.specs.Duties.{ShowsAtLast, WatchesWhatIsHeld};
+ghost use Rattle.uring_enter.specs.Duties.{ShowsAtLast, WatchesWhatIsHeld, LiesBehindPipes, RegistersAsItEnters, HearsBeforeItPosts};
 
 /// What is to be done at a moment of a call, in the order in which it stands here.
 #[derive(Clone, Copy, Drop)]
@@ -13,11 +13,17 @@ pub struct Duties {
     /// The timeouts end whose time is over.
     pub passes_time: bool,
 
+    /// Those find their files whose turn to do so hasn't come.
+    pub finds_files: bool,
+
     /// The files of what runs are kept open.
     pub holds_files: bool,
 
     /// Writes to the pipes are watched that polls wait for.
     pub watches_pipes: bool,
+
+    /// Of many that wait for descriptors those become dormant that wait for nothing else.
+    pub lets_lie: bool,
 
     /// What has ended is shown.
     pub shows_ends: bool,
@@ -32,11 +38,39 @@ pub struct Duties {
     pub shows_flags: bool,
 }
 
+/// A ring as a call on it falls asleep or returns.
+#[repr(C)]
+#[derive(Clone, Copy, Drop)]
+pub struct Resting {
+    /// How many of the requests that run wait for descriptors.
+    pub waiting: u64,
+
+    /// How many of these are looked at in passing.
+    pub looked_at: u64,
+
+    /// Some are to find their files in their turn, which hasn't come.
+    pub has_due: bool,
+
+    /// Some run.
+    pub runs: bool,
+
+    /// Pipes are watched.
+    pub has_watches: bool,
+
+    /// Something has ended which isn't shown.
+    pub has_ends: bool,
+
+    /// The ring's descriptor polls.
+    pub is_polled: bool,
+}
+
 const NONE: Duties = Duties {
     looks_afresh: false,
     passes_time: false,
+    finds_files: false,
     holds_files: false,
     watches_pipes: false,
+    lets_lie: false,
     shows_ends: false,
     tells_readiness: false,
     hears_application: false,
@@ -54,26 +88,82 @@ pub fn duties_at_begin(is_time_real: bool, has_slept: bool) -> Duties
     }
 }
 
-/// As a call falls asleep, or another ring's message was posted.
-pub fn duties_at_rest(has_ends: bool, is_polled: bool) -> Duties
-    ensures { result ≡ spec.at_rest has_ends is_polled }
+/// Before it is decided whether a call sleeps, where that is to fail with a fault or not.
+pub fn duties_before_sleep(resting: &Resting, has_fault: bool) -> Duties
+    ensures { result ≡ spec.before_sleep resting.now has_fault }
+{
+    Duties {
+        finds_files: resting.has_due,
+        holds_files: resting.runs,
+        watches_pipes: !has_fault && (resting.runs || resting.has_watches),
+        ..NONE
+    }
+}
+
+/// As a call falls asleep.
+pub fn duties_at_rest(resting: &Resting) -> Duties
+    ensures { result ≡ spec.at_rest resting.now }
+{
+    Duties {
+        lets_lie: resting.waiting > resting.looked_at,
+        ..duties_behind_posting(resting.has_ends, resting.is_polled)
+    }
+}
+
+/// As a call returns.
+pub fn duties_at_return(resting: &Resting) -> Duties
+    ensures { result ≡ spec.at_return resting.now }
+{
+    Duties {
+        finds_files: resting.has_due,
+        holds_files: resting.runs,
+        watches_pipes: resting.runs || resting.has_watches,
+        shows_flags: true,
+        ..duties_at_rest(resting)
+    }
+}
+
+/// As a call of io_uring_register(2) begins, which may post completions or may not.
+pub fn duties_at_register_begin(may_post: bool, is_time_real: bool) -> Duties
+    ensures { result ≡ spec.at_register_begin may_post is_time_real }
+{
+    Duties {
+        looks_afresh: may_post,
+        passes_time: may_post && is_time_real,
+        hears_application: may_post,
+        ..NONE
+    }
+}
+
+/// As a call of io_uring_register(2) returns, which may post completions or may not.
+pub fn duties_at_register_return(may_post: bool, resting: &Resting) -> Duties
+    ensures { result ≡ spec.at_register_return may_post resting.now }
+{
+    if may_post {
+        duties_at_return(resting)
+    } else {
+        NONE
+    }
+}
+
+/// Before a completion is posted that no operation has just ended with.
+pub fn duties_before_posting() -> Duties
+    ensures { result ≡ spec.before_posting }
+{
+    Duties {
+        hears_application: true,
+        ..NONE
+    }
+}
+
+/// Behind completions that were posted outside a call.
+pub fn duties_behind_posting(has_ends: bool, is_polled: bool) -> Duties
+    ensures { result ≡ spec.behind_posting has_ends is_polled }
 {
     Duties {
         shows_ends: has_ends,
         tells_readiness: is_polled,
         ..NONE
-    }
-}
-
-/// As a call returns. What is told: that requests run, that pipes are watched, that something has ended which isn't shown, and that the ring's descriptor polls.
-pub fn duties_at_return(runs: bool, has_watches: bool, has_ends: bool, is_polled: bool) -> Duties
-    ensures { result ≡ spec.at_return runs has_watches has_ends is_polled }
-{
-    Duties {
-        holds_files: runs,
-        watches_pipes: runs || has_watches,
-        shows_flags: true,
-        ..duties_at_rest(has_ends, is_polled)
     }
 }
 
@@ -83,8 +173,7 @@ pub fn duties_before(code: u8, has_ends: bool) -> Duties
 {
     Duties {
         shows_ends: has_ends && code != 0,
-        hears_application: true,
-        ..NONE
+        ..duties_before_posting()
     }
 }
 
@@ -100,7 +189,22 @@ pub fn shows_at_last()
     ensures { ShowsAtLast }
 {}
 
-/// Where a call watches pipes for what runs, it has kept their files before.
+/// Where a call watches pipes for what runs, it has kept their files before, and found them.
 pub fn watches_what_is_held()
     ensures { WatchesWhatIsHeld }
+{}
+
+/// Of many that wait those become dormant behind the pipes that are watched.
+pub fn lies_behind_pipes()
+    ensures { LiesBehindPipes }
+{}
+
+/// A call of io_uring_register(2) that may post completions does what any call does as it begins, and as it returns.
+pub fn registers_as_it_enters()
+    ensures { RegistersAsItEnters }
+{}
+
+/// Whatever may post completions outside a call has heard the application before.
+pub fn hears_before_it_posts()
+    ensures { HearsBeforeItPosts }
 {}

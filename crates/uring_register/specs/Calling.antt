@@ -1,5 +1,5 @@
 -- Which calls of io_uring_register(2) there are, and with which error each is refused for its arguments, in the kernel's order. io_uring_register(2), DESCRIPTION and ERRORS; the order of faults is what Linux 6.18 was seen to do.
-use Rattle.std.specs.Prelude.{ℕ, ℤ, pos, negsuc, Bool, true, false, not, ◌&&◌, ◌==◌, nat_le, min, Option, Some, None, if◌then◌else◌}
+use Rattle.std.specs.Prelude.{ℕ, ℤ, pos, negsuc, Bool, true, false, not, ◌&&◌, ◌||◌, ◌==◌, nat_le, min, Option, Some, None, if◌then◌else◌}
 use Rattle.std.specs.Ordering.{int_eq}
 use Rattle.std.specs.Int.RustNames.{bit_and}
 use Rattle.uring_register.specs.declared.call.Call.{Call}
@@ -128,3 +128,25 @@ content_fault call is_read c = if is_read then unless (is_content call c) else e
 -- how many rows of a probe are looked at, and told: those of operations that there are, up to SENDMSG_ZC (48)
 abbrev pub probed : ℕ → ℕ
 probed count = min count 49
+
+-- whether a call ends requests, each of which then posts its completion: a cancel
+abbrev pub ends_requests : Call → Bool
+ends_requests Cancel = true
+ends_requests _ = false
+
+-- whether a call takes files or buffers out of their table, each of which posts its tag once it is gone, if it has one: those that unregister all, or put others in their place
+abbrev pub takes_out : Call → Bool
+takes_out UnregisterBuffers = true
+takes_out UpdateBuffersSized = true
+takes_out UnregisterFiles = true
+takes_out UpdateFiles = true
+takes_out UpdateFilesSized = true
+takes_out _ = false
+
+-- whether a call may post completions. One that enables a ring posts none, since nothing runs there before
+abbrev pub posts : Option Call → Bool
+posts None = false
+posts (Some call) = ends_requests call || takes_out call
+
+abbrev pub may_post : ℕ → Bool
+may_post code = posts (call_of code)

@@ -207,3 +207,29 @@ pub fn probed(count: u32) -> u32
 {
     count.min(49)
 }
+
+/// Whether the call of a number may post completions: it ends requests, or takes files or buffers out of their table, whose tags are told. One that isn't served posts none.
+pub fn may_post(code: u32) -> bool
+    ensures { result ≡ spec.may_post code }
+{
+    match call_of(code) {
+        Some(call) => ends_requests(call) || takes_out(call),
+        None => false,
+    }
+}
+
+fn ends_requests(call: Call) -> bool
+    ensures { result ≡ spec.ends_requests call }
+{
+    matches!(call, Call::Cancel)
+}
+
+fn takes_out(call: Call) -> bool
+    ensures { result ≡ spec.takes_out call }
+{
+    match call {
+        Call::UnregisterBuffers | Call::UpdateBuffersSized => true,
+        Call::UnregisterFiles | Call::UpdateFiles | Call::UpdateFilesSized => true,
+        _ => false,
+    }
+}

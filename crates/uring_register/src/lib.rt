@@ -22,7 +22,7 @@ mod uses;
 
 pub use bytes::{bytes_fault, flags_of, part_of};
 pub use call::{
-    Call, Caller, Content, argument_fault, call_of, calling_fault, content_fault, probed,
+    Call, Caller, Content, argument_fault, call_of, calling_fault, content_fault, may_post, probed,
 };
 pub use call_laws::{can_be_allowed, is_made_by_right};
 pub use enrolled::{
