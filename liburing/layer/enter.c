@@ -8,6 +8,7 @@
 #include "duties.h"
 #include "enrolling.h"
 #include "fault.h"
+#include "openness.h"
 #include "operations.h"
 #include "outlook.h"
 #include "pipes.h"
@@ -21,7 +22,6 @@
 #include "waiting.h"
 #include "wulgach_enter.h"
 
-#include <fcntl.h>
 #include <linux/io_uring.h>
 #include <signal.h>
 #include <stdio.h>
@@ -249,7 +249,7 @@ int enter(int fd, uint32_t to_submit, uint32_t min_complete, uint32_t flags, con
         return fd;
     struct ring *ring = lock_ring(fd);
     if (!ring)
-        return wulgach_no_ring_fault(fcntl(fd, F_GETFD) >= 0);
+        return wulgach_no_ring_fault(counts_as_open(fd, false));
     ring->called_fd = fd;
     sigset_t own, given;
     struct waiting waiting = {
