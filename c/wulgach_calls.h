@@ -88,6 +88,10 @@ int32_t wulgach_told_result(int32_t came_to, bool is_told);
  * (IORING_FILE_INDEX_ALLOC), for any: the slot of one that asked for any, else 0. */
 int32_t wulgach_placed_result(uint32_t asked, uint32_t slot);
 
+/* What the operation of an entry ends with that has moved so many bytes, and has put so many into its buffer, with what stands in front of
+ * them: the second of a RECVMSG that goes on, else the first; 2^31 - 1 of more. */
+int32_t wulgach_done_result(const struct wulgach_submission *entry, uint64_t done, uint64_t filled);
+
 /* Whether a socket of this type (SO_TYPE) is a stream, of which what is waited for may come in parts. */
 bool wulgach_is_stream_type(uint32_t type);
 
@@ -101,6 +105,16 @@ enum wulgach_given_fault {
 /* Whether the operation of this code can have a fault (enum wulgach_given_fault), which moves so many bytes, and may have to wait for its
  * descriptor or never has to. */
 bool wulgach_can_have(uint8_t code, bool is_stream, uint64_t length, uint32_t fault);
+
+/* Writes what an operation ends with that is given this fault: -5 (EIO) or -28 (ENOSPC). False, and nothing is written: it is made, of fewer
+ * bytes, or there is no such fault. */
+bool wulgach_given_result(uint32_t fault, int32_t *res);
+
+/* Whether SIGXFSZ may have come of an operation that ended with this: of a write, FALLOCATE or SPLICE, with -27 (EFBIG). In a kernel a worker of
+ * its own has the signal, and the program gets none. And whether a signal that was taken is the call's, by its code (si_code), and by whether
+ * this process is told as its sender (si_pid): another is to be pending again. */
+bool wulgach_may_signal(const struct wulgach_submission *entry, int32_t res);
+bool wulgach_is_signal_of_call(int32_t code, bool is_own);
 
 #ifdef __cplusplus
 }

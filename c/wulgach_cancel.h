@@ -107,6 +107,9 @@ enum wulgach_removal {
 uint32_t wulgach_poll_removal(const struct wulgach_submission *entry);
 uint32_t wulgach_timeout_removal(const struct wulgach_submission *entry);
 
+/* What a removal ends with, or an update, that has found what it names, or hasn't: 0 or -2 (ENOENT). */
+int32_t wulgach_removal_result(bool is_found);
+
 /* A request as an update of linked timeouts sees it. */
 struct wulgach_linked {
     uint64_t user_data;

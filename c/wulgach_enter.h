@@ -335,8 +335,8 @@ bool wulgach_keeps_startable(const struct wulgach_drains *drains);
 bool wulgach_lets_others_start(bool linux_rules, bool has_failed, bool is_cancel);
 
 /* Whether a completion that belongs to no end of a request may be posted, where so many positions are staged and not taken: none is, and, but by Linux's rules, nothing
- * that drains is outstanding. */
-bool wulgach_drains_may_post(const struct wulgach_drains *drains, uint64_t staged, bool linux_rules);
+ * that drains is outstanding; and there is memory for it. */
+bool wulgach_drains_may_post(const struct wulgach_drains *drains, uint64_t staged, bool linux_rules, bool has_memory);
 
 #ifdef __cplusplus
 }

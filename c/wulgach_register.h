@@ -152,6 +152,10 @@ void wulgach_eventfd_unregister(struct wulgach_eventfd *eventfd);
 bool wulgach_eventfd_tells(const struct wulgach_eventfd *eventfd, uint32_t cq_flags);
 bool wulgach_eventfd_may_leave(const struct wulgach_eventfd *eventfd, bool has_thread);
 
+/* What is added to it for so many completions of which wulgach_tells says that it is to be told, and that were shown together: 1, if it is told,
+ * and its counter takes that at once (`has_room`); else nothing. */
+uint64_t wulgach_eventfd_added(const struct wulgach_eventfd *eventfd, uint32_t cq_flags, uint64_t told, bool has_room);
+
 /* ---- rings by number ---- */
 
 /* What a thread's 16 rows hold are words of the caller's: 0 in a free one. `count` is how many words there are, 16 at least. */

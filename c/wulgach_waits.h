@@ -81,6 +81,24 @@ enum wulgach_missing {
 /* What it ends with that this isn't found (enum wulgach_missing). */
 int32_t wulgach_missing_fault(uint32_t what);
 
+/* ---- what counts as open ---- */
+
+/* How a descriptor is open. */
+struct wulgach_openness {
+    bool is_open;               /* there is such a descriptor, */
+    bool is_path;               /* and it is open for its path alone: O_PATH */
+};
+
+/* Whether a descriptor counts as open that is this. One that an entry or a call names by its number does, unless it is open for its path alone:
+ * what is done with its file, a cancel, a message, a ring, an eventfd and what is to be registered find none then. What a slot holds counts. */
+bool wulgach_counts_as_open(const struct wulgach_openness *openness, bool is_of_slot);
+
+/* Whether the request of an entry, which had failed as it started or hadn't, has ended with this result because something that it needs wasn't
+ * there, where its descriptor is this: it had failed, or it is carried out on a file, has ended with -9 (EBADF), and that doesn't count as
+ * open. And whether it matters to that how its descriptor is open. */
+bool wulgach_is_missing(const struct wulgach_submission *entry, bool has_failed, int32_t res, const struct wulgach_openness *openness);
+bool wulgach_asks_openness(const struct wulgach_submission *entry, int32_t res);
+
 /* ---- whether it may have to wait for its descriptor ---- */
 
 /* What a descriptor is. */
@@ -93,11 +111,12 @@ struct wulgach_nature {
     bool can_read;              /* it is open for reading, */
     bool can_write;             /* for writing */
     bool is_counter;            /* it gives and takes 8 bytes at once: an eventfd, or a timerfd */
+    bool has_type;              /* it has a type of file, as a pipe and a socket too have one */
 };
 
 /* What is known of a descriptor: what was asked is so, and the rest counts for nothing. */
 struct wulgach_known {
-    bool status;                /* it was asked what it is: the first four and the last, */
+    bool status;                /* it was asked what it is: the first four and the last two, */
     bool offsets;               /* whether it has offsets, */
     bool access;                /* for what it is open */
     struct wulgach_nature nature;
@@ -132,6 +151,20 @@ uint32_t wulgach_find_kind(const struct wulgach_submission *entry, const struct 
  * open, -88 (ENOTSOCK) of an operation of sockets if it is no socket; else -105 (ENOBUFS) of a provided buffer and -14 (EFAULT) of a registered
  * one. */
 int32_t wulgach_no_buffer_fault(const struct wulgach_submission *entry, const struct wulgach_nature *nature);
+
+/* With what the request of an entry ends that had this fault as it started, where its group has a buffer, or that doesn't matter, or its
+ * descriptor is this: with the fault, but one that finds no provided buffer ends as wulgach_no_buffer_fault says where that is -9, as of a
+ * descriptor that is open in the wrong direction. And whether it matters. */
+int32_t wulgach_ends_at_start(const struct wulgach_submission *entry, int32_t fault, bool has_buffer, const struct wulgach_nature *nature);
+bool wulgach_fault_asks_buffer(const struct wulgach_submission *entry, int32_t fault);
+
+/* Whether a descriptor with this name in /proc is an eventfd, and whether it counts: an eventfd, or a timerfd. The name has `length` bytes. */
+bool wulgach_is_eventfd_name(const uint8_t *name, size_t length);
+bool wulgach_is_counter_name(const uint8_t *name, size_t length);
+
+/* Whether the descriptor of the transfer of an entry, of so many bytes, is asked for that name, where it is this but for what counts: of fewer
+ * than 8 bytes, if it has no type of file. */
+bool wulgach_asks_counter(const struct wulgach_submission *entry, uint64_t length, const struct wulgach_nature *nature);
 
 /* With what the transfer of an entry, of so many bytes, fails as it starts, where its descriptor is this: -22 (EINVAL) of fewer than 8 bytes of
  * what counts; or 0. */

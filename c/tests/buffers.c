@@ -97,16 +97,18 @@ static void take_from_a_ring(void)
     wulgach_group_register(&group, 4);
     demand(register_fault(4096, 4) == -17 && wulgach_group_unregistering_fault(&group) == 0, "a ring");
     demand(wulgach_group_providing_fault(&group, 8, 8, 1, 0) == -22 && wulgach_group_removing_fault(&group) == -22, "a ring is no list");
-    demand(!wulgach_group_cell(&group, 0, &cell) && cell == 999, "an empty ring");
+    demand(!wulgach_group_cell(&group, true, 0, &cell) && cell == 999 && !wulgach_group_cell(&group, false, 1, &cell) && cell == 999, "an empty ring, and one whose tail can't be read");
     for (uint32_t i = 0; i < 200000; i++) {
-        demand(wulgach_group_cell(&group, (uint16_t)(i + 1), &cell) && cell == i % 4, "the next cell");
+        demand(wulgach_group_cell(&group, true, (uint16_t)(i + 1), &cell) && cell == i % 4, "the next cell");
         wulgach_group_take(&group);
-        demand(!wulgach_group_cell(&group, (uint16_t)(i + 1), &cell), "all are taken");
+        demand(!wulgach_group_cell(&group, true, (uint16_t)(i + 1), &cell), "all are taken");
     }
     wulgach_group_unregister(&group);
     demand(wulgach_group_unregistering_fault(&group) == -2 && wulgach_group_removing_fault(&group) == -2 && taken() == -105, "behind its ring");
     wulgach_group_register(&group, 32768);
-    demand(wulgach_group_cell(&group, 1, &cell) && cell == 0 && !wulgach_group_cell(&group, 0, &cell), "another ring");
+    demand(wulgach_group_cell(&group, true, 1, &cell) && cell == 0 && !wulgach_group_cell(&group, true, 0, &cell), "another ring");
+    struct wulgach_buffer stands = {.address = 16, .length = 5, .id = 9}, found = {.id = 1};
+    demand(!wulgach_group_in_cell(false, &stands, &found) && found.id == 1 && wulgach_group_in_cell(true, &stands, &found) && found.address == 16 && found.length == 5 && found.id == 9, "what stands in a cell");
 }
 
 static int32_t provide_fault(uint64_t address, uint32_t size, uint32_t count, uint64_t id)

@@ -159,6 +159,9 @@ static void look_at_faults(void)
     demand(wulgach_can_have(READ, true, 0, WULGACH_GIVES_EIO) && wulgach_can_have(FSYNC, false, 0, WULGACH_GIVES_EIO) && !wulgach_can_have(NOP, false, 0, WULGACH_GIVES_EIO), "EIO");
     demand(wulgach_can_have(WRITEV, false, 0, WULGACH_GIVES_ENOSPC) && wulgach_can_have(FALLOCATE, false, 0, WULGACH_GIVES_ENOSPC) && !wulgach_can_have(READ, false, 8, WULGACH_GIVES_ENOSPC), "ENOSPC");
     demand(wulgach_can_have(READ, false, 2, WULGACH_GIVES_SHORT) && !wulgach_can_have(READ, false, 1, WULGACH_GIVES_SHORT) && !wulgach_can_have(READ, true, 2, WULGACH_GIVES_SHORT) && !wulgach_can_have(READ, false, 2, 4), "SHORT, and no fault");
+    int32_t res = 7;
+    demand(wulgach_given_result(WULGACH_GIVES_EIO, &res) && res == -5 && wulgach_given_result(WULGACH_GIVES_ENOSPC, &res) && res == -28, "what they end with");
+    demand(!wulgach_given_result(WULGACH_GIVES_SHORT, &res) && !wulgach_given_result(0, &res) && !wulgach_given_result(4, &res) && res == -28, "what is made");
 }
 
 static void look_at_results(void)
@@ -168,6 +171,9 @@ static void look_at_results(void)
     demand(wulgach_tells_message(&receive, 0) && !wulgach_tells_message(&receive, -11) && !wulgach_tells_message(&send, 5), "what is told of a message");
     demand(wulgach_told_result(5, true) == 5 && wulgach_told_result(5, false) == -14, "one that can't be told");
     demand(wulgach_placed_result(UINT32_MAX, 7) == 7 && wulgach_placed_result(8, 7) == 0, "a file for any slot, and for one");
+    demand(wulgach_done_result(&(struct wulgach_submission){.opcode = 10}, 7, 30) == 7 && wulgach_done_result(&(struct wulgach_submission){.opcode = 10, .ioprio = 2}, 7, 30) == 30 && wulgach_done_result(&(struct wulgach_submission){.opcode = 27, .ioprio = 2}, 7, 30) == 7 && wulgach_done_result(&(struct wulgach_submission){.opcode = 26}, 1ull << 40, 0) == INT32_MAX, "what was moved");
+    demand(wulgach_may_signal(&(struct wulgach_submission){.opcode = 23}, -27) && wulgach_may_signal(&(struct wulgach_submission){.opcode = 17}, -27) && wulgach_may_signal(&(struct wulgach_submission){.opcode = 30}, -27) && !wulgach_may_signal(&(struct wulgach_submission){.opcode = 22}, -27) && !wulgach_may_signal(&(struct wulgach_submission){.opcode = 23}, -28), "what may bring a signal");
+    demand(wulgach_is_signal_of_call(0, true) && !wulgach_is_signal_of_call(0, false) && !wulgach_is_signal_of_call(-6, true), "whose signal it is");
     demand(wulgach_is_stream_type(1) && wulgach_is_stream_type(5) && !wulgach_is_stream_type(2) && !wulgach_is_stream_type(0), "streams");
 }
 

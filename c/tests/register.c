@@ -218,9 +218,10 @@ static void tell_eventfds(void)
     demand(wulgach_eventfd_registering_fault(&eventfd, false, false, false) == -14 && wulgach_eventfd_registering_fault(&eventfd, true, false, false) == -9 && wulgach_eventfd_registering_fault(&eventfd, true, true, false) == -22 && wulgach_eventfd_registering_fault(&eventfd, true, true, true) == 0, "what is none");
     wulgach_eventfd_register(&eventfd, true);
     demand(eventfd.is_async && wulgach_eventfd_tells(&eventfd, 0) && !wulgach_eventfd_tells(&eventfd, 1) && !wulgach_eventfd_may_leave(&eventfd, false), "one");
+    demand(wulgach_eventfd_added(&eventfd, 0, 1, true) == 1 && wulgach_eventfd_added(&eventfd, 0, 9, true) == 1 && wulgach_eventfd_added(&eventfd, 0, 0, true) == 0 && wulgach_eventfd_added(&eventfd, 0, 1, false) == 0 && wulgach_eventfd_added(&eventfd, 1, 1, true) == 0, "what is added");
     demand(wulgach_eventfd_registering_fault(&eventfd, false, false, false) == -16 && wulgach_eventfd_unregistering_fault(&eventfd) == 0, "a second one");
     wulgach_eventfd_unregister(&eventfd);
-    demand(!eventfd.is_registered && !eventfd.is_async, "none again");
+    demand(!eventfd.is_registered && !eventfd.is_async && wulgach_eventfd_added(&eventfd, 0, 1, true) == 0, "none again");
 }
 
 static void enroll_rings(void)

@@ -80,6 +80,9 @@ static void look_at_descriptors(void)
     demand(wulgach_no_buffer_fault(&selecting, &none) == -9 && wulgach_no_buffer_fault(&selecting, &pipe) == -105 && wulgach_no_buffer_fault(&receive, &pipe) == -88 && wulgach_no_buffer_fault(&receive, &socket) == -105 && wulgach_no_buffer_fault(&fixed, &none) == -9 && wulgach_no_buffer_fault(&fixed, &file) == -14, "no buffer");
     struct wulgach_nature counter = {.is_open = true, .is_counter = true, .can_read = true};
     demand(wulgach_start_fault(&entry, 7, &counter) == -22 && wulgach_start_fault(&entry, 8, &counter) == 0 && wulgach_start_fault(&entry, 7, &pipe) == 0 && wulgach_start_fault(&selecting, 7, &counter) == 0, "what counts");
+    demand(wulgach_ends_at_start(&selecting, -9, true, &pipe) == -9 && wulgach_ends_at_start(&selecting, -9, false, &pipe) == -105 && wulgach_ends_at_start(&selecting, -9, false, &none) == -9 && wulgach_ends_at_start(&receive, -9, false, &pipe) == -88 && wulgach_ends_at_start(&selecting, -14, false, &pipe) == -14 && wulgach_ends_at_start(&entry, -9, false, &pipe) == -9, "a fault as it started");
+    demand(wulgach_fault_asks_buffer(&selecting, -9) && !wulgach_fault_asks_buffer(&selecting, -14) && !wulgach_fault_asks_buffer(&entry, -9), "whether a buffer matters");
+    demand(wulgach_asks_counter(&entry, 7, &none) && !wulgach_asks_counter(&entry, 8, &none) && !wulgach_asks_counter(&selecting, 7, &none) && !wulgach_asks_counter(&entry, 7, &(struct wulgach_nature){.has_type = true}), "whether a name matters");
     demand(wulgach_find_kind(&entry, &plain, &nothing) == WULGACH_ASK_STATUS && wulgach_find_kind(&entry, &plain, &status) == WULGACH_ASK_OFFSETS && wulgach_find_kind(&entry, &plain, &offsets) == WULGACH_ASK_ACCESS, "what is asked");
 }
 
@@ -200,9 +203,25 @@ static void poll_one(void)
     demand(start.fault == -EINVAL && !start.goes_on, "and that has nothing of what it is for");
 }
 
+/* What counts as open, and as a count. */
+static void open_descriptors(void)
+{
+    struct wulgach_openness closed = {0}, path = {.is_open = true, .is_path = true}, file = {.is_open = true};
+    struct wulgach_submission read = {.opcode = READ}, of_slot = {.opcode = READ, .flags = 1}, no_op = {0};
+    demand(!wulgach_counts_as_open(&closed, false) && !wulgach_counts_as_open(&path, false) && wulgach_counts_as_open(&file, false), "by number");
+    demand(!wulgach_counts_as_open(&closed, true) && wulgach_counts_as_open(&path, true) && wulgach_counts_as_open(&file, true), "in a slot");
+    demand(wulgach_asks_openness(&read, -9) && !wulgach_asks_openness(&read, -5) && !wulgach_asks_openness(&no_op, -9), "what is asked of one");
+    demand(wulgach_is_missing(&read, false, -9, &closed) && wulgach_is_missing(&read, false, -9, &path) && !wulgach_is_missing(&read, false, -9, &file), "a file that is missing");
+    demand(!wulgach_is_missing(&of_slot, false, -9, &path) && wulgach_is_missing(&read, true, -5, &file) && !wulgach_is_missing(&read, false, -5, &closed), "another");
+    static const uint8_t counts[] = "anon_inode:[eventfd]", timer[] = "anon_inode:[timerfd]", longer[] = "anon_inode:[eventfd]s", other[] = "anon_inode:[eventpoll]";
+    demand(wulgach_is_eventfd_name(counts, 20) && !wulgach_is_eventfd_name(timer, 20) && !wulgach_is_eventfd_name(longer, 21) && !wulgach_is_eventfd_name(counts, 0), "an eventfd");
+    demand(wulgach_is_counter_name(counts, 20) && wulgach_is_counter_name(timer, 20) && !wulgach_is_counter_name(other, 22) && !wulgach_is_counter_name(timer, 19), "what counts by its name");
+}
+
 int main(void)
 {
     look_at_needs();
+    open_descriptors();
     find_files();
     look_at_descriptors();
     finish();

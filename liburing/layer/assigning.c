@@ -3,6 +3,7 @@
  */
 #define _GNU_SOURCE
 #include "files.h"
+#include "openness.h"
 #include "operations.h"
 #include "passing.h"
 #include "ring.h"
@@ -42,27 +43,19 @@ void end_asking(void)
     asked.is_kept = false;
 }
 
-/* Whether a request moves fewer bytes than a count has. */
-static bool is_short(const struct request *request)
-{
-    return request->length < sizeof(uint64_t);
-}
-
-/* Whether a descriptor that is no file of any kind is an eventfd or a timerfd. */
+/* Whether a descriptor counts, by its name. */
 static bool is_counter(int fd)
 {
-    char path[32], name[32] = {0};
-    snprintf(path, sizeof path, "/proc/self/fd/%d", fd);
-    ssize_t length = readlink(path, name, sizeof name - 1);
-    return length > 0 && (strcmp(name, "anon_inode:[eventfd]") == 0 || strcmp(name, "anon_inode:[timerfd]") == 0);
+    char name[MOST_OF_NAME];
+    return wulgach_is_counter_name((uint8_t *)name, name_of_descriptor(fd, name));
 }
 
-/* Asks a descriptor what it is: nothing, if it isn't open. Whether it counts matters to a short transfer alone. */
+/* Asks a descriptor what it is: nothing, if it isn't open. */
 static void ask_status(const struct request *request, struct wulgach_nature *nature)
 {
     struct stat status;
     if (is_in_memory(request->fd)) {
-        nature->is_open = nature->is_file = true;
+        nature->is_open = nature->is_file = nature->has_type = true;
         return;
     }
     nature->is_open = pass(SYS_fstat, request->fd, (long)&status, 0, 0, 0, 0) >= 0;
@@ -71,7 +64,7 @@ static void ask_status(const struct request *request, struct wulgach_nature *nat
     nature->is_file = S_ISREG(status.st_mode);
     nature->is_device = S_ISCHR(status.st_mode);
     nature->is_socket = S_ISSOCK(status.st_mode);
-    nature->is_counter = is_short(request) && (status.st_mode & S_IFMT) == 0 && is_counter(request->fd);
+    nature->has_type = status.st_mode & S_IFMT;
     note_kind(request->fd, nature->is_file);
 }
 
@@ -84,7 +77,7 @@ static void ask_access(const struct request *request, struct wulgach_nature *nat
 
 static void ask_status_once(const struct request *request, struct wulgach_nature *nature)
 {
-    if (asked.is_kept && asked.fd == request->fd && !is_short(request)) {
+    if (asked.is_kept && asked.fd == request->fd) {
         *nature = asked.nature;
         return;
     }
@@ -128,6 +121,9 @@ int find_kind(struct request *request)
     request->standing.is_stream = kind == WULGACH_KIND_STREAM;
     if (kind == WULGACH_KIND_WRONG)
         return wulgach_missing_fault(WULGACH_NO_DIRECTION);
+    /* (of what wasn't asked, or has a type, the name doesn't matter) */
+    if (known.status && !known.nature.has_type && wulgach_asks_counter(submission_of(&request->entry), request->length, &known.nature))
+        known.nature.is_counter = is_counter(request->fd);
     return wulgach_start_fault(submission_of(&request->entry), request->length, &known.nature);
 }
 
@@ -142,7 +138,7 @@ static int look_for(struct ring *ring, struct request *request, enum wulgach_nee
     case WULGACH_NEEDS_SECOND:
         return find_fd(ring, &request->second_fd, entry->splice_fd_in, needs->is_second_registered, &request->second_file);
     case WULGACH_NEEDS_OPEN:
-        return fcntl(request->fd, F_GETFD) < 0 ? wulgach_missing_fault(WULGACH_NO_FILE) : 0;
+        return counts_as_open(request->fd, needs->is_registered) ? 0 : wulgach_missing_fault(WULGACH_NO_FILE);
     case WULGACH_NEEDS_BUFFER:
         return use_buffer(ring, entry->buf_index, request->vectors, &request->buffer) < 0 ? fault_without_buffer(request) : 0;
     case WULGACH_NEEDS_KIND:

@@ -7,6 +7,7 @@
 #include "cancels.h"
 #include "ends.h"
 #include "files.h"
+#include "openness.h"
 #include "polls.h"
 #include "progress.h"
 #include "ring.h"
@@ -14,8 +15,6 @@
 #include "streams.h"
 #include "timeouts.h"
 #include "wulgach_cancel.h"
-
-#include <fcntl.h>
 
 /* One that runs is looked at again. */
 static void look_again_at(struct ring *ring, struct request *request)
@@ -98,7 +97,7 @@ static int32_t cancel_by(struct ring *ring, const struct request *canceller)
     struct wulgach_sought sought;
     wulgach_sought_of(submission_of(entry), &sought);
     struct file *file = sought.is_by_fd && sought.is_fixed ? use_file(ring, sought.fd) : NULL;
-    bool is_there = sought.is_fixed ? file != NULL : sought.is_by_fd && fcntl(entry->fd, F_GETFD) >= 0;
+    bool is_there = sought.is_fixed ? file != NULL : sought.is_by_fd && counts_as_open(entry->fd, false);
     sought.file = (uintptr_t)file;
     int32_t fault = wulgach_seeking_fault(&sought, is_there);
     int32_t res = fault < 0 ? fault : cancel_all(ring, &sought);
@@ -128,7 +127,7 @@ static void look_at_changed(struct ring *ring, struct request *poll)
     wulgach_lookout_updates(&ring->lookout, place_of(&ring->running, poll->number), can_finish(ring, poll));
 }
 
-static int32_t change_poll(struct ring *ring, struct request *poll, const struct io_uring_sqe *change)
+static void change_poll(struct ring *ring, struct request *poll, const struct io_uring_sqe *change)
 {
     rouse(ring, poll);
     delist(ring, poll);
@@ -144,18 +143,16 @@ static int32_t change_poll(struct ring *ring, struct request *poll, const struct
         poll->started = start_poll(poll);
         look_at_changed(ring, poll);
     }
-    return 0;
 }
 
 static int32_t remove_poll(struct ring *ring, const struct io_uring_sqe *removal)
 {
     struct request *poll = find_request(ring, removal);
-    if (!poll)
-        return wulgach_missing_fault(WULGACH_NO_REQUEST);
-    if (wulgach_poll_removal(submission_of(removal)) == WULGACH_REMOVAL_UPDATES)
-        return change_poll(ring, poll, removal);
-    cancel_request(ring, poll);
-    return 0;
+    if (poll && wulgach_poll_removal(submission_of(removal)) == WULGACH_REMOVAL_UPDATES)
+        change_poll(ring, poll, removal);
+    else if (poll)
+        cancel_request(ring, poll);
+    return wulgach_removal_result(poll != NULL);
 }
 
 static int32_t remove_timeout(struct ring *ring, const struct request *removal)
@@ -165,12 +162,11 @@ static int32_t remove_timeout(struct ring *ring, const struct request *removal)
     if (what == WULGACH_REMOVAL_UPDATES_LINKED)
         return change_linked_timeout(ring, removal);
     struct request *timeout = find_request(ring, entry);
-    if (!timeout)
-        return wulgach_missing_fault(WULGACH_NO_REQUEST);
-    if (what == WULGACH_REMOVAL_UPDATES)
-        return change_timeout(ring, timeout, removal);
-    cancel_request(ring, timeout);
-    return 0;
+    if (timeout && what == WULGACH_REMOVAL_UPDATES)
+        change_timeout(ring, timeout, removal);
+    else if (timeout)
+        cancel_request(ring, timeout);
+    return wulgach_removal_result(timeout != NULL);
 }
 
 int32_t act_on_others(struct ring *ring, const struct request *request)

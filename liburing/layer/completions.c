@@ -66,12 +66,12 @@ static void store_completion(struct memory *memory, const struct wulgach_posted 
         cell[1] = (struct io_uring_cqe){0};
 }
 
-/* Stores what the core's tail shows, in the library's order. Says whether an eventfd is told of any of it. */
-static bool store_shown(struct ring *ring)
+/* Stores what the core's tail shows, in the library's order. Returns of how much of it an eventfd is to be told. */
+static uint64_t store_shown(struct ring *ring)
 {
     struct completions *completions = &ring->completions;
     uint32_t tail = load_cq_tail(ring);
-    bool is_told = false;
+    uint64_t told = 0;
     struct wulgach_store store;
     demand(wulgach_shown_takes(&completions->at, tail), "the core shows more than it posted");
     for (;;) {
@@ -80,10 +80,10 @@ static bool store_shown(struct ring *ring)
             break;
         const struct wulgach_posted *posted = posted_at(completions, store.place);
         store_completion(&ring->memory, posted, store.position);
-        is_told |= wulgach_tells(posted, ring->telling.is_async);
+        told += wulgach_tells(posted, ring->telling.is_async);
     }
     store_word(&ring->memory.cq->tail, store.position);
-    return is_told;
+    return told;
 }
 
 void show_flags(struct ring *ring)
@@ -96,13 +96,13 @@ void show(struct ring *ring)
 {
     struct wulgach_shown *at = &ring->completions.at;
     ring->completions.is_behind = false;
-    bool is_told = wulgach_shown_overflows(at) && store_shown(ring);
+    uint64_t told = wulgach_shown_overflows(at) ? store_shown(ring) : 0;
     if (wulgach_shown_overflows(at) && !(load_word(&ring->memory.sq->flags) & IORING_SQ_CQ_OVERFLOW))
         note_rule(COMPLETION_OVERFLOWS);
     show_flags(ring);
     /* (whoever is woken by it sees the flags) */
-    if (is_told)
-        tell_eventfd(ring);
+    if (told > 0)
+        tell_eventfd(ring, told);
 }
 
 void show_ends(struct ring *ring)

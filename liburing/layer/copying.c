@@ -58,7 +58,7 @@ int copy_path(char **to, uint64_t from)
             return result;
         if (memchr(path + length, '\0', piece)) {
             *to = strdup(path);
-            return *to ? 0 : -ENOMEM;
+            return *to ? 0 : wulgach_missing_fault(WULGACH_NO_MEMORY_OWN);
         }
         length += piece;
     }

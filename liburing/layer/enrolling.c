@@ -7,6 +7,7 @@
 #include "copying.h"
 #include "descriptors.h"
 #include "numbers.h"
+#include "openness.h"
 #include "process.h"
 #include "wulgach_register.h"
 
@@ -91,7 +92,7 @@ static int enroll_row(uint64_t at)
     if (result < 0)
         return result;
     int fd = (int)asked.data;
-    bool is_open = fcntl(fd, F_GETFD) >= 0;
+    bool is_open = counts_as_open(fd, false);
     uint32_t row;
     result = wulgach_enrolling_fault(asked.offset, asked.resv, is_open, is_open && is_ring(fd));
     if (result == 0)

@@ -8,6 +8,7 @@
 #include "duties.h"
 #include "enrolling.h"
 #include "fault.h"
+#include "openness.h"
 #include "outlook.h"
 #include "policy.h"
 #include "process.h"
@@ -19,7 +20,6 @@
 #include "waiting.h"
 #include "wulgach_enter.h"
 
-#include <fcntl.h>
 #include <linux/io_uring.h>
 #include <signal.h>
 #include <stdio.h>
@@ -231,7 +231,7 @@ static int enter_by(int fd, uint32_t flags, struct waiting *waiting)
 {
     struct ring *ring = lock_ring(fd);
     if (!ring)
-        return wulgach_no_ring_fault(fcntl(fd, F_GETFD) >= 0);
+        return wulgach_no_ring_fault(counts_as_open(fd, false));
     int result = enter_ring(ring, flags, waiting);
     unlock_ring(ring);
     return result;

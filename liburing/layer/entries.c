@@ -21,7 +21,7 @@
 static int copy_of(void **to, uint64_t from, size_t size)
 {
     *to = malloc(size);
-    return *to ? copy_in(*to, from, size) : -ENOMEM;
+    return *to ? copy_in(*to, from, size) : wulgach_missing_fault(WULGACH_NO_MEMORY_OWN);
 }
 
 int32_t measure_vectors(struct request *request)

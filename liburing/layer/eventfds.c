@@ -5,27 +5,24 @@
 #include "eventfds.h"
 #include "copying.h"
 #include "numbers.h"
+#include "openness.h"
 #include "ring.h"
 
 #include <fcntl.h>
-#include <string.h>
+#include <poll.h>
 #include <unistd.h>
 
-/* The kernel says of what a descriptor is open on. */
 static bool is_eventfd(int fd)
 {
-    char link[64], path[32];
-    snprintf(path, sizeof path, "/proc/self/fd/%d", fd);
-    ssize_t length = readlink(path, link, sizeof link - 1);
-    link[length < 0 ? 0 : length] = '\0';
-    return strcmp(link, "anon_inode:[eventfd]") == 0;
+    char name[MOST_OF_NAME];
+    return wulgach_is_eventfd_name((uint8_t *)name, name_of_descriptor(fd, name));
 }
 
 int register_eventfd(struct ring *ring, uint64_t at, bool is_async)
 {
     int fd;
     bool is_read = !ring->telling.is_registered && copy_in(&fd, at, sizeof fd) == 0;
-    bool is_open = is_read && fcntl(fd, F_GETFD) >= 0;
+    bool is_open = is_read && counts_as_open(fd, false);
     int result = wulgach_eventfd_registering_fault(&ring->telling, is_read, is_open, is_open && is_eventfd(fd));
     if (result < 0)
         return result;
@@ -47,11 +44,18 @@ int unregister_eventfd(struct ring *ring)
     return 0;
 }
 
-void tell_eventfd(struct ring *ring)
+/* Whether its counter takes 1 at once. */
+static bool has_room(const struct ring *ring)
 {
-    static const uint64_t one = 1;
-    if (!wulgach_eventfd_tells(&ring->telling, load_word(&ring->memory.cq->flags)))
-        return;
-    ssize_t written = write(ring->eventfd, &one, sizeof one);
+    struct pollfd at = {.fd = ring->eventfd, .events = POLLOUT};
+    return poll(&at, 1, 0) > 0 && at.revents & POLLOUT;
+}
+
+void tell_eventfd(struct ring *ring, uint64_t told)
+{
+    uint32_t flags = load_word(&ring->memory.cq->flags);
+    bool takes = wulgach_eventfd_tells(&ring->telling, flags) && has_room(ring);
+    uint64_t added = wulgach_eventfd_added(&ring->telling, flags, told, takes);
+    ssize_t written = added > 0 ? write(ring->eventfd, &added, sizeof added) : 0;
     (void)written;
 }

@@ -8,6 +8,7 @@
 #include "duties.h"
 #include "ends.h"
 #include "fault.h"
+#include "openness.h"
 #include "ring.h"
 #include "steps.h"
 #include "submit.h"
@@ -19,7 +20,8 @@
 
 bool can_post_extra(struct ring *ring)
 {
-    return wulgach_drains_may_post(&ring->drains, ring->staged.count, ring->is_linux) && reserve_all(ring, 1);
+    bool has_memory = reserve_all(ring, 1);
+    return wulgach_drains_may_post(&ring->drains, ring->staged.count, ring->is_linux, has_memory);
 }
 
 /* A request of the layer's own was accepted: ends it with this result, and returns that of the core's. */
@@ -139,7 +141,7 @@ static struct ring *find_receiver(struct ring *ring, const struct io_uring_sqe *
         return NULL;
     }
     struct ring *target = hold_ring(entry->fd);
-    to->is_open = target || fcntl(entry->fd, F_GETFD) >= 0;
+    to->is_open = target || counts_as_open(entry->fd, false);
     to->is_ring = target;
     to->is_sender = target == ring;
     to->is_disabled = target && target->issuer.is_disabled;

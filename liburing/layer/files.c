@@ -12,6 +12,7 @@
 #include "copying.h"
 #include "descriptors.h"
 #include "numbers.h"
+#include "openness.h"
 #include "process.h"
 #include "ring.h"
 
@@ -121,9 +122,11 @@ static int make_file_of(struct file **made, int fd)
     return make_file_with(made, fd, NULL, NULL);
 }
 
-/* The same with a tag. 0 is none. */
+/* The same of what the application names by its number, with a tag. 0 is none. */
 static int make_tagged_file(struct ring *ring, struct file **made, int fd, uint64_t tag)
 {
+    if (!counts_as_open(fd, false))
+        return wulgach_missing_fault(WULGACH_NO_FILE);
     struct message *message = tag ? make_message_of(tag, 0) : NULL;
     if (tag && !message)
         return wulgach_missing_fault(WULGACH_NO_MEMORY_OWN);
@@ -325,7 +328,7 @@ static int place_file(struct ring *ring, uint64_t fds, uint32_t index)
     struct file *file;
     int result = fds ? read_row(&fd, &tag, fds, 0, index) : wulgach_missing_fault(WULGACH_NO_MEMORY);
     if (result == 0)
-        result = make_file_of(&file, fd);
+        result = make_tagged_file(ring, &file, fd, tag);
     if (result < 0)
         return result;
     int slot = put_file(ring, file, IORING_FILE_INDEX_ALLOC);

@@ -86,7 +86,7 @@ int32_t provide_buffers(struct ring *ring, const struct io_uring_sqe *entry)
         return fault;
     struct group *group = any_group(ring, entry->buf_group);
     bool is_provided = group && make_room(group, asked.count) && wulgach_group_provide(&group->kept, group->rows, group->room, &asked);
-    return is_provided ? 0 : wulgach_missing_fault(WULGACH_NO_MEMORY_OWN);
+    return is_provided ? fault : wulgach_missing_fault(WULGACH_NO_MEMORY_OWN);
 }
 
 int32_t remove_buffers(struct ring *ring, const struct io_uring_sqe *entry)
@@ -144,14 +144,14 @@ int unregister_buffer_ring(struct ring *ring, uint64_t at, uint32_t count)
 
 static bool find_in_ring(const struct group *group, struct wulgach_buffer *found)
 {
-    uint16_t tail, cell;
-    struct io_uring_buf buffer;
-    if (copy_in(&tail, group->ring + offsetof(struct io_uring_buf_ring, tail), sizeof tail) < 0 || !wulgach_group_cell(&group->kept, tail, &cell))
+    uint16_t tail = 0, cell;
+    struct io_uring_buf buffer = {0};
+    bool is_read = copy_in(&tail, group->ring + offsetof(struct io_uring_buf_ring, tail), sizeof tail) == 0;
+    if (!wulgach_group_cell(&group->kept, is_read, tail, &cell))
         return false;
-    if (copy_in(&buffer, group->ring + cell * sizeof buffer, sizeof buffer) < 0)
-        return false;
-    *found = (struct wulgach_buffer){buffer.addr, buffer.len, buffer.bid};
-    return true;
+    is_read = copy_in(&buffer, group->ring + cell * sizeof buffer, sizeof buffer) == 0;
+    struct wulgach_buffer stands = {buffer.addr, buffer.len, buffer.bid};
+    return wulgach_group_in_cell(is_read, &stands, found);
 }
 
 bool find_provided(struct ring *ring, uint16_t id, struct wulgach_buffer *found)

@@ -5,6 +5,7 @@
  */
 #define _GNU_SOURCE
 #include "memory.h"
+#include "signals.h"
 #include "wulgach.h"
 #include "wulgach_register.h"
 
@@ -30,13 +31,12 @@ static void *map(int fd, size_t size, uint64_t offset)
 static int lengthen(int fd, uint64_t length)
 {
     sigset_t signals, own;
-    static const struct timespec no_time = {0, 0};
     sigemptyset(&signals);
     sigaddset(&signals, SIGXFSZ);
     pthread_sigmask(SIG_BLOCK, &signals, &own);
     int result = ftruncate(fd, (off_t)length) < 0 ? -errno : 0;
-    while (result == -EFBIG && sigtimedwait(&signals, NULL, &no_time) > 0)
-        ;
+    if (result == -EFBIG)
+        take_back_signal();
     pthread_sigmask(SIG_SETMASK, &own, NULL);
     return result;
 }

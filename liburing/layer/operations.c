@@ -3,8 +3,10 @@
 #include "operations.h"
 #include "groups.h"
 #include "means.h"
+#include "openness.h"
 #include "polls.h"
 #include "ring.h"
+#include "signals.h"
 #include "sockets.h"
 #include "splices.h"
 #include "trying.h"
@@ -12,7 +14,6 @@
 #include <errno.h>
 #include <fcntl.h>
 #include <poll.h>
-#include <signal.h>
 #include <sys/socket.h>
 #include <sys/stat.h>
 #include <sys/uio.h>
@@ -165,28 +166,31 @@ bool can_have(const struct request *request, enum injection fault)
     return fault == NO_FAULT || wulgach_can_have(request->entry.opcode, request->standing.is_stream, request->length, fault);
 }
 
-/* Whether a descriptor is open, and not only for its path. */
-static bool is_open_file(int fd)
+/* Whether its descriptor is open, and a socket's. */
+static struct wulgach_nature nature_without_buffer(const struct request *request)
 {
-    int flags = fcntl(fd, F_GETFL);
-    return flags >= 0 && !(flags & O_PATH);
+    struct stat status = {0};
+    struct wulgach_nature nature = {.is_open = counts_as_open(request->fd, request->needs.is_registered)};
+    nature.is_socket = fstat(request->fd, &status) == 0 && S_ISSOCK(status.st_mode);
+    return nature;
 }
 
 int32_t fault_without_buffer(const struct request *request)
 {
-    struct stat status = {0};
-    struct wulgach_nature nature = {.is_open = is_open_file(request->fd)};
-    nature.is_socket = fstat(request->fd, &status) == 0 && S_ISSOCK(status.st_mode);
+    struct wulgach_nature nature = nature_without_buffer(request);
     return wulgach_no_buffer_fault(submission_of(&request->entry), &nature);
 }
 
-/* What a request ends with that something failed of when it started. Of one that is to take a provided buffer, and finds none, that counts
- * before the direction of its file. */
+/* What a request ends with that something failed of when it started. */
 static int32_t fault_at_start(struct ring *ring, const struct request *request)
 {
+    const struct wulgach_submission *entry = submission_of(&request->entry);
     struct wulgach_buffer buffer;
-    bool is_of_file = request->needs.selects && request->started == wulgach_missing_fault(WULGACH_NO_DIRECTION);
-    return is_of_file && !find_provided(ring, request->entry.buf_group, &buffer) ? fault_without_buffer(request) : request->started;
+    struct wulgach_nature nature = {0};
+    bool has_buffer = !wulgach_fault_asks_buffer(entry, request->started) || find_provided(ring, request->entry.buf_group, &buffer);
+    if (!has_buffer)
+        nature = nature_without_buffer(request);
+    return wulgach_ends_at_start(entry, request->started, has_buffer, &nature);
 }
 
 /* Carries out what takes a buffer. Whether it has taken it, by its result, is the library's decision. */
@@ -208,39 +212,31 @@ static int32_t call_with_buffer(struct ring *ring, struct request *request, enum
     return res;
 }
 
-/* Takes back the signal that a file grew too large, which the kernel sends to a worker of its own. All are blocked. */
-static void take_back_signal(void)
-{
-    static const struct timespec no_time = {0, 0};
-    sigset_t signals;
-    sigemptyset(&signals);
-    sigaddset(&signals, SIGXFSZ);
-    while (sigtimedwait(&signals, NULL, &no_time) > 0)
-        ;
-}
-
 int32_t carry_out(struct ring *ring, struct request *request, enum injection fault)
 {
     if (request->started < 0)
         return fault_at_start(ring, request);
     if (request->entry.opcode == IORING_OP_NOP)
         return wulgach_no_op_result(submission_of(&request->entry));
-    if (fault == FAULT_EIO)
-        return -EIO;
-    if (fault == FAULT_ENOSPC)
-        return -ENOSPC;
+    int32_t res;
+    if (fault != NO_FAULT && wulgach_given_result(fault, &res))
+        return res;
     if (fault == FAULT_SHORT && !request->needs.selects)
         shorten(request);
-    int32_t res = request->needs.selects ? call_with_buffer(ring, request, fault) : call_or_wait(ring, request);
-    if (res == -EFBIG)
+    res = request->needs.selects ? call_with_buffer(ring, request, fault) : call_or_wait(ring, request);
+    if (res < 0 && wulgach_may_signal(submission_of(&request->entry), res))
         take_back_signal();
     return res;
 }
 
-/* Whether a request ends so because something that it needs isn't there. A descriptor is asked only behind -9, which an open one may end with. */
+/* Whether a request has ended with an error because something that it needs isn't there. */
 static bool is_missing(const struct request *request, int32_t res)
 {
-    return request->started < 0 || (res == -EBADF && request->needs.needs_file && !is_open_file(request->fd));
+    const struct wulgach_submission *entry = submission_of(&request->entry);
+    struct wulgach_openness openness = {0};
+    if (wulgach_asks_openness(entry, res))
+        openness = openness_of(request->fd);
+    return wulgach_is_missing(entry, request->started < 0, res, &openness);
 }
 
 bool is_success(const struct ring *ring, const struct request *request, int32_t res)
@@ -251,7 +247,7 @@ bool is_success(const struct ring *ring, const struct request *request, int32_t 
         .message_flags = received ? (uint32_t)received->msg_flags : 0,
         .has_message = request->value != NULL,
         .is_cancelled = request->course.is_cancelled,
-        .is_missing = is_missing(request, res),
+        .is_missing = res < 0 && is_missing(request, res),
     };
     return wulgach_has_succeeded(submission_of(&request->entry), &carried, ring->is_linux, res);
 }

@@ -11,13 +11,13 @@
 #include "eventfds.h"
 #include "fault.h"
 #include "groups.h"
+#include "openness.h"
 #include "operations.h"
 #include "process.h"
 #include "progress.h"
 #include "ring.h"
 
 #include <errno.h>
-#include <fcntl.h>
 #include <string.h>
 
 enum { MOST_PROBED = 256 };
@@ -151,7 +151,7 @@ static int make_call(struct ring *ring, uint32_t code, uint64_t at, uint32_t cou
 
 static int register_by(int fd, uint32_t code, void *argument, uint32_t count)
 {
-    struct wulgach_caller caller = {.fd = fd, .is_open = fcntl(fd, F_GETFD) >= 0};
+    struct wulgach_caller caller = {.fd = fd, .is_open = counts_as_open(fd, false)};
     struct ring *ring = caller.is_open ? lock_ring(fd) : NULL;
     if (ring) {
         ring->call_number++;

@@ -8,6 +8,7 @@
 #include "eventfds.h"
 #include "groups.h"
 #include "injection.h"
+#include "openness.h"
 #include "passing.h"
 #include "policy.h"
 #include "process.h"
@@ -20,7 +21,6 @@
 #include "whole_calls.h"
 
 #include <errno.h>
-#include <fcntl.h>
 #include <stdlib.h>
 #include <string.h>
 #include <sys/mman.h>
@@ -65,7 +65,7 @@ static struct wulgach_asked_ring asked_ring(uint32_t entries, const struct io_ur
         asked.processors = (uint32_t)get_nprocs_conf();
     if (params->flags & IORING_SETUP_ATTACH_WQ) {
         struct ring *shared = hold_ring((int)params->wq_fd);
-        asked.is_open = fcntl((int)params->wq_fd, F_GETFD) >= 0;
+        asked.is_open = counts_as_open((int)params->wq_fd, false);
         asked.is_ring = shared || is_ring((int)params->wq_fd);
         asked.has_thread = shared && shared->flags & IORING_SETUP_SQPOLL;
         if (shared)

@@ -27,7 +27,7 @@ int make_message(struct request *request)
     struct msghdr *message = &addressed->message;
     request->vectors = malloc(sizeof *request->vectors);
     if (!addressed || !request->vectors)
-        return -ENOMEM;
+        return wulgach_missing_fault(WULGACH_NO_MEMORY_OWN);
     *request->vectors = (struct iovec){(void *)(uintptr_t)request->entry.addr, request->entry.len};
     request->length = wulgach_length_with(0, request->entry.len);
     message->msg_iov = request->vectors;
@@ -40,7 +40,7 @@ int copy_message(struct request *request, uint64_t from)
     struct msghdr *message = calloc(1, sizeof *message);
     request->value = message;
     if (!message)
-        return -ENOMEM;
+        return wulgach_missing_fault(WULGACH_NO_MEMORY_OWN);
     int fault = copy_in(message, from, sizeof *message);
     if (fault == 0)
         fault = wulgach_message_fault(message->msg_iovlen);
@@ -49,7 +49,7 @@ int copy_message(struct request *request, uint64_t from)
     size_t size = message->msg_iovlen * sizeof *request->vectors;
     request->vectors = malloc(size + sizeof *request->vectors);
     if (!request->vectors)
-        return -ENOMEM;
+        return wulgach_missing_fault(WULGACH_NO_MEMORY_OWN);
     fault = copy_in(request->vectors, (uintptr_t)message->msg_iov, size);
     if (fault < 0)
         return fault;
@@ -65,7 +65,7 @@ int copy_address(struct request *request, uint64_t from, size_t size)
 {
     if (request->entry.opcode == IORING_OP_CONNECT) {
         request->value = calloc(1, sizeof(struct sockaddr_storage));
-        return request->value ? copy_in(request->value, from, size) : -ENOMEM;
+        return request->value ? copy_in(request->value, from, size) : wulgach_missing_fault(WULGACH_NO_MEMORY_OWN);
     }
     struct addressed *addressed = request->value;
     addressed->message.msg_name = &addressed->address;
@@ -111,7 +111,7 @@ int32_t move_message(struct request *request, const struct wulgach_means *means)
 
 /* One that goes on: sizes and flags stand in the buffer, and behind them the address, the control data and the bytes. Writes how much of the buffer has
  * something. */
-static int32_t receive_into_buffer(struct request *request, int32_t *filled)
+static int32_t receive_into_buffer(struct request *request, uint64_t *filled)
 {
     const struct msghdr *asked = request->value;
     struct wulgach_layout layout;
@@ -137,7 +137,7 @@ static int32_t receive_into_buffer(struct request *request, int32_t *filled)
     if (res < 0)
         return res;
     request->done = (uint32_t)res;
-    *filled = (int32_t)wulgach_layout_filled(&layout, (uint32_t)res);
+    *filled = wulgach_layout_filled(&layout, (uint32_t)res);
     return res;
 }
 
@@ -169,7 +169,7 @@ static int32_t error_of_socket(const struct request *request)
 }
 
 /* Does what the library said is next, and says what that came to. */
-static int32_t take_turn(struct ring *ring, struct request *request, uint32_t turn, int32_t *filled)
+static int32_t take_turn(struct ring *ring, struct request *request, uint32_t turn, uint64_t *filled)
 {
     switch (turn) {
     case WULGACH_TURN_CALLS:
@@ -199,7 +199,8 @@ int32_t call_socket(struct ring *ring, struct request *request)
 {
     const struct wulgach_submission *entry = submission_of(&request->entry);
     bool fills = request->needs.fills_buffer;
-    int32_t res = 0, filled = 0;
+    int32_t res = 0;
+    uint64_t filled = 0;
     uint32_t turn = 0;
     for (;;) {
         struct wulgach_call call = call_of(request);
@@ -209,6 +210,6 @@ int32_t call_socket(struct ring *ring, struct request *request)
         res = take_turn(ring, request, turn, fills ? &filled : NULL);
     }
     if (turn == WULGACH_TURN_ENDS_WITH_DONE)
-        return fills ? filled : (int32_t)request->done;
+        return wulgach_done_result(entry, request->done, filled);
     return turn == WULGACH_TURN_WAITS ? WOULD_WAIT : res;
 }

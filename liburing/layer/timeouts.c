@@ -144,7 +144,7 @@ void fire_linked_timeout(struct ring *ring, const struct wulgach_timeout *timeou
     }
 }
 
-int32_t change_timeout(struct ring *ring, struct request *timeout, const struct request *change)
+void change_timeout(struct ring *ring, struct request *timeout, const struct request *change)
 {
     struct wulgach_terms terms = {.count = timeout->entry.off, .flags = timeout->entry.timeout_flags};
     wulgach_updated_terms(&terms, submission_of(&change->entry));
@@ -152,7 +152,6 @@ int32_t change_timeout(struct ring *ring, struct request *timeout, const struct 
     timeout->entry.off = terms.count;
     timeout->entry.timeout_flags = terms.flags;
     wulgach_times_change(&ring->times, ring->timeouts, ring->timeouts_room, timeout->number, time_left(timeout));
-    return 0;
 }
 
 int32_t change_linked_timeout(struct ring *ring, const struct request *change)
@@ -161,8 +160,10 @@ int32_t change_linked_timeout(struct ring *ring, const struct request *change)
         struct request *timeout = ring->requests.rows[i];
         struct wulgach_linked seen = {.user_data = timeout->entry.user_data, .is_linked = is_linked_timeout(timeout)};
         seen.runs = seen.is_linked && wulgach_times_runs(&ring->times, ring->timeouts, ring->timeouts_room, timeout->number);
-        if (wulgach_updates_linked(change->entry.addr, &seen))
-            return change_timeout(ring, timeout, change);
+        if (wulgach_updates_linked(change->entry.addr, &seen)) {
+            change_timeout(ring, timeout, change);
+            return wulgach_removal_result(true);
+        }
     }
-    return wulgach_missing_fault(WULGACH_NO_REQUEST);
+    return wulgach_removal_result(false);
 }

@@ -35,8 +35,8 @@ void note_counts(struct ring *ring);
 /* The time of a linked timeout is over: the request that it limits is cancelled. */
 void fire_linked_timeout(struct ring *ring, const struct wulgach_timeout *timeout);
 
-/* Sets the time of a running timeout, or of a linked one. Returns 0 or the negative of an error number. */
-int32_t change_timeout(struct ring *ring, struct request *timeout, const struct request *change);
+/* Sets the time of a running timeout. And that of the linked one that the change names: returns what the change ends with. */
+void change_timeout(struct ring *ring, struct request *timeout, const struct request *change);
 int32_t change_linked_timeout(struct ring *ring, const struct request *change);
 
 #endif

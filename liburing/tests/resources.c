@@ -197,6 +197,25 @@ static void test_eventfd(void)
     close_ring(&ring);
 }
 
+/* A call tells an eventfd once of all that it shows. One whose counter is full stays so, and no call waits for it. */
+static void test_full_eventfd(void)
+{
+    struct ring ring;
+    uint64_t count = UINT64_MAX - 1;
+    int fd = eventfd(0, 0);
+    make_ring(&ring, 8, 0, 0);
+    check(write(fd, &count, sizeof count) == sizeof count);
+    check(register_at(ring.fd, IORING_REGISTER_EVENTFD, &fd, 1) == 0);
+    submit_nop(&ring, 0);
+    check(wait_for_one(&ring) == 0);
+    check(read(fd, &count, sizeof count) == sizeof count && count >= UINT64_MAX - 1);
+    submit_nop(&ring, 0);
+    check(wait_for_one(&ring) == 0);
+    check(read(fd, &count, sizeof count) == sizeof count && count == 1);
+    close(fd);
+    close_ring(&ring);
+}
+
 /* An eventfd for what ends asynchronously alone isn't told of an event that is there when its request is submitted, but of later ones,
  * and of what a call of register ends. */
 static void test_async_eventfd(void)
@@ -398,6 +417,7 @@ int main(int count, char **words)
         {"provided", test_provided},
         {"groups", test_groups},
         {"eventfd", test_eventfd},
+        {"full eventfd", test_full_eventfd},
         {"async eventfd", test_async_eventfd},
         {"left to an eventfd", test_left_to_eventfd},
         {"advice", test_advice},

@@ -246,6 +246,56 @@ static void test_turn_at_return(void)
     close_ring(&ring);
 }
 
+/* The results of operations on a descriptor that is open for its path alone. */
+static void use_path(struct ring *ring, int path)
+{
+    static const uint8_t codes[] = {IORING_OP_READ, IORING_OP_WRITE, IORING_OP_FSYNC, IORING_OP_FALLOCATE, IORING_OP_POLL_ADD, IORING_OP_SEND, IORING_OP_SHUTDOWN, IORING_OP_MSG_RING};
+    static const char none;
+    for (size_t i = 0; i < sizeof codes; i++) {
+        struct io_uring_sqe *entry = put_plain(ring, codes[i], 0, path);
+        entry->addr = codes[i] == IORING_OP_READ || codes[i] == IORING_OP_WRITE || codes[i] == IORING_OP_SEND ? (uintptr_t)&none : 0;
+        entry->poll32_events = codes[i] == IORING_OP_POLL_ADD;
+        check(result_of_one(ring, 1) == -EBADF);
+    }
+    put_plain(ring, IORING_OP_NOP, 0, path);
+    check(result_of_one(ring, 1) == 0);
+    put_plain(ring, IORING_OP_NOP, 0, path)->rw_flags = 2;      /* IORING_NOP_FILE */
+    check(result_of_one(ring, 1) == -EBADF);
+    put_plain(ring, IORING_OP_ASYNC_CANCEL, 0, path)->cancel_flags = IORING_ASYNC_CANCEL_FD | IORING_ASYNC_CANCEL_ALL;
+    check(result_of_one(ring, 1) == -EBADF);
+}
+
+/* By its number no file is found that is open for its path alone. A path begins at one, and it can be closed; and an open puts one into a
+ * slot, which then holds it. */
+static void test_paths(void)
+{
+    struct ring ring;
+    int path = open("/dev/null", O_PATH), folder = open("/dev", O_PATH), none = -1;
+    struct io_uring_files_update update = {.fds = (uintptr_t)&path};
+    struct io_uring_sync_cancel_reg now = {.fd = path, .flags = IORING_ASYNC_CANCEL_FD | IORING_ASYNC_CANCEL_ALL, .timeout = {-1, -1}};
+    make_ring(&ring, 8, 0, 0);
+    use_path(&ring, path);
+    check(register_at(ring.fd, IORING_REGISTER_EVENTFD, &path, 1) == -EBADF && register_at(ring.fd, IORING_REGISTER_SYNC_CANCEL, &now, 1) == -EBADF);
+    check(register_at(ring.fd, IORING_REGISTER_FILES, &path, 1) == -EBADF && register_at(ring.fd, IORING_REGISTER_FILES, &none, 1) == 0);
+    check(register_at(ring.fd, IORING_REGISTER_FILES_UPDATE, &update, 1) == -EBADF);
+    for (uint64_t offset = 0; offset <= UINT32_MAX; offset += UINT32_MAX) {
+        put_transfer(&ring, IORING_OP_FILES_UPDATE, 0, 0, -1, &path, 1, offset);
+        check(result_of_one(&ring, 1) == -EBADF);
+    }
+    check(register_at(path, IORING_REGISTER_FILES, &none, 1) == -EBADF && enter(&(struct ring){.fd = path}, 0, 0, 0) == -EBADF);
+    struct io_uring_sqe *entry = put_transfer(&ring, IORING_OP_OPENAT, 0, 0, folder, "null", 0, 0);
+    entry->open_flags = O_PATH;
+    entry->file_index = 1;
+    check(result_of_one(&ring, 1) == 0);
+    entry = put(&ring, IORING_OP_ASYNC_CANCEL, 0, IOSQE_FIXED_FILE);
+    entry->cancel_flags = IORING_ASYNC_CANCEL_FD | IORING_ASYNC_CANCEL_ALL;
+    check(result_of_one(&ring, 1) == 0);
+    put_plain(&ring, IORING_OP_CLOSE, 0, path);
+    check(result_of_one(&ring, 1) == 0 && fcntl(path, F_GETFD) < 0);
+    close(folder);
+    close_ring(&ring);
+}
+
 int main(int count, char **words)
 {
     static const struct named tests[] = {
@@ -256,6 +306,7 @@ int main(int count, char **words)
         {"untold slots", test_untold_slots},
         {"turns", test_turns},
         {"turn at a return", test_turn_at_return},
+        {"paths", test_paths},
     };
     return run_tests(tests, sizeof tests / sizeof *tests, count > 1 ? words[1] : NULL);
 }

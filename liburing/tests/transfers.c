@@ -7,9 +7,11 @@
 #define _GNU_SOURCE
 #include "engines.h"
 
+#include <pthread.h>
 #include <signal.h>
 #include <sys/eventfd.h>
 #include <sys/inotify.h>
+#include <sys/resource.h>
 #include <sys/signalfd.h>
 #include <sys/timerfd.h>
 #include <sys/uio.h>
@@ -299,6 +301,42 @@ static void test_injection(void)
     close_ring(&ring);
 }
 
+/* SIGXFSZ, which is blocked, is pending only if it was sent. */
+static bool is_pending(void)
+{
+    sigset_t pending;
+    sigpending(&pending);
+    return sigismember(&pending, SIGXFSZ) == 1;
+}
+
+/* A write past the longest that a file may be, and a FALLOCATE, in 64 bits of a file that has holes, end so and bring no signal. One that the
+ * program was sent before, as a process or a thread, stays pending. */
+static void test_too_long(void)
+{
+    struct ring ring;
+    struct rlimit before, limit;
+    const struct timespec no_time = {0, 0};
+    sigset_t signals, own;
+    int file = make_file();
+    sigemptyset(&signals);
+    sigaddset(&signals, SIGXFSZ);
+    make_ring(&ring, 8, 0, 0);
+    check(getrlimit(RLIMIT_FSIZE, &before) == 0 && sigprocmask(SIG_BLOCK, &signals, &own) == 0);
+    limit = (struct rlimit){1 << 30, before.rlim_max};
+    check(setrlimit(RLIMIT_FSIZE, &limit) == 0);
+    for (int sent = 0; sent < 3; sent++) {
+        check(sent == 0 || (sent == 1 ? kill(getpid(), SIGXFSZ) : pthread_kill(pthread_self(), SIGXFSZ)) == 0);
+        put_transfer(&ring, IORING_OP_WRITE, 0, 0, file, "late", 4, 1ULL << 31);
+        check(result_of_one(&ring, 1) == -EFBIG && is_pending() == (sent > 0));
+        put_transfer(&ring, IORING_OP_FALLOCATE, 0, 0, file, (void *)4, 0, 1ULL << 31);
+        check(result_of_one(&ring, 1) == -EFBIG && is_pending() == (sent > 0));
+        check(sent == 0 || sigtimedwait(&signals, NULL, &no_time) == SIGXFSZ);
+    }
+    check(!is_pending() && setrlimit(RLIMIT_FSIZE, &before) == 0 && sigprocmask(SIG_SETMASK, &own, NULL) == 0);
+    close(file);
+    close_ring(&ring);
+}
+
 int main(int count, char **words)
 {
     static const struct named tests[] = {
@@ -308,6 +346,7 @@ int main(int count, char **words)
         {"without offsets", test_without_offsets},
         {"used again", test_used_again},
         {"in turn", test_in_turn},
+        {"too long", test_too_long},
     };
     static const struct named injection = {"injection", test_injection};
     if (count > 1 && strcmp(words[1], injection.name) == 0)

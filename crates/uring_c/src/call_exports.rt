@@ -1,15 +1,16 @@
 //! By what an operation is carried out, for C: the functions of `c/wulgach_calls.h`.
-ghost use Rattle.std.specs.Prelude.{◌≡◌};
+ghost use Rattle.std.specs.Prelude.{◌≡◌, true, false, MatchOption};
 ghost use Rattle.uring_enter.specs.CallResults as results;
 ghost use Rattle.uring_enter.specs.Means as spec;
 ghost use Rattle.uring_enter.specs.TransferCalls.{call_of};
-ghost use Rattle.uring_c.specs.MeansForm.{words, words_of_means, fault_of_word, can_have_one};
+ghost use Rattle.uring_c.specs.MeansForm.{words, words_of_means, fault_of_word, can_have_one, given_one};
 ghost use Rattle.uring_crossing.specs.WaitForm.{task_of};
 
 use uring_crossing::wait_words::task;
 use uring_enter::{
-    Fault, Held, Means, Submission, SystemCall, Transfer, Vectors, can_have, has_begun,
-    is_stream_type, means_of, placed_result, tells_message, told_result, transfer_call,
+    Fault, Held, Means, Submission, SystemCall, Transfer, Vectors, can_have, done_result,
+    given_result, has_begun, is_stream_type, means_of, placed_result, tells_message, told_result,
+    transfer_call,
 };
 
 /// By what an operation is carried out: `struct wulgach_means` of the header.
@@ -98,6 +99,22 @@ pub extern "C" fn wulgach_can_have(code: u8, is_stream: bool, length: u64, fault
     }
 }
 
+/// Writes what an operation ends with that is given this fault. False, and nothing is written: it is made, of fewer bytes, or there is no such fault.
+#[unsafe(no_mangle)]
+pub extern "C" fn wulgach_given_result(fault: u32, res: &mut i32) -> bool
+    ensures { MatchOption (given_one (fault_of_word fault)) ((result ≡ false) × (res.new ≡ res.old))
+        (λ ends. (result ≡ true) × (res.new ≡ ends)) }
+{
+    let Some(given) = fault_of(fault) else {
+        return false;
+    };
+    let Some(ends) = given_result(given) else {
+        return false;
+    };
+    *res = ends;
+    true
+}
+
 fn fault_of(word: u32) -> Option<Fault>
     ensures { result ≡ fault_of_word word }
 {
@@ -115,6 +132,14 @@ pub extern "C" fn wulgach_has_begun(came_to: i32) -> bool
     ensures { result ≡ results.has_begun came_to }
 {
     has_begun(came_to)
+}
+
+/// What the operation of an entry ends with that has moved so many bytes, and has put so many into its buffer.
+#[unsafe(no_mangle)]
+pub extern "C" fn wulgach_done_result(entry: &Submission, done: u64, filled: u64) -> i32
+    ensures { result ≡ results.done_result entry.now done filled }
+{
+    done_result(entry, done, filled)
 }
 
 /// Whether what belongs to a message is told behind a call of this entry that came to this.

@@ -11,6 +11,7 @@ mod core_word_exports;
 mod course_exports;
 mod crash_image_exports;
 mod crash_machine_exports;
+mod descriptor_exports;
 mod duty_exports;
 mod enrolling_exports;
 mod enter_exports;

@@ -88,17 +88,38 @@ pub extern "C" fn wulgach_group_next(group: &Group, rows: &[Buffer], buffer: &mu
     }
 }
 
-/// Writes the cell of the next buffer of a ring whose tail is this. `false`: there is none, and nothing is written.
+/// Writes the cell of the next buffer of a ring whose tail is this, if that could be read. `false`: there is none, and nothing is written.
 #[unsafe(no_mangle)]
-pub extern "C" fn wulgach_group_cell(group: &Group, tail: u16, cell: &mut u16) -> bool
-    ensures { (log : List Change) (rows : List Buffer) (n : ℕ) → KeepsGroup log group.now rows
-        → spec.is_ring log ≡ true → IsTold log tail n
+pub extern "C" fn wulgach_group_cell(
+    group: &Group,
+    is_read: bool,
+    tail: u16,
+    cell: &mut u16,
+) -> bool
+    ensures told { (log : List Change) (rows : List Buffer) (n : ℕ) → KeepsGroup log group.now rows
+        → is_read ≡ true → spec.is_ring log ≡ true → IsTold log tail n
         → MatchOption (spec.cell_of log n) ((result ≡ false) × (cell.new ≡ cell.old))
         (λ next. (result ≡ true) × (cell.new ≡ next)) }
+    ensures unread { is_read ≡ false → (result ≡ false) × (cell.new ≡ cell.old) }
 {
-    match group.cell(tail) {
+    match group.cell(is_read, tail) {
         Some(next) => {
             *cell = next;
+            true
+        }
+        None => false,
+    }
+}
+
+/// Writes the buffer of a cell in which this stands, if that could be read. `false`: there is none, and nothing is written.
+#[unsafe(no_mangle)]
+pub extern "C" fn wulgach_group_in_cell(is_read: bool, stands: &Buffer, buffer: &mut Buffer) -> bool
+    ensures { MatchOption (spec.in_cell is_read stands.now) ((result ≡ false) × (buffer.new ≡ buffer.old))
+        (λ found. (result ≡ true) × (buffer.new ≡ found)) }
+{
+    match Group::in_cell(is_read, stands) {
+        Some(found) => {
+            *buffer = found;
             true
         }
         None => false,

@@ -146,6 +146,20 @@ pub extern "C" fn wulgach_eventfd_tells(eventfd: &Eventfd, cq_flags: u32) -> boo
     eventfd.tells(cq_flags)
 }
 
+/// What is added to it for so many completions that it is to be told of and that were shown together.
+#[unsafe(no_mangle)]
+pub extern "C" fn wulgach_eventfd_added(
+    eventfd: &Eventfd,
+    cq_flags: u32,
+    told: u64,
+    has_room: bool,
+) -> u64
+    ensures { (log : List Telling) → KeepsEventfd log eventfd.now
+        → result ≡ telling.added log cq_flags told has_room }
+{
+    eventfd.added(cq_flags, told, has_room)
+}
+
 /// Whether a call may leave what can go on without waiting, on a ring with a thread of its own or without.
 #[unsafe(no_mangle)]
 pub extern "C" fn wulgach_eventfd_may_leave(eventfd: &Eventfd, has_thread: bool) -> bool

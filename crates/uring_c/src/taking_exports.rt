@@ -136,11 +136,16 @@ pub extern "C" fn wulgach_drains_end(drains: &mut Drains, is_draining: bool)
     drains.end(is_draining);
 }
 
-/// Whether a completion may be posted that belongs to no end of a request, where so many positions are staged and not taken, in a ring by Linux's rules or by the manual pages'.
+/// Whether a completion may be posted that belongs to no end of a request, where so many positions are staged and not taken, in a ring by Linux's rules or by the manual pages', for which there is memory or not.
 #[unsafe(no_mangle)]
-pub extern "C" fn wulgach_drains_may_post(drains: &Drains, staged: u64, linux: bool) -> bool
+pub extern "C" fn wulgach_drains_may_post(
+    drains: &Drains,
+    staged: u64,
+    linux: bool,
+    has_memory: bool,
+) -> bool
     ensures { (log : List Drainage) → KeepsDrains log drains.now
-        → result ≡ may_post log staged linux }
+        → result ≡ may_post log staged linux has_memory }
 {
-    drains.may_post(staged, linux)
+    drains.may_post(staged, linux, has_memory)
 }

@@ -4,8 +4,8 @@ ghost use Rattle.uring_enter.specs.Updates as spec;
 ghost use Rattle.uring_c.specs.TakingForm.{word_of_removal};
 
 use uring_enter::{
-    Linked, Poll, Removal, Submission, Terms, poll_removal, timeout_removal, updated_poll,
-    updated_terms, updates_linked,
+    Linked, Poll, Removal, Submission, Terms, poll_removal, removal_result, timeout_removal,
+    updated_poll, updated_terms, updates_linked,
 };
 
 /// What the removal of a poll does.
@@ -22,6 +22,14 @@ pub extern "C" fn wulgach_timeout_removal(entry: &Submission) -> u32
     ensures { result ≡ word_of_removal (spec.timeout_removal entry.now) }
 {
     removal_word(timeout_removal(entry))
+}
+
+/// What a removal ends with, or an update, that has found what it names, or hasn't.
+#[unsafe(no_mangle)]
+pub extern "C" fn wulgach_removal_result(is_found: bool) -> i32
+    ensures { result ≡ spec.removal_result is_found }
+{
+    removal_result(is_found)
 }
 
 fn removal_word(removal: Removal) -> u32

@@ -70,13 +70,13 @@ or_true true = refl
 or_true false = refl
 
 pub end_lets_none : EndLetsNone
-end_lets_none log drainages staged linux is_draining end had_to_wait has_to_wait before after n is_cancelled m l is lets waits =
+end_lets_none log drainages staged linux has_memory is_draining end had_to_wait has_to_wait before after n is_cancelled m l is lets waits =
     let parts = or_parts (end.is_count_reached || end.has_drains) (have_to_wait log) lets in
     let others = or_parts end.is_count_reached end.has_drains parts.0 in
     let none : drains.outstanding drainages == 0 ≡ true = opposite (drains.outstanding drainages == 0) (sym is.told ∙ others.1) in
     let posts : l.may_post ≡ true → m.may_post ≡ true = λ may.
-    is.posted_before ∙ ap (λ b. (linux || b) && staged == 0) none ∙ ap (λ b. b && staged == 0) (or_true linux)
-    ∙ both (linux || drains.outstanding (drains.Ended is_draining ∷ drainages) == 0) (staged == 0) (sym is.posted_after ∙ may) in
+    is.posted_before ∙ ap (λ b. (linux || b) && (staged == 0 && has_memory)) none ∙ ap (λ b. b && (staged == 0 && has_memory)) (or_true linux)
+    ∙ both (linux || drains.outstanding (drains.Ended is_draining ∷ drainages) == 0) (staged == 0 && has_memory) (sym is.posted_after ∙ may) in
     ap (λ b. can_finish record { is_stream = b; has_found_buffer = after.has_found_buffer } n has_to_wait is_cancelled l) is.stream ∙
     none_more had_to_wait has_to_wait is_cancelled n.is_timeout n.goes_on before.is_stream n.selects m.has_counted l.has_counted m.may_post l.may_post before.has_found_buffer m.has_buffer after.has_found_buffer l.has_buffer m.is_ready l.is_ready
     (λ has. true≢false (sym (is.waits has) ∙ parts.1))

@@ -1,9 +1,10 @@
 -- What a request makes of the result of a system call, where that is more than the result.
-use Rattle.std.specs.Prelude.{ℕ, ℤ, pos, Bool, not, ◌&&◌, ◌||◌, ◌==◌, if◌then◌else◌}
+use Rattle.std.specs.Prelude.{ℕ, ℤ, pos, ◌-◌, ◌^◌, min, Bool, not, ◌&&◌, ◌||◌, ◌==◌, if◌then◌else◌}
 use Rattle.std.specs.Ordering.{int_eq}
 use Rattle.uring_enter.specs.declared.submission.Submission.{Submission}
 use Rattle.uring_entry.specs.Errors.{error, is_below}
 use Rattle.uring_enter.specs.NoOps.{signed}
+use Rattle.uring_enter.specs.Needs.{fills_buffer}
 
 -- a connect that came to -115 (EINPROGRESS) goes on by itself, and ends as its socket does. One that came to -11 (EAGAIN), as of a local socket whose peer takes no more, hasn't begun, and is made again. connect(2), ERRORS
 abbrev pub has_begun : ℤ → Bool
@@ -20,6 +21,11 @@ told_result came_to is_told = if is_told then came_to else error 14
 -- a file that is put into a slot ends with 0; with the slot, in 32 bits, if its entry asked for any, by 2^32 - 1 (IORING_FILE_INDEX_ALLOC). io_uring_enter(2), IORING_OP_OPENAT and IORING_OP_ACCEPT
 abbrev pub placed_result : (asked slot : ℕ) → ℤ
 placed_result asked slot = if asked == 4294967295 then signed slot else pos 0
+
+-- what has moved so many bytes ends with these, of 31 bits; a RECVMSG that goes on with as much of its buffer as has something, what stands in front of the bytes with it. io_uring_prep_recvmsg_multishot(3)
+abbrev pub done_result : Submission → (done filled : ℕ) → ℤ
+done_result e done filled =
+    if fills_buffer e then pos (min filled (2 ^ 31 - 1)) else pos (min done (2 ^ 31 - 1))
 
 -- SOCK_STREAM (1) and SOCK_SEQPACKET (5): of these a receive that waits for all its bytes, with MSG_WAITALL, goes on behind a part. recv(2), and what Linux 6.18 does
 abbrev pub is_stream_type : ℕ → Bool

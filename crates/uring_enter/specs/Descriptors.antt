@@ -1,5 +1,7 @@
 -- Whether an operation may have to wait for its descriptor, by what that is. io_uring_enter(2), at each operation; open(2), O_NONBLOCK; what the kernel does, but where our own rule is named.
-use Rattle.std.specs.Prelude.{◌≡◌, ◌-◌, ◌^◌, ℕ, ℤ, Bool, true, false, not, ◌&&◌, ◌||◌, ◌==◌, nat_lt, pos, if◌then◌else◌}
+use Rattle.std.specs.Prelude.{◌≡◌, ◌-◌, ◌^◌, ℕ, ℤ, Bool, true, false, not, ◌&&◌, ◌||◌, ◌==◌, nat_lt, pos, codes, List, if◌then◌else◌}
+use Rattle.std.specs.Ordering.{int_eq}
+use Rattle.std.specs.Str.{bytes_eq}
 use Rattle.uring_enter.specs.declared.submission.Submission.{Submission}
 use Rattle.uring_enter.specs.declared.descriptor.Nature.{Nature}
 use Rattle.uring_enter.specs.declared.descriptor.Known.{Known}
@@ -104,6 +106,27 @@ no_buffer_fault e d =
     if needs_file e.opcode && not d.is_open then error 9 else
     if is_of_sockets e.opcode && not d.is_socket then error 88 else
     if has_some e.flags 32 then error 105 else error 14
+
+-- whether it matters to what it ends with that had this fault as it started, whether its group has a buffer: of one that takes a provided buffer, where that is -9 (EBADF), as of a descriptor that is open in the wrong direction
+abbrev pub fault_asks_buffer : Submission → ℤ → Bool
+fault_asks_buffer e fault = has_some e.flags 32 && int_eq fault (error 9)
+
+-- what it ends with that had this fault as it started: that it finds no buffer counts before that. What Linux 6.18 was seen to do
+abbrev pub ends_at_start : Submission → ℤ → (has_buffer : Bool) → Nature → ℤ
+ends_at_start e fault has_buffer d =
+    if fault_asks_buffer e fault && not has_buffer then no_buffer_fault e d else fault
+
+-- what gives and takes 8 bytes at once, by the name of its descriptor in /proc: an eventfd, or a timerfd. eventfd(2), timerfd_create(2); proc(5)
+abbrev pub is_eventfd_name : List ℕ → Bool
+is_eventfd_name name = bytes_eq name (codes "anon_inode:[eventfd]")
+
+abbrev pub is_counter_name : List ℕ → Bool
+is_counter_name name = is_eventfd_name name || bytes_eq name (codes "anon_inode:[timerfd]")
+
+-- whether it is asked for its name: only fewer than 8 bytes matter to it, and only what is no file of any type counts
+abbrev pub asks_counter : Submission → ℕ → Nature → Bool
+asks_counter e length d =
+    is_transfer e.opcode && not d.has_type && nat_lt length 8 && not (has_some e.flags 32)
 
 -- with what a transfer fails as it starts, though its descriptor might have to be waited for: -22 (EINVAL) of fewer than 8 bytes of what counts. 0: it doesn't. eventfd(2), timerfd_create(2)
 abbrev pub start_fault : Submission → ℕ → Nature → ℤ

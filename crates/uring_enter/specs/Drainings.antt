@@ -32,9 +32,9 @@ has_drained [] = false
 has_drained (Accepted members ∷ earlier) = drains members || has_drained earlier
 has_drained (Ended is_draining ∷ earlier) = has_drained earlier
 
--- whether such a completion may be posted: nothing that drains is outstanding, unless the ring goes by Linux's rules, and nothing is staged that no call has taken
-abbrev pub may_post : List Drainage → ℕ → (linux : Bool) → Bool
-may_post log staged linux = (linux || outstanding log == 0) && staged == 0
+-- whether such a completion may be posted: nothing that drains is outstanding, unless the ring goes by Linux's rules, nothing is staged that no call has taken, and there is memory for it. Where that is refused, what it tells of waits, and none is lost. Our own rule
+abbrev pub may_post : List Drainage → ℕ → (linux has_memory : Bool) → Bool
+may_post log staged linux has_memory = (linux || outstanding log == 0) && (staged == 0 && has_memory)
 
 -- whether the call that takes a request finds its files and its buffer: nothing links it, and no drain was ever accepted; or nothing that drains is outstanding, itself among that, unless the ring goes by Linux's rules, and the core lets it start. Another finds them when it starts, and so may use a file that those before it open. What the kernel does
 abbrev pub finds_file : List Drainage → Member → (linux may_start : Bool) → Bool

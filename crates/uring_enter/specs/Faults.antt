@@ -1,8 +1,15 @@
 -- Which faults an operation can be given that it didn't meet, so that a test finds what its application does then. Our own rule: those that a disk gives.
-use Rattle.std.specs.Prelude.{ℕ, Bool, not, ◌&&◌, ◌||◌, ◌==◌, nat_lt}
+use Rattle.std.specs.Prelude.{ℕ, ℤ, Bool, not, ◌&&◌, ◌||◌, ◌==◌, nat_lt, Option, Some, None}
 use Rattle.uring_enter.specs.declared.fault.Fault.{Fault}
 use Rattle.uring_enter.specs.declared.fault.Fault.TheVariants.{Disk, Room, Short}
 use Rattle.uring_enter.specs.Needs.{is_transfer, is_write}
+use Rattle.uring_entry.specs.Errors.{error}
+
+-- what an operation ends with that is given a fault, in the place of being carried out: -5 (EIO), or -28 (ENOSPC). None of a short one: that is made, of fewer bytes
+abbrev pub given_result : Fault → Option ℤ
+given_result Disk = Some (error 5)
+given_result Room = Some (error 28)
+given_result Short = None
 
 -- the disk fails (EIO) in transfers, FSYNC (3) and FALLOCATE (17), and has no room (ENOSPC) for writes and FALLOCATE. A transfer of more than a byte can be short; but one on a stream may have to wait, and be made again
 abbrev pub can_have : ℕ → Bool → ℕ → Fault → Bool

@@ -63,3 +63,5 @@ pub mod Faults
 pub mod Missing
 pub mod Duties
 pub mod CallResults
+pub mod Openness
+pub mod Signals

@@ -142,23 +142,23 @@ pub record KeepsLookout (log : List Happening) (l : Lookout) : Type 0 where
   pub own : l.may_be_own ≡ may_be_own log
   pub changed : l.has_changed ≡ has_changed log
 
--- what becomes of a request that runs and of the moment, where another ends, which drains or doesn't, in a ring by Linux's rules or by the manual pages': which descriptors are ready is as before, since an end changes none; who has found a buffer has found one still; a completion may be posted as drains say; and a count is reached that was before, or that this end has reached
-pub record IsBehindEnd (log : List Happening) (drainages : List Drainage) (staged : ℕ) (linux is_draining : Bool) (end : EndOfOne)
+-- what becomes of a request that runs and of the moment, where another ends, which drains or doesn't, in a ring by Linux's rules or by the manual pages': which descriptors are ready is as before, since an end changes none; who has found a buffer has found one still; a completion may be posted as drains say, and whether there is memory for it is as before; and a count is reached that was before, or that this end has reached
+pub record IsBehindEnd (log : List Happening) (drainages : List Drainage) (staged : ℕ) (linux has_memory is_draining : Bool) (end : EndOfOne)
     (had_to_wait : Bool) (before after : Standing) (m l : Moment) : Type 0 where
   pub told : end.has_drains ≡ not (drains.outstanding drainages == 0)
   pub waits : had_to_wait ≡ true → have_to_wait log ≡ true
   pub stream : after.is_stream ≡ before.is_stream
   pub counted : l.has_counted ≡ true → (m.has_counted ≡ true) ⊎ (end.is_count_reached ≡ true)
-  pub posted_before : m.may_post ≡ drains.may_post drainages staged linux
-  pub posted_after : l.may_post ≡ drains.may_post (drains.Ended is_draining ∷ drainages) staged linux
+  pub posted_before : m.may_post ≡ drains.may_post drainages staged linux has_memory
+  pub posted_after : l.may_post ≡ drains.may_post (drains.Ended is_draining ∷ drainages) staged linux has_memory
   pub buffer : before.has_found_buffer || m.has_buffer ≡ true → after.has_found_buffer || l.has_buffer ≡ true
   pub ready : l.is_ready ≡ m.is_ready
 
 -- an end that isn't told to let others be finished lets none: who couldn't be finished before can't be behind it. So no request is passed over that could go on
 abbrev pub EndLetsNone : Type 0
-EndLetsNone = (log : List Happening) (drainages : List Drainage) (staged : ℕ) (linux is_draining : Bool) (end : EndOfOne)
+EndLetsNone = (log : List Happening) (drainages : List Drainage) (staged : ℕ) (linux has_memory is_draining : Bool) (end : EndOfOne)
     (had_to_wait has_to_wait : Bool) (before after : Standing) (n : Needs) (is_cancelled : Bool) (m l : Moment)
-    → IsBehindEnd log drainages staged linux is_draining end had_to_wait before after m l
+    → IsBehindEnd log drainages staged linux has_memory is_draining end had_to_wait before after m l
     → lets_others log end ≡ false
     → can_finish before n had_to_wait is_cancelled m ≡ false
     → can_finish after n has_to_wait is_cancelled l ≡ false

@@ -1,5 +1,5 @@
 -- What an update makes of a poll, and of a timeout. io_uring_enter(2), IORING_OP_POLL_REMOVE and IORING_OP_TIMEOUT_REMOVE.
-use Rattle.std.specs.Prelude.{ℕ, Bool, ◌&&◌, ◌==◌, if◌then◌else◌}
+use Rattle.std.specs.Prelude.{ℕ, ℤ, pos, Bool, ◌&&◌, ◌==◌, if◌then◌else◌}
 use Rattle.std.specs.Int.RustNames.{bit_and, bit_or}
 use Rattle.uring_enter.specs.declared.submission.Submission.{Submission}
 use Rattle.uring_enter.specs.declared.update.Linked.{Linked}
@@ -8,10 +8,16 @@ use Rattle.uring_enter.specs.declared.update.Terms.{Terms}
 use Rattle.uring_enter.specs.declared.update.Removal.{Removal}
 use Rattle.uring_enter.specs.declared.update.Removal.TheVariants.{Cancel, Update, UpdateLinked}
 use Rattle.uring_enter.specs.Clocks.{has_some}
+use Rattle.uring_enter.specs.Missing.{missing_fault}
+use Rattle.uring_enter.specs.declared.missing.Missing.TheVariants as missing
 
 -- IORING_POLL_UPDATE_EVENTS is 2 and UPDATE_USER_DATA 4
 abbrev pub poll_removal : Submission → Removal
 poll_removal e = if has_some e.len 6 then Update else Cancel
+
+-- a removal, or an update, ends with 0 if it has found what it names, and else with -2 (ENOENT). io_uring_enter(2)
+abbrev pub removal_result : (is_found : Bool) → ℤ
+removal_result is_found = if is_found then pos 0 else missing_fault missing.Request
 
 -- IORING_LINK_TIMEOUT_UPDATE is 16 and IORING_TIMEOUT_UPDATE 2. Without the second the first changes nothing, and the timeout is removed; what the kernel does
 abbrev pub timeout_removal : Submission → Removal

@@ -38,6 +38,17 @@ pub fn placed_result(asked: u32, slot: u32) -> i32
     }
 }
 
+/// What the operation of an entry ends with that has moved so many bytes, and has put so many into its buffer, with what stands in front of them.
+pub fn done_result(entry: &Submission, done: u64, filled: u64) -> i32
+    ensures { result ≡ spec.done_result entry.now done filled }
+{
+    if entry.opcode == 10 && entry.ioprio & 2 != 0 {
+        filled.min(0x7fff_ffff) as i32
+    } else {
+        done.min(0x7fff_ffff) as i32
+    }
+}
+
 /// Whether a socket of this type is a stream: a receive from it may come in parts.
 pub fn is_stream_type(kind: u32) -> bool
     ensures { result ≡ spec.is_stream_type kind }

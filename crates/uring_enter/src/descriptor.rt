@@ -33,6 +33,9 @@ pub struct Nature {
 
     /// It counts, and so gives and takes 8 bytes at once: an eventfd, or a timerfd.
     pub is_counter: bool,
+
+    /// It has a type of file, as a pipe and a socket too have one.
+    pub has_type: bool,
 }
 
 /// What is known of a descriptor, as far as it was asked.
@@ -202,6 +205,46 @@ pub fn no_buffer_fault(entry: &Submission, nature: &Nature) -> i32
     } else {
         -14
     }
+}
+
+/// Whether it matters to what the request of an entry ends with, which had this fault as it started, whether its group has a buffer.
+pub fn fault_asks_buffer(entry: &Submission, fault: i32) -> bool
+    ensures { result ≡ spec.fault_asks_buffer entry.now fault }
+{
+    entry.flags & 32 != 0 && fault == -9
+}
+
+/// With what the request of an entry ends that had this fault as it started, where its group has a buffer, or that doesn't matter, or its descriptor is this.
+pub fn ends_at_start(entry: &Submission, fault: i32, has_buffer: bool, nature: &Nature) -> i32
+    ensures { result ≡ spec.ends_at_start entry.now fault has_buffer nature.now }
+{
+    if fault_asks_buffer(entry, fault) && !has_buffer {
+        no_buffer_fault(entry, nature)
+    } else {
+        fault
+    }
+}
+
+/// Whether a descriptor with this name in /proc is an eventfd.
+pub fn is_eventfd_name(name: &[u8]) -> bool
+    ensures { result ≡ spec.is_eventfd_name name.now }
+{
+    name == "anon_inode:[eventfd]".as_bytes()
+}
+
+/// Whether one with this name counts: an eventfd, or a timerfd.
+pub fn is_counter_name(name: &[u8]) -> bool
+    ensures { result ≡ spec.is_counter_name name.now }
+{
+    is_eventfd_name(name) || name == "anon_inode:[timerfd]".as_bytes()
+}
+
+/// Whether the descriptor of the transfer of an entry, of so many bytes, is asked for its name, where it is this but for that.
+pub fn asks_counter(entry: &Submission, length: u64, nature: &Nature) -> bool
+    ensures { result ≡ spec.asks_counter entry.now length nature.now }
+{
+    let is_asked = is_transfer(entry.opcode) && !nature.has_type;
+    is_asked && entry.flags & 32 == 0 && length < 8
 }
 
 /// With what the transfer of an entry, of so many bytes, fails as it starts, where its descriptor is this; or 0.

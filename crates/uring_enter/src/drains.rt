@@ -144,12 +144,12 @@ impl Drains {
         !self.has_drained
     }
 
-    /// Whether a completion may be posted that belongs to no end of a request, where so many positions are staged and not taken, in a ring by Linux's rules or by the manual pages'.
-    pub fn may_post(&self, staged: u64, linux: bool) -> bool
+    /// Whether a completion may be posted that belongs to no end of a request, where so many positions are staged and not taken, in a ring by Linux's rules or by the manual pages', for which there is memory or not.
+    pub fn may_post(&self, staged: u64, linux: bool, has_memory: bool) -> bool
         ensures { (log : List Drainage) → KeepsDrains log self.now
-            → result ≡ may_post log staged linux }
+            → result ≡ may_post log staged linux has_memory }
     {
-        (linux || self.outstanding == 0) && staged == 0
+        (linux || self.outstanding == 0) && staged == 0 && has_memory
     }
 }
 

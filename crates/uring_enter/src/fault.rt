@@ -28,3 +28,14 @@ pub fn can_have(code: u8, is_stream: bool, length: u64, fault: Fault) -> bool
         Fault::Short => is_transfer(code) && !is_stream && length > 1,
     }
 }
+
+/// What an operation ends with that is given this fault. `None`: it is made, of fewer bytes.
+pub fn given_result(fault: Fault) -> Option<i32>
+    ensures { result ≡ spec.given_result fault }
+{
+    match fault {
+        Fault::Disk => Some(-5),
+        Fault::Room => Some(-28),
+        Fault::Short => None,
+    }
+}

@@ -4,6 +4,7 @@ ghost use Rattle.std.specs.Prelude.{◌≡◌, List, ◌∷◌};
 ghost use Rattle.uring_enter.specs.Updates as spec;
 ghost use Rattle.uring_enter.specs.Waiters.{Encounter, WasUpdated, KeepsWaiter};
 
+use crate::missing::{Missing, missing_fault};
 use crate::submission::Submission;
 use crate::waiter::Waiter;
 
@@ -62,6 +63,17 @@ pub fn poll_removal(entry: &Submission) -> Removal
         Removal::Update
     } else {
         Removal::Cancel
+    }
+}
+
+/// What a removal ends with, or an update, that has found what it names, or hasn't.
+pub fn removal_result(is_found: bool) -> i32
+    ensures { result ≡ spec.removal_result is_found }
+{
+    if is_found {
+        0
+    } else {
+        missing_fault(Missing::Request)
     }
 }
 

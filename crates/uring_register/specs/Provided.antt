@@ -91,6 +91,10 @@ IsTold log tail n = (n % 2 ^ 16 ≡ tail) × (taken log ≤ n) × (n < taken log
 abbrev pub cell_of : List Change → ℕ → Option ℕ
 cell_of log n = if n == taken log then None else Some (taken log % 2 ^ 16 % entries log)
 
+-- the buffer of such a cell of the application's memory, if that can be read. Our own rule: what can't be read has none, and so has a ring whose tail can't
+abbrev pub in_cell : (is_read : Bool) → Buffer → Option Buffer
+in_cell is_read buffer = if is_read then Some buffer else None
+
 -- a list has no more than 2^16 - 1 buffers at once: of what is provided the first are taken up, so many as there is room for
 abbrev pub taken_up : List Change → Buffers → Buffers
 taken_up log asked = record asked { count = min asked.count (2 ^ 16 - 1 - left log) }

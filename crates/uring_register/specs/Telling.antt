@@ -36,6 +36,10 @@ unregistering_fault log = if is_registered log then pos 0 else error 6
 abbrev pub tells : List Telling → ℕ → Bool
 tells log cq_flags = is_registered log && bit_and cq_flags 1 == 0
 
+-- what is added to it for so many completions that it is to be told of and that are shown together: 1, if it is told; nothing to one whose counter has no room, since a kernel never waits for that. What Linux 6.18 was seen to do, but that there a counter may come to 2^64 - 1, which no write can bring it to
+abbrev pub added : List Telling → (cq_flags told : ℕ) → (has_room : Bool) → ℕ
+added log cq_flags told has_room = if tells log cq_flags && not (told == 0) && has_room then 1 else 0
+
 -- whoever sleeps on it, or looks at memory alone, doesn't call: so a call leaves nothing that can go on where there is one, or the ring has a thread (SQPOLL). Our own rule
 abbrev pub may_leave : List Telling → Bool → Bool
 may_leave log has_thread = not (is_registered log || has_thread)

@@ -73,6 +73,18 @@ impl Eventfd {
         self.is_registered && cq_flags & 1 == 0
     }
 
+    /// What is added to it, where the completion ring's flags are these, and so many completions were shown together that it is to be told of. `has_room`: its counter takes 1 at once.
+    pub fn added(&self, cq_flags: u32, told: u64, has_room: bool) -> u64
+        ensures { (log : List Telling) → KeepsEventfd log self.now
+            → result ≡ spec.added log cq_flags told has_room }
+    {
+        if self.tells(cq_flags) && told > 0 && has_room {
+            1
+        } else {
+            0
+        }
+    }
+
     /// Whether a call may leave what can go on without waiting, on a ring with a thread of its own or without.
     pub fn may_leave(&self, has_thread: bool) -> bool
         ensures { (log : List Telling) → KeepsEventfd log self.now → result ≡ spec.may_leave log has_thread }

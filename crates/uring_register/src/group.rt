@@ -1,6 +1,6 @@
 //! Groups of buffers that the application provides: which one an operation takes, and what is left. The buffers of a list are rows in memory that the caller has; those of a ring stand in memory of the application's.
 
-ghost use Rattle.std.specs.Prelude.{◌≡◌, ◌+◌, ◌-◌, ◌^◌, ◌≤◌, min, length, nat_le, ℕ, true, false, List, [], ◌∷◌};
+ghost use Rattle.std.specs.Prelude.{◌≡◌, ◌+◌, ◌-◌, ◌^◌, ◌≤◌, min, length, nat_le, ℕ, true, false, Option, None, List, [], ◌∷◌};
 ghost use Rattle.uring_register.specs.Provided.{Change, Provided, Removed, Took, Registered, Unregistered, KeepsGroup, IsTold, left};
 ghost use Rattle.uring_register.specs.Provided as spec;
 
@@ -160,16 +160,25 @@ impl Group {
         rows.get(self.first as usize).copied()
     }
 
-    /// The cell of the next buffer of a ring whose tail is this.
-    pub fn cell(&self, tail: u16) -> Option<u16>
-        ensures { (log : List Change) (rows : List Buffer) (n : ℕ) → KeepsGroup log self.now rows
-            → spec.is_ring log ≡ true → IsTold log tail n → result ≡ spec.cell_of log n }
+    /// The cell of the next buffer of a ring whose tail is this, if that could be read.
+    pub fn cell(&self, is_read: bool, tail: u16) -> Option<u16>
+        ensures told { (log : List Change) (rows : List Buffer) (n : ℕ) → KeepsGroup log self.now rows
+            → is_read ≡ true → spec.is_ring log ≡ true → IsTold log tail n
+            → result ≡ spec.cell_of log n }
+        ensures unread { is_read ≡ false → result ≡ None }
     {
-        if tail == self.head || self.entries == 0 {
+        if !is_read || tail == self.head || self.entries == 0 {
             None
         } else {
             Some(self.head % self.entries)
         }
+    }
+
+    /// The buffer of a cell in which this stands, if that could be read.
+    pub fn in_cell(is_read: bool, buffer: &Buffer) -> Option<Buffer>
+        ensures { result ≡ spec.in_cell is_read buffer.now }
+    {
+        if is_read { Some(*buffer) } else { None }
     }
 
     /// An operation has taken the next buffer.

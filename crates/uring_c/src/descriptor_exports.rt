@@ -1,0 +1,100 @@
+//! What counts as an open descriptor or a count, what an operation ends with that had a fault as it started, and which signal is taken back, for C: functions of `c/wulgach_waits.h` and `c/wulgach_calls.h`.
+ghost use Rattle.std.specs.Prelude.{◌≡◌};
+ghost use Rattle.uring_enter.specs.Descriptors as found;
+ghost use Rattle.uring_enter.specs.Openness as opened;
+ghost use Rattle.uring_enter.specs.Signals as signals;
+
+use uring_enter::{
+    Nature, Openness, Submission, asks_counter, asks_openness, counts_as_open, ends_at_start,
+    fault_asks_buffer, is_counter_name, is_eventfd_name, is_missing, is_signal_of_call, may_signal,
+};
+
+/// Whether a descriptor counts as open that is this, and is named by its number, or by the slot that holds its file.
+#[unsafe(no_mangle)]
+pub extern "C" fn wulgach_counts_as_open(openness: &Openness, is_of_slot: bool) -> bool
+    ensures { result ≡ opened.counts_as_open openness.now is_of_slot }
+{
+    counts_as_open(openness, is_of_slot)
+}
+
+/// Whether it matters to what ended with this result how its descriptor is open.
+#[unsafe(no_mangle)]
+pub extern "C" fn wulgach_asks_openness(entry: &Submission, res: i32) -> bool
+    ensures { result ≡ opened.asks_openness entry.now res }
+{
+    asks_openness(entry, res)
+}
+
+/// Whether the request of an entry has ended with this result because something that it needs wasn't there.
+#[unsafe(no_mangle)]
+pub extern "C" fn wulgach_is_missing(
+    entry: &Submission,
+    has_failed: bool,
+    res: i32,
+    openness: &Openness,
+) -> bool
+    ensures { result ≡ opened.is_missing entry.now has_failed res openness.now }
+{
+    is_missing(entry, has_failed, res, openness)
+}
+
+/// Whether it matters to what the request of an entry ends with, which had this fault as it started, whether its group has a buffer.
+#[unsafe(no_mangle)]
+pub extern "C" fn wulgach_fault_asks_buffer(entry: &Submission, fault: i32) -> bool
+    ensures { result ≡ found.fault_asks_buffer entry.now fault }
+{
+    fault_asks_buffer(entry, fault)
+}
+
+/// With what the request of an entry ends that had this fault as it started.
+#[unsafe(no_mangle)]
+pub extern "C" fn wulgach_ends_at_start(
+    entry: &Submission,
+    fault: i32,
+    has_buffer: bool,
+    nature: &Nature,
+) -> i32
+    ensures { result ≡ found.ends_at_start entry.now fault has_buffer nature.now }
+{
+    ends_at_start(entry, fault, has_buffer, nature)
+}
+
+/// Whether a descriptor with this name in /proc is an eventfd.
+#[unsafe(no_mangle)]
+pub extern "C" fn wulgach_is_eventfd_name(name: &[u8]) -> bool
+    ensures { result ≡ found.is_eventfd_name name.now }
+{
+    is_eventfd_name(name)
+}
+
+/// Whether one with this name counts.
+#[unsafe(no_mangle)]
+pub extern "C" fn wulgach_is_counter_name(name: &[u8]) -> bool
+    ensures { result ≡ found.is_counter_name name.now }
+{
+    is_counter_name(name)
+}
+
+/// Whether the descriptor of the transfer of an entry, of so many bytes, is asked for its name, where it is this but for that.
+#[unsafe(no_mangle)]
+pub extern "C" fn wulgach_asks_counter(entry: &Submission, length: u64, nature: &Nature) -> bool
+    ensures { result ≡ found.asks_counter entry.now length nature.now }
+{
+    asks_counter(entry, length, nature)
+}
+
+/// Whether a signal may have come of an operation that ended with this.
+#[unsafe(no_mangle)]
+pub extern "C" fn wulgach_may_signal(entry: &Submission, res: i32) -> bool
+    ensures { result ≡ signals.may_signal entry.now res }
+{
+    may_signal(entry, res)
+}
+
+/// Whether a signal that was taken is that of the call.
+#[unsafe(no_mangle)]
+pub extern "C" fn wulgach_is_signal_of_call(code: i32, is_own: bool) -> bool
+    ensures { result ≡ signals.is_of_call code is_own }
+{
+    is_signal_of_call(code, is_own)
+}

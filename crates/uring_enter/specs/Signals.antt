@@ -1,0 +1,15 @@
+-- SIGXFSZ, which comes of a call that makes a file longer than a process may have one. setrlimit(2), RLIMIT_FSIZE. In a kernel a worker of its own makes the call, and the program gets no signal: what Linux 6.18 was seen to do.
+use Rattle.std.specs.Prelude.{ℤ, pos, Bool, ◌&&◌, ◌||◌, ◌==◌}
+use Rattle.std.specs.Ordering.{int_eq}
+use Rattle.uring_enter.specs.declared.submission.Submission.{Submission}
+use Rattle.uring_enter.specs.Needs.{is_write}
+use Rattle.uring_entry.specs.Errors.{error}
+
+-- a write, FALLOCATE (17) or SPLICE (30) may have had one that ends with -27 (EFBIG)
+abbrev pub may_signal : Submission → ℤ → Bool
+may_signal e res =
+    (is_write e.opcode || e.opcode == 17 || e.opcode == 30) && int_eq res (error 27)
+
+-- a signal is that of the call if it is told as sent by this process as kill(2) sends it, SI_USER (0). Any other the program was sent, and it stays pending. sigaction(2); what Linux 6.18 was seen to do
+abbrev pub is_of_call : (code : ℤ) → (is_own : Bool) → Bool
+is_of_call code is_own = int_eq code (pos 0) && is_own

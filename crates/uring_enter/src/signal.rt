@@ -1,0 +1,21 @@
+//! Behind which results a signal is taken back, SIGXFSZ, and which signal is the call's. setrlimit(2), RLIMIT_FSIZE.
+
+ghost use Rattle.std.specs.Prelude.{◌≡◌};
+ghost use Rattle.uring_enter.specs.Signals as spec;
+
+use crate::needs::is_write;
+use crate::submission::Submission;
+
+/// Whether a signal may have come of an operation that ended with this.
+pub fn may_signal(entry: &Submission, res: i32) -> bool
+    ensures { result ≡ spec.may_signal entry.now res }
+{
+    res == -27 && (is_write(entry.opcode) || matches!(entry.opcode, 17 | 30))
+}
+
+/// Whether a signal that was taken is that of the call, by its code, and by whether this process is told as its sender. Another is to be pending again.
+pub fn is_signal_of_call(code: i32, is_own: bool) -> bool
+    ensures { result ≡ spec.is_of_call code is_own }
+{
+    code == 0 && is_own
+}

@@ -1,0 +1,27 @@
+/* What the kernel says of a descriptor. Whether it counts as open, or as a count, is the library's decision. */
+#define _GNU_SOURCE
+#include "openness.h"
+
+#include <fcntl.h>
+#include <stdio.h>
+#include <unistd.h>
+
+struct wulgach_openness openness_of(int fd)
+{
+    int flags = fcntl(fd, F_GETFL);
+    return (struct wulgach_openness){.is_open = flags >= 0, .is_path = flags >= 0 && flags & O_PATH};
+}
+
+bool counts_as_open(int fd, bool is_of_slot)
+{
+    struct wulgach_openness openness = openness_of(fd);
+    return wulgach_counts_as_open(&openness, is_of_slot);
+}
+
+size_t name_of_descriptor(int fd, char name[MOST_OF_NAME])
+{
+    char path[32];
+    snprintf(path, sizeof path, "/proc/self/fd/%d", fd);
+    ssize_t length = readlink(path, name, MOST_OF_NAME);
+    return length < 0 ? 0 : (size_t)length;
+}

@@ -1,0 +1,20 @@
+/* What the kernel says of a descriptor. */
+#ifndef OPENNESS_H
+#define OPENNESS_H
+
+#include "wulgach_waits.h"
+
+#include <stdbool.h>
+#include <stddef.h>
+
+/* How a descriptor is open. */
+struct wulgach_openness openness_of(int fd);
+
+/* Whether it counts as open, by its number or as what a slot holds. */
+bool counts_as_open(int fd, bool is_of_slot);
+
+/* Writes the name in /proc of what it is open on, which isn't ended, and returns how long that is; 0: it has none. */
+enum { MOST_OF_NAME = 64 };
+size_t name_of_descriptor(int fd, char name[MOST_OF_NAME]);
+
+#endif

@@ -1,0 +1,23 @@
+/* SIGXFSZ. The kernel sends it to the thread that made the call, and a thread's own signals are taken before its process's: so the call's is
+ * taken first, if there is one. Which of those that are taken is the call's is the library's decision.
+ */
+#define _GNU_SOURCE
+#include "signals.h"
+#include "process.h"
+#include "wulgach_calls.h"
+
+#include <signal.h>
+#include <sys/syscall.h>
+#include <unistd.h>
+
+void take_back_signal(void)
+{
+    static const struct timespec no_time = {0, 0};
+    siginfo_t told;
+    sigset_t signals;
+    sigemptyset(&signals);
+    sigaddset(&signals, SIGXFSZ);
+    /* (the C library's call tells a thread's signal as a process's) */
+    if (syscall(SYS_rt_sigtimedwait, &signals, &told, &no_time, (size_t)_NSIG / 8) > 0 && !wulgach_is_signal_of_call(told.si_code, told.si_pid == this_process()))
+        syscall(SYS_rt_tgsigqueueinfo, this_process(), this_thread(), SIGXFSZ, &told);
+}
