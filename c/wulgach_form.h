@@ -87,7 +87,7 @@ enum wulgach_what {
 struct wulgach_piece {
     uint32_t what;              /* enum wulgach_what */
     uint64_t from;
-    uint64_t size;              /* in bytes; 0 of a path, which ends by itself */
+    uint64_t size;              /* in bytes; of a path and of a name, which end by themselves, how many are read at most */
 };
 
 /* What was copied of an entry. */
@@ -109,11 +109,29 @@ int32_t wulgach_next_piece(const struct wulgach_submission *entry, const struct 
  * one buffer, and then, where that has no fault, nothing more, and 0. */
 bool wulgach_has_one_buffer(const struct wulgach_submission *entry);
 
-/* The fault of a time, -22 if it is negative; of a message with more than 1,024 vectors, -90 (EMSGSIZE), before these are copied; and of a
- * RECVMSG that goes on, -22 or -75 (EOVERFLOW) if what stands in front of the bytes is too long. Each is 0 if there is none. */
+/* The fault of a path that was read, or of an attribute's name, which is of so many letters and has its end, or not, in what was read of it;
+ * or 0. Of a path without an end -36 (ENAMETOOLONG), and of an empty one -2 (ENOENT), but of the first path of a STATX or a LINKAT with
+ * AT_EMPTY_PATH. Of a name without an end, of none or of more than 255 letters -34 (ERANGE). `is_second`: it is WULGACH_SECOND_PATH. */
+int32_t wulgach_name_fault(const struct wulgach_submission *entry, bool is_second, uint64_t length, bool has_end);
+
+/* The fault of a time, -22 if it is negative, or 0. */
 int32_t wulgach_time_fault(int64_t seconds, int64_t nanoseconds);
-int32_t wulgach_message_fault(uint64_t vectors);
-int32_t wulgach_room_fault(const struct wulgach_submission *entry, uint32_t name, uint64_t control);
+
+/* The header of a message, as it was copied: `struct msghdr`, with what counts of it. */
+struct wulgach_header {
+    uint64_t name;              /* where the address stands, or 0 */
+    uint64_t vectors;           /* where the vectors stand, */
+    uint64_t vector_count;      /* and how many there are */
+    uint64_t control_size;      /* of control data, in bytes */
+    uint32_t name_size;         /* of the address, in bytes: 31 bits, else it is negative */
+};
+
+/* Writes the piece that is copied next of an entry's message (WULGACH_ADDRESS or WULGACH_VECTORS), behind so many of which the last has this
+ * fault, or 0, and returns 1. Else nothing more is copied, and it returns the fault of the message, or 0. These come in this order: -22 (EINVAL) of
+ * an address whose length is negative; that of the address, which only a message that is sent has copied; -90 (EMSGSIZE) of more than 1,024
+ * vectors; -22 of more than one where it takes a provided buffer; that of the vectors; and -75 (EOVERFLOW) of a RECVMSG that goes on, if
+ * what stands in front of the bytes has no length of 31 bits. */
+int32_t wulgach_next_message_piece(const struct wulgach_submission *entry, const struct wulgach_header *header, uint32_t copied, int32_t fault, struct wulgach_piece *piece);
 
 /* How many vectors the message of an entry has that has so many: none count as an empty one, where it takes a provided buffer. */
 uint64_t wulgach_message_vectors(const struct wulgach_submission *entry, uint64_t vectors);

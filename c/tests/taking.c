@@ -126,20 +126,19 @@ static void copy_pieces(void)
     demand(NEXT(0, .opcode = READV, .addr = 8, .len = 3) == 1 && piece.what == WULGACH_VECTORS && piece.from == 8 && piece.size == 48, "vectors");
     demand(NEXT(0, .opcode = READ) == 1 && piece.what == WULGACH_BUFFER, "a buffer");
     demand(next(set, 0, &piece) == 1 && piece.what == WULGACH_SECOND_PATH && piece.from == 1, "an attribute's name");
-    demand(next(set, 1, &piece) == 1 && piece.what == WULGACH_PATH && piece.from == 3, "its file");
-    demand(next(set, 2, &piece) == 1 && piece.what == WULGACH_VALUE && piece.from == 2 && piece.size == 5 && next(set, 3, &piece) == 0, "its value");
+    demand(next(set, 1, &piece) == 1 && piece.what == WULGACH_VALUE && piece.from == 2 && piece.size == 5, "its value");
+    demand(next(set, 2, &piece) == 1 && piece.what == WULGACH_PATH && piece.from == 3 && next(set, 3, &piece) == 0, "its file");
+    set.len = 0;
+    demand(next(set, 1, &piece) == 1 && piece.what == WULGACH_PATH && piece.from == 3 && next(set, 2, &piece) == 0, "its file behind no value");
     set.len = 65537;
-    demand(next(set, 2, &piece) == -7 && NEXT(0, .opcode = CONNECT, .off = 129) == -22 && NEXT(0, .opcode = CONNECT, .off = 128) == 1, "too long");
+    demand(next(set, 1, &piece) == -7 && NEXT(0, .opcode = CONNECT, .off = 129) == -22 && NEXT(0, .opcode = CONNECT, .off = 128) == 1, "too long");
     demand(NEXT(1, .opcode = SEND_ZC, .off = 1, .file_index = 0x10080) == 1 && NEXT(1, .opcode = SEND_ZC) == 0, "where a send goes");
     demand(NEXT(0, .opcode = OPENAT2, .addr = 1, .off = 2, .len = 32) == 1 && piece.what == WULGACH_HOW && piece.from == 2 && piece.size == 32, "how a file is opened");
     demand(NEXT(1, .opcode = OPENAT2, .addr = 1, .off = 2, .len = 32) == 1 && piece.what == WULGACH_PATH && piece.from == 1, "its path comes behind that");
     demand(NEXT(0, .opcode = OPENAT2, .len = 4097) == -7 && wulgach_how_fault(false) == -7 && wulgach_how_fault(true) == 0, "a longer structure");
     demand(wulgach_time_fault(0, 0) == 0 && wulgach_time_fault(-1, 5) == -22 && wulgach_time_fault(5, -1) == -22, "a time");
-    demand(wulgach_message_fault(1024) == 0 && wulgach_message_fault(1025) == -90, "a message");
     struct wulgach_submission selects = {.opcode = RECVMSG, .flags = 32};
     demand(wulgach_message_vectors(&selects, 0) == 1 && wulgach_message_vectors(&selects, 2) == 2 && wulgach_message_vectors(&(struct wulgach_submission){.opcode = RECVMSG}, 0) == 0, "its vectors");
-    struct wulgach_submission receive = {.opcode = RECVMSG, .ioprio = 2};
-    demand(wulgach_room_fault(&receive, 8, 8) == 0 && wulgach_room_fault(&receive, UINT32_MAX, 8) == -22 && wulgach_room_fault(&receive, INT32_MAX, 8) == -75 && wulgach_room_fault(&set, UINT32_MAX, 8) == 0, "what stands in front");
     struct wulgach_core_entry made;
     struct wulgach_submission cancel = {.opcode = 14, .flags = 255, .user_data = 5, .addr = 6};
     wulgach_core_entry_of(&cancel, WULGACH_FORM_CANCEL, &made);
@@ -163,6 +162,62 @@ static void copy_pieces(void)
         demand(!wulgach_has_one_buffer(&entry) || (is_buffer && ends), "one buffer is told, and then nothing");
     }
     demand(wulgach_has_one_buffer(&(struct wulgach_submission){.opcode = READ}) && !wulgach_has_one_buffer(&set), "a read has one buffer");
+}
+
+/* As a real ring of Linux 6.18 ends entries with such a path or name. */
+static void look_at_names(void)
+{
+    enum { OPENAT = 18, STATX = 21, OPENAT2 = 28, RENAMEAT = 35, UNLINKAT, MKDIRAT, SYMLINKAT, LINKAT, FSETXATTR = 41, SETXATTR, FGETXATTR, GETXATTR, EMPTY_PATH = 0x1000 };
+    static const struct {
+        uint8_t opcode;
+        uint32_t flags;
+        bool is_second;
+        uint64_t length;
+        bool has_end;
+        int32_t fault;
+    } rows[] = {
+        {OPENAT, 0, false, 0, true, -2}, {OPENAT, EMPTY_PATH, false, 0, true, -2}, {OPENAT, 0, false, 4095, true, 0}, {OPENAT, 0, false, 4096, false, -36}, {OPENAT2, 0, false, 0, true, -2},
+        {STATX, 0, false, 0, true, -2}, {STATX, EMPTY_PATH, false, 0, true, 0}, {STATX, EMPTY_PATH, false, 4096, false, -36}, {MKDIRAT, 0, false, 0, true, -2},
+        {UNLINKAT, EMPTY_PATH, false, 0, true, -2}, {RENAMEAT, 0, false, 0, true, -2}, {RENAMEAT, EMPTY_PATH, true, 0, true, -2}, {RENAMEAT, 0, true, 4096, false, -36},
+        {SYMLINKAT, 0, false, 0, true, -2}, {SYMLINKAT, 0, true, 0, true, -2}, {LINKAT, 0, false, 0, true, -2}, {LINKAT, EMPTY_PATH, false, 0, true, 0}, {LINKAT, EMPTY_PATH, true, 0, true, -2}, {LINKAT, 0x400, false, 0, true, -2},
+        {FSETXATTR, 0, true, 0, true, -34}, {SETXATTR, 0, true, 256, false, -34}, {FGETXATTR, 0, true, 255, true, 0}, {GETXATTR, 0, true, 0, true, -34}, {GETXATTR, 0, true, 1, true, 0},
+        {SETXATTR, 0, false, 0, true, -2}, {GETXATTR, EMPTY_PATH, false, 0, true, -2}, {GETXATTR, 0, false, 4096, false, -36}, {FSETXATTR, 0, true, 256, true, -34},
+    };
+    for (size_t i = 0; i < sizeof rows / sizeof *rows; i++) {
+        struct wulgach_submission entry = {.opcode = rows[i].opcode, .op_flags = rows[i].flags};
+        demand(wulgach_name_fault(&entry, rows[i].is_second, rows[i].length, rows[i].has_end) == rows[i].fault, "a path or a name");
+    }
+}
+
+/* The same of messages, without their faults of memory: what is copied behind what, and what that ends with. */
+static void look_at_messages(void)
+{
+    enum { SENDMSG = 9, RECVMSG, SENDMSG_ZC = 48, SELECT = 32, GOES_ON = 2, ADDRESS = 1000, VECTORS = 2000 };
+    static const struct {
+        uint8_t opcode, flags;
+        uint16_t ioprio;
+        struct wulgach_header header;
+        int32_t found[3];
+    } rows[] = {
+        {SENDMSG, 0, 0, {8, 16, 2, 0, 20}, {ADDRESS + 20, VECTORS + 32, 0}}, {SENDMSG_ZC, 0, 0, {8, 16, 0, 0, 999}, {ADDRESS + 128, 0}}, {SENDMSG, 0, 0, {0, 16, 1, 0, UINT32_MAX}, {VECTORS + 16, 0}},
+        {SENDMSG, 0, 0, {8, 16, 1, 0, 0}, {VECTORS + 16, 0}}, {SENDMSG, 0, 0, {8, 16, 1025, 0, UINT32_MAX}, {-22}}, {SENDMSG, 0, 0, {8, 16, 1025, 0, 1}, {ADDRESS + 1, -90}}, {SENDMSG, 0, 0, {0, 16, 1024, 0, 0}, {VECTORS + 16384, 0}},
+        {RECVMSG, 0, 0, {8, 16, 1, 0, 20}, {VECTORS + 16, 0}}, {RECVMSG, 0, 0, {8, 16, 0, 0, 1u << 31}, {-22}}, {RECVMSG, 0, 0, {0, 16, 0, 0, 1u << 31}, {0}}, {RECVMSG, 0, 0, {0, 16, UINT64_MAX, 0, 0}, {-90}},
+        {RECVMSG, SELECT, 0, {0, 16, 2, 0, 0}, {-22}}, {RECVMSG, SELECT, 0, {0, 16, 1025, 0, 0}, {-90}}, {RECVMSG, SELECT, 0, {0, 16, 1, UINT64_MAX, UINT32_MAX}, {VECTORS + 16, 0}},
+        {RECVMSG, SELECT, GOES_ON, {0, 16, 0, 0, UINT32_MAX}, {-75}}, {RECVMSG, SELECT, GOES_ON, {8, 16, 0, 0, UINT32_MAX}, {-22}}, {RECVMSG, SELECT, GOES_ON, {0, 16, 1, 1u << 31, 0}, {VECTORS + 16, -75}},
+        {RECVMSG, SELECT, GOES_ON, {8, 16, 1, INT32_MAX - 16, 0}, {VECTORS + 16, 0}}, {RECVMSG, SELECT, GOES_ON, {8, 16, 1, INT32_MAX - 16, 1}, {VECTORS + 16, -75}}, {RECVMSG, SELECT, GOES_ON, {8, 16, 1, UINT64_MAX, 1}, {VECTORS + 16, -75}},
+    };
+    for (size_t i = 0; i < sizeof rows / sizeof *rows; i++) {
+        struct wulgach_submission entry = {.opcode = rows[i].opcode, .flags = rows[i].flags, .ioprio = rows[i].ioprio};
+        int32_t next = 1;
+        for (uint32_t count = 0; next > 0; count++) {
+            struct wulgach_piece piece;
+            next = wulgach_next_message_piece(&entry, &rows[i].header, count, 0, &piece);
+            int32_t found = next <= 0 ? next : (piece.what == WULGACH_ADDRESS ? ADDRESS : VECTORS) + (int32_t)piece.size;
+            demand(found == rows[i].found[count], "a message");
+            demand(next <= 0 || piece.from == (piece.what == WULGACH_ADDRESS ? 8 : 16), "where it stands");
+        }
+        demand(wulgach_next_message_piece(&entry, &rows[i].header, 0, -14, &(struct wulgach_piece){0}) == -14, "the fault of a piece");
+    }
 }
 
 /* The fault of an entry behind its pieces, of which the last has one. */
@@ -194,6 +249,8 @@ int main(void)
     post();
     search_and_update();
     copy_pieces();
+    look_at_names();
+    look_at_messages();
     printf("taking: as called for\n");
     return 0;
 }

@@ -8,7 +8,6 @@
 
 #include <errno.h>
 #include <limits.h>
-#include <stdbool.h>
 #include <stdlib.h>
 #include <string.h>
 #include <sys/uio.h>
@@ -45,22 +44,21 @@ int copy_out(uint64_t to, const void *from, size_t size)
     return 0;
 }
 
-int copy_path(char **to, uint64_t from)
+int copy_text(struct text *text, uint64_t from, size_t most)
 {
-    char path[PATH_MAX];
+    char letters[PATH_MAX];
+    const char *end = NULL;
     size_t length = 0;
-    while (length < sizeof path) {
+    while (!end && length < most) {
         size_t piece = SMALLEST_PAGE - (from + length) % SMALLEST_PAGE;
-        if (piece > sizeof path - length)
-            piece = sizeof path - length;
-        int result = copy_in(path + length, from + length, piece);
+        if (piece > most - length)
+            piece = most - length;
+        int result = copy_in(letters + length, from + length, piece);
         if (result < 0)
             return result;
-        if (memchr(path + length, '\0', piece)) {
-            *to = strdup(path);
-            return *to ? 0 : wulgach_missing_fault(WULGACH_NO_MEMORY_OWN);
-        }
-        length += piece;
+        end = memchr(letters + length, '\0', piece);
+        length = end ? (size_t)(end - letters) : length + piece;
     }
-    return wulgach_missing_fault(WULGACH_NO_PATH_END);
+    *text = (struct text){.letters = strndup(letters, length), .length = length, .has_end = end};
+    return text->letters ? 0 : wulgach_missing_fault(WULGACH_NO_MEMORY_OWN);
 }

@@ -4,6 +4,7 @@
 #ifndef COPYING_H
 #define COPYING_H
 
+#include <stdbool.h>
 #include <stddef.h>
 #include <stdint.h>
 
@@ -11,7 +12,14 @@
 int copy_in(void *to, uint64_t from, size_t size);
 int copy_out(uint64_t to, const void *from, size_t size);
 
-/* A copy of a path in memory of its own. Returns 0, its fault or -ENOMEM. */
-int copy_path(char **to, uint64_t from);
+/* What was read of a text: with its end, or without, in memory of its own. */
+struct text {
+    char *letters;
+    uint64_t length;
+    bool has_end;
+};
+
+/* Copies a text of so many bytes at most, its end with them. Returns 0, its fault or -ENOMEM. */
+int copy_text(struct text *text, uint64_t from, size_t most);
 
 #endif

@@ -24,7 +24,8 @@ static int copy_of(void **to, uint64_t from, size_t size)
     return *to ? copy_in(*to, from, size) : wulgach_missing_fault(WULGACH_NO_MEMORY_OWN);
 }
 
-int32_t measure_vectors(struct request *request)
+/* Counts their bytes, and returns their fault, or 0. */
+static int32_t measure_vectors(struct request *request)
 {
     int32_t fault = 0;
     for (uint32_t i = 0; i < request->vector_count; i++) {
@@ -35,10 +36,10 @@ int32_t measure_vectors(struct request *request)
     return fault;
 }
 
-static int copy_vectors(struct request *request, const struct wulgach_piece *piece)
+int copy_vectors(struct request *request, const struct wulgach_piece *piece)
 {
     int result = copy_of((void **)&request->vectors, piece->from, piece->size);
-    request->vector_count = result < 0 ? 0 : request->entry.len;
+    request->vector_count = result < 0 ? 0 : (uint32_t)(piece->size / sizeof *request->vectors);
     return result < 0 ? result : measure_vectors(request);
 }
 
@@ -74,9 +75,20 @@ static int copy_how(struct request *request, const struct wulgach_piece *piece)
     return wulgach_how_fault(is_rest_zero);
 }
 
-static int copy_first_path(struct request *request, uint64_t from)
+/* A path, or the name of an attribute. */
+static int copy_name(const struct request *request, char **to, const struct wulgach_piece *piece)
 {
-    int result = copy_path(&request->path, from);
+    struct text text;
+    int result = copy_text(&text, piece->from, piece->size);
+    if (result < 0)
+        return result;
+    *to = text.letters;
+    return wulgach_name_fault(submission_of(&request->entry), piece->what == WULGACH_SECOND_PATH, text.length, text.has_end);
+}
+
+static int copy_first_path(struct request *request, const struct wulgach_piece *piece)
+{
+    int result = copy_name(request, &request->path, piece);
     return result < 0 || !request->how ? result : wulgach_open_fault(submission_of(&request->entry), request->how->flags);
 }
 
@@ -89,9 +101,9 @@ static int copy_piece(struct request *request, const struct wulgach_piece *piece
     case WULGACH_VECTORS:
         return copy_vectors(request, piece);
     case WULGACH_PATH:
-        return copy_first_path(request, piece->from);
+        return copy_first_path(request, piece);
     case WULGACH_SECOND_PATH:
-        return copy_path(&request->second_path, piece->from);
+        return copy_name(request, &request->second_path, piece);
     case WULGACH_HOW:
         return copy_how(request, piece);
     case WULGACH_TIME:

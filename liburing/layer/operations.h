@@ -15,8 +15,8 @@ enum { WOULD_WAIT = -512 };
  * be read is refused. Returns 0 or -ENOMEM. */
 int copy_behind(struct request *request, const struct request *before);
 
-/* Finds how much the vectors of a request hold, and returns their fault, or 0. */
-int32_t measure_vectors(struct request *request);
+/* Copies vectors, and finds how much they hold. Returns their fault, or 0, or -ENOMEM. */
+int copy_vectors(struct request *request, const struct wulgach_piece *piece);
 
 /* Finds out what a request is carried out on: its file, its buffer, and whether it may have to wait. */
 void assign(struct ring *ring, struct request *request);

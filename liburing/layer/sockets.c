@@ -35,30 +35,45 @@ int make_message(struct request *request)
     return 0;
 }
 
+/* What the library wants to know of a message. */
+static struct wulgach_header header_of(const struct msghdr *message)
+{
+    return (struct wulgach_header){
+        .name = (uintptr_t)message->msg_name,
+        .name_size = message->msg_namelen,
+        .vectors = (uintptr_t)message->msg_iov,
+        .vector_count = message->msg_iovlen,
+        .control_size = message->msg_controllen,
+    };
+}
+
+/* Copies each piece of a message that the library tells, and returns its fault, or 0, or that of refused memory. */
+static int32_t copy_message_pieces(struct request *request, const struct wulgach_header *header)
+{
+    struct wulgach_piece piece;
+    int32_t fault = 0, next;
+    for (uint32_t count = 0; (next = wulgach_next_message_piece(submission_of(&request->entry), header, count, fault, &piece)) > 0; count++)
+        fault = piece.what == WULGACH_ADDRESS ? copy_address(request, piece.from, piece.size) : copy_vectors(request, &piece);
+    return next;
+}
+
 int copy_message(struct request *request, uint64_t from)
 {
-    struct msghdr *message = calloc(1, sizeof *message);
-    request->value = message;
-    if (!message)
+    struct addressed *addressed = request->value = calloc(1, sizeof *addressed);
+    if (!addressed)
         return wulgach_missing_fault(WULGACH_NO_MEMORY_OWN);
-    int fault = copy_in(message, from, sizeof *message);
+    struct msghdr *message = &addressed->message;
+    int32_t fault = copy_in(message, from, sizeof *message);
+    struct wulgach_header header = header_of(message);
+    request->vectors = &request->one;       /* an empty one, if none is copied */
     if (fault == 0)
-        fault = wulgach_message_fault(message->msg_iovlen);
+        fault = copy_message_pieces(request, &header);
     if (fault < 0)
         return fault;
-    size_t size = message->msg_iovlen * sizeof *request->vectors;
-    request->vectors = malloc(size + sizeof *request->vectors);
-    if (!request->vectors)
-        return wulgach_missing_fault(WULGACH_NO_MEMORY_OWN);
-    fault = copy_in(request->vectors, (uintptr_t)message->msg_iov, size);
-    if (fault < 0)
-        return fault;
-    request->vectors[message->msg_iovlen] = (struct iovec){0};      /* an empty one, if there is one more */
-    message->msg_iovlen = wulgach_message_vectors(submission_of(&request->entry), message->msg_iovlen);
-    request->vector_count = (uint32_t)message->msg_iovlen;
+    request->vector_count = (uint32_t)wulgach_message_vectors(submission_of(&request->entry), header.vector_count);
     message->msg_iov = request->vectors;
-    fault = measure_vectors(request);
-    return fault < 0 ? fault : wulgach_room_fault(submission_of(&request->entry), message->msg_namelen, message->msg_controllen);
+    message->msg_iovlen = request->vector_count;
+    return 0;
 }
 
 int copy_address(struct request *request, uint64_t from, size_t size)

@@ -212,10 +212,55 @@ static void test_how(void)
     close_ring(&ring);
 }
 
+/* What is wrong with a path or a name is a fault of its entry, and the call ends behind that; seen at a ring of Linux 6.18. */
+static void test_refused_names(void)
+{
+    enum { NO_FAULT = 1 };
+    static char of_4096[4097], of_256[257], of_255[256];
+    static const struct {
+        uint8_t opcode;
+        uint32_t flags;
+        const char *first, *second, *third;
+        int32_t res;
+    } rows[] = {
+        {IORING_OP_OPENAT, 0, "", NULL, NULL, -ENOENT}, {IORING_OP_OPENAT, O_DSYNC, "", NULL, NULL, -ENOENT}, {IORING_OP_OPENAT, 0, of_4096, NULL, NULL, -ENAMETOOLONG}, {IORING_OP_OPENAT, 0, of_4096 + 1, NULL, NULL, NO_FAULT},
+        {IORING_OP_MKDIRAT, 0, "", NULL, NULL, -ENOENT}, {IORING_OP_UNLINKAT, 0, "", NULL, NULL, -ENOENT}, {IORING_OP_UNLINKAT, AT_REMOVEDIR, "", NULL, NULL, -ENOENT},
+        {IORING_OP_STATX, 0, "", NULL, NULL, -ENOENT}, {IORING_OP_STATX, AT_EMPTY_PATH, "", NULL, NULL, NO_FAULT}, {IORING_OP_STATX, AT_EMPTY_PATH, NULL, NULL, NULL, -EFAULT},
+        {IORING_OP_RENAMEAT, 0, "", "new", NULL, -ENOENT}, {IORING_OP_RENAMEAT, 0, "old", "", NULL, -ENOENT}, {IORING_OP_RENAMEAT, 0, "", NULL, NULL, -ENOENT}, {IORING_OP_RENAMEAT, 0, NULL, "", NULL, -EFAULT},
+        {IORING_OP_SYMLINKAT, 0, "", "new", NULL, -ENOENT}, {IORING_OP_SYMLINKAT, 0, "old", "", NULL, -ENOENT}, {IORING_OP_SYMLINKAT, 0, of_4096, "", NULL, -ENAMETOOLONG},
+        {IORING_OP_LINKAT, 0, "", "new", NULL, -ENOENT}, {IORING_OP_LINKAT, AT_EMPTY_PATH, "", "", NULL, -ENOENT}, {IORING_OP_LINKAT, AT_EMPTY_PATH, "", "no/new", NULL, NO_FAULT},
+        {IORING_OP_FGETXATTR, 0, "", NULL, NULL, -ERANGE}, {IORING_OP_FGETXATTR, 0, of_256, NULL, NULL, -ERANGE}, {IORING_OP_FGETXATTR, 0, of_4096, NULL, NULL, -ERANGE}, {IORING_OP_FGETXATTR, 0, of_255, NULL, NULL, NO_FAULT},
+        {IORING_OP_FSETXATTR, 0, "", "v", NULL, -ERANGE}, {IORING_OP_GETXATTR, 0, "", NULL, NULL, -ERANGE}, {IORING_OP_GETXATTR, 0, "user.a", NULL, "", -ENOENT}, {IORING_OP_GETXATTR, 0, "user.a", NULL, of_4096, -ENAMETOOLONG},
+        {IORING_OP_SETXATTR, 0, of_256, "v", "", -ERANGE}, {IORING_OP_SETXATTR, 0, "user.a", "v", "", -ENOENT}, {IORING_OP_SETXATTR, 0, "user.a", NULL, "", -EFAULT},
+    };
+    struct ring ring;
+    int32_t results[2];
+    struct statx told;
+    memset(of_4096, 'l', 4096);
+    memset(of_256, 'l', 256);
+    memset(of_255, 'l', 255);
+    make_ring(&ring, 8, 0, 0);
+    for (size_t i = 0; i < sizeof rows / sizeof *rows; i++) {
+        struct io_uring_sqe *entry = put_path(&ring, rows[i].opcode, 0, rows[i].first);
+        entry->off = rows[i].opcode == IORING_OP_STATX ? (uintptr_t)&told : (uintptr_t)rows[i].second;
+        entry->addr3 = (uintptr_t)rows[i].third;
+        entry->len = rows[i].opcode == IORING_OP_LINKAT || rows[i].opcode == IORING_OP_RENAMEAT ? (uint32_t)root : rows[i].opcode == IORING_OP_SETXATTR || rows[i].opcode == IORING_OP_FSETXATTR;
+        entry->statx_flags = rows[i].flags;
+        put(&ring, IORING_OP_NOP, 1, 0);
+        uint32_t taken = (uint32_t)enter(&ring, 2, 0, 0);
+        check(taken == (rows[i].res == NO_FAULT ? 2 : 1));
+        check(taken == 2 || enter(&ring, 1, 0, 0) == 1);
+        reap_all(&ring, 2, results);
+        check(rows[i].res == NO_FAULT || results[0] == rows[i].res);
+        check(results[1] == 0);
+    }
+    close_ring(&ring);
+}
+
 int main(int count, char **words)
 {
     static const struct named tests[] = {
-        {"names", test_names}, {"how", test_how}, {"chain", test_chain}, {"attributes", test_attributes}, {"epoll", test_epoll}, {"table", test_table},
+        {"names", test_names}, {"refused names", test_refused_names}, {"how", test_how}, {"chain", test_chain}, {"attributes", test_attributes}, {"epoll", test_epoll}, {"table", test_table},
     };
     check(mkdtemp(folder) && (root = open(folder, O_PATH | O_DIRECTORY)) >= 0);
     int status = run_tests(tests, sizeof tests / sizeof *tests, count > 1 ? words[1] : NULL);

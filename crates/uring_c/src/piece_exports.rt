@@ -4,6 +4,8 @@ ghost use Rattle.uring_enter.specs.Pieces as spec;
 ghost use Rattle.uring_enter.specs.Buffers as buffers;
 ghost use Rattle.uring_enter.specs.Copies as copies;
 ghost use Rattle.uring_enter.specs.Copies.{next_of};
+ghost use Rattle.uring_enter.specs.MessageCopies.{next_of_message};
+ghost use Rattle.uring_enter.specs.Names as names;
 ghost use Rattle.uring_enter.specs.Pieces.{buffer_of};
 ghost use Rattle.uring_enter.specs.declared.copying.Copying.TheVariants.{Copies, Ends};
 ghost use Rattle.uring_enter.specs.declared.member.Entry.{Entry as Before};
@@ -12,8 +14,9 @@ ghost use Rattle.uring_crossing.specs.CourseForm.{entry_of};
 
 use uring_crossing::course_words::entry_if;
 use uring_enter::{
-    Copying, Entry, Piece, Submission, What, has_one_buffer, how_fault, length_with, message_fault,
-    message_vectors, next_piece, open_fault, room_fault, time_fault, vector_fault,
+    Copying, Entry, Header, Piece, Submission, What, has_one_buffer, how_fault, length_with,
+    message_vectors, name_fault, next_message_piece, next_piece, open_fault, time_fault,
+    vector_fault,
 };
 
 /// A piece that is copied: `struct wulgach_piece` of the header.
@@ -120,14 +123,6 @@ pub extern "C" fn wulgach_open_fault(entry: &Submission, flags: u64) -> i32
     open_fault(entry, flags)
 }
 
-/// The fault of a message with so many vectors, or 0.
-#[unsafe(no_mangle)]
-pub extern "C" fn wulgach_message_fault(vectors: u64) -> i32
-    ensures { result ≡ spec.message_fault vectors }
-{
-    message_fault(vectors)
-}
-
 /// How many vectors a message with so many has.
 #[unsafe(no_mangle)]
 pub extern "C" fn wulgach_message_vectors(entry: &Submission, vectors: u64) -> u64
@@ -136,12 +131,38 @@ pub extern "C" fn wulgach_message_vectors(entry: &Submission, vectors: u64) -> u
     message_vectors(entry, vectors)
 }
 
-/// The fault of a message that is received again and again, with so many bytes of an address and of control data, or 0.
+/// Writes the piece that is copied next of an entry's message, behind so many of which the last has this fault, or 0, and returns 1. Else nothing more is copied: returns the fault of the message, or 0.
 #[unsafe(no_mangle)]
-pub extern "C" fn wulgach_room_fault(entry: &Submission, name: u32, control: u64) -> i32
-    ensures { result ≡ spec.room_fault entry.now name control }
+pub extern "C" fn wulgach_next_message_piece(
+    entry: &Submission,
+    header: &Header,
+    copied: u32,
+    fault: i32,
+    piece: &mut PieceWords,
+) -> i32
+    ensures next { result ≡ word_of_copying (next_of_message entry.now header.now copied fault) }
+    ensures piece { piece.new ≡ words_of_copying (next_of_message entry.now header.now copied fault) piece.old }
 {
-    room_fault(entry, name, control)
+    match next_message_piece(entry, header, copied, fault) {
+        Copying::Copies(next) => {
+            *piece = piece_words(&next);
+            1
+        }
+        Copying::Ends(fault) => fault,
+    }
+}
+
+/// The fault of the path that an entry acts on, or of its second path or an attribute's name, of so many letters, or 0.
+#[unsafe(no_mangle)]
+pub extern "C" fn wulgach_name_fault(
+    entry: &Submission,
+    is_second: bool,
+    length: u64,
+    has_end: bool,
+) -> i32
+    ensures { result ≡ names.name_fault entry.now is_second length has_end }
+{
+    name_fault(entry, is_second, length, has_end)
 }
 
 /// The fault of a vector of an entry, behind others that have the fault `before`, or 0.

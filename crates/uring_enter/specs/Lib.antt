@@ -26,6 +26,7 @@ pub mod Provisions
 pub mod Rules
 pub mod Forms
 pub mod Pieces
+pub mod Names
 pub mod Needs
 pub mod Descriptors
 pub mod Readiness
@@ -37,6 +38,7 @@ pub mod Sleeping
 pub mod Tries
 pub mod CallTries
 pub mod Copies
+pub mod MessageCopies
 pub mod Shots
 pub mod Takings
 pub mod Ways

@@ -26,6 +26,13 @@ value_of e = unless (e.len == 0) Value e.off e.len
 abbrev pub address_of : Submission → Option Piece
 address_of e = unless (e.off == 0) Address e.off (bit_and e.file_index 65535)
 
+-- a path ends within 4,096 bytes, its last one 0, and the name of an attribute within 256. path_resolution(7); xattr(7)
+abbrev pub path_at : What → ℕ → Option Piece
+path_at what from = stands what from 4096
+
+abbrev pub name_at : ℕ → Option Piece
+name_at from = stands SecondPath from 256
+
 -- what is copied first; of one buffer nothing is. A vector has 16 bytes, a message 56, a time 16 and an event of an epoll instance 12; how long an address is a connect says in 32 bits of `off`
 abbrev pub first_of : Submission → Option Piece
 first_of e =
@@ -43,29 +50,29 @@ first_of e =
     -- OPENAT2, whose structure says its size
     if e.opcode == 28 then stands How e.off e.len else
     -- OPENAT, STATX, RENAMEAT, UNLINKAT, MKDIRAT, SYMLINKAT and LINKAT
-    if e.opcode == 18 || e.opcode == 21 || nat_le 35 e.opcode && nat_le e.opcode 39 then stands Path e.addr 0 else
+    if e.opcode == 18 || e.opcode == 21 || nat_le 35 e.opcode && nat_le e.opcode 39 then path_at Path e.addr else
     -- EPOLL_CTL, but for EPOLL_CTL_DEL
     if e.opcode == 29 then unless (e.len == 2) Value e.addr 12 else
     -- FSETXATTR, SETXATTR, FGETXATTR and GETXATTR: the attribute's name
-    if nat_le 41 e.opcode && nat_le e.opcode 44 then stands SecondPath e.addr 0 else None
+    if nat_le 41 e.opcode && nat_le e.opcode 44 then name_at e.addr else None
 
 -- what is copied second
 abbrev pub second_of : Submission → Option Piece
 second_of e =
     -- OPENAT2
-    if e.opcode == 28 then stands Path e.addr 0 else
+    if e.opcode == 28 then path_at Path e.addr else
     -- RENAMEAT, SYMLINKAT and LINKAT
-    if e.opcode == 35 || e.opcode == 38 || e.opcode == 39 then stands SecondPath e.off 0 else
-    -- FSETXATTR
-    if e.opcode == 41 then value_of e else
+    if e.opcode == 35 || e.opcode == 38 || e.opcode == 39 then path_at SecondPath e.off else
+    -- FSETXATTR and SETXATTR, if the value has a byte
+    if e.opcode == 41 || e.opcode == 42 && not (e.len == 0) then value_of e else
     -- SETXATTR and GETXATTR: the file's path
-    if e.opcode == 42 || e.opcode == 44 then stands Path e.addr3 0 else
+    if e.opcode == 42 || e.opcode == 44 then path_at Path e.addr3 else
     -- SEND_ZC
     if e.opcode == 47 then address_of e else None
 
--- and third: SETXATTR
+-- and third: the path of a SETXATTR behind its value
 abbrev pub third_of : Submission → Option Piece
-third_of e = if e.opcode == 42 then value_of e else None
+third_of e = if e.opcode == 42 && not (e.len == 0) then path_at Path e.addr3 else None
 
 abbrev pub piece_of : Submission → ℕ → Option Piece
 piece_of e place =
@@ -96,20 +103,9 @@ how_fault is_rest_zero = if is_rest_zero then pos 0 else error 7
 abbrev pub open_fault : Submission → ℕ → ℤ
 open_fault e flags = if not (e.file_index == 0) && has_some flags 524288 then error 22 else pos 0
 
--- more than 1,024 vectors are -90 (EMSGSIZE)
-abbrev pub message_fault : ℕ → ℤ
-message_fault vectors = if nat_le vectors 1024 then pos 0 else error 90
-
 -- a message that is to take a provided buffer (32) and has no vectors has an empty one, which the buffer takes the place of. What Linux 6.18 does
 abbrev pub message_vectors : Submission → ℕ → ℕ
 message_vectors e vectors = if has_some e.flags 32 && vectors == 0 then 1 else vectors
-
--- a RECVMSG that goes on puts 16 bytes, the address and the control data in front of the bytes of each message: -75 (EOVERFLOW) where no number of 31 bits says how many
-abbrev pub room_fault : Submission → ℕ → ℕ → ℤ
-room_fault e name control =
-    if not (e.opcode == 10) || not (has_some e.ioprio 2) then pos 0 else
-    if not (nat_le name 2147483647) then error 22 else
-    if not (nat_le control 2147483647) || not (nat_le (16 + name + control) 2147483647) then error 75 else pos 0
 
 -- what takes a provided buffer (32) has one vector
 abbrev pub selection_fault : Submission → ℕ → ℤ

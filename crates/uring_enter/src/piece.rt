@@ -5,6 +5,12 @@ ghost use Rattle.uring_enter.specs.Pieces as spec;
 
 use crate::submission::Submission;
 
+/// How many bytes a path has at most, its end with them.
+const PATH_SIZE: u64 = 4096;
+
+/// And how many are read at most of the name of an attribute.
+const NAME_SIZE: u64 = 256;
+
 /// What a piece is.
 #[derive(Clone, Copy, Drop)]
 pub enum What {
@@ -44,7 +50,7 @@ pub struct Piece {
     /// Where it begins.
     pub from: u64,
 
-    /// How many bytes it has. A path ends by itself, and has 0 here.
+    /// How many bytes it has. A path and a name end by themselves: at most so many are read of one, its end with them.
     pub size: u64,
 }
 
@@ -75,10 +81,10 @@ fn first_of(entry: &Submission) -> Option<Piece>
         11 | 15 => stands(What::Time, entry.addr, 16),
         12 => unless(entry.op_flags == 0, What::Time, entry.off, 16),
         16 => stands(What::Address, entry.addr, entry.off & 0xffff_ffff),
-        18 | 21 | 35..=39 => stands(What::Path, entry.addr, 0),
+        18 | 21 | 35..=39 => stands(What::Path, entry.addr, PATH_SIZE),
         28 => stands(What::How, entry.off, entry.len as u64),
         29 => unless(entry.len == 2, What::Value, entry.addr, 12),
-        41..=44 => stands(What::SecondPath, entry.addr, 0),
+        41..=44 => stands(What::SecondPath, entry.addr, NAME_SIZE),
         _ => None,
     }
 }
@@ -87,10 +93,11 @@ fn second_of(entry: &Submission) -> Option<Piece>
     ensures { result ≡ spec.second_of entry.now }
 {
     match entry.opcode {
-        28 => stands(What::Path, entry.addr, 0),
-        35 | 38 | 39 => stands(What::SecondPath, entry.off, 0),
+        28 => stands(What::Path, entry.addr, PATH_SIZE),
+        35 | 38 | 39 => stands(What::SecondPath, entry.off, PATH_SIZE),
         41 => value_of(entry),
-        42 | 44 => stands(What::Path, entry.addr3, 0),
+        42 if entry.len != 0 => value_of(entry),
+        42 | 44 => stands(What::Path, entry.addr3, PATH_SIZE),
         47 => address_of(entry),
         _ => None,
     }
@@ -100,7 +107,7 @@ fn third_of(entry: &Submission) -> Option<Piece>
     ensures { result ≡ spec.third_of entry.now }
 {
     match entry.opcode {
-        42 => value_of(entry),
+        42 => unless(entry.len == 0, What::Path, entry.addr3, PATH_SIZE),
         _ => None,
     }
 }
@@ -179,13 +186,6 @@ pub fn open_fault(entry: &Submission, flags: u64) -> i32
     }
 }
 
-/// The fault of a message with so many vectors, which comes before these are copied, or 0.
-pub fn message_fault(vectors: u64) -> i32
-    ensures { result ≡ spec.message_fault vectors }
-{
-    if vectors <= 1024 { 0 } else { -90 }
-}
-
 /// How many vectors a message with so many has: where its entry takes a provided buffer, none count as an empty one.
 pub fn message_vectors(entry: &Submission, vectors: u64) -> u64
     ensures { result ≡ spec.message_vectors entry.now vectors }
@@ -194,21 +194,6 @@ pub fn message_vectors(entry: &Submission, vectors: u64) -> u64
         1
     } else {
         vectors
-    }
-}
-
-/// The fault of a message that is received again and again, with so many bytes of an address and of control data in each buffer, or 0.
-pub fn room_fault(entry: &Submission, name: u32, control: u64) -> i32
-    ensures { result ≡ spec.room_fault entry.now name control }
-{
-    if entry.opcode != 10 || entry.ioprio & 2 == 0 {
-        0
-    } else if name > 0x7fff_ffff {
-        -22
-    } else if control > 0x7fff_ffff || 16 + name as u64 + control > 0x7fff_ffff {
-        -75
-    } else {
-        0
     }
 }
 
