@@ -146,6 +146,7 @@ static enum wulgach_reply_kind sleep_on(struct ring *ring, struct waiting *waiti
 {
     int error, fault = waiting->fault < 0 ? waiting->fault : read_mask(waiting);
     assign_before(ring, UINT64_MAX);
+    hold_new_files(ring);
     hold_files(ring);
     switch (wulgach_sleep_begins(fault, fault == 0 && watch_pipes(ring))) {
     case WULGACH_SLEEP_FAILS:
@@ -230,6 +231,7 @@ static int enter_ring(struct ring *ring, uint32_t flags, struct waiting *waiting
     do_duties_at_begin(ring, false);
     result = carry_call_out(ring, waiting, flags);
     assign_before(ring, UINT64_MAX);
+    hold_new_files(ring);
     do_duties_at_return(ring);
     return result;
 }
