@@ -92,10 +92,14 @@ static bool lists_lock(FILE *locks, int fd)
     return false;
 }
 
+/* An open file description has locks of its own, and is told of one that isn't. Of several it is told of one: then the list of all is read. */
 static bool is_locked(int fd)
 {
-    FILE *locks = fopen("/proc/locks", "re");
-    bool is_listed = locks && lists_lock(locks, fd);
+    struct flock lock = {.l_type = F_WRLCK, .l_whence = SEEK_SET};
+    if (fcntl(fd, F_OFD_GETLK, &lock) < 0 || lock.l_type == F_UNLCK)
+        return false;
+    FILE *locks = lock.l_pid == this_process() ? NULL : fopen("/proc/locks", "re");
+    bool is_listed = locks ? lists_lock(locks, fd) : lock.l_pid == this_process();
     if (locks)
         fclose(locks);
     return is_listed;

@@ -223,22 +223,43 @@ static bool is_locked_for_others(int fd)
     int status;
     pid_t child = fork();
     if (child == 0)
-        _exit(fcntl(fd, F_GETLK, &lock) == 0 && lock.l_type == F_WRLCK);
+        _exit(fcntl(fd, F_GETLK, &lock) == 0 && lock.l_type != F_UNLCK);
     check(waitpid(child, &status, 0) == child && WIFEXITED(status));
     return WEXITSTATUS(status) == 1;
+}
+
+/* A child has a lock too, until its end of a pipe is closed. */
+static pid_t lock_in_child(int fd, int *until)
+{
+    struct flock lock = {.l_type = F_RDLCK, .l_whence = SEEK_SET};
+    int said[2], ends[2];
+    char byte;
+    check(pipe(said) == 0 && pipe(ends) == 0);
+    pid_t child = fork();
+    if (child == 0) {
+        close(ends[1]);
+        _exit(fcntl(fd, F_SETLK, &lock) == 0 && write(said[1], "x", 1) == 1 && read(ends[0], &byte, 1) == 0 ? 0 : 1);
+    }
+    check(read(said[0], &byte, 1) == 1);
+    close(said[0]), close(said[1]), close(ends[0]);
+    *until = ends[1];
+    return child;
 }
 
 /* A registered file that goes leaves the program's locks on it, which go with any descriptor of the program's own. */
 static void test_locks(void)
 {
     struct ring ring;
-    struct flock lock = {.l_type = F_WRLCK, .l_whence = SEEK_SET}, none = {.l_type = F_UNLCK, .l_whence = SEEK_SET};
-    int fd = make_named("file");
+    struct flock lock = {.l_type = F_RDLCK, .l_whence = SEEK_SET}, none = {.l_type = F_UNLCK, .l_whence = SEEK_SET};
+    int fd = make_named("file"), until = -1, status;
     make_ring(&ring, 4, 0, 0);
-    for (int round = 0; round < 3; round++) {
+    for (int round = 0; round < 4; round++) {
+        pid_t child = round % 2 ? lock_in_child(fd, &until) : -1;
         check(fcntl(fd, F_SETLK, &lock) == 0 && is_locked_for_others(fd));
         check(register_at(ring.fd, IORING_REGISTER_FILES, &fd, 1) == 0);
         check(register_at(ring.fd, IORING_UNREGISTER_FILES, NULL, 0) == 0);
+        if (child >= 0)
+            check(close(until) == 0 && waitpid(child, &status, 0) == child && status == 0);
         check(is_locked_for_others(fd));
         check(fcntl(fd, F_SETLK, &none) == 0 && !is_locked_for_others(fd));
     }
