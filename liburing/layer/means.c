@@ -50,10 +50,9 @@ static int32_t open_file(struct ring *ring, const struct wulgach_means *means)
 static int32_t close_file(struct ring *ring, const struct request *request, const struct wulgach_system_call *call)
 {
     int32_t fault = wulgach_holding_fault(request->entry.fd, is_ring(request->entry.fd));
-    if (fault < 0)
-        return fault;
-    hold_files_before(ring, request);
-    return make_call(call);
+    if (fault >= 0)
+        hold_files_before(ring, request);
+    return fault < 0 ? fault : make_call(call);
 }
 
 static int32_t carry_out_by(struct ring *ring, struct request *request, const struct wulgach_means *means)
