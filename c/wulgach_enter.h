@@ -139,6 +139,7 @@ struct wulgach_resting {
     uint64_t looked_at;         /* and how many of these are looked at in passing */
     bool has_due;               /* some are to find their files in their turn, which hasn't come */
     bool runs;                  /* some run */
+    bool has_new;               /* some are outstanding whose files weren't kept yet, if they have any */
     bool has_watches;           /* pipes are watched */
     bool has_ends;              /* something has ended which isn't shown */
     bool is_polled;             /* the ring's descriptor polls */

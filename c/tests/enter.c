@@ -236,6 +236,7 @@ static void do_some_duties(void)
         {{.waiting = 1}, 0, DORMANT, DORMANT},
         {{.has_due = true}, FOUND, 0, FOUND},
         {{.runs = true}, FILES | PIPES, 0, FILES | PIPES},
+        {{.has_new = true}, FILES, 0, FILES},
         {{.has_watches = true}, PIPES, 0, PIPES},
         {{.has_ends = true}, 0, ENDS, ENDS},
         {{.is_polled = true}, 0, READINESS, READINESS},

@@ -21,6 +21,7 @@ static void do_duty(struct ring *ring, enum wulgach_duty duty)
         assign_before(ring, UINT64_MAX);
         return;
     case WULGACH_HOLDS_FILES:
+        hold_new_files(ring);
         hold_files(ring);
         return;
     case WULGACH_WATCHES_PIPES:
@@ -59,6 +60,7 @@ static struct wulgach_resting resting(const struct ring *ring)
         .looked_at = MOST_LOOKED_AT,
         .has_due = ring->due_from < ring->due_end,
         .runs = ring->running.count > 0,
+        .has_new = ring->requests.count > 0 && ring->held_before < ring->accepted,
         .has_watches = ring->pipes.count > 0,
         .has_ends = ring->completions.is_behind,
         .is_polled = ring->ready_fd >= 0,

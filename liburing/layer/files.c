@@ -20,6 +20,7 @@
 #include <linux/kcmp.h>
 #include <stdlib.h>
 #include <sys/resource.h>
+#include <sys/stat.h>
 #include <sys/syscall.h>
 #include <unistd.h>
 
@@ -69,8 +70,7 @@ bool release_file(struct file *file)
     } while (!exchange(file, &count, &uses));
     if (ending == WULGACH_STAYS)
         return false;
-    note_kept(file->fd, false);
-    close(file->fd);
+    close_kept(file->fd, file->is_regular);
     if (ending == WULGACH_TELLS)
         put_message(file->told, file->tag);
     else
@@ -99,8 +99,14 @@ struct file *use_file(struct ring *ring, uint32_t index)
     return file;
 }
 
+static bool is_regular(int fd)
+{
+    struct stat status;
+    return fstat(fd, &status) == 0 && S_ISREG(status.st_mode);
+}
+
 /* A registered file of a descriptor that stays the application's, with a tag, which its ring is told once it is gone, or NULL. */
-static int make_file_with(struct file **made, int fd, struct inbox *told, struct message *tag)
+static int make_file_with(struct file **made, int fd, bool is_stream, struct inbox *told, struct message *tag)
 {
     int32_t fault = wulgach_holding_fault(fd, is_ring(fd));
     int copy = fault < 0 ? fault : high_copy_of(fd);
@@ -111,15 +117,15 @@ static int make_file_with(struct file **made, int fd, struct inbox *told, struct
         close(copy);
         return wulgach_missing_fault(WULGACH_NO_MEMORY_OWN);
     }
-    **made = (struct file){.fd = copy, .told = told, .tag = tag};
-    note_kept(copy, true);
+    **made = (struct file){.fd = copy, .is_regular = !is_stream && is_regular(copy), .told = told, .tag = tag};
+    note_kept(copy);
     wulgach_uses_begin(&(*made)->uses, tag != NULL);
     return 0;
 }
 
 static int make_file_of(struct file **made, int fd)
 {
-    return make_file_with(made, fd, NULL, NULL);
+    return make_file_with(made, fd, false, NULL, NULL);
 }
 
 /* The same of what the application names by its number, with a tag. 0 is none. */
@@ -130,16 +136,22 @@ static int make_tagged_file(struct ring *ring, struct file **made, int fd, uint6
     struct message *message = tag ? make_message_of(tag, 0) : NULL;
     if (tag && !message)
         return wulgach_missing_fault(WULGACH_NO_MEMORY_OWN);
-    int result = make_file_with(made, fd, &ring->inbox, message);
+    int result = make_file_with(made, fd, false, &ring->inbox, message);
     if (result < 0)
         free(message);
     return result;
 }
 
-struct file *hold_file(int fd)
+struct file *hold_file(int fd, bool is_stream)
 {
     struct file *file;
-    return make_file_of(&file, fd) < 0 ? NULL : file;
+    return make_file_with(&file, fd, is_stream, NULL, NULL) < 0 ? NULL : file;
+}
+
+struct file *share_file(struct file *file)
+{
+    take_file(file);
+    return file;
 }
 
 static void free_words(uint64_t *words, uint32_t count)

@@ -15,6 +15,7 @@ struct message;
 /* A registered file. It is closed once no slot and no request has it. */
 struct file {
     int fd;
+    bool is_regular;                /* the process may have locks on it */
     struct wulgach_uses uses;       /* when that is, is the library's decision; each change of the count is one exchange */
     struct inbox *told;             /* who is told its tag then, */
     struct message *tag;            /* or NULL: it has none */
@@ -52,8 +53,9 @@ int pass_file(struct ring *target, const struct file *file, uint32_t file_index)
 /* The file of an index, one use more; NULL if there is none. */
 struct file *use_file(struct ring *ring, uint32_t index);
 
-/* A file of a descriptor that stays the application's; NULL if there is none to be had. */
-struct file *hold_file(int fd);
+/* A file of a descriptor that stays the application's, and whether that is a stream; NULL if there is none to be had. And one use more of it. */
+struct file *hold_file(int fd, bool is_stream);
+struct file *share_file(struct file *file);
 
 /* One use less. Nothing, of NULL. Returns whether it was the last, and the file's descriptor is closed. */
 bool release_file(struct file *file);

@@ -10,6 +10,7 @@
 #include "passing.h"
 #include "ring.h"
 #include "sockets.h"
+#include "streams.h"
 #include "syncing.h"
 #include "timeouts.h"
 
@@ -45,9 +46,12 @@ static int32_t open_file(struct ring *ring, const struct wulgach_means *means)
     return fd >= 0 ? install_file(ring, fd, means->slot) : fd;
 }
 
-static int32_t close_file(const struct request *request, const struct wulgach_system_call *call)
+/* Those before it have begun in the kernel, which has their files. */
+static int32_t close_file(struct ring *ring, const struct request *request, const struct wulgach_system_call *call)
 {
     int32_t fault = wulgach_holding_fault(request->entry.fd, is_ring(request->entry.fd));
+    if (fault >= 0)
+        hold_files_before(ring, request);
     return fault < 0 ? fault : make_call(call);
 }
 
@@ -62,7 +66,7 @@ static int32_t carry_out_by(struct ring *ring, struct request *request, const st
     case WULGACH_BY_SYNC:
         return is_taken_for_synced(request->fd) ? 0 : make_call(&means->call);
     case WULGACH_BY_CLOSE:
-        return close_file(request, &means->call);
+        return close_file(ring, request, &means->call);
     case WULGACH_BY_CONNECT:
         return begin_connect(request, &means->call);
     case WULGACH_BY_SPLICE:

@@ -1,13 +1,25 @@
 /* Numbers for the layer's own descriptors. */
 #define _GNU_SOURCE
 #include "numbers.h"
+#include "process.h"
 
 #include <errno.h>
 #include <fcntl.h>
+#include <pthread.h>
 #include <stdint.h>
+#include <stdio.h>
+#include <string.h>
+#include <sys/stat.h>
 #include <unistd.h>
 
-enum { HIGH_NUMBER = 512 };
+enum { HIGH_NUMBER = 512, MOST_LEFT = 256 };
+
+/* Copies that are left open, since the process has locks on their files. */
+static struct {
+    pthread_mutex_t lock;
+    int fds[MOST_LEFT];
+    size_t count;
+} left = {.lock = PTHREAD_MUTEX_INITIALIZER};
 
 static int copy_from(int fd, int lowest)
 {
@@ -41,15 +53,18 @@ enum { MOST_NOTED = 1 << 16, BITS = 64 };
 
 static uint64_t kept[MOST_NOTED / BITS];
 
-void note_kept(int fd, bool is_kept)
+void note_kept(int fd)
 {
-    uint64_t bit = (uint64_t)1 << fd % BITS;
-    if (fd >= MOST_NOTED)
-        return;
-    if (is_kept)
-        __atomic_or_fetch(&kept[fd / BITS], bit, __ATOMIC_RELAXED);
-    else
-        __atomic_and_fetch(&kept[fd / BITS], ~bit, __ATOMIC_RELAXED);
+    if (fd < MOST_NOTED)
+        __atomic_or_fetch(&kept[fd / BITS], (uint64_t)1 << fd % BITS, __ATOMIC_RELAXED);
+}
+
+/* (not noted any more first: another may have the number as soon as it is closed) */
+static void close_noted(int fd)
+{
+    if (fd < MOST_NOTED)
+        __atomic_and_fetch(&kept[fd / BITS], ~((uint64_t)1 << fd % BITS), __ATOMIC_RELAXED);
+    close(fd);
 }
 
 void close_parents(void)
@@ -57,4 +72,62 @@ void close_parents(void)
     for (int i = 0; i < MOST_NOTED / BITS; i++)
         for (; kept[i]; kept[i] &= kept[i] - 1)
             close(i * BITS + __builtin_ctzll(kept[i]));
+    pthread_mutex_init(&left.lock, NULL);
+    left.count = 0;
+}
+
+/* ---- locks ---- */
+
+/* Whether a list of all locks has one of this process on the file of a descriptor. */
+static bool lists_lock(FILE *locks, int fd)
+{
+    char line[256], owner[32], inode[32];
+    struct stat status = {0};
+    fstat(fd, &status);
+    snprintf(owner, sizeof owner, " %d ", (int)this_process());
+    snprintf(inode, sizeof inode, ":%llu ", (unsigned long long)status.st_ino);
+    while (fgets(line, sizeof line, locks))
+        if (strstr(line, " POSIX ") && strstr(line, owner) && strstr(line, inode))
+            return true;
+    return false;
+}
+
+/* An open file description has locks of its own, and is told of one that isn't. Of several it is told of one: then the list of all is read. */
+static bool is_locked(int fd)
+{
+    struct flock lock = {.l_type = F_WRLCK, .l_whence = SEEK_SET};
+    if (fcntl(fd, F_OFD_GETLK, &lock) < 0 || lock.l_type == F_UNLCK)
+        return false;
+    FILE *locks = lock.l_pid == this_process() ? NULL : fopen("/proc/locks", "re");
+    bool is_listed = locks ? lists_lock(locks, fd) : lock.l_pid == this_process();
+    if (locks)
+        fclose(locks);
+    return is_listed;
+}
+
+/* Closes those that were left open and needn't be any more. */
+static void close_left(void)
+{
+    size_t count = 0;
+    for (size_t i = 0; i < left.count; i++)
+        if (is_locked(left.fds[i]))
+            left.fds[count++] = left.fds[i];
+        else
+            close_noted(left.fds[i]);
+    left.count = count;
+}
+
+void close_kept(int fd, bool is_regular)
+{
+    if (!is_regular) {
+        close_noted(fd);
+        return;
+    }
+    pthread_mutex_lock(&left.lock);
+    close_left();
+    if (left.count < MOST_LEFT && is_locked(fd))
+        left.fds[left.count++] = fd;
+    else
+        close_noted(fd);
+    pthread_mutex_unlock(&left.lock);
 }

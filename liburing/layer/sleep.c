@@ -68,7 +68,7 @@ static nfds_t list_streams(const struct ring *ring, struct pollfd *streams)
     return count;
 }
 
-static void leave(struct ring *ring, const struct sleeper *sleeper)
+static void leave(struct ring *ring, struct sleeper *sleeper)
 {
     struct sleeper **at = &ring->sleepers;
     while (*at != sleeper)
@@ -76,6 +76,7 @@ static void leave(struct ring *ring, const struct sleeper *sleeper)
     *at = sleeper->next;
     if (sleeper->wake >= 0)
         close(sleeper->wake);
+    free(sleeper);
 }
 
 /* Polls without the ring's lock. */
@@ -96,23 +97,23 @@ static int poll_unlocked(struct ring *ring, struct pollfd *polled, nfds_t count,
 
 int sleep_until(struct ring *ring, const struct wulgach_limit *until, const sigset_t *signals)
 {
-    struct pollfd *polled = calloc(ring->running.count + 3, sizeof *polled);
-    if (!polled)
+    struct sleeper *self = calloc(1, sizeof *self + (ring->running.count + 3) * sizeof *self->polled);
+    if (!self)
         return wulgach_missing_fault(WULGACH_NO_MEMORY_OWN);
     wake_sleepers(ring);
-    struct sleeper self = {.wake = moved_high(eventfd(0, EFD_CLOEXEC | EFD_NONBLOCK)), .next = ring->sleepers};
-    ring->sleepers = &self;
-    nfds_t count = list_streams(ring, polled);
-    polled[count++] = (struct pollfd){.fd = self.wake, .events = POLLIN};
+    self->wake = moved_high(eventfd(0, EFD_CLOEXEC | EFD_NONBLOCK));
+    self->next = ring->sleepers;
+    ring->sleepers = self;
+    nfds_t count = list_streams(ring, self->polled);
+    self->polled[count++] = (struct pollfd){.fd = self->wake, .events = POLLIN};
     if (wulgach_polls_writes(ring->pipes.count))
-        polled[count++] = (struct pollfd){.fd = ring->pipes.inotify, .events = POLLIN};
+        self->polled[count++] = (struct pollfd){.fd = ring->pipes.inotify, .events = POLLIN};
     struct wulgach_limit limit, end;
-    wulgach_times_sleeps_for(&ring->times, until, self.wake >= 0, &limit);
-    wulgach_times_comes_to(&ring->times, until, self.wake >= 0, &end);
+    wulgach_times_sleeps_for(&ring->times, until, self->wake >= 0, &limit);
+    wulgach_times_comes_to(&ring->times, until, self->wake >= 0, &end);
     uint64_t start = real_time();
-    int result = poll_unlocked(ring, polled, count, &limit, signals);
-    leave(ring, &self);
-    free(polled);
+    int result = poll_unlocked(ring, self->polled, count, &limit, signals);
+    leave(ring, self);
     add_slept(ring, start);
     wulgach_times_wake(&ring->times, &end, result);
     return result < 0 ? result : 0;

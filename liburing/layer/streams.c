@@ -65,19 +65,62 @@ bool is_found_ready(struct ring *ring, struct request *request)
     return sighting == WULGACH_SIGHTING_READY;
 }
 
-/* (an epoll instance keeps no file open) */
-void hold_file_of(struct request *request)
+/* Whether a request is to have a file of its own. (an epoll instance keeps none open) */
+static bool is_to_hold(const struct request *request)
 {
-    if (!wulgach_keeps_open(&request->standing, request->file, false))
+    if (request->standing.is_stream)
+        return wulgach_keeps_open(&request->standing, request->file, false);
+    return request->is_assigned && request->started == 0 && request->needs.needs_file && !request->needs.is_registered && !request->file;
+}
+
+/* The last one for which that was done, of those that were kept one right after the other: a number is one file's meanwhile. */
+struct holder {
+    int fd;
+    struct file *file;
+};
+
+/* What waits has a number of its own. */
+static void hold_beside(struct request *request, struct holder *last)
+{
+    if (!is_to_hold(request))
         return;
-    request->file = hold_file(request->fd);
+    int fd = request->fd;
+    if (last->file && last->fd == fd && !request->standing.is_stream)
+        request->file = share_file(last->file);
+    else
+        request->file = hold_file(fd, request->standing.is_stream);
+    *last = (struct holder){fd, request->file};
     if (request->file)
         request->fd = request->file->fd;
+}
+
+void hold_file_of(struct request *request)
+{
+    hold_beside(request, &(struct holder){-1, NULL});
 }
 
 /* (a call in which nothing waits comes past here too) */
 __attribute__((noinline)) void hold_files(struct ring *ring)
 {
+    struct holder last = {-1, NULL};
     for (size_t i = 0; i < ring->running.count; i++)
-        hold_file_of(ring->running.rows[i]);
+        hold_beside(ring->running.rows[i], &last);
+}
+
+void hold_new_files(struct ring *ring)
+{
+    const struct requests *requests = &ring->requests;
+    struct holder last = {-1, NULL};
+    for (size_t i = count_before(requests, ring->held_before); i < requests->count; i++)
+        hold_beside(requests->rows[i], &last);
+    ring->held_before = ring->accepted;
+}
+
+void hold_files_before(struct ring *ring, const struct request *closing)
+{
+    const struct requests *requests = &ring->requests;
+    struct holder last = {-1, NULL};
+    for (size_t i = 0; i < requests->count && requests->rows[i]->number < closing->number; i++)
+        if (requests->rows[i]->fd == closing->entry.fd)
+            hold_beside(requests->rows[i], &last);
 }

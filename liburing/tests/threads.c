@@ -194,42 +194,6 @@ static void test_interrupted(void)
     close_ring(&ring);
 }
 
-static struct ring *called;
-
-static void call_from_signal(int number)
-{
-    int kept = errno;
-    (void)number;
-    check(enter(called, 0, 0, 0) == 0 && register_at(-1, IORING_REGISTER_PROBE, NULL, 0) == -EINVAL);
-    errno = kept;
-}
-
-/* Whoever handles a signal may call too, whatever call it comes in. */
-static void test_calls_from_signals(void)
-{
-    enum { ROUNDS = 20000 };
-    struct sigaction action = {.sa_handler = call_from_signal, .sa_flags = SA_RESTART};
-    struct sigevent event = {.sigev_notify = SIGEV_SIGNAL, .sigev_signo = SIGUSR2};
-    struct ring ring, other;
-    timer_t timer;
-    make_ring(&ring, 4, 0, 0);
-    called = &ring;
-    check(sigaction(SIGUSR2, &action, NULL) == 0 && timer_create(CLOCK_MONOTONIC, &event, &timer) == 0);
-    for (unsigned i = 0; i < ROUNDS; i++) {
-        struct itimerspec soon = {.it_value.tv_nsec = 500 + i * 997 % 15000};
-        check(timer_settime(timer, 0, &soon, NULL) == 0);
-        submit_nop(&ring, 1);
-        check(wait_for_one(&ring) == 0);
-        if (i % 8 > 0)
-            continue;
-        make_ring(&other, 4, 0, 0);
-        check(register_at(ring.fd, IORING_REGISTER_FILES, &other.fd, 1) == -EBADF);
-        close_ring(&other);
-    }
-    check(timer_delete(timer) == 0);
-    close_ring(&ring);
-}
-
 /* Reads until it is cancelled, which is asked for behind each call alone. */
 struct reader {
     struct ring *ring;
@@ -359,7 +323,6 @@ int main(int count, char **words)
         {"closed while idle", test_closed_while_idle},
         {"woken", test_woken},
         {"interrupted", test_interrupted},
-        {"calls from signals", test_calls_from_signals},
         {"cancelled", test_cancelled},
         {"limit beside threads", test_limit_beside_threads},
         {"not all submitted", test_not_all_submitted},

@@ -11,7 +11,7 @@ pub shows_at_last : ShowsAtLast
 shows_at_last r LooksAfresh is = is
 shows_at_last r PassesTime is = is
 shows_at_last r FindsFiles is = due r.has_due is
-shows_at_last r HoldsFiles is = due r.runs is
+shows_at_last r HoldsFiles is = due (r.runs || r.has_new) is
 shows_at_last r WatchesPipes is = due (r.runs || r.has_watches) is
 shows_at_last r LetsLie is = due (are_many r) is
 shows_at_last r ShowsEnds is = due r.has_ends is
@@ -19,17 +19,17 @@ shows_at_last r TellsReadiness is = due r.is_polled is
 shows_at_last r HearsApplication is = is
 shows_at_last r ShowsFlags is = refl
 
-held : (runs has_watches : Bool) → runs ≡ true → (runs && (runs || has_watches) && true) ≡ true
-held true has_watches are = refl
-held false has_watches are = are
+held : (runs has_new has_watches : Bool) → runs ≡ true → ((runs || has_new) && (runs || has_watches) && true) ≡ true
+held true has_new has_watches are = refl
+held false has_new has_watches are = absurd (false≢true are)
 
-both : (b runs : Bool) → b ≡ true → runs ≡ true → (b && runs && true) ≡ true
-both true true is are = refl
-both true false is are = are
-both false runs is are = is
+both : (b runs has_new : Bool) → b ≡ true → runs ≡ true → (b && (runs || has_new) && true) ≡ true
+both true true has_new is are = refl
+both true false has_new is are = absurd (false≢true are)
+both false runs has_new is are = is
 
 pub watches_what_is_held : WatchesWhatIsHeld
-watches_what_is_held r are = (held r.runs r.has_watches are, λ due. both r.has_due r.runs due are)
+watches_what_is_held r are = (held r.runs r.has_new r.has_watches are, λ due. both r.has_due r.runs r.has_new due are)
 
 lie : (runs has_watches many : Bool) → runs ≡ true → many ≡ true
     → ((runs || has_watches) && many && true) ≡ true

@@ -62,11 +62,11 @@ at_begin is_time_real has_slept = record nothing {
   passes_time = is_time_real && not has_slept;
 }
 
--- before it is decided whether a call sleeps: those find their files whose turn to do so hasn't come, as in the kernel all do before it sleeps; and what runs keeps its file, which another thread may close meanwhile. Then those pipes are watched that polls wait for, unless the call is to fail with a fault. A poll that is told by that goes on, so the call doesn't sleep
+-- before it is decided whether a call sleeps: those find their files whose turn to do so hasn't come, as in the kernel all do before it sleeps; and what runs, or was accepted, keeps its file, which another thread may close meanwhile. Then those pipes are watched that polls wait for, unless the call is to fail with a fault. A poll that is told by that goes on, so the call doesn't sleep
 abbrev pub before_sleep : Resting → (has_fault : Bool) → Duties
 before_sleep r has_fault = record nothing {
   finds_files = r.has_due;
-  holds_files = r.runs;
+  holds_files = r.runs || r.has_new;
   watches_pipes = not has_fault && (r.runs || r.has_watches);
 }
 
@@ -85,11 +85,11 @@ behind_posting has_ends is_polled = record nothing {
 abbrev pub at_rest : Resting → Duties
 at_rest r = record (behind_posting r.has_ends r.is_polled) { lets_lie = are_many r }
 
--- as a call returns. Those find their files whose turn hasn't come, and what runs keeps its file, as it does in the kernel, whatever the application closes. Then pipes are watched, those that polls wait for by the descriptors that were kept; those that none waits for any more are let go. Of many that wait those become dormant that wait for nothing else. What has ended is shown, io_uring_enter(2); by that the descriptor is readable or not; and by that the flags say whether a call may bring something
+-- as a call returns. Those find their files whose turn hasn't come, and what runs, or was accepted, keeps its file, as it does in the kernel, whatever the application closes. Then pipes are watched, those that polls wait for by the descriptors that were kept; those that none waits for any more are let go. Of many that wait those become dormant that wait for nothing else. What has ended is shown, io_uring_enter(2); by that the descriptor is readable or not; and by that the flags say whether a call may bring something
 abbrev pub at_return : Resting → Duties
 at_return r = record (at_rest r) {
   finds_files = r.has_due;
-  holds_files = r.runs;
+  holds_files = r.runs || r.has_new;
   watches_pipes = r.runs || r.has_watches;
   shows_flags = true;
 }

@@ -54,6 +54,9 @@ pub struct Resting {
     /// Some run.
     pub runs: bool,
 
+    /// Some are outstanding whose files weren't kept yet, if they have any.
+    pub has_new: bool,
+
     /// Pipes are watched.
     pub has_watches: bool,
 
@@ -94,7 +97,7 @@ pub fn duties_before_sleep(resting: &Resting, has_fault: bool) -> Duties
 {
     Duties {
         finds_files: resting.has_due,
-        holds_files: resting.runs,
+        holds_files: resting.runs || resting.has_new,
         watches_pipes: !has_fault && (resting.runs || resting.has_watches),
         ..NONE
     }
@@ -116,7 +119,7 @@ pub fn duties_at_return(resting: &Resting) -> Duties
 {
     Duties {
         finds_files: resting.has_due,
-        holds_files: resting.runs,
+        holds_files: resting.runs || resting.has_new,
         watches_pipes: resting.runs || resting.has_watches,
         shows_flags: true,
         ..duties_at_rest(resting)

@@ -44,6 +44,7 @@ struct request {
     bool is_refused;                    /* a drain in a ring that has skipped success */
     bool is_silent;                     /* doomed, and posts nothing: by Linux's rules */
     bool is_loose;                      /* its file was found when it was accepted */
+    bool was_open;                      /* OTHER_LOG was then */
     int32_t failure;                    /* with which it ends however it is carried out, or 0 */
     bool has_fired, may_have_fired;     /* of a linked timeout: in a call that shows nothing of it */
     bool may_have_found;                /* a provided buffer, since it could start */

@@ -48,7 +48,7 @@ static void accept_one(struct model *model, unsigned index, bool is_behind)
     uint16_t group = (uint16_t)(model->group_count - 1);
     bool is_fault = is_faulty(model, action, is_behind);
     struct request *request = &model->requests[model->count++];
-    *request = (struct request){.action = action, .index = (uint16_t)index, .group = group, .since = -1, .is_faulty = is_fault, .failure = failure_of(model, action, index), .call = model->call_number};
+    *request = (struct request){.action = action, .index = (uint16_t)index, .group = group, .since = -1, .is_faulty = is_fault, .was_open = !model->things->is_closed, .failure = failure_of(model, action, index), .call = model->call_number};
     model->has_drain[group] |= (action->flags & IOSQE_IO_DRAIN) != 0;
     if (model->is_linux)
         note_flags(model, request, !is_behind);

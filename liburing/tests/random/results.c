@@ -315,8 +315,36 @@ static void carry_out_with(struct model *model, const struct request *request, i
     result_of(model, request, length, true);
 }
 
+/* Whether it ends so with one of the faults that it can have. Then it does what it does, and that says whether it is a success. */
+static bool is_carried_out(struct model *model, const struct request *request, int32_t res, bool *is_done)
+{
+    int first = listed_fault(model, request), last = first == NO_FAULT && model->program->fault_rate && !model->is_kernel ? FAULT_SHORT : first;
+    for (int fault = first; fault <= last; fault++)
+        if (has_result(model, request, fault, res)) {
+            carry_out_with(model, request, fault, res);
+            *is_done = is_success(model, request, res);
+            return true;
+        }
+    return false;
+}
+
+/* One that was accepted before its descriptor was closed may have kept the file. A close goes by the number. */
+static bool may_have_kept(const struct model *model, const struct request *request)
+{
+    return request->action->object == OTHER_LOG && request->was_open && model->things->is_closed && request->action->code != IORING_OP_CLOSE;
+}
+
+static bool is_carried_out_on_kept(struct model *model, const struct request *request, int32_t res, bool *is_done)
+{
+    model->things->is_closed = false;
+    bool is_so = is_carried_out(model, request, res, is_done);
+    model->things->is_closed = true;
+    return is_so;
+}
+
 bool carry_out(struct model *model, const struct request *request, int32_t res)
 {
+    bool is_done;
     if (is_timeout(request) && request->action->tally && res == 0) {
         if (!may_have_counted(model, request))
             wrong(model, "timeout %u ends before so many completions came", request->index);
@@ -325,11 +353,9 @@ bool carry_out(struct model *model, const struct request *request, int32_t res)
     }
     if (is_blocked(model, request))
         wrong(model, "entry %u reads of an empty pipe: %" PRId32, request->index, res);
-    int first = listed_fault(model, request), last = first == NO_FAULT && model->program->fault_rate && !model->is_kernel ? FAULT_SHORT : first;
-    for (int fault = first; fault <= last; fault++)
-        if (has_result(model, request, fault, res)) {
-            carry_out_with(model, request, fault, res);
-            return is_success(model, request, res);
-        }
+    if (is_carried_out(model, request, res, &is_done))
+        return is_done;
+    if (may_have_kept(model, request) && is_carried_out_on_kept(model, request, res, &is_done))
+        return is_done;
     wrong(model, "entry %u ends with %" PRId32 ", and is to end with %" PRId32, request->index, res, result_of(model, request, length_of(request->action), false));
 }

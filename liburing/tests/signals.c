@@ -1,0 +1,100 @@
+/* Tests by direct calls: signals whose handler calls, or leaves a call. All hold under every policy. A test that hangs ends by an alarm.
+ *
+ *   signals [NAME]           with a name: that test alone
+ */
+#define _GNU_SOURCE
+#include "engines.h"
+
+#include <setjmp.h>
+#include <signal.h>
+#include <time.h>
+
+static sigjmp_buf outside;
+
+static void jump_out(int number)
+{
+    siglongjmp(outside, number);
+}
+
+__attribute__((noinline)) static void use_stack(void)
+{
+    volatile char bytes[16384];
+    for (size_t i = 0; i < sizeof bytes; i++)
+        bytes[i] = 0x5a;
+}
+
+/* A handler may leave a call that sleeps by a jump: others' calls wake nobody then, and go on. */
+static void test_jump(void)
+{
+    struct sigaction action = {.sa_handler = jump_out};
+    struct sigevent event = {.sigev_notify = SIGEV_SIGNAL, .sigev_signo = SIGUSR2};
+    struct itimerspec soon = {.it_value.tv_nsec = 10000000};
+    struct ring ring;
+    timer_t timer;
+    int ends[2];
+    char byte;
+    check(pipe(ends) == 0);
+    make_ring(&ring, 4, 0, 0);
+    check(sigaction(SIGUSR2, &action, NULL) == 0 && timer_create(CLOCK_MONOTONIC, &event, &timer) == 0);
+    put_transfer(&ring, IORING_OP_READ, 0, 0, ends[0], &byte, 1, 0);
+    check(enter(&ring, 1, 0, 0) == 1);
+    for (volatile int i = 0; i < 3; i++) {
+        check(timer_settime(timer, 0, &soon, NULL) == 0);
+        if (sigsetjmp(outside, true) == 0)
+            check(enter(&ring, 0, 1, IORING_ENTER_GETEVENTS) != 0);
+        use_stack();
+        submit_nop(&ring, 1);
+        check(wait_for_one(&ring) == 0);
+    }
+    check(timer_delete(timer) == 0 && write(ends[1], "x", 1) == 1);
+    check(wait_for_one(&ring) == 1);
+    close(ends[0]);
+    close(ends[1]);
+    close_ring(&ring);
+}
+
+static struct ring *called;
+
+static void call_from_signal(int number)
+{
+    int kept = errno;
+    (void)number;
+    check(enter(called, 0, 0, 0) == 0 && register_at(-1, IORING_REGISTER_PROBE, NULL, 0) == -EINVAL);
+    errno = kept;
+}
+
+/* Whoever handles a signal may call too, whatever call it comes in. */
+static void test_calls_from_signals(void)
+{
+    enum { ROUNDS = 20000 };
+    struct sigaction action = {.sa_handler = call_from_signal, .sa_flags = SA_RESTART};
+    struct sigevent event = {.sigev_notify = SIGEV_SIGNAL, .sigev_signo = SIGUSR2};
+    struct ring ring, other;
+    timer_t timer;
+    make_ring(&ring, 4, 0, 0);
+    called = &ring;
+    check(sigaction(SIGUSR2, &action, NULL) == 0 && timer_create(CLOCK_MONOTONIC, &event, &timer) == 0);
+    for (unsigned i = 0; i < ROUNDS; i++) {
+        struct itimerspec soon = {.it_value.tv_nsec = 500 + i * 997 % 15000};
+        check(timer_settime(timer, 0, &soon, NULL) == 0);
+        submit_nop(&ring, 1);
+        check(wait_for_one(&ring) == 0);
+        if (i % 8 > 0)
+            continue;
+        make_ring(&other, 4, 0, 0);
+        check(register_at(ring.fd, IORING_REGISTER_FILES, &other.fd, 1) == -EBADF);
+        close_ring(&other);
+    }
+    check(timer_delete(timer) == 0);
+    close_ring(&ring);
+}
+
+int main(int count, char **words)
+{
+    static const struct named tests[] = {
+        {"calls from signals", test_calls_from_signals},
+        {"jump", test_jump},
+    };
+    alarm((unsigned)(PATIENCE * patience()));
+    return run_tests(tests, sizeof tests / sizeof *tests, count > 1 ? words[1] : NULL);
+}
