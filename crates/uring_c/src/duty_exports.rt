@@ -35,12 +35,28 @@ pub extern "C" fn wulgach_duties_at_rest(resting: &Resting) -> u32
     duties_word(duties_at_rest(resting))
 }
 
-/// What it does as it returns.
+/// What it does as it returns. The ring is told by values, since each call asks.
 #[unsafe(no_mangle)]
-pub extern "C" fn wulgach_duties_at_return(resting: &Resting) -> u32
-    ensures { result ≡ word_of_duties (spec.at_return resting.now) }
+pub extern "C" fn wulgach_duties_at_return(
+    waiting: u64,
+    looked_at: u64,
+    has_due: bool,
+    runs: bool,
+    has_watches: bool,
+    has_ends: bool,
+    is_polled: bool,
+) -> u32
+    ensures { result ≡ word_of_duties (spec.at_return (record { waiting = waiting; looked_at = looked_at; has_due = has_due; runs = runs; has_watches = has_watches; has_ends = has_ends; is_polled = is_polled })) }
 {
-    duties_word(duties_at_return(resting))
+    duties_word(duties_at_return(&Resting {
+        waiting,
+        looked_at,
+        has_due,
+        runs,
+        has_watches,
+        has_ends,
+        is_polled,
+    }))
 }
 
 /// What the call of io_uring_register(2) of a number does as it begins.
