@@ -280,7 +280,11 @@ impl LinuxDispatch {
         ensures counts { HasStarted self.old self.new }
     {
         if let Some(request) = self.window.copy(n) {
-            self.window.note_start(n);
+            let running = Request {
+                is_running: true,
+                ..request
+            };
+            self.window.write(n, running);
             self.running += 1;
         }
     }

@@ -76,7 +76,13 @@ impl Window {
         ensures limit { end_of self.new < 2 ^ 63 }
     {
         let group = self.group_of(&request);
-        self.note_end(n, has_failed);
+        let ended = Request {
+            is_running: false,
+            has_ended: true,
+            has_failed,
+            ..request
+        };
+        self.write(n, ended);
         self.keep_group(with_end(group, n, breaks(&request, has_failed)));
     }
 
@@ -92,7 +98,7 @@ impl Window {
         ensures running { running_among self.new.items ≡ running_among self.old.items }
     {
         if let Some(first) = self.copy(group.from) {
-            self.note_group(group.from, group);
+            self.write(group.from, Request { group, ..first });
         }
     }
 
