@@ -53,10 +53,15 @@ bool is_impatient(const struct request *request)
     return wulgach_is_impatient(submission_of(&request->entry), &patience);
 }
 
+bool shows_ready(struct pollfd at)
+{
+    int came = poll(&at, 1, 0);
+    return wulgach_counts_as_ready(came, (uint16_t)at.revents);
+}
+
 bool is_polled(const struct request *request)
 {
-    struct pollfd at = poll_of(request);
-    return poll(&at, 1, 0) != 0;
+    return shows_ready(poll_of(request));
 }
 
 bool is_ready(const struct request *request)
@@ -175,10 +180,23 @@ static struct wulgach_nature nature_without_buffer(const struct request *request
     return nature;
 }
 
+/* What the descriptor of one is that has no buffer. */
+static struct wulgach_nature nature_without_buffer(const struct request *request)
+{
+    struct wulgach_nature nature = nature_without_buffer(request);
+    return nature;
+}
+
 int32_t fault_without_buffer(const struct request *request)
 {
     struct wulgach_nature nature = nature_without_buffer(request);
     return wulgach_no_buffer_fault(submission_of(&request->entry), &nature);
+}
+
+int32_t fault_of_buffer(const struct request *request, int32_t why)
+{
+    struct wulgach_nature nature = nature_without_buffer(request);
+    return wulgach_buffer_fault(submission_of(&request->entry), &nature, why);
 }
 
 /* What a request ends with that something failed of when it started. */

@@ -5,6 +5,7 @@
 #define _GNU_SOURCE
 #include "pipes.h"
 #include "numbers.h"
+#include "operations.h"
 #include "polls.h"
 #include "ring.h"
 
@@ -190,8 +191,7 @@ static void drop_watches(struct pipes *pipes)
 
 static bool has_something(const struct request *request)
 {
-    struct pollfd at = {.fd = request->fd, .events = POLLIN};
-    return poll(&at, 1, 0) != 0;
+    return shows_ready((struct pollfd){.fd = request->fd, .events = POLLIN});
 }
 
 /* A poll has heard of a write: what was written is there still, or gone. */

@@ -192,18 +192,16 @@ fn is_open_for(code: u8, nature: &Nature) -> bool
     }
 }
 
-/// With what the request of an entry ends that finds no buffer, provided or registered, where its descriptor is this: what isn't open, or is no socket, counts first.
-pub fn no_buffer_fault(entry: &Submission, nature: &Nature) -> i32
-    ensures { result ≡ spec.no_buffer_fault entry.now nature.now }
+/// With what the request of an entry ends whose buffer has this fault, where its descriptor is this: what isn't open, or is no socket, counts first.
+pub fn buffer_fault(entry: &Submission, nature: &Nature, why: i32) -> i32
+    ensures { result ≡ spec.buffer_fault entry.now nature.now why }
 {
     if needs_file(entry.opcode) && !nature.is_open {
         -9
     } else if is_of_sockets(entry.opcode) && !nature.is_socket {
         -88
-    } else if entry.flags & 32 != 0 {
-        -105
     } else {
-        -14
+        why
     }
 }
 
@@ -245,6 +243,14 @@ pub fn asks_counter(entry: &Submission, length: u64, nature: &Nature) -> bool
 {
     let is_asked = is_transfer(entry.opcode) && !nature.has_type;
     is_asked && entry.flags & 32 == 0 && length < 8
+}
+
+/// With what the request of an entry ends that finds no buffer, provided or registered, where its descriptor is this: what isn't open, or is no socket, counts first.
+pub fn no_buffer_fault(entry: &Submission, nature: &Nature) -> i32
+    ensures { result ≡ spec.no_buffer_fault entry.now nature.now }
+{
+    let why = if entry.flags & 32 != 0 { -105 } else { -14 };
+    buffer_fault(entry, nature, why)
 }
 
 /// With what the transfer of an entry, of so many bytes, fails as it starts, where its descriptor is this; or 0.
