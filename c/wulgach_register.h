@@ -73,6 +73,27 @@ enum wulgach_fate {
  * closed or another ring is made: it is freed once no call is on it and no descriptor is open on it, if that is known. */
 uint32_t wulgach_ring_fate(bool is_own, uint32_t calls, bool knows, bool is_open);
 
+/* ---- memory that is registered ---- */
+
+/* Memory that is to be registered as a buffer, or as a ring of buffers, and what is known of it. */
+struct wulgach_memory {
+    uint64_t from;          /* its address, */
+    uint64_t size;          /* and its bytes */
+    uint64_t page;          /* the bytes of a page */
+    bool is_asked;          /* its pages could be asked for, to be written, */
+    bool is_there;          /* and are there */
+    bool is_listed;         /* it is known with which files it is shared, */
+    bool is_written_back;   /* and one of them is written back */
+};
+
+/* The fault of registering it, or 0: -75 (EOVERFLOW) if its last page has no end, -14 (EFAULT) if a page isn't there or can't be written, or
+ * is shared with a file that the kernel writes back. What isn't known is no fault. */
+int32_t wulgach_pinning_fault(const struct wulgach_memory *memory);
+
+/* Whether the kernel writes back a file that is shared: if its device has a major number, or else if its file system keeps files elsewhere
+ * than in memory. `kind` is statfs's, if that is known. */
+bool wulgach_is_written_back(uint32_t major, bool knows, uint64_t kind);
+
 /* ---- calls of io_uring_register(2) ---- */
 
 /* Who calls on what. */

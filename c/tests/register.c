@@ -255,10 +255,22 @@ static void go_through_set_ups(void)
     demand(wulgach_holding_fault(-1, false) == -9 && wulgach_holding_fault(3, true) == -9 && wulgach_holding_fault(3, false) == 0 && wulgach_telling_fault(true) == 0 && wulgach_telling_fault(false) == -14, "files");
 }
 
+#define PINNED(...) wulgach_pinning_fault(&(struct wulgach_memory){.page = 4096, __VA_ARGS__})
+
+static void keep_pages(void)
+{
+    demand(PINNED(.from = 4096, .size = 1, .is_asked = true, .is_there = true, .is_listed = true) == 0 && PINNED(.from = 4096, .size = 1) == 0, "memory");
+    demand(PINNED(.from = 4096, .size = 1, .is_asked = true) == -14 && PINNED(.from = 4096, .size = 1, .is_asked = true, .is_there = true, .is_listed = true, .is_written_back = true) == -14 && PINNED(.from = 4096, .size = 1, .is_written_back = true) == 0, "pages that can't be kept");
+    demand(PINNED(.from = UINT64_MAX - 4095, .size = 1, .is_asked = true) == -75 && PINNED(.from = UINT64_MAX - 4096, .size = 1, .is_asked = true) == -14 && PINNED(.from = 2, .size = UINT64_MAX) == -75, "memory without an end");
+    demand(wulgach_is_written_back(254, false, 0) && wulgach_is_written_back(254, true, 0x01021994) && wulgach_is_written_back(0, true, 0x9123683e), "files that are written back");
+    demand(!wulgach_is_written_back(0, false, 0x9123683e) && !wulgach_is_written_back(0, true, 0x01021994) && !wulgach_is_written_back(0, true, 0x858458f6) && !wulgach_is_written_back(0, true, 0x958458f6), "files in memory");
+}
+
 int main(void)
 {
     make_rings();
     go_through_set_ups();
+    keep_pages();
     refuse_flags();
     make_calls();
     read_contents();

@@ -11,3 +11,4 @@ pub mod DutyForm
 pub mod MissingForm
 pub mod SleepForm
 pub mod MeansForm
+pub mod PinningForm

@@ -22,6 +22,7 @@ mod message_exports;
 mod missing_exports;
 mod outcomes_exports;
 mod piece_exports;
+mod pinning_exports;
 mod provided_exports;
 mod reaching_exports;
 mod register_call_exports;

@@ -1,0 +1,108 @@
+/* Tests of memory, by direct calls: which may be registered. What is expected is what a real ring of Linux 6.18 was seen to do, but where our own rule is named. All hold under every policy.
+ *
+ *   mapped [NAME]            with a name: that test alone
+ */
+#define _GNU_SOURCE
+#include "engines.h"
+
+#include <sys/uio.h>
+#include <sys/vfs.h>
+
+#ifdef IS_ALSO_REAL
+enum { IS_REAL = 1 };
+#else
+enum { IS_REAL = 0 };
+#endif
+
+enum { PAGE = 4096, BOTH = 2 * PAGE };
+
+static char *anonymous(int protection, int sharing)
+{
+    char *at = mmap(NULL, BOTH, protection, sharing | MAP_ANONYMOUS, -1, 0);
+    check(at != MAP_FAILED);
+    return at;
+}
+
+/* What registering these bytes as a buffer comes to. */
+static long kept(const struct ring *ring, void *at, size_t size)
+{
+    struct iovec bytes = {at, size};
+    long result = register_at(ring->fd, IORING_REGISTER_BUFFERS, &bytes, 1);
+    check(result < 0 || register_at(ring->fd, IORING_UNREGISTER_BUFFERS, NULL, 0) == 0);
+    return result;
+}
+
+/* And the first of these pages as a ring of buffers. */
+static long kept_as_ring(const struct ring *ring, void *at)
+{
+    struct io_uring_buf_reg asked = {.ring_addr = (uintptr_t)at, .ring_entries = 8, .bgid = 1};
+    long result = register_at(ring->fd, IORING_REGISTER_PBUF_RING, &asked, 1);
+    check(result < 0 || register_at(ring->fd, IORING_UNREGISTER_PBUF_RING, &asked, 1) == 0);
+    return result;
+}
+
+static void check_kept(const struct ring *ring, void *at, long result)
+{
+    check(kept(ring, at, BOTH) == result);
+    check(kept_as_ring(ring, at) == result);
+}
+
+static void test_memory_of_no_file(void)
+{
+    struct ring ring;
+    static char memory[2 * BOTH];
+    make_ring(&ring, 8, 0, 0);
+    check_kept(&ring, anonymous(PROT_READ | PROT_WRITE, MAP_PRIVATE), 0);
+    check_kept(&ring, anonymous(PROT_READ | PROT_WRITE, MAP_SHARED), 0);
+    check_kept(&ring, anonymous(PROT_WRITE, MAP_PRIVATE), 0);
+    check_kept(&ring, memory + (PAGE - (uintptr_t)memory % PAGE), 0);
+    check_kept(&ring, anonymous(PROT_READ, MAP_PRIVATE), -EFAULT);
+    check_kept(&ring, anonymous(PROT_READ | PROT_EXEC, MAP_PRIVATE), -EFAULT);
+    check_kept(&ring, anonymous(PROT_NONE, MAP_PRIVATE), -EFAULT);
+    check_kept(&ring, (void *)((uintptr_t)test_memory_of_no_file / PAGE * PAGE), -EFAULT);
+    check_kept(&ring, (void *)-(uintptr_t)PAGE, -EOVERFLOW);
+    char *half = anonymous(PROT_READ | PROT_WRITE, MAP_PRIVATE);
+    check(mprotect(half + PAGE, PAGE, PROT_READ) == 0);
+    check(kept(&ring, half, BOTH) == -EFAULT && kept(&ring, half, PAGE) == 0 && kept_as_ring(&ring, half) == 0);
+    check(munmap(half + PAGE, PAGE) == 0);
+    check(kept(&ring, half, BOTH) == -EFAULT && kept(&ring, half + PAGE, 1) == -EFAULT && kept(&ring, half + PAGE - 1, 1) == 0);
+    close_ring(&ring);
+}
+
+static void test_memory_of_files(void)
+{
+    struct ring ring;
+    struct statfs status;
+    int file = make_file(), memory = memfd_create("memory", 0);
+    check(ftruncate(file, BOTH) == 0 && ftruncate(memory, BOTH) == 0 && fstatfs(file, &status) == 0);
+    make_ring(&ring, 8, 0, 0);
+    /* (where files are kept in memory they may be written so) */
+    check_kept(&ring, mmap(NULL, BOTH, PROT_READ | PROT_WRITE, MAP_SHARED, file, 0), status.f_type == 0x01021994 ? 0 : -EFAULT);
+    check_kept(&ring, mmap(NULL, BOTH, PROT_READ | PROT_WRITE, MAP_PRIVATE, file, 0), 0);
+    check_kept(&ring, mmap(NULL, BOTH, PROT_READ, MAP_SHARED, file, 0), -EFAULT);
+    check_kept(&ring, mmap(NULL, BOTH, PROT_READ, MAP_PRIVATE, file, 0), -EFAULT);
+    check_kept(&ring, mmap(NULL, BOTH, PROT_READ | PROT_WRITE, MAP_PRIVATE, file, 2 * BOTH), -EFAULT);
+    check_kept(&ring, mmap(NULL, BOTH, PROT_READ | PROT_WRITE, MAP_SHARED, memory, 0), 0);
+    check_kept(&ring, mmap(NULL, BOTH, PROT_READ, MAP_SHARED, memory, 0), -EFAULT);
+    check_kept(&ring, mmap(NULL, BOTH, PROT_READ | PROT_WRITE, MAP_SHARED, memory, 2 * BOTH), -EFAULT);
+    close(file);
+    close(memory);
+    close_ring(&ring);
+}
+
+int main(int count, char **words)
+{
+    static const struct named tests[] = {
+        {"memory of no file", test_memory_of_no_file},
+        {"memory of files", test_memory_of_files},
+    };
+    struct io_uring_params params = {0};
+    long fd = set_up(1, &params);
+    if (IS_REAL && fd < 0) {
+        puts("mapped: this kernel makes no rings");
+        return 0;
+    }
+    close((int)fd);
+    alarm((unsigned)(PATIENCE * patience()));
+    return run_tests(tests, sizeof tests / sizeof *tests, count > 1 ? words[1] : NULL);
+}
