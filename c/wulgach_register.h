@@ -58,10 +58,26 @@ enum wulgach_region {
     WULGACH_ENTRIES = 2
 };
 
-/* The part of a ring's memory at an offset (enum wulgach_region), where both rings stand in one mapping; and why so many bytes aren't mapped
- * from an offset on, or 0: -22 (EINVAL) of none, -12 (ENOMEM) of an offset that names no part. A mapping may be longer than its part. */
+/* The part of a ring's memory at an offset (enum wulgach_region), where both rings stand in one mapping. */
 uint32_t wulgach_region_of(uint64_t offset);
-int32_t wulgach_mapping_fault(uint64_t size, uint64_t offset);
+
+/* What a call of mmap asks for. */
+struct wulgach_mapping {
+    uint64_t at;            /* at which address, */
+    uint64_t size;          /* how many bytes, */
+    uint64_t offset;        /* from where on */
+    uint32_t protection;    /* PROT_.. */
+    uint32_t flags;         /* MAP_.. */
+};
+
+/* Whether such a call, with these flags, maps what a descriptor names. */
+bool wulgach_names_descriptor(uint32_t flags);
+
+/* Why a ring's memory isn't mapped so, or 0. -22 (EINVAL) of an offset within a page, of huge pages and of no bytes; -12 (ENOMEM) of more bytes
+ * than there are addresses; -22 of an address, since the kernel chooses that; -12 of an offset that names no part; -22 of what is neither
+ * shared nor private, and -95 (EOPNOTSUPP) of a flag that MAP_SHARED_VALIDATE doesn't know; -1 (EPERM) of memory to be run, -22 of a stack,
+ * and -19 (ENODEV) of a private copy that is to be written. A mapping may be longer than its part. */
+int32_t wulgach_mapping_fault(const struct wulgach_mapping *asked);
 
 enum wulgach_fate {
     WULGACH_RING_STAYS = 0,

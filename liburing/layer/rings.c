@@ -185,9 +185,10 @@ int setup(uint32_t entries, struct io_uring_params *params, bool is_polled)
 
 void *map_file(void *at, size_t size, int protection, int flags, int fd, int64_t offset)
 {
-    struct ring *ring = lock_ring(fd);
+    struct wulgach_mapping asked = {.at = (uintptr_t)at, .size = size, .offset = (uint64_t)offset, .protection = (uint32_t)protection, .flags = (uint32_t)flags};
+    struct ring *ring = wulgach_names_descriptor(asked.flags) ? lock_ring(fd) : NULL;
     bool is_polled = ring && ring->ready_fd >= 0;
-    void *mapped = is_polled ? map_again(&ring->memory, size, (uint64_t)offset) : map_passing(at, size, protection, flags, fd, offset);
+    void *mapped = is_polled ? map_again(&ring->memory, &asked) : map_passing(at, size, protection, flags, fd, offset);
     if (ring)
         unlock_ring(ring);
     return mapped;

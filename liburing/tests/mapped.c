@@ -1,4 +1,4 @@
-/* Tests of memory, by direct calls: which may be registered. What is expected is what a real ring of Linux 6.18 was seen to do, but where our own rule is named. All hold under every policy.
+/* Tests of memory, by direct calls: which may be registered, and how a ring's is mapped. What is expected is what a real ring of Linux 6.18 was seen to do, but where our own rule is named. All hold under every policy.
  *
  *   mapped [NAME]            with a name: that test alone
  */
@@ -90,11 +90,84 @@ static void test_memory_of_files(void)
     close_ring(&ring);
 }
 
+/* A ring whose descriptor polls, whichever the others are. */
+static int make_polled_ring(struct io_uring_params *params)
+{
+    long fd = wulgach_polled_syscall(SYS_io_uring_setup, 8, params);
+    check(fd >= 0);
+    return (int)fd;
+}
+
+static long mapped(int fd, void *at, size_t size, int protection, int flags, unsigned long long offset)
+{
+    void *memory = wulgach_mmap(at, size, protection, flags, fd, (off_t)offset);
+    long result = memory == MAP_FAILED ? -errno : 0;
+    if (result == 0)
+        munmap(memory, size);
+    return result;
+}
+
+/* The rights to memory, as the process sees them: `rw-s`. */
+static bool has_rights(const void *at, const char *rights)
+{
+    char line[512], found[8];
+    bool is_found = false;
+    FILE *maps = fopen("/proc/self/maps", "r");
+    unsigned long start;
+    check(maps != NULL);
+    while (!is_found && fgets(line, sizeof line, maps))
+        is_found = sscanf(line, "%lx-%*x %7s", &start, found) == 2 && start == (uintptr_t)at;
+    fclose(maps);
+    return is_found && strcmp(found, rights) == 0;
+}
+
+static void test_mappings(void)
+{
+    enum { ALL = PROT_READ | PROT_WRITE };
+    struct io_uring_params params = {0};
+    /* (our own rule) */
+    static const long of_private = IS_REAL ? 0 : -ENODEV;
+    char *place = anonymous(PROT_NONE, MAP_PRIVATE);
+    int fd = make_polled_ring(&params);
+    static const unsigned long long parts[] = {IORING_OFF_SQ_RING, IORING_OFF_CQ_RING, IORING_OFF_SQES, IORING_OFF_SQES + PAGE};
+    for (size_t i = 0; i < sizeof parts / sizeof *parts; i++) {
+        check(mapped(fd, NULL, PAGE, ALL, MAP_SHARED | MAP_POPULATE, parts[i]) == 0 && mapped(fd, NULL, 1 << 20, ALL, MAP_SHARED_VALIDATE, parts[i]) == 0);
+        check(mapped(fd, place, PAGE, ALL, MAP_SHARED, parts[i]) == -EINVAL && mapped(fd, place, PAGE, ALL, MAP_SHARED | MAP_FIXED, parts[i]) == -EINVAL);
+        check(mapped(fd, NULL, 0, ALL, MAP_SHARED, parts[i]) == -EINVAL && mapped(fd, NULL, PAGE, ALL, MAP_SHARED, parts[i] + 1) == -EINVAL);
+        check(mapped(fd, NULL, PAGE, ALL | PROT_EXEC, MAP_SHARED, parts[i]) == -EPERM && mapped(fd, NULL, PAGE, ALL, 0, parts[i]) == -EINVAL);
+        check(mapped(fd, NULL, PAGE, ALL, MAP_SHARED_VALIDATE | MAP_SYNC, parts[i]) == -EOPNOTSUPP && mapped(fd, NULL, PAGE, ALL, MAP_SHARED | MAP_GROWSDOWN, parts[i]) == -EINVAL);
+        check(mapped(fd, NULL, PAGE, ALL, MAP_PRIVATE, parts[i]) == of_private && mapped(fd, NULL, PAGE, PROT_READ, MAP_PRIVATE, parts[i]) == 0);
+    }
+    check(mapped(fd, NULL, PAGE, ALL, MAP_SHARED, 1 << 29) == -ENOMEM && mapped(fd, place, PAGE, ALL, MAP_SHARED, 1 << 29) == -EINVAL);
+    check(mapped(fd, NULL, PAGE, ALL, MAP_SHARED | MAP_ANONYMOUS, 1 << 29) == 0);
+    check(munmap(place, BOTH) == 0);
+    close(fd);
+}
+
+static void test_rights(void)
+{
+    static const struct {
+        int protection;
+        const char *rights;
+    } rows[] = {{PROT_READ | PROT_WRITE, "rw-s"}, {PROT_READ, "r--s"}, {PROT_WRITE, "-w-s"}, {PROT_NONE, "---s"}};
+    struct io_uring_params params = {0};
+    int fd = make_polled_ring(&params);
+    for (size_t i = 0; i < sizeof rows / sizeof *rows; i++) {
+        char *memory = wulgach_mmap(NULL, PAGE, rows[i].protection, MAP_SHARED, fd, IORING_OFF_SQ_RING);
+        check(memory != MAP_FAILED && has_rights(memory, rows[i].rights));
+        check(!(rows[i].protection & PROT_READ) || *(unsigned *)(memory + params.sq_off.ring_entries) == 8);
+        munmap(memory, PAGE);
+    }
+    close(fd);
+}
+
 int main(int count, char **words)
 {
     static const struct named tests[] = {
         {"memory of no file", test_memory_of_no_file},
         {"memory of files", test_memory_of_files},
+        {"mappings", test_mappings},
+        {"rights", test_rights},
     };
     struct io_uring_params params = {0};
     long fd = set_up(1, &params);

@@ -56,6 +56,7 @@ pub mod Visits
 pub mod Afresh
 pub mod CoreEntries
 pub mod Ringing
+pub mod Mappings
 pub mod SystemCalls
 pub mod Means
 pub mod TransferCalls
