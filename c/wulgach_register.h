@@ -17,8 +17,7 @@ struct wulgach_asked_ring {
     uint32_t entries;       /* of the submission ring, */
     uint32_t cq_entries;    /* and of the completion ring, with IORING_SETUP_CQSIZE */
     uint32_t flags;         /* IORING_SETUP_.. */
-    uint32_t processor;     /* where the ring's thread is to run, with IORING_SETUP_SQ_AFF, */
-    uint32_t processors;    /* and how many there are */
+    bool is_online;         /* with IORING_SETUP_SQ_AFF: the processor on which the ring's thread is to run is online */
     bool has_reserved;      /* a reserved field isn't 0 */
     bool is_open;           /* with IORING_SETUP_ATTACH_WQ: the descriptor is open, */
     bool is_ring;           /* a ring, */
@@ -88,6 +87,18 @@ enum wulgach_fate {
 /* Returns what becomes of a ring (enum wulgach_fate) of this process or another, with so many calls on it, once one of its descriptors is
  * closed or another ring is made: it is freed once no call is on it and no descriptor is open on it, if that is known. */
 uint32_t wulgach_ring_fate(bool is_own, uint32_t calls, bool knows, bool is_open);
+
+/* ---- what can't be asked, as where there is no /proc ---- */
+
+enum wulgach_matter {
+    WULGACH_IS_REACHED = 0,     /* a descriptor is open on a ring */
+    WULGACH_IS_EVENTFD = 1,     /* it is an eventfd's, as a call says */
+    WULGACH_IS_COUNTER = 2,     /* one of no kind of file counts, as an eventfd or a timerfd does */
+    WULGACH_IS_ONLINE = 3       /* a processor is online */
+};
+
+/* Whether this is taken to be so (enum wulgach_matter), where it is known to be so or not, or isn't known: then all but a counter are. */
+bool wulgach_is_taken_so(uint32_t matter, bool knows, bool is_so);
 
 /* ---- memory that is registered ---- */
 

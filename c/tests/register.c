@@ -44,9 +44,9 @@ static void refuse_flags(void)
     demand(SET_UP(.entries = 1, .flags = DEFER) == -22 && SET_UP(.entries = 1, .flags = DEFER | SINGLE) == 20001 && SET_UP(.entries = 1, .flags = SINGLE) == 20001, "deferred work");
     demand(SET_UP(.entries = 1, .flags = FLAG) == -22 && SET_UP(.entries = 1, .flags = FLAG | COOP) == 20001 && SET_UP(.entries = 1, .flags = FLAG | DEFER | SINGLE) == 20001, "its flag");
     demand(SET_UP(.entries = 1, .flags = SQPOLL) == 20001 && SET_UP(.entries = 1, .flags = SQPOLL | COOP) == -22 && SET_UP(.entries = 1, .flags = SQPOLL | FLAG) == -22 && SET_UP(.entries = 1, .flags = SQPOLL | DEFER | SINGLE) == -22, "a thread");
-    demand(SET_UP(.entries = 1, .flags = SQ_AFF, .processors = 4) == -22 && SET_UP(.entries = 1, .flags = SQ_AFF | SQPOLL, .processor = 3, .processors = 4) == 20001 && SET_UP(.entries = 1, .flags = SQ_AFF | SQPOLL, .processor = 4, .processors = 4) == -22, "its processor");
+    demand(SET_UP(.entries = 1, .flags = SQ_AFF, .is_online = true) == -22 && SET_UP(.entries = 1, .flags = SQ_AFF | SQPOLL, .is_online = true) == 20001 && SET_UP(.entries = 1, .flags = SQ_AFF | SQPOLL) == -22, "its processor");
     demand(SET_UP(.entries = 1, .flags = ATTACH_WQ) == -6 && SET_UP(.entries = 1, .flags = ATTACH_WQ, .is_open = true) == -22 && SET_UP(.entries = 1, .flags = ATTACH_WQ, .is_open = true, .is_ring = true) == 20001, "workers that are shared");
-    demand(SET_UP(.entries = 1, .flags = ATTACH_WQ | SQPOLL, .is_open = true, .is_ring = true) == -22 && SET_UP(.entries = 1, .flags = ATTACH_WQ | SQPOLL | SQ_AFF, .is_open = true, .is_ring = true, .has_thread = true, .processor = 9) == 20001, "a thread that is shared");
+    demand(SET_UP(.entries = 1, .flags = ATTACH_WQ | SQPOLL, .is_open = true, .is_ring = true) == -22 && SET_UP(.entries = 1, .flags = ATTACH_WQ | SQPOLL | SQ_AFF, .is_open = true, .is_ring = true, .has_thread = true) == 20001, "a thread that is shared");
     demand(SET_UP(.entries = 0, .flags = ATTACH_WQ) == -22 && SET_UP(.entries = 1, .flags = ATTACH_WQ | SQ_AFF) == -6, "which comes first");
 }
 
@@ -279,12 +279,20 @@ static void keep_pages(void)
     demand(!wulgach_is_written_back(0, false, 0x9123683e) && !wulgach_is_written_back(0, true, 0x01021994) && !wulgach_is_written_back(0, true, 0x858458f6) && !wulgach_is_written_back(0, true, 0x958458f6), "files in memory");
 }
 
+static void take_what_is_unknown(void)
+{
+    demand(wulgach_is_taken_so(WULGACH_IS_REACHED, false, false) && wulgach_is_taken_so(WULGACH_IS_EVENTFD, false, false) && !wulgach_is_taken_so(WULGACH_IS_COUNTER, false, true) && wulgach_is_taken_so(WULGACH_IS_ONLINE, false, false), "what isn't known");
+    for (uint32_t matter = WULGACH_IS_REACHED; matter <= WULGACH_IS_ONLINE; matter++)
+        demand(wulgach_is_taken_so(matter, true, true) && !wulgach_is_taken_so(matter, true, false), "what is");
+}
+
 int main(void)
 {
     make_rings();
     go_through_set_ups();
     map_rings();
     keep_pages();
+    take_what_is_unknown();
     refuse_flags();
     make_calls();
     read_contents();

@@ -54,7 +54,7 @@ static bool is_counter(int fd)
     char path[32], name[32] = {0};
     snprintf(path, sizeof path, "/proc/self/fd/%d", fd);
     ssize_t length = readlink(path, name, sizeof name - 1);
-    return length > 0 && (strcmp(name, "anon_inode:[eventfd]") == 0 || strcmp(name, "anon_inode:[timerfd]") == 0);
+    return wulgach_is_taken_so(WULGACH_IS_COUNTER, length > 0, strcmp(name, "anon_inode:[eventfd]") == 0 || strcmp(name, "anon_inode:[timerfd]") == 0);
 }
 
 /* Asks a descriptor what it is: nothing, if it isn't open. Whether it counts matters to a short transfer alone. */

@@ -63,13 +63,12 @@ static bool is_open(const struct ring *ring)
     if (is_reached_by(ring, ring->fd))
         return true;
     DIR *folder = opendir("/proc/self/fd");
-    if (!folder)
-        return true;
     bool is_found = false;
-    for (struct dirent *entry; !is_found && (entry = readdir(folder));)
+    for (struct dirent *entry; folder && !is_found && (entry = readdir(folder));)
         is_found = is_reached_by(ring, atoi(entry->d_name));
-    closedir(folder);
-    return is_found;
+    if (folder)
+        closedir(folder);
+    return wulgach_is_taken_so(WULGACH_IS_REACHED, folder != NULL, is_found);
 }
 
 /* Whether a ring is to be freed now. A call begins under the list's lock. It ends without: behind that it doesn't touch the ring. */

@@ -13,14 +13,14 @@
 
 enum { HIGH_NUMBER = 512 };
 
-/* The kernel says of what a descriptor is open on. */
+/* The kernel says what a descriptor is open on, where there is a /proc. */
 static bool is_eventfd(int fd)
 {
     char link[64], path[32];
     snprintf(path, sizeof path, "/proc/self/fd/%d", fd);
     ssize_t length = readlink(path, link, sizeof link - 1);
     link[length < 0 ? 0 : length] = '\0';
-    return strcmp(link, "anon_inode:[eventfd]") == 0;
+    return wulgach_is_taken_so(WULGACH_IS_EVENTFD, length >= 0, strcmp(link, "anon_inode:[eventfd]") == 0);
 }
 
 int register_eventfd(struct ring *ring, uint64_t at, bool is_async)

@@ -11,6 +11,7 @@
 #include "passing.h"
 #include "policy.h"
 #include "process.h"
+#include "processors.h"
 #include "profile.h"
 #include "readiness.h"
 #include "ring.h"
@@ -25,7 +26,6 @@
 #include <string.h>
 #include <sys/mman.h>
 #include <sys/stat.h>
-#include <sys/sysinfo.h>
 #include <unistd.h>
 
 void free_ring(struct ring *ring)
@@ -58,11 +58,11 @@ void free_ring(struct ring *ring)
 /* What a set-up asks for, by which rules, and what is so of the ring and of the processor that it names. */
 static struct wulgach_asked_ring asked_ring(uint32_t entries, const struct io_uring_params *params)
 {
-    struct wulgach_asked_ring asked = {.entries = entries, .cq_entries = params->cq_entries, .flags = params->flags, .processor = params->sq_thread_cpu, .linux_rules = is_profile_linux()};
+    struct wulgach_asked_ring asked = {.entries = entries, .cq_entries = params->cq_entries, .flags = params->flags, .linux_rules = is_profile_linux()};
     for (size_t i = 0; i < sizeof params->resv / sizeof *params->resv; i++)
         asked.has_reserved |= params->resv[i] != 0;
     if (params->flags & IORING_SETUP_SQ_AFF)
-        asked.processors = (uint32_t)get_nprocs_conf();
+        asked.is_online = is_online(params->sq_thread_cpu);
     if (params->flags & IORING_SETUP_ATTACH_WQ) {
         struct ring *shared = hold_ring((int)params->wq_fd);
         asked.is_open = fcntl((int)params->wq_fd, F_GETFD) >= 0;

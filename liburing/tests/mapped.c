@@ -1,10 +1,15 @@
-/* Tests of memory, by direct calls: which may be registered, and how a ring's is mapped. What is expected is what a real ring of Linux 6.18 was seen to do, but where our own rule is named. All hold under every policy.
+/* Tests of memory, by direct calls: which may be registered, how a ring's is mapped, and that a call reads its mask once; and of what a
+ * process can't ask. What is expected is what a real ring of Linux 6.18 was seen to do, but where our own rule is named. All hold under every policy.
  *
  *   mapped [NAME]            with a name: that test alone
  */
 #define _GNU_SOURCE
 #include "engines.h"
 
+#include <poll.h>
+#include <pthread.h>
+#include <sys/stat.h>
+#include <sys/sysinfo.h>
 #include <sys/uio.h>
 #include <sys/vfs.h>
 
@@ -15,6 +20,20 @@ enum { IS_REAL = 0 };
 #endif
 
 enum { PAGE = 4096, BOTH = 2 * PAGE };
+
+/* Calls of stat are refused, as where there is no /proc. */
+static bool has_no_stat;
+
+int __real_stat(const char *path, struct stat *status);
+int __wrap_stat(const char *path, struct stat *status);
+
+int __wrap_stat(const char *path, struct stat *status)
+{
+    if (!has_no_stat)
+        return __real_stat(path, status);
+    errno = ENOENT;
+    return -1;
+}
 
 static char *anonymous(int protection, int sharing)
 {
@@ -161,6 +180,76 @@ static void test_rights(void)
     close(fd);
 }
 
+/* ---- what is asked once, and what can't be asked ---- */
+
+struct waiter {
+    struct ring *ring;
+    const void *mask;
+    long result;
+};
+
+static void *wait_with_mask(void *argument)
+{
+    struct waiter *waiter = argument;
+    waiter->result = wulgach_syscall(SYS_io_uring_enter, waiter->ring->fd, 0, 1, IORING_ENTER_GETEVENTS, waiter->mask, waiter->mask ? 8 : 0);
+    waiter->result = waiter->result < 0 ? -errno : waiter->result;
+    return NULL;
+}
+
+/* A call that was woken sleeps on, though the memory of its mask is gone. */
+static void test_mask_is_read_once(void)
+{
+    struct ring ring;
+    pthread_t thread;
+    int ends[2];
+    char *mask = anonymous(PROT_READ | PROT_WRITE, MAP_PRIVATE);
+    struct waiter waiter = {&ring, mask, 99};
+    check(pipe(ends) == 0);
+    make_ring(&ring, 8, 0, 0);
+    check(pthread_create(&thread, NULL, wait_with_mask, &waiter) == 0);
+    usleep(100000);
+    check(munmap(mask, BOTH) == 0);
+    put_plain(&ring, IORING_OP_POLL_ADD, 5, ends[0])->poll32_events = POLLIN;
+    check(enter(&ring, 1, 0, 0) == 1);
+    usleep(100000);
+    check(waiter.result == 99 && write(ends[1], "x", 1) == 1);
+    check(pthread_join(thread, NULL) == 0 && waiter.result == 0);
+    check(next_of(&ring).res == POLLIN);
+    close(ends[0]);
+    close(ends[1]);
+    close_ring(&ring);
+}
+
+/* Where it can't be asked how many threads there are, a call waits for what another may submit. */
+static void test_unknown_threads(void)
+{
+    struct ring ring;
+    pthread_t thread;
+    struct waiter waiter = {&ring, NULL, 99};
+    make_ring(&ring, 8, 0, 0);
+    has_no_stat = true;
+    check(pthread_create(&thread, NULL, wait_with_mask, &waiter) == 0);
+    usleep(100000);
+    check(waiter.result == 99);
+    submit_nop(&ring, 1);
+    check(pthread_join(thread, NULL) == 0 && waiter.result == 0);
+    has_no_stat = false;
+    check(next_of(&ring).user_data == 1);
+    close_ring(&ring);
+}
+
+/* The thread of a ring may run where a processor is online. */
+static void test_processors(void)
+{
+    for (unsigned number = 0; number < 2; number++) {
+        struct io_uring_params params = {.flags = IORING_SETUP_SQPOLL | IORING_SETUP_SQ_AFF, .sq_thread_cpu = number ? (unsigned)get_nprocs_conf() : 0};
+        long fd = set_up(4, &params);
+        check(number ? fd == -EINVAL : fd >= 0);
+        if (fd >= 0)
+            close((int)fd);
+    }
+}
+
 int main(int count, char **words)
 {
     static const struct named tests[] = {
@@ -168,6 +257,9 @@ int main(int count, char **words)
         {"memory of files", test_memory_of_files},
         {"mappings", test_mappings},
         {"rights", test_rights},
+        {"mask is read once", test_mask_is_read_once},
+        {"unknown threads", test_unknown_threads},
+        {"processors", test_processors},
     };
     struct io_uring_params params = {0};
     long fd = set_up(1, &params);

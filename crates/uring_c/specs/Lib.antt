@@ -12,3 +12,4 @@ pub mod MissingForm
 pub mod SleepForm
 pub mod MeansForm
 pub mod PinningForm
+pub mod UnknownForm

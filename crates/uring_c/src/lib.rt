@@ -36,6 +36,7 @@ mod strict_exports;
 mod taking_exports;
 mod time_exports;
 mod timing_exports;
+mod unknown_exports;
 mod update_exports;
 mod uses_exports;
 mod volume_exports;
